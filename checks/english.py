@@ -77,7 +77,8 @@ def python_pieces(name, text):
 def marked_pieces(text, marks):
     """What follows one of the marks of a comment, a line at a time."""
     for number, line in enumerate(text.split("\n"), 1):
-        found = re.search(rf"(?:^|\s)(?:{marks})(.*)", line)
+        # A star is a mark only at the start of a line; elsewhere it is a pointer or a product.
+        found = re.search(rf"(?:(?:^|\s)(?:{marks})|^\s*\*(?!/))(.*)", line)
         if found:
             yield "comments", number, found[1]
 
@@ -95,7 +96,7 @@ def pieces(name, text):
     elif name.endswith(".antt"):
         yield from marked_pieces(text, "--")
     elif name.endswith((".js", ".c", ".h", ".rs", ".css")):
-        yield from marked_pieces(text, r"//[/!]?|/\*\*?|\*")
+        yield from marked_pieces(re.sub(r"(@\w+ )?\{+[^{}\n]*\}+( \w+)?", " ", text) if name.endswith(".js") else text, r"//[/!]?|/\*\*?")
         if name.endswith(".js"):
             for found in JAVASCRIPT_TEXT.finditer(text):
                 yield "messages", text[: found.start()].count("\n") + 1, without_expressions(found[2]) if " " in found[2] else ""
@@ -108,7 +109,7 @@ def found_forms(files):
     found = {"documents": [], "messages": [], "comments": []}
     for name, text in files:
         for part, first, piece in pieces(name, text):
-            for match in FORM.finditer(re.sub(r"`[^`\n]*`", " ", piece)):
+            for match in FORM.finditer(re.sub(r"`[^`\n]*`|--\w+", " ", piece)):
                 # A keyword of SQL or of Redcode.
                 if match[0].isupper():
                     continue

@@ -1,14 +1,14 @@
 /* The Core War kit as a library: an assembler, matches, leagues, populations, the debugger, records of turns, and battles as values.
  *
  * Each call returns 0 (MARS_DONE) if it succeeds. Otherwise it returns the number of an error, stores this number with details in
- * *fault, and leaves rows, buffers, cells and battles unchanged. An error has the same number in every call. If there are several errors,
+ * `*fault`, and leaves rows, buffers, cells and battles unchanged. An error has the same number in every call. If there are several errors,
  * the first one in this order is returned: the numbers of warriors and of rows; the parameters; rounds, seed and position; the formula;
  * the warriors in order, and cells left over after them; the round; then errors that only the match shows.
  *
  * Nothing outlives a call and nothing is shared, so several threads may call at once, each with its own memory. A call gets its memory
  * from malloc and realloc and frees all of it; these calls must belong to one allocator and align as C requires. A stack of 64 KiB is
  * sufficient: no measured call used more than 40 KiB. Do not call the library from a signal handler, or in the forked child of a process
- * with threads. mars.wasm exports mars_alloc and mars_free, which take and give back memory for arguments, as malloc and free do.
+ * with threads. mars.wasm exports mars_alloc and mars_free, which allocate and free memory for arguments, as malloc and free do.
  *
  * The caller guarantees that each pointer is valid for as many readable (const) or writable values as the length after it says, that it
  * is aligned for its type, and that output overlaps no other argument. A pointer with the length 0 may be null; no other pointer may
@@ -31,7 +31,7 @@ extern "C" {
 /* The version of the library that is called. */
 uint32_t mars_version(void);
 
-/* The limits of settings and arguments; each is the greatest value. */
+/* The limits of settings and arguments; each is a maximum. */
 enum {
     MARS_MAX_CORE = 1048576,
     MARS_MAX_PROCESSES = 65536,
@@ -68,16 +68,16 @@ enum {
     MARS_SETTINGS = 2,   /* a number is out of its range: MARS_SETTINGS_.. */
     MARS_PARAMETERS = 3, /* a parameter of the core is out of its range: MARS_PARAMETERS_.. */
     MARS_FORMULA = 4,    /* the formula is wrong: MARS_EXPRESSION_.. */
-    MARS_ASSEMBLY = 5,   /* the source is wrong: MARS_ASSEMBLY_.., at fault->line */
-    MARS_LOAD = 6,       /* the load file is wrong: MARS_LOAD_.., at fault->line */
+    MARS_ASSEMBLY = 5,   /* the source is wrong: MARS_ASSEMBLY_.., at `fault->line` */
+    MARS_LOAD = 6,       /* the load file is wrong: MARS_LOAD_.., at `fault->line` */
     MARS_PLACEMENT = 7,  /* the warriors cannot be placed: MARS_PLACEMENT_.. */
     MARS_BATTLE = 8,     /* the battle cannot start: MARS_BATTLE_.. */
     MARS_SCORE = 9,      /* the formula has no value for a round, or a sum does not fit in 64 bits: MARS_EXPRESSION_.. */
     MARS_ROOM = 10,      /* a buffer is shorter than what is to be written; *length, *program or mars_words says how long that is */
     MARS_BLOCK = 11,     /* the words are not a battle: MARS_BLOCK_.. */
     MARS_EDIT = 12,      /* the edit is impossible: MARS_EDIT_.. */
-    MARS_WARRIOR = 13,   /* the cells, the start or a name of fault->warrior is wrong: MARS_WARRIOR_.. */
-    MARS_LINEUP = 14     /* the lineup with the index fault->warrior is wrong: MARS_LINEUP_.. */
+    MARS_WARRIOR = 13,   /* the cells, the start or a name of `fault->warrior` is wrong: MARS_WARRIOR_.. */
+    MARS_LINEUP = 14     /* the lineup with the index `fault->warrior` is wrong: MARS_LINEUP_.. */
 };
 enum {
     MARS_SETTINGS_ROUNDS = 1,
@@ -105,10 +105,10 @@ enum {
     MARS_EXPRESSION_DEPTH
 };
 enum {
-    MARS_ASSEMBLY_TEXT = 1, /* fault->problem is MARS_TEXT_.. */
+    MARS_ASSEMBLY_TEXT = 1, /* `fault->problem` is MARS_TEXT_.. */
     MARS_ASSEMBLY_OPERATION,
     MARS_ASSEMBLY_OPERAND,
-    MARS_ASSEMBLY_EXPRESSION, /* fault->expression is MARS_EXPRESSION_.. */
+    MARS_ASSEMBLY_EXPRESSION, /* `fault->expression` is MARS_EXPRESSION_.. */
     MARS_ASSEMBLY_ASSERT_FAILED,
     MARS_ASSEMBLY_BAD_ORIGIN,
     MARS_ASSEMBLY_EMPTY,
@@ -124,7 +124,7 @@ enum {
     MARS_TEXT_DUPLICATE,
     MARS_TEXT_EQU_DEPTH,
     MARS_TEXT_TOO_LONG,
-    MARS_TEXT_EXPRESSION /* fault->expression is MARS_EXPRESSION_.. */
+    MARS_TEXT_EXPRESSION /* `fault->expression` is MARS_EXPRESSION_.. */
 };
 enum {
     MARS_LOAD_SYNTAX = 1,
@@ -145,10 +145,10 @@ enum {
 enum {
     MARS_BLOCK_SHORT = 1,  /* there are fewer words than the header or the parts need */
     MARS_BLOCK_MARK,       /* `mark` is not MARS_MARK: another byte order, or another version of the layout */
-    MARS_BLOCK_PARAMETERS, /* a parameter is out of its range: fault->problem is MARS_PARAMETERS_.. */
+    MARS_BLOCK_PARAMETERS, /* a parameter is out of its range: `fault->problem` is MARS_PARAMETERS_.. */
     MARS_BLOCK_WARRIORS,   /* `warriors` is not from 1 to 16 */
-    MARS_BLOCK_CELL,       /* a cell is wrong, as in MARS_WARRIOR_CELL and MARS_WARRIOR_FIELD; fault->line is its address */
-    MARS_BLOCK_QUEUE,      /* a warrior has more processes than `processes`, or one outside the core; fault->warrior is the warrior */
+    MARS_BLOCK_CELL,       /* a cell is wrong, as in MARS_WARRIOR_CELL and MARS_WARRIOR_FIELD; `fault->line` is its address */
+    MARS_BLOCK_QUEUE,      /* a warrior has more processes than `processes`, or one outside the core; `fault->warrior` is the warrior */
     MARS_BLOCK_DEATHS,     /* the deaths do not name each warrior without a process exactly once, and no other warrior */
     MARS_BLOCK_CLOCK,      /* `turns`, `cycle` and `next` do not agree with each other or with the living warriors */
     MARS_BLOCK_HEAD        /* `words`, `over`, `unused` or an unused place of `queue` or `death` has a wrong value */
@@ -165,8 +165,8 @@ enum {
 enum {
     MARS_WARRIOR_LENGTH = 1, /* the number of cells is not from 1 to settings->longest */
     MARS_WARRIOR_START,      /* the start is not the index of a cell */
-    MARS_WARRIOR_CELL,       /* a cell has an opcode, modifier or mode that does not exist; fault->line is its index in the warrior */
-    MARS_WARRIOR_FIELD,      /* a cell has a number outside the core; fault->line is its index in the warrior */
+    MARS_WARRIOR_CELL,       /* a cell has an opcode, modifier or mode that does not exist; `fault->line` is its index in the warrior */
+    MARS_WARRIOR_FIELD,      /* a cell has a number outside the core; `fault->line` is its index in the warrior */
     MARS_WARRIOR_NAME        /* a name has more than 60 bytes, or one that is not a printable character of ASCII */
 };
 enum {
@@ -219,7 +219,7 @@ typedef struct {
 /* How a warrior fares in a round. */
 typedef struct {
     uint32_t survived; /* 1 if it lives at the end, else 0 */
-    uint32_t turns;    /* number of turns that all warriors had made when it died, including its last one; if it survived, of all turns */
+    uint32_t turns;    /* number of turns executed by all warriors when it died, including its last one; if it survived, of all turns */
     uint32_t start;    /* address of its first cell */
 } MarsOutcome;
 
@@ -306,7 +306,7 @@ typedef struct {
     uint32_t longest;
     uint32_t distance;
     uint32_t warriors;    /* number of warriors, 1 to 16, including the dead; they count from 0 in the order of their turns */
-    uint32_t turns;       /* number of turns that all warriors made together */
+    uint32_t turns;       /* number of turns that all warriors executed together */
     uint32_t cycle;       /* number of completed cycles */
     uint32_t next;        /* warrior whose turn is next */
     uint32_t over;        /* 1 if no turn is left, else 0 */
@@ -406,8 +406,8 @@ uint32_t mars_start(const MarsSettings *settings,
                     const MarsCell *cells, size_t cell_count, const MarsWarrior *warriors, size_t warrior_count,
                     uint32_t round, uint32_t *battle, size_t words, MarsFault *fault);
 
-/* Makes `turns` turns of a battle in place, or as many as are left if these are fewer. Row k of `records` and of `touched` gets turn k,
- * counted from 0; the two may have different lengths, and fewer rows than turns. A row for which no turn is made stays as it was.
+/* Executes `turns` turns of a battle in place, or as many as are left if these are fewer. Row k of `records` and of `touched` gets turn k,
+ * counted from 0; the two may have different lengths, and fewer rows than turns. A row for which no turn is executed stays as it was.
  * `battle` needs as many words as mars_words returns for it. Returns MARS_BLOCK if the words are not a battle, then MARS_ROOM if there
  * are too few. */
 uint32_t mars_play(uint32_t *battle, size_t words, uint32_t turns,

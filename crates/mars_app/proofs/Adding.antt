@@ -1,5 +1,7 @@
--- What the words become that are added to a command: a rule each, one behind the other.
--- The words stand in one table and one loop adds them, so one lemma is enough (`word_added`), and `app_of` of the command is a fold of rules.
+-- The rules of a command to which options are added, one after another.
+--
+-- The options are in one table and one loop adds them, so one lemma is enough (`word_added`), and `app_of` of the command is a
+-- fold of rules.
 use Rattle.std.specs.Prelude.{◌≡◌, ℕ, ◌+◌, ◌<◌, false, List, [], ◌∷◌, get_or, length, map, take}
 use Rattle.std.proofs.Common.{◌∙◌, ap₂, refl}
 use Rattle.std.proofs.lemmas.List.{map-append, take_more}
@@ -15,7 +17,7 @@ pub added : (start : Command) (a : Arg) (made : Command) (app : App) (rule : Rul
     → app_of start ≡ app → app_of made ≡ with_rule app rule
 added start a made app rule adds is local from = adds.shape local ∙ ap₂ with_rule from is
 
--- a word more of a table
+-- Adding one more option of the table.
 pub word_added : {W : Type 0} (rule_of_word : W → Rule) (words : List W) (i : ℕ) (d : W) (app : App) (start : Command) (a : Arg) (made : Command)
     → i < length words → AddsArg start a made → rule_of a ≡ rule_of_word (get_or words i d) → a.global ≡ false
     → app_of start ≡ with_rules app (map rule_of_word (take i words)) → app_of made ≡ with_rules app (map rule_of_word (take (i + 1) words))

@@ -1,4 +1,4 @@
--- What is asked for, put together.
+-- Combining what the arguments request.
 use Rattle.std.proofs.Common.{◌≡◌, ◌∙◌, ℕ, List, [], ◌∷◌, map, Option, Result, String, Err, IfErr, OnOk, inl, inr, false, subst, sym}
 use Rattle.std.proofs.KnownBytes.{Keeps-refl}
 use Rattle.std.proofs.lemmas.List.{append-nil}
@@ -37,11 +37,11 @@ asked_for words known o setup ws files count said held files_are count_is loaded
   loaded = rw (files_are, count_is) at loaded;
 }
 
--- the texts of a list of one are its text
+-- The texts of a list of one element are the text of this element.
 pub texts_alone : {X : Type 0} (P : List ℕ → Type 0) (f : X → List ℕ) (x : X) (text : List ℕ) → P text → text ≡ f x → P (flat_map f (x ∷ []))
 texts_alone P f x text p is = subst P (is ∙ sym (append-nil (f x))) p
 
--- a formula's fault, unless memory ran out
+-- If the formula is rejected, it has this error, unless an allocation failed.
 pub formula_fails : (f : FormulaFault) (e : ExprFault) (defined : Result Scanned ExprFault) → Checks (Err f) defined → f ≡ Expression e → defined ≡ Err e
 formula_fails f e defined checks is = subst (λ (g : FormulaFault). Checks (Err g) defined) is checks
 
@@ -51,7 +51,7 @@ module _ (words : List (List ℕ)) (known : List ℕ → Option (List ℕ)) (old
   options_refused o f (inr (inl (e, is, told))) said = not_allowed o said e is told (Keeps-refl old.unread, Keeps-refl old.written)
   options_refused o f (inr (inr (p, allowed, e, is, told))) said = not_scored o said p allowed e is told (Keeps-refl old.unread, Keeps-refl old.written)
 
--- ---- what is played where words asked for it, whatever they are
+-- ---- What is done with the options, whatever the arguments were that said so
 
 module _ (known : List ℕ → Option (List ℕ)) (o : Options) (setup : Setup) (ws : List WarriorValue) (files : List (String Global)) (count : ℕ)
     (held : IsSetupOf o setup) (files_are : files ≡ o.files.items) (count_is : count ≡ contest_size o)

@@ -26,7 +26,7 @@ each_digit : (ds : List ℕ) → AllDigits 10 ds → list_all (λ d. nat_lt (dig
 each_digit [] h = refl
 each_digit (d ∷ ds) h = rw (lt-ltb (digit_value d) 10 h.0) (each_digit ds h.1)
 
--- whether a text is a number of 32 bits
+-- Whether a text is a number of 32 bits.
 abbrev fits : Text → Bool
 fits text = is_numeral (without_leading_plus text) && nat_lt (digits_value 10 (without_leading_plus text)) (2 ^ 32)
 
@@ -47,7 +47,7 @@ number_parsed E text None h = go (fits text) refl
     go true e = absurd (h.1 (fitted text e))
     go false e = refl
 
--- what `get_one` reads as a number
+-- What `get_one` reads as a number.
 pub number_read : {E : Type 0} (G : List ℕ → Result ℕ E → Type 0) (text : Option Text) (r : Option ℕ)
     → ((t : Text) (x : Result ℕ E) → G t x → ParsesUnsigned 32 10 t x)
     → (text ≡ None → r ≡ None) → ((t : Text) → text ≡ Some t → ReadsOne G t r) → r ≡ option_and_then number_of text
@@ -58,7 +58,7 @@ number_read {E = E} G (Some t) r parses none some = number_parsed E t r (parsed 
     parsed (Some n) h = parses t (Ok n) h
     parsed None h = (h.0, parses t (Err h.0) h.1)
 
--- and as true or false, where no text and every other one is false
+-- What `get_one` reads as a Boolean: false for a missing text and for every text except `true`.
 pub flag_read : (E : Type 0) (text : Option Text) (r : Option Bool) → (text ≡ None → r ≡ None)
     → ((t : Text) → text ≡ Some t → ReadsOne {T = Bool} {E = E} ParsesBool t r)
     → unwrap_or r false ≡ option_map_or (λ t. bytes_eq t (codes "true")) text false
@@ -74,7 +74,7 @@ flag_read E (Some t) r none some = parsed r (some t refl)
     parsed (Some false) h = other _ (λ e. let bad : codes "true" ≡ codes "false" = sym ((bytes_eq-Decides t (codes "true")).0 e) ∙ h in cc)
     parsed None h = other _ (λ e. absurd (h.1.0 ((bytes_eq-Decides t (codes "true")).0 e)))
 
--- and the texts behind references
+-- What `get_str` reads, as the texts to which its results refer.
 pub text_or_none : (r : Option (Bor Text)) (other : Bor Text) (o : Option Text) → option_map (λ s. s.now) r ≡ o → (unwrap_or r other).now ≡ unwrap_or o other.now
 text_or_none (Some t) other o is = ap (λ given. unwrap_or given other.now) is
 text_or_none None other o is = ap (λ given. unwrap_or given other.now) is

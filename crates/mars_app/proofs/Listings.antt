@@ -12,11 +12,11 @@ one_more m k (suc i) (w ∷ ws) d h =
     (one_more m (k + 1) i ws d (omega (arith, h)) ∙ ap (λ n. listing_from m (k + 1) (take i ws) ++ listed m n (get_or ws i d)) later)
     ∙ sym (append_assoc (listed m k w) (listing_from m (k + 1) (take i ws)) (listed m (k + suc i) (get_or ws i d)))
 
--- the listing of one warrior more
+-- Adding one warrior to a listing adds its part at the end.
 pub listing-one_more : (m k i : ℕ) (ws : List WarriorValue) (d : WarriorValue) → i < length ws → listing_from m k (take (i + 1) ws) ≡ listing_from m k (take i ws) ++ listed m (k + i) (get_or ws i d)
 listing-one_more m k i ws d h = rw add-one (one_more m k i ws d h)
 
--- the listing before a warrior, its own, and what follows
+-- A listing consists of the part before a warrior, the warrior's own part, and the rest.
 pub listing-around : (m k i : ℕ) (ws : List WarriorValue) (d : WarriorValue) → i < length ws → (rest : List ℕ) × (listing_from m k ws ≡ listing_from m k (take i ws) ++ (listed m (k + i) (get_or ws i d) ++ rest))
 listing-around m k i [] d h = absurd (omega (arith, h))
 listing-around m k zero (w ∷ ws) d h =

@@ -17,7 +17,7 @@ module _ (known : List ℕ → Option (List ℕ)) (p : Parameters) (rounds count
   loaded_push (n ∷ names) [] name w all one = absurd all
   loaded_push (n ∷ names) (v ∷ ws) name w all one = (all.0, loaded_push names ws name w all.1 one)
 
-  -- one file more
+  -- Loading one more file.
   pub loaded_more : (names : List (String Global)) (i : ℕ) (d : String Global) (ws : List WarriorValue) (w : WarriorValue) → i < length names
       → AreLoaded known p rounds count (map (λ s. string_bytes s) (take i names)) ws → IsLoaded known p rounds count (string_bytes (get_or names i d)) w
       → AreLoaded known p rounds count (map (λ s. string_bytes s) (take (i + 1) names)) (ws ++ w ∷ [])
@@ -25,7 +25,7 @@ module _ (known : List ℕ → Option (List ℕ)) (p : Parameters) (rounds count
       rw (take_more names i d inside, map-append (λ (s : String Global). string_bytes s) (take i names) (get_or names i d ∷ []))
       (loaded_push (map (λ s. string_bytes s) (take i names)) ws (string_bytes (get_or names i d)) w all one)
 
-  -- one file alone
+  -- Loading only one file.
   pub loaded_alone : (names : List (String Global)) (w : WarriorValue) (d : String Global) → length names ≡ 1
       → IsLoaded known p rounds count (string_bytes (get_or names 0 d)) w → AreLoaded known p rounds count (map (λ s. string_bytes s) names) (w ∷ [])
   loaded_alone [] w d one h = absurd (omega arith)

@@ -1,4 +1,4 @@
--- A position that fits the words fits the battle.
+-- A position that fits the options fits the battle.
 use Rattle.std.proofs.Common.{◌≡◌, ℕ, Option, Some, None, IfSome, vec_len, arith}
 use Rattle.mars_cell.specs.Parameters.{Parameters}
 use Rattle.mars_match.specs.Placement.{FitsTwo}

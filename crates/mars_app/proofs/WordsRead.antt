@@ -1,4 +1,4 @@
--- What a parse of the words comes to.
+-- The result of parsing the arguments.
 use Rattle.std.specs.Global.{Global}
 use Rattle.std.specs.Prelude.{String, ◌≡◌, true, List, [], Err}
 use Rattle.std.proofs.Common.{◌∙◌, refl, sym, subst, inl, inr}
@@ -28,7 +28,7 @@ pub mars_is_free : is_simple_and_free mars ≡ true
 unfolding clap_on_literals
 mars_is_free = refl
 
--- an error of `clap` is the defined fault
+-- An error of `clap` is the error of the definition.
 pub refused : (words : List Text) (e : Error) (f : WordsFault) → HasKind (fault_of mars words) e → IsFaultOf (kind_of e) f → Reads words (Err f)
 refused words e fault.OutOfMemory kind is = tt
 refused words e (fault.Help text) (inl memory) is = let bad : kind.OutOfMemory ≡ kind.DisplayHelp = sym memory ∙ is in cc
@@ -36,7 +36,7 @@ refused words e (fault.Help text) (inr among) is = subst (λ (k : ErrorKind). Is
 refused words e fault.BadWords (inl memory) is = absurd (is.1 memory)
 refused words e fault.BadWords (inr among) is = inl (kind_of e, among, is.0)
 
--- matches of `clap` are those of the words
+-- The matches of `clap` are those of the arguments.
 pub matched : (words : List Text) (c : Command) (m : ArgMatches) → app_of c ≡ mars → HasMatchesOf (app_of c) words m
     → (is_simple_and_free (app_of c) ≡ true → fault_of (app_of c) words ≡ []) → (fault_of mars words ≡ []) × (rows_of (found_of m) ≡ matches_of mars words)
 matched words c m is matches kinds = (

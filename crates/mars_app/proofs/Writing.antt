@@ -1,5 +1,7 @@
--- What several writes, one after the other, did, where a text broke off.
--- Want of memory and a failed write have one statement (`BreaksOff`), and three lemmas: broken in the first of two texts, in the second, in a list.
+-- What several writes did, one after another, if one of them failed.
+--
+-- A failed allocation and a failed write have one statement (`BreaksOff`) and three lemmas: writing failed in the first of two
+-- texts, in the second, or in a list.
 use Rattle.std.proofs.Common.{◌≡◌, ℕ, ◌+◌, List, ◌++◌, length, take, Option, Result, Ok, Err, IfErr, inl, inr, arith, length-append}
 use Rattle.std.proofs.Math.Seq.{take-append-add}
 use Rattle.std.proofs.lemmas.List.{take-append-le, take_all}
@@ -11,32 +13,32 @@ use Rattle.mars_app.specs.Contests.{BreaksOff}
 use Rattle.mars_app.specs.declared.fault.RunFault.{RunFault}
 use Rattle.mars_app.specs.declared.fault.RunFault.TheVariants.{Output, OutOfMemory}
 
--- the last text broke off, of one that was written alone
+-- Writing failed in the last text, which has a write of its own.
 pub last_breaks : (result : Result (Unit {0}) RunFault) (a b c : Option (List ℕ)) (x y : List ℕ) → Appends a b x →
     IfErr result (λ fault. (fault ≡ Output) × CutShort b c y) → IfErr result (λ fault. BreaksOff fault a c (x ++ y))
 last_breaks (Ok u) a b c x y before w = tt
 last_breaks (Err fault) a b c x y before w = inl (w.0, CutShort-back a b c x y before w.1)
 
 module _ (fault : RunFault) where
-  -- it broke off in the first of two texts
+  -- Writing failed in the first of two texts.
   pub BreaksOff-front : (a b : Option (List ℕ)) (x y : List ℕ) → BreaksOff fault a b x → BreaksOff fault a b (x ++ y)
   BreaksOff-front a b x y (inl w) = inl (w.0, CutShort-front a b x y w.1)
   BreaksOff-front a b x y (inr w) =
       let same : take w.1 (x ++ y) ≡ take w.1 x = take-append-le w.1 x y w.2 in
       inr (w.0, w.1, (omega (arith, w.2, length-append x y)), rw same w.3)
 
-  -- a text went out, and it broke off in the next
+  -- A text was written, and writing failed in the next one.
   pub BreaksOff-back : (a b c : Option (List ℕ)) (x y : List ℕ) → Appends a b x → BreaksOff fault b c y → BreaksOff fault a c (x ++ y)
   BreaksOff-back a b c x y before (inl w) = inl (w.0, CutShort-back a b c x y before w.1)
   BreaksOff-back a b c x y before (inr w) =
       let same : take (length x + w.1) (x ++ y) ≡ x ++ take w.1 y = take-append-add x y w.1 in
       inr (w.0, length x + w.1, (omega (arith, w.2, length-append x y)), rw same (Appends-trans a b c x (take w.1 y) before w.3))
 
-  -- a text went out, and it broke off in the next, which is not the last
+  -- A text was written, and writing failed in the next one, which is not the last.
   pub BreaksOff-after : (a b c : Option (List ℕ)) (x y z : List ℕ) → Appends a b x → BreaksOff fault b c y → BreaksOff fault a c (x ++ (y ++ z))
   BreaksOff-after a b c x y z before cut = BreaksOff-back a b c x (y ++ z) before (BreaksOff-front b c y z cut)
 
--- all of a text went out, and then memory was wanting
+-- The whole text was written, and then an allocation failed.
 pub whole_breaks : (fault : RunFault) (a b : Option (List ℕ)) (x : List ℕ) → fault ≡ OutOfMemory → Appends a b x → BreaksOff fault a b x
 whole_breaks fault a b x e w =
     let whole : take (length x) x ≡ x = take_all (length x) x (omega arith) in

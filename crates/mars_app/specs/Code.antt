@@ -1,4 +1,4 @@
--- How the code holds and reaches what is defined. All of this serves the proofs alone.
+-- How the code stores and computes what is defined. Only the proofs use these definitions.
 pub mod Plays
 pub mod Allowed
 pub mod Blames

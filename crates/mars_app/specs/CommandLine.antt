@@ -1,4 +1,4 @@
--- The words that follow the program's name, as `clap` reads them.
+-- The arguments of the program, as `clap` parses them.
 use Rattle.std.specs.Prelude.{ℕ, true, List, [], ◌∷◌, Some, codes, fold, pos}
 use Rattle.mars_app.specs.Limits.{longest_history, most_rounds}
 use Rattle.mars_match.specs.Placement.{greatest_seed}
@@ -9,32 +9,34 @@ use Rattle.clap.specs.Walk.{Rule}
 use Rattle.clap.specs.declared.builder.action.ArgAction.TheVariants.{Help, SetTrue}
 use Rattle.clap.specs.declared.builder.value_parser.ValueParser.TheVariants as parser
 
--- a word with a number from 1 to a greatest one
+-- An option with a number from 1 to `greatest`.
 abbrev pub number_rule : List ℕ → ℕ → Rule
 number_rule id greatest = record (new_rule id) { value_names = 1; parser = Some (parser.Signed (pos 1) (pos greatest)) }
 
--- a word without a value
+-- An option without a value.
 abbrev pub flag_rule : List ℕ → Rule
 flag_rule id = record (new_rule id) { action = Some SetTrue }
 
+-- The option for the score formula.
 abbrev pub score_rule : Rule
 score_rule = record (new_rule (codes "score")) { value_names = 1 }
 
+-- The option for the help.
 abbrev pub help_rule : Rule
 help_rule = record (new_rule (codes "help")) { action = Some Help }
 
--- a letter behind one minus, and the name behind two
+-- The option with a letter, which is given after one minus; `long` has the option's name, after two.
 abbrev pub short : ℕ → Rule → Rule
 short letter rule = record rule { short = Some letter }
 
 abbrev pub long : Rule → Rule
 long rule = record rule { long = Some rule.id }
 
--- the value where the word isn't given
+-- The value if the option isn't given.
 abbrev pub or_else : List ℕ → Rule → Rule
 or_else text rule = record rule { defaults = text ∷ [] }
 
--- what is fought
+-- Options of the match or league.
 abbrev pub contest_rules : List Rule
 contest_rules =
     short 114 (or_else (codes "1") (number_rule (codes "rounds") most_rounds))
@@ -44,7 +46,7 @@ contest_rules =
     ∷ long (flag_rule (codes "league"))
     ∷ []
 
--- where it is fought
+-- Options of the core.
 abbrev pub core_rules : List Rule
 core_rules =
     short 115 (or_else (codes "8000") (number_rule (codes "core") largest_core))
@@ -56,7 +58,7 @@ core_rules =
     ∷ long (number_rule (codes "write-limit") largest_core)
     ∷ []
 
--- what is written
+-- Options of the output.
 abbrev pub output_rules : List Rule
 output_rules =
     short 98 (flag_rule (codes "brief"))
@@ -65,22 +67,25 @@ output_rules =
     ∷ long help_rule
     ∷ []
 
+-- Options of the debugger.
 abbrev pub debugger_rules : List Rule
 debugger_rules =
     short 101 (flag_rule (codes "debugger"))
     ∷ long (or_else (codes "200000") (number_rule (codes "history") longest_history))
     ∷ []
 
--- the names of the warriors' files
+-- The names of the warriors' files.
 abbrev pub file_rule : Rule
 file_rule = record (new_rule (codes "FILE")) { required = true; range = Some (record { start_inclusive = 1; end_inclusive = usize_max }) }
 
+-- The program with these options added, one after another.
 abbrev pub with_rules : App → List Rule → App
 with_rules app rules = fold with_rule app rules
 
--- the program, without words: the words are all its own, and no word is there by itself
+-- The program without its options. The name of the program is not an argument, and `clap` adds no option of its own.
 abbrev pub plain_mars : App
 plain_mars = record { top = record (new_shape (codes "mars")) { no_binary_name = true; disable_help_flag = true }; subs = [] }
 
+-- The program with all its arguments.
 abbrev pub mars : App
 mars = with_rules (with_rules (with_rules (with_rules (with_rule plain_mars file_rule) contest_rules) core_rules) debugger_rules) output_rules

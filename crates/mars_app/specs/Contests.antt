@@ -20,28 +20,29 @@ use Rattle.mars_app.specs.declared.fault.RunFault.{RunFault}
 use Rattle.mars_app.specs.declared.fault.RunFault.TheVariants.{Placement, Battle, Score, OutOfMemory, Output}
 use Rattle.mars_app.specs.declared.options.Options.{Options}
 
--- as `warrior 0: Imp by Dewdney, 1 instructions`
+-- The line of a warrior, such as `warrior 0: Imp by Dewdney, 1 instructions`.
 unfoldable pub listing_head : ℕ → WarriorValue → List ℕ
 listing_head number w =
     codes "warrior " ++ decimal number ++ codes ": " ++ w.name ++ codes " by " ++ w.author ++ codes ", " ++ decimal (length w.cells) ++ codes " instructions\n"
 
--- the line of a warrior, its load file, and an empty line
+-- The line of a warrior, its load file, and an empty line.
 abbrev pub listed : ℕ → ℕ → WarriorValue → List ℕ
 listed core_size number w = listing_head number w ++ load_text core_size w ++ codes "\n"
 
--- the warriors in load order, from one of this number on
+-- The listing of the warriors in load order, numbered from `number` on.
 abbrev pub listing_from : ℕ → ℕ → List WarriorValue → List ℕ
 listing_from core_size number [] = []
 listing_from core_size number (w ∷ warriors) = listed core_size number w ++ listing_from core_size (number + 1) warriors
 
+-- The listing of all warriors; empty if `brief` is true.
 abbrev pub listing : ℕ → Bool → List WarriorValue → List ℕ
 listing core_size brief warriors = if brief then [] else listing_from core_size 0 warriors
 
--- how many warriors meet: in a league two, else all
+-- The number of warriors in a battle: two in a league, all otherwise.
 abbrev pub contest_size : Options → ℕ
 contest_size o = if o.league then 2 else vec_len o.files
 
--- how the options have a match, a league or a debugged battle held
+-- `setup` is the setup of the match, league or debugged battle that the options describe.
 pub record IsSetupOf (o : Options) (setup : Setup) : Type 0 where
   pub allowed : checked_parameters (parameters_of o) ≡ Ok setup.params
   pub scored : formula_of (string_bytes o.score) ≡ Ok setup.plan.formula
@@ -49,13 +50,13 @@ pub record IsSetupOf (o : Options) (setup : Setup) : Type 0 where
   pub seed : setup.plan.seed ≡ o.seed
   pub fixed : setup.plan.fixed ≡ o.fixed
 
--- the rows of the match, or of the league
+-- The rows of the match, or of the league.
 abbrev pub contest : Bool → Setup → List WarriorValue → Result (List RowValue) MatchFault
 contest league setup warriors =
     if league then league_of setup.params warriors setup.plan.formula setup.plan.fixed setup.plan.rounds setup.plan.seed
     else table_of setup.params warriors setup.plan.formula setup.plan.fixed setup.plan.rounds setup.plan.seed
 
--- the fault of a match, as the program tells it: want of memory is the same wherever it came
+-- The error of the program for an error of a match. A failed allocation at any step is `OutOfMemory`.
 abbrev pub fault_of : MatchFault → RunFault
 fault_of match.OutOfMemory = OutOfMemory
 fault_of (match.Place place.OutOfMemory) = OutOfMemory
@@ -64,13 +65,14 @@ fault_of (match.Battle battle.OutOfMemory) = OutOfMemory
 fault_of (match.Battle fault) = Battle fault
 fault_of (match.Score fault) = Score fault
 
--- a text was to be written: the output failed after a beginning of it, not all, or memory was wanting after a beginning
+-- Writing `text` failed: the output failed after a beginning of it, not all, or an allocation failed after a beginning of it.
 abbrev pub BreaksOff : RunFault → Option (List ℕ) → Option (List ℕ) → List ℕ → Type 0
 BreaksOff fault old new text =
     ((fault ≡ Output) × CutShort old new text)
     ⊎ ((fault ≡ OutOfMemory) × (n : ℕ) × (n ≤ length text) × Appends old new (take n text))
 
--- a contest fails in its listing, or before its fight; or by its own fault, and then its listing was written; or in its results
+-- A match or league ended with the error `fault`: while the listing was written; or in the match itself, after the whole
+-- listing; or while the results were written.
 abbrev pub ContestFails : RunFault → Result (List RowValue) MatchFault → Bool → Option (List ℕ) → Option (List ℕ) → List ℕ → Type 0
 ContestFails fault contest sorted old new listing =
     BreaksOff fault old new listing

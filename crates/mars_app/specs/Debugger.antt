@@ -1,4 +1,4 @@
--- What the debugger's lines ask for, what they answer, and what it has written, in this order.
+-- The debugger: what its lines request, what it replies, and what it has written, in this order.
 pub mod Words
 pub mod Requests
 pub mod Lines

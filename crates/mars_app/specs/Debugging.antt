@@ -1,4 +1,4 @@
--- What the program debugs, and how that may end.
+-- What the program debugs, and how debugging may end.
 use Rattle.std.specs.Prelude.{◌≡◌, ◌⊎◌, ℕ, false, List, length, Some, Result, Err}
 use Rattle.redcode_text.specs.Results.{◌>>=◌}
 use Rattle.mars_cell.specs.Warriors.{WarriorValue}
@@ -16,27 +16,28 @@ use Rattle.mars_app.specs.Streams.{StreamsValue, Untouched}
 use Rattle.mars_app.specs.declared.fault.RunFault.{RunFault}
 use Rattle.mars_app.specs.declared.fault.RunFault.TheVariants.{Commands, OutOfMemory, Output}
 
--- how the battle of round 0 starts, or why it can't: all warriors in load order, each from its own start
+-- The state in which the battle of round 0 starts, or the first error. All warriors take their turns in load order, each from
+-- its own starting position.
 abbrev pub first_round : Setup → List WarriorValue → Result State MatchFault
 first_round setup warriors =
     placed_for setup.params (length warriors) setup.plan.fixed setup.plan.seed >>= λ placed.
     unless (start_fault setup.params warriors placed.0) (start_state setup.params warriors placed.0)
 
--- a session at the start of a battle, whose history keeps so many places beside the last one
+-- A session at the start of the battle `s`, whose history keeps `most` places beside the last one.
 abbrev pub session_at : ℕ → State → SessionState
 session_at most s = record { history = beginning s; limit = most; retention = record { most = Some most; forgotten = false } }
 
--- the debugger came to quit or to the end over a session that began here
+-- The debugger ended at a `quit` or at the end of its input, after it started with the session `s`.
 abbrev pub DebugsWell : SessionState → StreamsValue → StreamsValue → Type 0
 DebugsWell s old new = (t : SessionState) × Completes (core_size_of s) old.unread new.unread s old.written t new.written
 
--- it came to a failed read or a failed write
+-- The debugger ended with a failed read or a failed write, after it started with the session `s`.
 abbrev pub DebugsInPart : RunFault → SessionState → StreamsValue → StreamsValue → Type 0
 DebugsInPart fault s old new =
     ((fault ≡ Commands) × (t : SessionState) × ReadFails (core_size_of s) old.unread new.unread s old.written t new.written)
     ⊎ ((fault ≡ Output) × (t : SessionState) × WriteFails (core_size_of s) old.unread new.unread s old.written t new.written)
 
--- nothing was read or written, since memory was wanting or the round can't start
+-- Nothing was read or written, because an allocation failed or the round cannot start.
 abbrev pub StartsNothing : RunFault → Result State MatchFault → StreamsValue → StreamsValue → Type 0
 StartsNothing fault round old new =
     ((fault ≡ OutOfMemory) ⊎ ((f : MatchFault) × (round ≡ Err f) × (fault ≡ fault_of f))) × Untouched old new

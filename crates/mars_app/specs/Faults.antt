@@ -1,4 +1,4 @@
--- Which fault ends a run, and what went out before it.
+-- The error that ends a run, and what was written before it.
 use Rattle.std.specs.Prelude.{◌≡◌, ⊤, ◌⊎◌, ℕ, false, true, List, ◌∷◌, ◌++◌, map, Option, Ok, Err, string_bytes}
 use Rattle.std.specs.Io.KnownBytes.{Keeps}
 use Rattle.std.specs.List.{flat_map}
@@ -27,12 +27,12 @@ use Rattle.mars_app.specs.declared.fault.RunFault.TheVariants as fault
 use Rattle.mars_app.specs.declared.files.FileFault.TheVariants as file
 use Rattle.mars_app.specs.declared.options.Options.{Options}
 
--- the line of a load file's fault, or 0
+-- The line of an error in a load file, or 0.
 abbrev pub line_of : LoadFault → ℕ
 line_of (load_fault.Syntax line) = line
 line_of _ = 0
 
--- the fault is that of the bytes of a file: of a load file, or of a source; it shows the file's name
+-- The error is that of the content of a file, a load file or a source, and shows the name of the file.
 abbrev pub IsFaultOfFile : Parameters → ℕ → ℕ → List ℕ → List ℕ → RunFault → Type 0
 IsFaultOfFile p rounds count name bytes (fault.Load shown line f) =
     (string_bytes shown ≡ shown_name name) × (is_load_file name ≡ true) × (load p.core_size p.max_length bytes ≡ Err f) × (line ≡ line_of f)
@@ -41,19 +41,19 @@ IsFaultOfFile p rounds count name bytes (fault.Assembly shown line f) =
 IsFaultOfFile p rounds count name bytes fault.OutOfMemory = ⊤
 IsFaultOfFile p rounds count name bytes _ = ⊥
 
--- the file isn't read; the fault shows its name
+-- The error is the reason for which the file isn't read, and shows the name of the file.
 abbrev pub IsUnreadFile : (List ℕ → Option (List ℕ)) → List ℕ → RunFault → Type 0
 IsUnreadFile known name (fault.CannotRead shown) = (string_bytes shown ≡ shown_name name) × IsUnread (known name) largest_file file.CannotRead
 IsUnreadFile known name (fault.TooLarge shown) = (string_bytes shown ≡ shown_name name) × IsUnread (known name) largest_file file.TooLarge
 IsUnreadFile known name fault.OutOfMemory = ⊤
 IsUnreadFile known name _ = ⊥
 
--- a file that isn't read, or that has no warrior
+-- The file isn't read, or has no warrior.
 abbrev pub FailsToLoad : (List ℕ → Option (List ℕ)) → Parameters → ℕ → ℕ → List ℕ → RunFault → Type 0
 FailsToLoad known p rounds count name f = IsUnreadFile known name f
     ⊎ ((bytes : List ℕ) × IsRead known name bytes × IsFaultOfFile p rounds count name bytes f)
 
--- the first file that fails; those before it have warriors
+-- The first file that fails has the error `f`; those before it have warriors.
 pub record FirstFails (known : List ℕ → Option (List ℕ)) (p : Parameters) (rounds count : ℕ) (names : List (List ℕ)) (f : RunFault) : Type 0 where
   pub before : List (List ℕ)
   pub name : List ℕ
@@ -63,9 +63,9 @@ pub record FirstFails (known : List ℕ → Option (List ℕ)) (p : Parameters) 
   pub loaded : AreLoaded known p rounds count before warriors
   pub fails : FailsToLoad known p rounds count name f
 
--- Nothing was read or written, since the words are bad, or what they ask for isn't allowed, or has no formula, or a file
--- fails, or memory is wanting; or a help or a load file was cut short; or the debugger or the contest didn't end well. The
--- debugger alone reads the input.
+-- The run ended with the error `f`. Either nothing was read or written, because the arguments are bad, an allocation failed,
+-- the parameters are out of range, the formula has an error, or a file fails; or writing the help or a load file failed; or the
+-- debugger, the match or the league ended with an error. Only the debugger reads the input.
 pub data RunFails (words : List (List ℕ)) (known : List ℕ → Option (List ℕ)) (old new : StreamsValue) (f : RunFault) : Type 0 where
   bad : f ≡ fault.Words → AreBad words → Untouched old new → RunFails words known old new f
   starved : f ≡ fault.OutOfMemory → Untouched old new → RunFails words known old new f

@@ -1,4 +1,4 @@
--- Warriors as they are loaded.
+-- How warriors are loaded from files.
 use Rattle.std.specs.Prelude.{◌≡◌, ⊤, ℕ, ◌<◌, ◌≤◌, List, [], ◌∷◌, All, Bool, Option, None, Some, IfSome, IsNone, String, length, Vec, if◌then◌else◌, codes, encode_utf8, nat_eq, string_bytes}
 use Rattle.std.specs.Global.{Global}
 use Rattle.std.specs.Str.{bytes_eq, chars}
@@ -14,50 +14,53 @@ use Rattle.redcode_asm.specs.Assembly.{assembly}
 use Rattle.mars_app.specs.declared.files.FileFault.{FileFault}
 use Rattle.mars_app.specs.declared.files.FileFault.TheVariants.{CannotRead, OutOfMemory, TooLarge}
 
--- the numbers of each warrior's cells are addresses in a core of this size
+-- All numbers of the warriors' cells are addresses in a core of this size.
 abbrev pub AllFit : ℕ → List WarriorValue → Type 0
 AllFit core_size warriors = All (λ (w : WarriorValue). All (FitsCore core_size) w.cells) warriors
 
--- a file's name in the line of a fault: each control character is ?, so that the fault stays one line
+-- A character of a file's name in an error message. Each control character is shown as `?`, so that the message is one line.
 abbrev pub shown_character : ℕ → ℕ
 shown_character c = if is_control c then 63 else c
 
+-- A file's name in an error message.
 abbrev pub shown_name : List ℕ → List ℕ
 shown_name name = flat_map (λ c. encode_utf8 (shown_character c)) (chars name)
 
--- a load file is told by the end of its name
+-- A file is a load file if its name ends in `.load`.
 abbrev pub is_load_file : List ℕ → Bool
 is_load_file name = ends_with nat_eq name (codes ".load")
 
--- the warrior of a file, for a contest of so many rounds and warriors, where it has one: of a load file, or of a source
+-- The warrior of a file, which is a load file or a source, if it has one. `rounds` and `warriors` are the values of ROUNDS and
+-- WARRIORS.
 abbrev pub warrior_of_file : Parameters → ℕ → ℕ → List ℕ → List ℕ → Option WarriorValue
 warrior_of_file p rounds warriors name bytes = if is_load_file name then result_ok (load p.core_size p.max_length bytes) else result_ok (assembly p rounds warriors bytes)
 
--- the most bytes of a warrior's file
+-- The maximum size of a warrior's file in bytes.
 abbrev pub largest_file : ℕ
 largest_file = 1048576
 
--- the bytes are those of a file of this name, where they are known, and not too many
+-- The bytes are the content of the file `name`, if its content is known, and are at most the maximum size.
 abbrev pub IsRead : (List ℕ → Option (List ℕ)) → List ℕ → List ℕ → Type 0
 IsRead known name bytes = IfSome (known name) (λ whole. bytes ≡ whole) × (length bytes ≤ largest_file)
 
--- why a file of which at most so many bytes are wanted isn't read: one whose bytes are known can be read, and has more
+-- The error is a reason for which a file of at most `limit` bytes isn't read. A file whose content is known can be read, so its
+-- error is that it has more bytes.
 abbrev pub IsUnread : Option (List ℕ) → ℕ → FileFault → Type 0
 IsUnread known limit CannotRead = IsNone known
 IsUnread known limit TooLarge = IfSome known (λ bytes. limit < length bytes)
 IsUnread known limit OutOfMemory = ⊤
 
--- the bytes of the first of some files that has this name
+-- The content of the first file that has this name.
 abbrev pub file_named : List (String Global × Vec ℕ Global) → List ℕ → Option (List ℕ)
 file_named [] name = None
 file_named (file ∷ files) name = if bytes_eq (string_bytes file.0) name then Some file.1.items else file_named files name
 
--- the warrior is that of a file of this name
+-- `w` is the warrior of the file `name`.
 abbrev pub IsLoaded : (List ℕ → Option (List ℕ)) → Parameters → ℕ → ℕ → List ℕ → WarriorValue → Type 0
 IsLoaded known p rounds count name w =
     (bytes : List ℕ) × IsRead known name bytes × (warrior_of_file p rounds count name bytes ≡ Some w)
 
--- each warrior is that of the file beside it
+-- Each warrior is that of the file at its index.
 abbrev pub AreLoaded : (List ℕ → Option (List ℕ)) → Parameters → ℕ → ℕ → List (List ℕ) → List WarriorValue → Type 0
 AreLoaded known p rounds count [] [] = Unit {0}
 AreLoaded known p rounds count [] (w ∷ warriors) = ⊥
@@ -65,7 +68,7 @@ AreLoaded known p rounds count (name ∷ names) [] = ⊥
 AreLoaded known p rounds count (name ∷ names) (w ∷ warriors) =
     IsLoaded known p rounds count name w × AreLoaded known p rounds count names warriors
 
--- the text is the load file of the warrior of that file
+-- `text` is the load file of the warrior of the file `name`.
 abbrev pub IsLoadFileOf : (List ℕ → Option (List ℕ)) → Parameters → ℕ → ℕ → List ℕ → List ℕ → Type 0
 IsLoadFileOf known p rounds count name text =
     (w : WarriorValue) × IsLoaded known p rounds count name w × (text ≡ load_text p.core_size w)

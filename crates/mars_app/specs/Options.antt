@@ -1,4 +1,4 @@
--- What the words ask for.
+-- The options that the arguments say.
 use Rattle.std.specs.Prelude.{◌≡◌, ⊤, ◌⊎◌, ℕ, ◌+◌, ◌==◌, ◌^◌, Bool, false, true, not, ◌&&◌, ◌||◌, nat_le, nat_lt, List, [], length, map, Option, None, Some, option_and_then, Result, Ok, Err, if◌then◌else◌, codes, string_bytes}
 use Rattle.std.specs.Option.{option_map_or, unwrap_or}
 use Rattle.std.specs.Str.{bytes_eq}
@@ -20,7 +20,7 @@ use Rattle.mars_app.specs.declared.options.Options.{Options}
 use Rattle.mars_app.specs.declared.options.WordsFault.{WordsFault}
 use Rattle.mars_app.specs.declared.options.WordsFault.TheVariants as fault
 
--- options, their texts as bytes
+-- The options, with their texts as bytes.
 pub record OptionsValue : Type 0 where
   pub files : List Text
   pub rounds : ℕ
@@ -41,6 +41,7 @@ pub record OptionsValue : Type 0 where
   pub write_limit : Option ℕ
   pub history : ℕ
 
+-- The options of the program, with their texts as bytes.
 abbrev pub value_of : Options → OptionsValue
 value_of o = record {
   files = map (λ name. string_bytes name) o.files.items;
@@ -63,24 +64,25 @@ value_of o = record {
   history = o.history;
 }
 
--- the number that a text is, if it is one of 32 bits; a plus may stand first
+-- The number that a text is, if it fits in 32 bits. A plus may precede it.
 abbrev pub number_of : Text → Option ℕ
 number_of text =
     let digits = without_leading_plus text in
     if is_numeral digits && nat_lt (digits_value 10 digits) (2 ^ 32) then Some (digits_value 10 digits) else None
 
--- the number of a word, where it has one
+-- The number of an option, if it is given or has a default.
 abbrev pub given_number : Text → List Row → Option ℕ
 given_number word rows = option_and_then number_of (one_of word rows)
 
+-- The number of an option, or 0 if it has none.
 abbrev pub number : Text → List Row → ℕ
 number word rows = unwrap_or (given_number word rows) 0
 
--- whether a word without a value is given
+-- Whether an option without a value is given.
 abbrev pub is_given : Text → List Row → Bool
 is_given word rows = option_map_or (λ text. bytes_eq text (codes "true")) (one_of word rows) false
 
--- what the words say
+-- The options that the matches of `clap` say.
 abbrev pub options_of : List Row → OptionsValue
 options_of rows = record {
   files = unwrap_or (all_of (codes "FILE") rows) [];
@@ -103,67 +105,73 @@ options_of rows = record {
   history = number (codes "history") rows;
 }
 
+-- Whether a number is in the range from `least` to `greatest`, both included.
 abbrev pub is_between : ℕ → ℕ → ℕ → Bool
 is_between least greatest n = nat_le least n && nat_le n greatest
 
--- a limit that isn't given is the core size
+-- A limit is a number of cells of a core. One that isn't given is the core size.
 abbrev pub is_limit : Option ℕ → Bool
 is_limit limit = option_map_or (is_between 1 largest_core) limit true
 
--- each number is in its range
+-- Each number is in its range.
 abbrev pub has_numbers : OptionsValue → Bool
 has_numbers o = is_between 1 most_rounds o.rounds && is_between 1 largest_core o.core && is_between 1 most_cycles o.cycles
     && is_between 1 most_processes o.processes && is_between 1 largest_core o.longest && is_between 1 largest_core o.distance
     && is_between 1 greatest_seed o.seed && is_between 1 longest_history o.history && is_limit o.read_limit && is_limit o.write_limit
 
--- from 1 to 16 files, one of which the load file is written, or at least two that fight a league
+-- There are 1 to 16 files: exactly one if its load file is written, and at least two for a league.
 abbrev pub has_files : OptionsValue → Bool
 has_files o = is_between 1 most_warriors (length o.files) && (not o.load || length o.files == 1) && (not o.league || nat_le 2 (length o.files))
 
--- at most one of the debugger, a league and a load file is asked for
+-- At most one of the debugger, a league and a load file is requested.
 abbrev pub has_one_mode : OptionsValue → Bool
 has_one_mode o = not (o.debugger && o.league) && not (o.debugger && o.load) && not (o.league && o.load)
 
--- a position is given for the second of two warriors, at least the least distance from the first one both ways round the core
+-- A position is given for exactly two warriors, and is at least the minimum distance from the first one in both directions
+-- around the core.
 abbrev pub is_fitting : OptionsValue → ℕ → Bool
 is_fitting o position = length o.files == 2 && not o.league && nat_le o.distance position && nat_le (position + o.distance) o.core
 
+-- There is no position, or it fits.
 abbrev pub has_fitting_position : OptionsValue → Bool
 has_fitting_position o = option_map_or (is_fitting o) o.fixed true
 
+-- The options are allowed: ranges, number of files, modes and position.
 abbrev pub are_allowed : OptionsValue → Bool
 are_allowed o = has_numbers o && has_files o && has_one_mode o && has_fitting_position o
 
+-- The options that the arguments say.
 abbrev pub said_by : List Text → OptionsValue
 said_by words = options_of (matches_of mars words)
 
--- The words ask for what they say, where `clap` takes them as those of the program and they are allowed. The kinds of its
--- fault are none where it takes them.
+-- The arguments request the options `o`: `clap` accepts them (it has no error), and the options are allowed.
 pub record Ask (words : List Text) (o : OptionsValue) : Type 0 where
   pub taken : fault_of mars words ≡ []
   pub said : said_by words ≡ o
   pub allowed : are_allowed o ≡ true
 
+-- The arguments request the help: this is the error of `clap`.
 abbrev pub AskForHelp : List Text → Type 0
 AskForHelp words = IsAmong kind.DisplayHelp (fault_of mars words)
 
+-- Whether an error of `clap` is a request for the help.
 abbrev pub is_help : ErrorKind → Bool
 is_help kind.DisplayHelp = true
 is_help _ = false
 
--- the words are bad: `clap` refuses them, or they ask for what isn't allowed
+-- The arguments are bad: `clap` rejects them, or the options are not allowed.
 abbrev pub AreBad : List Text → Type 0
 AreBad words = ((k : ErrorKind) × IsAmong k (fault_of mars words) × (is_help k ≡ false))
     ⊎ ((fault_of mars words ≡ []) × (are_allowed (said_by words) ≡ false))
 
--- the result is what the words ask for, unless memory ran out
+-- The result is what the arguments request: options, the help, or an error. `OutOfMemory` is always possible.
 abbrev pub Reads : List Text → Result Options WordsFault → Type 0
 Reads words (Ok o) = Ask words (value_of o)
 Reads words (Err (fault.Help text)) = AskForHelp words
 Reads words (Err fault.BadWords) = AreBad words
 Reads words (Err fault.OutOfMemory) = ⊤
 
--- the parameters that the words ask for: a limit that isn't given is the core size
+-- The parameters that the options say. A limit that isn't given is the core size.
 abbrev pub parameters_of : Options → Parameters
 parameters_of o = record {
   core_size = o.core;

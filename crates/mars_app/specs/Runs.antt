@@ -1,4 +1,4 @@
--- What a run that ends well has done.
+-- What a run that ends without an error has done.
 use Rattle.std.specs.Prelude.{◌≡◌, ℕ, false, true, List, ◌++◌, map, Option, Ok, string_bytes}
 use Rattle.std.specs.List.{flat_map}
 use Rattle.mars_cell.specs.Warriors.{WarriorValue}
@@ -14,7 +14,7 @@ use Rattle.mars_app.specs.Streams.{StreamsValue, Writes}
 use Rattle.mars_app.specs.Options.{Ask, AskForHelp, value_of}
 use Rattle.mars_app.specs.declared.options.Options.{Options}
 
--- what the words ask for: options, how they have a contest held, and the warriors of their files
+-- What the arguments request: options, the setup that they describe, and the warriors of their files.
 pub record Asked (words : List (List ℕ)) (known : List ℕ → Option (List ℕ)) : Type 0 where
   pub options : Options
   pub setup : Setup
@@ -23,8 +23,8 @@ pub record Asked (words : List (List ℕ)) (known : List ℕ → Option (List �
   pub held : IsSetupOf options setup
   pub loaded : AreLoaded known setup.params options.rounds (contest_size options) (map (λ name. string_bytes name) options.files.items) warriors
 
--- It has written a help that was asked for; or the warrior's load file; or it has debugged the battle of the first round; or it has written
--- the listing of a match or a league, and its results. The debugger alone reads the input.
+-- The run has written the help; or the load file of the warrior; or has debugged the battle of the first round; or has written
+-- the listing and the results of a match or a league. Only the debugger reads the input.
 pub data RunsWell (words : List (List ℕ)) (known : List ℕ → Option (List ℕ)) (old new : StreamsValue) : Type 0 where
   helped : AskForHelp words → (text : List ℕ) → Writes old new text → RunsWell words known old new
   written : (asked : Asked words known) → asked.options.load ≡ true

@@ -1,9 +1,9 @@
--- The exit statuses of faults.
+-- The exit statuses of errors.
 use Rattle.std.specs.Prelude.{ℕ}
 use Rattle.mars_app.specs.declared.fault.RunFault.{RunFault}
 use Rattle.mars_app.specs.declared.fault.RunFault.TheVariants.{Words, Parameters, Formula, CannotRead, TooLarge, Assembly, Load, Placement, Battle, Score, OutOfMemory, Output, Commands}
 
--- 2 for a fault of the words, 1 for one of input or files
+-- 2 for an error of the arguments, 1 for every other error.
 abbrev pub status_of : RunFault → ℕ
 status_of Words = 2
 status_of (Parameters fault) = 2

@@ -1,4 +1,4 @@
-//! The words that follow the program's name, as `clap` reads them.
+//! The arguments of the program, as `clap` parses them.
 ghost use Rattle.std.specs.Prelude.{◌≡◌, ◌++◌, false, IfOk, map, pos};
 ghost use Rattle.clap.specs.Simple.{app_of};
 ghost use Rattle.clap.specs.Walk.{rule_of};
@@ -12,13 +12,13 @@ use mars_cell::{LARGEST_CORE, MOST_CYCLES, MOST_PROCESSES};
 use mars_match::GREATEST_SEED;
 use std::alloc::{AllocError, Global};
 
-/// How many rounds a match has at most.
+/// Maximum number of rounds of a match.
 pub const MOST_ROUNDS: u32 = 100_000;
 
-/// How many places a history keeps at most beside the present one.
+/// Maximum number of places that a history keeps beside the last one.
 pub const LONGEST_HISTORY: u32 = 1_000_000;
 
-/// What stands below the words in the help.
+/// Text after the list of options in the help.
 const AFTER_HELP: &str = "\
 -e, --league and --load exclude each other. -F requires two warriors and no league.
 
@@ -32,41 +32,41 @@ Exit status: 0 success, 1 error in input or files, 2 usage error.
 Example: mars -r 100 -b -o imp.red dwarf.red
 See README.md and docs/user/REFERENCE.md; `corewar explain` explains errors.";
 
-/// What follows a word.
+/// The value that follows an option.
 #[derive(Clone, Copy)]
 enum Value {
-    /// Nothing: the word itself does something.
+    /// No value: the option itself has an action.
     Flag(ArgAction),
-    /// A number from 1 to a greatest one.
+    /// A number from 1 to this one.
     Number(u32),
-    /// A formula of points.
+    /// A score formula.
     Formula,
 }
 
-/// Takes the numbers from 1 to a greatest one.
+/// Returns a parser of the numbers from 1 to `greatest`.
 fn number_parser<'a>(greatest: u32) -> ValueParser<'a>
     ensures { result ≡ Signed (pos 1) (pos greatest) }
 {
     value_parser!(u32).range(1..=i64::from(greatest))
 }
 
-/// A word, with its line in the help.
+/// An option, with its line in the help.
 #[derive(Clone, Copy)]
 struct Word {
-    /// It stands above the word in the help.
+    /// Heading above the option in the help.
     heading: &'static str,
-    /// It stands behind two minus where the word has no letter.
+    /// Name after two minus, used if the option has no letter.
     name: &'static str,
-    /// It stands behind one minus.
+    /// Letter after one minus.
     letter: Option<char>,
     value: Value,
-    /// The value where the word isn't given.
+    /// Value if the option isn't given.
     default: Option<&'static str>,
     help: &'static str,
 }
 
 impl Word {
-    /// The word as `clap` takes it.
+    /// Returns the option as an argument of `clap`.
     fn arg<'a>(&self, alloc: Global) -> Arg<'a>
         ensures rule { rule_of result ≡ rule_of_word self.now }
         ensures local { result.global ≡ false }
@@ -83,7 +83,7 @@ impl Word {
         }
     }
 
-    /// An argument that is reached by the letter or the name of the word.
+    /// Returns an argument that is given by the letter or the name of the option.
     fn reached<'a>(&self, alloc: Global) -> Arg<'a>
         ensures rule { rule_of result ≡ reached self.now.letter self.now.name.now }
         ensures local { result.global ≡ false }
@@ -95,7 +95,7 @@ impl Word {
     }
 }
 
-/// A row for each word, in the order of the help.
+/// The options, in the order of the help.
 static WORDS: [Word; 18] = [
     Word {
         heading: "Match",
@@ -243,14 +243,14 @@ static WORDS: [Word; 18] = [
     },
 ];
 
-/// The words of the program.
+/// Returns the options of the program.
 fn words() -> &'static [Word]
     ensures { map rule_of_word result.now ≡ contest_rules ++ (core_rules ++ (debugger_rules ++ output_rules)) }
 {
     &WORDS
 }
 
-/// The command before it has a word; its help has no short one.
+/// Returns the command without its options. It has no built-in help option, because `--help` is one of the options.
 fn plain_command<'a>(alloc: Global) -> Command<'a>
     ensures { app_of result ≡ plain_mars }
 {
@@ -263,7 +263,7 @@ fn plain_command<'a>(alloc: Global) -> Command<'a>
         .disable_help_flag(true)
 }
 
-/// The command with all its words.
+/// Returns the command with all its options.
 pub fn command<'a>(alloc: Global) -> Result<Command<'a>, AllocError>
     ensures { IfOk result (λ command. app_of command ≡ mars) }
 {
@@ -276,7 +276,7 @@ pub fn command<'a>(alloc: Global) -> Result<Command<'a>, AllocError>
     Ok(command)
 }
 
-/// The names of the warriors' files.
+/// Returns the argument for the names of the warriors' files.
 fn files<'a>(alloc: Global) -> Arg<'a>
     ensures rule { rule_of result ≡ file_rule }
     ensures local { result.global ≡ false }

@@ -1,4 +1,4 @@
-//! Matches and leagues: the listing of the warriors, the fight, and its results.
+//! Matches and leagues: the listing of the warriors, the match itself, and its results.
 ghost use Rattle.std.specs.Prelude.{◌≡◌, ◌≤◌, ◌++◌, All, IfErr, List, Ok, OnOk, length};
 ghost use Rattle.std.specs.Io.KnownBytes.{Appends};
 ghost use Rattle.mars_cell.specs.Cells.{FitsCore};
@@ -22,7 +22,7 @@ use mars_match::{MatchFault, PlaceFault, Setup, Table, league, rounds, write_res
 use std::alloc::Global;
 use std::io::Write;
 
-/// Writes the listing of the warriors, where it is wanted, fights the match or the league, and writes the results.
+/// Writes the listing of the warriors unless `options.brief` is set, runs the match or league, and writes the results.
 pub fn run_contest<W: Write>(
     alloc: Global,
     options: &Options,
@@ -52,7 +52,7 @@ pub fn run_contest<W: Write>(
     }
 }
 
-/// Fights the match or the league.
+/// Runs the match or league.
 fn hold_contest(
     alloc: Global,
     is_league: bool,
@@ -82,7 +82,7 @@ fn write_table<W: Write>(table: &Table, sorted: bool, output: &mut W) -> Result<
     }
 }
 
-/// The fault of a match: want of memory is the same wherever it came.
+/// Converts the error of a match. A failed allocation at any step is `OutOfMemory`.
 pub fn match_fault(fault: MatchFault) -> RunFault
     ensures { result ≡ fault_of fault }
 {
@@ -96,7 +96,7 @@ pub fn match_fault(fault: MatchFault) -> RunFault
     }
 }
 
-/// Writes a line for each warrior, its load file, and an empty line; nothing where the listing is to be brief.
+/// Writes a line for each warrior, its load file, and an empty line; writes nothing if `brief` is set.
 fn write_listing<W: Write>(
     alloc: Global,
     brief: bool,
@@ -139,7 +139,7 @@ fn write_warrior<W: Write>(
     write_part(output, b"\n")
 }
 
-/// The line before a warrior's load file.
+/// Returns the line before a warrior's load file.
 #[tactic(auto, unfolding(crate::specs::Contests::listing_head))]
 fn listing_head(number: u64, warrior: &Warrior) -> Line
     ensures { result.bytes ≡ listing_head number warrior.now }

@@ -1,8 +1,9 @@
-//! The debugger: it reads lines, makes their calls over a session, and writes what they answer.
+//! The debugger: it reads lines, executes their calls over a session, and writes the replies.
 //!
-//! What it wrote is the transcript of exactly these lines, however they came in pieces, over any reader, writer and tape; after
-//! a failed read that of the whole lines, and after a failed write a beginning of it (`specs/Debugger/Transcript`). All this
-//! stands in arrays of fixed size, so that the calls of the session alone may take memory.
+//! The text that it writes is the transcript of exactly these lines, however they are split into reads, over any reader, writer
+//! and tape. After a failed read, it is the transcript of the complete lines; after a failed write, a beginning of the
+//! transcript (`specs/Debugger/Transcript`). The debugger itself uses only arrays of fixed size, so only the calls of the
+//! session may allocate.
 ghost use Rattle.std.specs.Prelude.{◌≡◌, Bool, [], ◌∷◌, ◌<◌, ◌*◌, OnOk, OnErr};
 ghost use Rattle.std.specs.Io.KnownBytes.{Appends};
 ghost use Rattle.mars_cell.specs.Output.{CutShort};
@@ -27,20 +28,20 @@ use std::io::{Read, Write};
 /// Why the debugger ended before `quit` and the end of its input.
 #[derive(Clone, Copy, Debug, PartialEq, Eq)]
 pub enum DebugFault {
-    /// A read failed, or there were too many.
+    /// A read failed, or the maximum number of reads was reached.
     Read,
     /// A write failed, or took no byte.
     Write,
 }
 
-/// Whether the debugger goes on.
+/// Whether the debugger continues.
 #[derive(Clone, Copy, PartialEq, Eq)]
 pub enum Flow {
     More,
     Quit,
 }
 
-/// Does what a request asks for, and writes the answer.
+/// Executes a request and writes the reply.
 #[tactic(auto, unfolding(crate::specs::Debugger::Transcript::answer))]
 fn execute<W: Write, T: Tape>(
     request: Request,
@@ -67,7 +68,7 @@ fn execute<W: Write, T: Tape>(
     }
 }
 
-/// Takes one byte of the input.
+/// Processes one byte of the input.
 fn take_byte<W: Write, T: Tape>(
     byte: u8,
     line: &mut LineBuffer,
@@ -91,14 +92,15 @@ fn take_byte<W: Write, T: Tape>(
     if request == Request::Quit {
         return Ok(Flow::Quit);
     }
-    // A `match` in place of `?`, here and below: what `execute` says of a failed write is cited by the proof, and `?` hides it.
+    // `match` instead of `?`, here and below: the proof cites the postcondition of `execute` for a failed write, which `?`
+    // hides.
     match execute(request, writer, session) {
         Ok(()) => Ok(Flow::More),
         Err(fault) => Err(fault),
     }
 }
 
-/// Takes some bytes of the input, up to a quit.
+/// Processes bytes of the input, up to a `quit`.
 fn take_bytes<W: Write, T: Tape>(
     chunk: &[u8],
     line: &mut LineBuffer,
@@ -124,7 +126,7 @@ fn take_bytes<W: Write, T: Tape>(
     Ok(Flow::More)
 }
 
-/// Executes the last line, which has no LF, where there is one.
+/// Executes the last line of the input if it has no LF.
 fn take_last_line<W: Write, T: Tape>(
     line: &mut LineBuffer,
     core_size: u32,
@@ -147,35 +149,36 @@ fn take_last_line<W: Write, T: Tape>(
     execute(request, writer, session)
 }
 
-/// The most bytes of one read.
+/// Maximum number of bytes of one read.
 const CHUNK: usize = 4096;
 
-/// The most reads of the debugger.
+/// Maximum number of reads of the debugger.
 const MOST_READS: u64 = 4_294_967_296;
 
-/// Reads lines, up to `quit` or the end of the input, and answers each before the next, in at most so many reads.
+/// Reads lines up to `quit` or the end of the input, in at most `reads` reads. Writes the reply to each line before it executes
+/// the next one.
 pub fn debug_within<R: Read, W: Write, T: Tape>(
     reader: &mut R,
     writer: &mut W,
     session: &mut Session<T>,
     reads: u64,
 ) -> Result<(), DebugFault>
-    // All lines up to a quit, or to the end, are answered.
+    // Success: all lines up to a `quit`, or to the end, were executed and their replies written.
     ensures ok { OnOk result (Completes (core_size_of session.old.state) (R.remaining reader.old) (R.remaining reader.new)
         session.old.state (W.contents writer.old) session.new.state (W.contents writer.new)) }
 
-    // The whole lines that were read are answered, and an unfinished one is not.
+    // A failed read: the replies to the complete lines were written, and an unfinished line was not executed.
     ensures read { result ≡ Err DebugFault.Read → ReadFails (core_size_of session.old.state) (R.remaining reader.old) (R.remaining reader.new)
         session.old.state (W.contents writer.old) session.new.state (W.contents writer.new) }
 
-    // The lines up to one are answered, and of that one's text not all is written.
+    // A failed write: the lines up to one were executed, and the reply to this one was not written completely.
     ensures write { result ≡ Err DebugFault.Write → WriteFails (core_size_of session.old.state) (R.remaining reader.old) (R.remaining reader.new)
         session.old.state (W.contents writer.old) session.new.state (W.contents writer.new) }
 
-    // Each read has at most so many bytes.
+    // Each read returns at most 4,096 bytes.
     ensures few { TakesAtMost (4096 * reads) (R.remaining reader.old) (R.remaining reader.new) }
 
-    // With no read nothing is done.
+    // Without a read nothing is done.
     ensures no_reads { reads ≡ 0 → (result ≡ Err DebugFault.Read) × NothingDone (R.remaining reader.old) (R.remaining reader.new)
         session.old.state (W.contents writer.old) session.new.state (W.contents writer.new) }
 {
@@ -202,7 +205,7 @@ pub fn debug_within<R: Read, W: Write, T: Tape>(
     Err(DebugFault::Read)
 }
 
-/// `debug_within` with at most 4,294,967,296 reads, of at most 4,096 bytes each.
+/// Runs the debugger with at most 4,294,967,296 reads of at most 4,096 bytes each.
 pub fn debug<R: Read, W: Write, T: Tape>(
     reader: &mut R,
     writer: &mut W,

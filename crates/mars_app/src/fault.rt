@@ -1,4 +1,4 @@
-//! What ends a run, and with which status.
+//! The errors that end a run, and their exit statuses.
 ghost use Rattle.std.specs.Prelude.{◌≡◌, ◌≤◌, None};
 
 use mars_cell::{LoadFault, ParamFault};
@@ -9,7 +9,7 @@ use redcode_text::ExprFault;
 use std::fmt::{self, Debug, Formatter};
 use thiserror::Error;
 
-/// Why a run ends with another status than 0. It is displayed as the line for it.
+/// Why a run ends with an exit status other than 0. Its `Display` is the line that is printed.
 #[derive(Drop, Error)]
 pub enum RunFault {
     #[error("mars: bad words")]
@@ -40,7 +40,7 @@ pub enum RunFault {
     Commands,
 }
 
-// As its line: a derive is dear to prove, and `Error` alone asks for this.
+// Prints the same line as `Display`. `Error` requires `Debug`, and a derived one is expensive to prove.
 impl Debug for RunFault {
     ghost debug_output = { λ _. None };
 
@@ -52,7 +52,7 @@ impl Debug for RunFault {
 impl RunFault {
     ghost use Rattle.mars_app.specs.Status.{status_of};
 
-    /// The exit status: 2 for a fault of the words, 1 for one of input or files.
+    /// Returns the exit status: 2 for an error of the arguments, 1 for every other error.
     pub fn status(&self) -> u8
         ensures value { result ≡ status_of self.now }
         ensures range { (1 ≤ result) × (result ≤ 2) }

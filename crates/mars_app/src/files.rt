@@ -1,4 +1,4 @@
-//! Where warriors are read from.
+//! The files from which warriors are read.
 ghost use Rattle.std.specs.Global.{Global};
 ghost use Rattle.std.specs.Prelude.{◌≡◌, ◌≤◌, ℕ, List, [], ◌∷◌, ◌++◌, Option, None, IfErr, IfOk, IfSome, OnErr, OnOk, String, Vec, string_bytes, vec_len};
 ghost use Rattle.mars_app.specs.Loading.{IsUnread};
@@ -11,35 +11,34 @@ use std::rt::Files;
 /// Why a file isn't read.
 #[derive(Clone, Copy, Debug, PartialEq, Eq)]
 pub enum FileFault {
-    /// The file isn't there, or can't be read.
+    /// The file doesn't exist or can't be read.
     CannotRead,
     /// The file has more bytes than the limit.
     TooLarge,
-    /// A growth was refused.
+    /// An allocation failed.
     OutOfMemory,
 }
 
 /// Files by their names.
 pub trait WarriorFiles {
-    /// The bytes of the file of a name, where they are known.
+    /// Content of the file of a name, if it is known.
     ghost known: { Self → List ℕ → Option (List ℕ) } = { λ _ _. None };
 
-    /// The bytes of a file of at most `limit` bytes. One whose bytes are known is read, unless it has more or a growth
-    /// was refused.
+    /// Reads a file of at most `limit` bytes. A file whose content is known is read unless it is larger or an allocation fails.
     fn read(&self, alloc: Global, name: &str, limit: usize) -> Result<Vec<u8>, FileFault>
         ensures few { IfOk result (λ bytes. vec_len bytes ≤ limit) }
         ensures whole { IfOk result (λ bytes. IfSome (known self.now name.now) (λ whole. bytes.items ≡ whole)) }
         ensures unread { IfErr result (IsUnread (known self.now name.now) limit) };
 }
 
-/// Files that are held in memory, for tests.
+/// Files in memory, for tests.
 #[derive(Drop)]
 pub struct MemoryFiles {
     files: Vec<(String, Vec<u8>)>,
 }
 
 impl MemoryFiles {
-    /// No files.
+    /// Returns an empty set of files.
     pub fn new(alloc: Global) -> MemoryFiles
         ensures { result.files.items ≡ [] }
     {
@@ -48,7 +47,8 @@ impl MemoryFiles {
         }
     }
 
-    /// One file more, behind the others: of those of one name the first is read. Where a growth is refused, the files stay.
+    /// Adds a file after the others. If several files have the same name, the first one is read. If an allocation fails, the
+    /// files are unchanged.
     pub fn add(&mut self, alloc: Global, name: &str, bytes: &[u8]) -> Result<(), AllocError>
         ensures ok { OnOk result ((file : String Global × Vec ℕ Global) × (string_bytes file.0 ≡ name.now) × (file.1.items ≡ bytes.now)
             × (self.new.files.items ≡ self.old.files.items ++ file ∷ [])) }
@@ -84,7 +84,7 @@ impl WarriorFiles for MemoryFiles {
     }
 }
 
-/// The files of the system.
+/// The files of the file system.
 #[derive(Drop)]
 pub struct SystemFiles<'r, R: Files>(pub &'r R);
 

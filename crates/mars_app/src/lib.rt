@@ -1,11 +1,15 @@
-//! The program `mars`, over files and streams that are handed in: it assembles warriors of Core War, fights matches and
+//! The program `mars`, over files and streams that its caller passes: it assembles warriors of Core War, runs matches and
 //! leagues, and debugs battles backwards as well as forwards.
 //!
-//! The layer above may use: `run` writes what words ask for (`specs/Runs`), or tells the fault that ended it
-//! (`specs/Faults`) by a line and the exit status (`specs/Status`); `start` does so for the words behind the program's name.
-//! Files are `SystemFiles`, or `MemoryFiles`; the input and the output are `Streams` (`specs/Streams`). `debug` is the debugger by
-//! itself (`specs/Debugger/Transcript`): it reads lines up to `quit` or the end of its input, and answers each before the next,
-//! over any reader, writer and tape; `debug_within` does so in at most so many reads.
+//! - `run` writes what its arguments request (`specs/Runs`), or returns the exit status (`specs/Status`) of the error that
+//!   ended it (`specs/Faults`) and prints this error as one line. `start` does this for the arguments with which the program
+//!   was started.
+//! - Files are `SystemFiles` or `MemoryFiles`; input and output are `Streams` (`specs/Streams`).
+//! - `debug` is the debugger on its own (`specs/Debugger/Transcript`), over any reader, writer and tape: it reads lines up to
+//!   `quit` or the end of its input, and writes the reply to each before it executes the next. `debug_within` does this in a
+//!   limited number of reads.
+//!
+//! All of this is proved, except for the line that is printed for an error.
 #![tactic(auto)]
 
 mod command_line;

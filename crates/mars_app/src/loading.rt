@@ -1,4 +1,4 @@
-//! Warriors from their files.
+//! Loading warriors from files.
 ghost use Rattle.std.specs.Prelude.{◌≡◌, All, IfErr, IfOk, Some, false, length, map, string_bytes, true, vec_len};
 ghost use Rattle.mars_cell.specs.Cells.{FitsCore};
 ghost use Rattle.mars_app.specs.Code.Blames.{IsAssemblyFault, IsLoadFault};
@@ -11,19 +11,19 @@ use mars_cell::{LoadFault, Params, Warrior, read_load, write_load};
 use redcode_asm::{AsmFault, AsmProblem, assemble, assemble_load};
 use std::alloc::{AllocError, Global};
 
-/// The most bytes of a warrior's file.
+/// Maximum size of a warrior's file in bytes.
 const LARGEST_FILE: usize = 1_048_576;
 
-/// The contest that warriors are assembled for.
+/// The parameters of a match, with which its warriors are assembled.
 #[derive(Clone, Copy)]
 pub struct Contest<'p> {
     pub params: &'p Params,
     pub rounds: u32,
-    /// How many warriors meet.
+    /// Number of warriors of a battle: the value of WARRIORS.
     pub warriors: u32,
 }
 
-/// The warriors of the files, in order; each file is read once those before it are.
+/// Loads the warriors of the files, in order. Stops at the first file that fails.
 pub fn load_warriors<F: WarriorFiles>(
     alloc: Global,
     files: &F,
@@ -49,7 +49,7 @@ pub fn load_warriors<F: WarriorFiles>(
     Ok(warriors)
 }
 
-/// The load file of a warrior's file: a source is assembled, and a load file is written anew.
+/// Returns the load file of the warrior of a file. A source is assembled; a load file is read and written again.
 pub fn load_file_of<F: WarriorFiles>(
     alloc: Global,
     files: &F,
@@ -79,7 +79,7 @@ pub fn load_file_of<F: WarriorFiles>(
     }
 }
 
-/// The bytes of a file.
+/// Returns the content of a file.
 fn read_file<F: WarriorFiles>(alloc: Global, files: &F, name: &str) -> Result<Vec<u8>, RunFault>
     ensures ok { IfOk result (λ bytes. IsRead (F.known files.now) name.now bytes.items) }
     ensures err { IfErr result (IsUnreadFile (F.known files.now) name.now) }
@@ -98,7 +98,7 @@ fn read_file<F: WarriorFiles>(alloc: Global, files: &F, name: &str) -> Result<Ve
     })
 }
 
-/// A file's name as a fault shows it: each control character is `?`, so that the fault stays one line.
+/// Returns a file's name for an error message: each control character is shown as `?`, so that the message is one line.
 fn shown_name(alloc: Global, name: &str) -> Result<String, AllocError>
     ensures { IfOk result (λ shown. string_bytes shown ≡ shown_name name.now) }
 {
@@ -109,7 +109,7 @@ fn shown_name(alloc: Global, name: &str) -> Result<String, AllocError>
     Ok(shown)
 }
 
-/// A character of a name as a fault shows it.
+/// Returns a character of a name for an error message.
 fn shown_character(character: char) -> char
     ensures { result ≡ shown_character character }
 {
@@ -126,7 +126,7 @@ fn is_load_file(name: &str) -> bool
     name.as_bytes().ends_with(b".load")
 }
 
-/// The warrior of a file: where its name ends in `.load` a load file, else a source.
+/// Returns the warrior of a file: a load file if its name ends in `.load`, otherwise a source.
 fn read_warrior(
     alloc: Global,
     name: &str,
@@ -144,7 +144,7 @@ fn read_warrior(
     assemble_file(alloc, name, bytes, contest)
 }
 
-/// The warrior of a load file.
+/// Returns the warrior of a load file.
 fn read_load_file(
     alloc: Global,
     name: &str,
@@ -163,7 +163,7 @@ fn read_load_file(
     }
 }
 
-/// The warrior of a source.
+/// Returns the warrior of a source.
 fn assemble_file(
     alloc: Global,
     name: &str,
@@ -187,7 +187,7 @@ fn assemble_file(
     }
 }
 
-/// The fault of a load file: its line is 0 where the fault has none.
+/// Converts the error of a load file. Its line is 0 if the error has none.
 fn load_fault(alloc: Global, name: &str, fault: LoadFault) -> RunFault
     ensures { IsLoadFault name.now fault result }
 {
@@ -202,7 +202,7 @@ fn load_fault(alloc: Global, name: &str, fault: LoadFault) -> RunFault
     }
 }
 
-/// The fault of a source.
+/// Converts the error of a source.
 fn assembly_fault(alloc: Global, name: &str, fault: AsmFault) -> RunFault
     ensures { IsAssemblyFault name.now fault result }
 {

@@ -1,4 +1,4 @@
-//! The words of the program.
+//! The options of the program.
 ghost use Rattle.std.specs.Prelude.{◌≡◌, [], Err, IfErr, IfOk, IfSome, IsTrue, codes, map, string_bytes, unwrap_or};
 ghost use Rattle.clap.specs.Faults.{fault_of};
 ghost use Rattle.clap.specs.Matches.{found_of};
@@ -19,14 +19,14 @@ use mars_core::MOST_WARRIORS;
 use mars_match::GREATEST_SEED;
 use std::alloc::{AllocError, Global};
 
-/// Why the words aren't taken.
+/// Why the arguments are rejected, or what is printed instead of a run.
 #[derive(Drop)]
 pub enum WordsFault {
-    /// The words aren't those of the program.
+    /// The arguments are invalid.
     BadWords,
-    /// The help was asked for: this is its text.
+    /// The help is requested; the value is its text.
     Help(String),
-    /// A growth was refused.
+    /// An allocation failed.
     OutOfMemory,
 }
 
@@ -41,10 +41,10 @@ impl From<AllocError> for WordsFault {
     }
 }
 
-/// What the words ask for. A limit or a position that isn't given is `None`.
+/// The options. A limit or a position that isn't given is `None`.
 #[derive(Drop)]
 pub struct Options {
-    /// The names of the warriors' files, in order.
+    /// Names of the warriors' files, in order.
     pub files: Vec<String>,
     pub rounds: u32,
     pub core: u32,
@@ -52,7 +52,7 @@ pub struct Options {
     pub processes: u32,
     pub longest: u32,
     pub distance: u32,
-    /// Where the second warrior is laid, in every round.
+    /// Address of the second of two warriors in every round.
     pub fixed: Option<u32>,
     /// Whether the battle of round 0 is debugged.
     pub debugger: bool,
@@ -61,22 +61,25 @@ pub struct Options {
     /// Whether the results are sorted by points.
     pub sorted: bool,
     pub seed: u32,
-    /// The text of the score formula.
+    /// Text of the score formula.
     pub score: String,
-    /// Whether every pair of warriors fights.
+    /// Whether a league is run: a match of each two warriors.
     pub league: bool,
-    /// Whether the load file of the one warrior is written.
+    /// Whether the load file of the only warrior is written.
     pub load: bool,
     pub read_limit: Option<u32>,
     pub write_limit: Option<u32>,
-    /// How many places the debugger's history keeps beside the last one.
+    /// Number of places that the debugger's history keeps beside the last one.
     pub history: u32,
 }
 
-/// Reads the words that follow the program's name.
+/// Parses the command-line arguments, without the program's name.
 ///
-/// BadWords comes where `clap` doesn't take them as those of the program, or where they ask for what isn't allowed; Help
-/// where no bad word stands left of `--help`; OutOfMemory only where a growth was refused.
+/// # Errors
+///
+/// - `BadWords` if `clap` rejects an argument, or if the options are not allowed
+/// - `Help`, with the text to print, if `--help` is given and no argument to its left is invalid
+/// - `OutOfMemory` if an allocation fails
 pub fn read_options(alloc: Global, words: &[String]) -> Result<Options, WordsFault>
     ensures value { Reads (map (λ word. string_bytes word) words.now) result }
     ensures range { IfOk result AreInRange }
@@ -90,7 +93,7 @@ pub fn read_options(alloc: Global, words: &[String]) -> Result<Options, WordsFau
     }
 }
 
-/// What `clap` makes of the words, before it is asked whether that is allowed.
+/// Returns the arguments as `clap` matches them, before the options are checked.
 fn matches_of<'a>(alloc: Global, words: &'a [String]) -> Result<ArgMatches<'a>, WordsFault>
     ensures ok { IfOk result (λ matches. (fault_of mars (map (λ word. string_bytes word) words.now) ≡ [])
         × (rows_of (found_of matches) ≡ matches_of mars (map (λ word. string_bytes word) words.now))) }
@@ -102,7 +105,7 @@ fn matches_of<'a>(alloc: Global, words: &'a [String]) -> Result<ArgMatches<'a>, 
     }
 }
 
-/// What the words say.
+/// Returns the options of these matches.
 fn options_of(alloc: Global, matches: &ArgMatches<'_>) -> Result<Options, AllocError>
     ensures { IfOk result (λ options. value_of options ≡ options_of (rows_of (found_of matches.now))) }
 {
@@ -128,7 +131,7 @@ fn options_of(alloc: Global, matches: &ArgMatches<'_>) -> Result<Options, AllocE
     })
 }
 
-/// Whether what the words say is allowed.
+/// Returns whether the options are allowed.
 fn are_allowed(options: &Options) -> bool
     ensures value { result ≡ are_allowed (value_of options.now) }
     ensures used { IsTrue result → AreInRange options.now }
@@ -139,8 +142,8 @@ fn are_allowed(options: &Options) -> bool
         && has_fitting_position(options)
 }
 
-/// Whether each number is in its range. `clap` has tested that where it read the words; what it promises of it speaks of
-/// the command that it builds from ours, so the proofs take it from this test.
+/// Returns whether each number is in its range. `clap` has checked this already, but its contracts are about the command that
+/// it builds from ours, so the proofs use this check.
 fn has_numbers(options: &Options) -> bool
     ensures value { result ≡ has_numbers (value_of options.now) }
     ensures used { IsTrue result → HaveNumbers options.now }
@@ -164,7 +167,7 @@ fn is_between(least: u32, greatest: u32, n: u32) -> bool
     least <= n && n <= greatest
 }
 
-/// Whether a limit that is given is one of a core.
+/// Returns whether a limit, if it is given, is a number of cells of a core.
 fn is_limit(limit: Option<u32>) -> bool
     ensures value { result ≡ is_limit limit }
     ensures used { IsTrue result → IfSome limit (IsBetween 1 largest_core) }
@@ -175,7 +178,7 @@ fn is_limit(limit: Option<u32>) -> bool
     }
 }
 
-/// Whether there are from 1 to 16 files, one to write the load file of, and at least two for a league.
+/// Returns whether there are 1 to 16 files: exactly one to write its load file, and at least two for a league.
 fn has_files(options: &Options) -> bool
     ensures value { result ≡ has_files (value_of options.now) }
     ensures used { IsTrue result → HaveFiles options.now }
@@ -187,7 +190,7 @@ fn has_files(options: &Options) -> bool
         && (!options.league || 2 <= count)
 }
 
-/// Whether at most one of the debugger, a league and a load file is asked for.
+/// Returns whether at most one of the debugger, a league and a load file is requested.
 fn has_one_mode(options: &Options) -> bool
     ensures { result ≡ has_one_mode (value_of options.now) }
 {
@@ -196,8 +199,8 @@ fn has_one_mode(options: &Options) -> bool
         && !(options.league && options.load)
 }
 
-/// Whether a position that is given is that of the second of two warriors, at least the least distance from the first one
-/// both ways round the core.
+/// Returns whether a position, if it is given, is for two warriors and is at least the minimum distance from the first one in
+/// both directions around the core.
 fn has_fitting_position(options: &Options) -> bool
     ensures value { result ≡ has_fitting_position (value_of options.now) }
     ensures used { IsTrue result → HaveFittingPosition options.now }
@@ -213,35 +216,35 @@ fn has_fitting_position(options: &Options) -> bool
     }
 }
 
-/// The number of a word, or 0 where it has none.
+/// Returns the number of an option, or 0 if it has none.
 fn number(matches: &ArgMatches<'_>, word: &str) -> u32
     ensures { result ≡ number word.now (rows_of (found_of matches.now)) }
 {
     given_number(matches, word).unwrap_or(0)
 }
 
-/// The number of a word, where it is given.
+/// Returns the number of an option, or `None` if it has none.
 fn given_number(matches: &ArgMatches<'_>, word: &str) -> Option<u32>
     ensures { result ≡ given_number word.now (rows_of (found_of matches.now)) }
 {
     matches.get_one(word)
 }
 
-/// Whether a word without a value is given.
+/// Returns whether an option without a value is given.
 fn is_given(matches: &ArgMatches<'_>, word: &str) -> bool
     ensures { result ≡ is_given word.now (rows_of (found_of matches.now)) }
 {
     matches.get_one(word).unwrap_or(false)
 }
 
-/// The text of the score formula.
+/// Returns the text of the score formula.
 fn score(alloc: Global, matches: &ArgMatches<'_>) -> Result<String, AllocError>
     ensures { IfOk result (λ score. string_bytes score ≡ unwrap_or (first_of (codes "score") (rows_of (found_of matches.now))) []) }
 {
     String::from_str(alloc, matches.get_str("score").unwrap_or(""))
 }
 
-/// The names of the warriors' files.
+/// Returns the names of the warriors' files.
 fn files(alloc: Global, matches: &ArgMatches<'_>) -> Result<Vec<String>, AllocError>
     ensures { IfOk result (λ files. map (λ name. string_bytes name) files.items
         ≡ unwrap_or (all_of (codes "FILE") (rows_of (found_of matches.now))) []) }
@@ -256,7 +259,7 @@ fn files(alloc: Global, matches: &ArgMatches<'_>) -> Result<Vec<String>, AllocEr
     Ok(files)
 }
 
-/// What an error of `clap` comes to.
+/// Converts an error of `clap`.
 fn fault_of(alloc: Global, error: &clap::Error) -> WordsFault
     ensures { IsFaultOf (kind_of error.now) result }
 {

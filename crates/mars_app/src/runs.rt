@@ -1,4 +1,4 @@
-//! The program `mars`, over files and streams that are handed in.
+//! The program `mars`, over files and streams that its caller passes.
 ghost use Rattle.std.specs.Prelude.{◌≡◌, ◌≢◌, ◌≤◌, ◌⊎◌, ℕ, IfErr, IfOk, List, Ok, OnOk, length, map, string_bytes, vec_len};
 ghost use Rattle.std.specs.Global.{Global};
 ghost use Rattle.mars_core.specs.State.{State};
@@ -33,11 +33,11 @@ use redcode_asm::{Formula, FormulaFault};
 use std::alloc::Global;
 use std::io::{Read, Write};
 
-/// Runs the program on the words after its name, and gives its exit status.
+/// Runs the program with these arguments, which don't include its name, and returns its exit status.
 ///
 /// With status 0 it has written the help, a load file, the transcript of a debugged battle, or the listing and results of a
-/// match or a league; another status is that of the first fault. A fault is one line on `faults`; where that can't be
-/// written, the status is the same. The debugger alone reads the input.
+/// match or a league. Any other status is that of the first error, which is printed as one line to `faults`; if this line can't
+/// be written, the status is the same. Only the debugger reads the input.
 pub fn run<F: WarriorFiles, R: Read, W: Write, E: Write>(
     alloc: Global,
     words: &[String],
@@ -59,8 +59,9 @@ pub fn run<F: WarriorFiles, R: Read, W: Write, E: Write>(
     }
 }
 
-/// Writes the line of a fault in one piece, so that lines of programs that run side by side don't mix; in several where
-/// memory is refused.
+/// Writes an error as one line, with a single write so that the lines of concurrent programs don't interleave.
+///
+/// Falls back to several writes if there is no memory for the line.
 pub fn write_fault<E: Write>(alloc: Global, fault: &RunFault, faults: &mut E) {
     let _ = match format!(in alloc; "{fault}\n") {
         Ok(line) => faults.write_all(line.as_str().as_bytes()),
@@ -85,7 +86,7 @@ fn run_words<F: WarriorFiles, R: Read, W: Write>(
     }
 }
 
-/// Does what the options ask for, whatever the words that said them.
+/// Does what the options say, whatever the arguments were that said so.
 fn run_options<F: WarriorFiles, R: Read, W: Write>(
     alloc: Global,
     options: &Options,
@@ -100,12 +101,12 @@ fn run_options<F: WarriorFiles, R: Read, W: Write>(
 {
     let setup = setup_of(alloc, options)?;
     let done = carry_out(alloc, options, &setup, files, streams);
-    // By a call, since each way out of this body would prove the drop anew.
+    // An explicit call of `drop`, because otherwise each exit of this body would prove the drop again.
     drop(setup);
     done
 }
 
-/// What options come to before any file is read: judges the parameters, and then the formula.
+/// Returns the setup of a match from the options, before any file is read. Checks the parameters first, and then the formula.
 fn setup_of(alloc: Global, options: &Options) -> Result<Setup, RunFault>
     ensures ok { IfOk result (IsSetupOf options.now) }
     ensures err { IfErr result (IsRefused options.now) }
@@ -131,7 +132,7 @@ fn setup_of(alloc: Global, options: &Options) -> Result<Setup, RunFault>
     }
 }
 
-/// Reads the warriors of the files, and does with them what the options ask for.
+/// Reads the warriors of the files, and does with them what the options say.
 #[tactic(auto, using(crate::proofs::Positions::position_fits))]
 fn carry_out<F: WarriorFiles, R: Read, W: Write>(
     alloc: Global,
@@ -157,12 +158,12 @@ fn carry_out<F: WarriorFiles, R: Read, W: Write>(
     }
     let warriors = load_warriors(alloc, files, options.files.as_slice(), contest)?;
     let done = play(alloc, options, setup, &warriors, streams);
-    // By a call, as in `run_options`.
+    // An explicit call of `drop`, as in `run_options`.
     drop(warriors);
     done
 }
 
-/// Debugs the battle of the warriors, or holds their contest.
+/// Debugs the battle of the warriors, or runs their match or league.
 fn play<R: Read, W: Write>(
     alloc: Global,
     options: &Options,
@@ -177,7 +178,7 @@ fn play<R: Read, W: Write>(
     requires position { FitsTwo setup.now.params (length warriors.now) options.now.fixed }
     requires history { IsBetween 1 longest_history options.now.history }
 
-    // What the options ask for was written, or a beginning of it.
+    // If it succeeds, what the options request was written; on an error, a beginning of it.
     ensures ok { OnOk result (PlaysWell options.now setup.now warriors.now streams.old streams.new) }
     ensures err { IfErr result (PlaysInPart options.now setup.now warriors.now streams.old streams.new) }
 {
@@ -187,7 +188,7 @@ fn play<R: Read, W: Write>(
     run_contest(alloc, options, setup, warriors, &mut streams.output)
 }
 
-/// The parameters that the words ask for: a limit that isn't given is the core size.
+/// Returns the parameters of the options. A limit that isn't given is the core size.
 fn parameters(options: &Options) -> Result<Params, ParamFault>
     ensures value { result ≡ checked_parameters (parameters_of options.now) }
     ensures core { IfOk result (λ p. p.core_size ≡ options.now.core) }
@@ -204,7 +205,7 @@ fn parameters(options: &Options) -> Result<Params, ParamFault>
     )
 }
 
-/// How many warriors meet: in a league two, else all.
+/// Returns the number of warriors of a battle: two in a league, all otherwise.
 fn contest_size(options: &Options) -> u32
     requires { vec_len options.now.files ≤ most_warriors }
     ensures { result ≡ contest_size options.now }
@@ -216,7 +217,7 @@ fn contest_size(options: &Options) -> u32
     }
 }
 
-/// Writes the load file of a warrior's file.
+/// Writes the load file of the warrior of a file.
 fn write_load_file_of<F: WarriorFiles, R: Read, W: Write>(
     alloc: Global,
     files: &F,
@@ -235,7 +236,7 @@ fn write_load_file_of<F: WarriorFiles, R: Read, W: Write>(
     streams.write(&text)
 }
 
-/// Debugs the battle of round 0 by the lines of the input, with a history that keeps so many places beside the last one.
+/// Debugs the battle of round 0 with the lines of the input, with a history that keeps `history` places beside the last one.
 fn debug_round<R: Read, W: Write>(
     alloc: Global,
     setup: &Setup,
@@ -281,7 +282,7 @@ fn debug_battle<R: Read, W: Write>(
     };
     let mut session = Session::new(tape, u64::from(history));
     let debugged = debug(&mut streams.input, &mut streams.output, &mut session);
-    // By a call, as in `run_options`.
+    // An explicit call of `drop`, as in `run_options`.
     drop(session);
     match debugged {
         Ok(()) => Ok(()),

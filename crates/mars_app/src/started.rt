@@ -1,4 +1,4 @@
-//! The program as it was started.
+//! The program with the arguments with which it was started.
 ghost use Rattle.std.specs.Prelude.{◌≡◌, ◌≢◌, ◌⊎◌, ℕ, IfErr, List};
 ghost use Rattle.mars_app.specs.Streams.{Untouched};
 ghost use Rattle.mars_app.specs.Faults.{RunFails};
@@ -14,9 +14,9 @@ use std::alloc::Global;
 use std::env::{self, Env, FillError};
 use std::io::{ErrorKind, Read, Write};
 
-/// Runs the program on the words that it was started with, and gives its exit status, as `run` does.
+/// Runs the program with the arguments with which it was started, and returns its exit status, as `run` does.
 ///
-/// A word that isn't UTF-8 is bad words: nothing is read or written on `streams` then.
+/// An argument that isn't UTF-8 is an invalid argument: nothing is read or written on `streams` then.
 pub fn start<V: Env, F: WarriorFiles, R: Read, W: Write, E: Write>(
     alloc: Global,
     env: &V,
@@ -38,8 +38,8 @@ pub fn start<V: Env, F: WarriorFiles, R: Read, W: Write, E: Write>(
     }
 }
 
-/// The words behind the program's own name. The name isn't judged: whoever starts the program gives it, and it need not
-/// be text.
+/// Returns the arguments after the program's name. The name isn't checked: the caller of the program chooses it, and it need
+/// not be text.
 fn words_behind_name<E: Env>(alloc: Global, env: &E) -> Result<Vec<String>, RunFault>
     ensures { IfErr result (λ fault. (fault ≡ RunFault.Words) ⊎ (fault ≡ RunFault.OutOfMemory)) }
 {
@@ -54,7 +54,7 @@ fn words_behind_name<E: Env>(alloc: Global, env: &E) -> Result<Vec<String>, RunF
     Ok(words)
 }
 
-/// An environment without the program's own name: its first word is the one behind that.
+/// An environment without the program's name: its first argument is the one after the name.
 #[derive(Drop)]
 struct BehindName<'e, E>(&'e E);
 

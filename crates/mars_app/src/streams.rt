@@ -1,4 +1,4 @@
-//! What a run reads and writes, beside files and the line of its fault.
+//! The input and output of a run, except files and the line of an error.
 ghost use Rattle.std.specs.Prelude.{◌≡◌, IfErr, OnOk};
 ghost use Rattle.mars_app.specs.Streams.{Writes, WritesInPart};
 
@@ -7,8 +7,9 @@ use crate::fault::RunFault;
 use std::io::{Read, Write};
 use std::marker::Model;
 
-/// The input, which the debugger alone reads, and the output. A clause sees the bytes that the one has left and the other
-/// holds, where they are known.
+/// The input, which only the debugger reads, and the output.
+///
+/// In contracts, their value is the bytes that the input has left and the bytes that the output has, if they are known.
 #[derive(Drop)]
 pub struct Streams<R: Read, W: Write> {
     pub input: R,

@@ -1,4 +1,4 @@
-//! Runs of `mars_app`, by its calls.
+//! Tests of `mars_app` by its public calls.
 #![tactic(auto)]
 
 #[cfg(test)]

@@ -1,7 +1,7 @@
 //! Runs over files in memory.
 //!
-//! Files are handed to functions that borrow them, and then to `drop`: where they go out of scope by themselves, each such
-//! body proves anew how they are dropped.
+//! Functions borrow the files, and then they are passed to `drop`: if they went out of scope implicitly, each such body would
+//! prove again how they are dropped.
 
 mod battles;
 mod contests;
@@ -20,7 +20,7 @@ const IMP: &[u8] = b"ORG 0\nMOV.I $0, $1\n";
 
 const DWARF: &[u8] = b"ADD #4, 3\nMOV 2, @2\nJMP -2\nDAT #0, #0\n";
 
-/// What a run answered: the status, and what it wrote.
+/// The result of a run: its status, and what it wrote.
 #[derive(Drop)]
 struct Outcome {
     status: u8,
@@ -36,7 +36,7 @@ fn words_of(alloc: Global, words: &[&str]) -> Result<Vec<String>, Fail> {
     Ok(all)
 }
 
-/// Appends a text so many times.
+/// Appends a text `count` times.
 fn repeat(all: &mut Vec<u8>, text: &[u8], count: u32) -> Result<(), Fail> {
     for _ in 0..count {
         all.extend_from_slice(text)?;
@@ -44,7 +44,7 @@ fn repeat(all: &mut Vec<u8>, text: &[u8], count: u32) -> Result<(), Fail> {
     Ok(())
 }
 
-/// A text so many times.
+/// Returns a text, repeated `count` times.
 fn repeated(alloc: Global, text: &[u8], count: u32) -> Result<Vec<u8>, Fail> {
     let mut all = Vec::new(alloc);
     repeat(&mut all, text, count)?;
@@ -98,31 +98,31 @@ fn memory_files(alloc: Global) -> Result<MemoryFiles, Fail> {
     Ok(files)
 }
 
-/// A load file that was written for a core of 8 cells: its 7 is the cell before.
+/// A load file that was written for a core of 8 cells, so its 7 is the cell before.
 const NAMED: &[u8] = b";load 2 8\n;name Imp\n;author Dewdney\nORG 0\nMOV.I $0, $7\n";
 
-/// The read limit of 4 reaches back where the write limit of 8 reaches on.
+/// The read limit of 4 folds the offset 3 to -1; the write limit of 8 leaves it as it is.
 const LIMITED: &[u8] = b"MOV.A {3, $1\nDAT 0, 0\nDAT 0, 0\nDAT.F $2, $0\n";
 
-/// Asks for the parameters that hold where no word gives another.
+/// Asserts the defaults of the parameters.
 const GIVEN: &[u8] = b";assert CORESIZE==8000 && MAXPROCESSES==8000 && MAXCYCLES==80000
 ;assert MAXLENGTH==100 && MINDISTANCE==100 && ROUNDS==1 && WARRIORS==1
 NOP
 ";
 
-/// Asks for the least parameters.
+/// Asserts the minimum of each parameter.
 const LEAST: &[u8] = b";assert CORESIZE==1 && MAXPROCESSES==1 && MAXCYCLES==1
 ;assert MAXLENGTH==1 && MINDISTANCE==1 && ROUNDS==1
 NOP
 ";
 
-/// Asks for the greatest parameters.
+/// Asserts the maximum of each parameter.
 const GREATEST: &[u8] = b";assert CORESIZE==1048576 && MAXPROCESSES==65536 && MAXCYCLES==10000000
 ;assert MAXLENGTH==1048576 && MINDISTANCE==1048576 && ROUNDS==100000
 NOP
 ";
 
-/// The status of a run over these files.
+/// Returns the status of a run over these files.
 fn run_words<R: Read, W: Write, E: Write>(
     alloc: Global,
     files: &MemoryFiles,
@@ -174,10 +174,10 @@ fn check_output(
     Ok(())
 }
 
-/// Words, what they read, and what they write with status 0.
+/// Arguments, the input, and the output of a run with status 0.
 type Played = (&'static [&'static str], &'static [u8], &'static [u8]);
 
-/// Each run ends well, and writes just this.
+/// Checks that each run has status 0 and writes exactly this output.
 fn check_played(rt: &impl Abort, alloc: Global, runs: &[Played]) -> Result<(), Fail> {
     for (words, input, output) in runs {
         check_output(rt, alloc, words, input, output)?;
@@ -199,7 +199,7 @@ fn check_fault(
     Ok(())
 }
 
-/// Each run ends well.
+/// Checks that each run has status 0.
 fn check_well(rt: &impl Abort, alloc: Global, runs: &[&[&str]]) -> Result<(), Fail> {
     for words in runs {
         let answer = answer(alloc, words, b"show\n")?;

@@ -1,4 +1,4 @@
--- One lineup more.
+-- The fates of one more lineup.
 use Rattle.std.proofs.Common.{◌≡◌, ◌∙◌, ap, ℕ, ◌+◌, ◌<◌, ◌≤◌, All, List, [], ◌∷◌, ◌++◌, Some, append_assoc, get_or, inl, length, map, refl, subst, sym, take, arith}
 use Rattle.std.specs.Prelude.{slice_get}
 use Rattle.std.proofs.lemmas.Option.{slice_get-get_or}

@@ -29,7 +29,7 @@ ascii [] all i = omega arith
 ascii (b ∷ bs) all zero = printed_is_ascii b (and_parts (is_within 32 126 b) (list_all (is_within 32 126) bs) all).0
 ascii (b ∷ bs) all (suc i) = ascii bs (and_parts (is_within 32 126 b) (list_all (is_within 32 126) bs) all).1 i
 
--- printable bytes are the UTF-8 of a text, so a reader of UTF-8 accepts them
+-- Printable bytes are the UTF-8 of a text, so a reader of UTF-8 accepts them.
 pub printed_text : {E : Type 0} (text : List ℕ) (r : Result (Bor (List ℕ)) E) (P : E → Type 0) → list_all (is_within 32 126) text ≡ true
     → MatchResult r (λ s. (s.now ≡ text) × IsUtf8 text) (λ e. ¬ (IsUtf8 text) × P e) → option_map (λ s. s.now) (result_ok r) ≡ Some text
 printed_text text (Ok s) P all read = ap Some read.0

@@ -1,4 +1,4 @@
--- One round less.
+-- The starting positions of a round, from those of the round before it.
 use Rattle.std.proofs.Common.{◌≡◌, ℕ, suc, ◌+◌, ◌-◌, ◌<◌, List, Ok, Option, refl, arith}
 use Rattle.mars_cell.specs.Parameters.{Parameters}
 use Rattle.mars_match.specs.Rounds.{placed_for}

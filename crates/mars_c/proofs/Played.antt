@@ -1,11 +1,11 @@
--- Turns that are made one after the other.
+-- Turns that are executed one after another.
 use Rattle.std.proofs.Common.{◌≡◌, ℕ, zero, suc, ◌+◌, ◌-◌, ◌<◌, Bool, true, false, if◌then◌else◌, List, [], ◌∷◌, ◌++◌, length, take, drop, set, get_or, Some, None, Ok, Err, refl, arith, append_assoc}
 use Rattle.std.proofs.lemmas.List.{take_more_set, drop-set-lt, drop_more}
 use Rattle.mars_core.specs.State.{State, is_over_of}
 use Rattle.mars_core.specs.Turn.{turn_of, after_turns}
 use Rattle.mars_c.specs.Records.{recorded}
 
--- a turn that was made, or wasn't, by the battle's answer and by what a row tells of it
+-- If a turn returns `Ok x`, the battle was not over, and `x` is its result. `runs`, `made` and `ended` read the same off a row.
 pub made_first : {A E : Type 0} (over : Bool) (e : E) (y x : A) → Ok x ≡ (if over then Err e else Ok y) → (over ≡ false) × (x ≡ y)
 made_first true e y x told = cc
 made_first false e y x told = (refl, cc)
@@ -22,7 +22,7 @@ pub ended : {A : Type 0} (over : Bool) (y : A) → None ≡ (if over then None e
 ended true y told = refl
 ended false y told = cc
 
--- a battle that is over has no turns
+-- A battle that is over has no turns.
 pub over_stays : (n : ℕ) (s : State) → is_over_of s ≡ true → after_turns n s ≡ s
 over_stays zero s over = refl
 over_stays (suc n) s over = rw over refl
@@ -30,13 +30,13 @@ over_stays (suc n) s over = rw over refl
 pub turn_first : (n : ℕ) (s : State) → is_over_of s ≡ false → after_turns (suc n) s ≡ after_turns n (turn_of s)
 turn_first n s running = rw running refl
 
--- one of the turns that are left
+-- If turns are left, one of `n - i` turns is the next turn, and `n - (i + 1)` follow.
 pub turn_less : (n i : ℕ) (s : State) → i < n → is_over_of s ≡ false → after_turns (n - i) s ≡ after_turns (n - (i + 1)) (turn_of s)
 turn_less n i s more running =
     let e : n - i ≡ suc (n - (i + 1)) = omega arith in
     rw e (turn_first (n - (i + 1)) s running)
 
--- turns after turns
+-- `m` turns, followed by `n`, are `m + n` turns.
 add_by : (over : Bool) (m n : ℕ) (s : State) → is_over_of s ≡ over → after_turns n (after_turns m (turn_of s)) ≡ after_turns (m + n) (turn_of s)
     → after_turns n (after_turns (suc m) s) ≡ after_turns (suc (m + n)) s
 add_by true m n s over inner = rw over (over_stays n s over)
@@ -46,9 +46,9 @@ pub add_turns : (m n : ℕ) (s : State) → after_turns n (after_turns m s) ≡ 
 add_turns zero n s = let e : 0 + n ≡ n = omega arith in rw e refl
 add_turns (suc m) n s = let e : suc m + n ≡ suc (m + n) = omega arith in rw e (add_by (is_over_of s) m n s refl (add_turns m n (turn_of s)))
 
--- rows that turns are told in
+-- Rows that record turns.
 module _ {Row : Type 0} (row_of : State → Row) where
-  -- rows of a battle that is over stay as they are
+  -- Rows of a battle that is over stay as they are.
   pub none_recorded : (s : State) (rows : List Row) → is_over_of s ≡ true → recorded row_of s rows ≡ rows
   none_recorded s [] over = refl
   none_recorded s (row ∷ rows) over = rw over refl
@@ -56,7 +56,7 @@ module _ {Row : Type 0} (row_of : State → Row) where
   pub one_recorded : (s : State) (row : Row) (rows : List Row) → is_over_of s ≡ false → recorded row_of s (row ∷ rows) ≡ row_of s ∷ recorded row_of (turn_of s) rows
   one_recorded s row rows running = rw running refl
 
-  -- one row more
+  -- Recording the next turn in row `i` gives the same rows as recording all turns from row `i` on.
   pub row_more : (s : State) (rows : List Row) (i : ℕ) → i < length rows → is_over_of s ≡ false
       → take (i + 1) (set rows i (row_of s)) ++ recorded row_of (turn_of s) (drop (i + 1) (set rows i (row_of s))) ≡ take i rows ++ recorded row_of s (drop i rows)
   row_more s rows i inside running =

@@ -1,4 +1,4 @@
--- Why calls are refused, of plain variables.
+-- Why calls are rejected, in terms of plain variables.
 use Rattle.std.proofs.Common.{◌≡◌, ◌∙◌, ◌⊎◌, inl, inr, ℕ, zero, suc, ◌+◌, ◌<◌, ◌≤◌, ◌≢◌, ◌==◌, false, List, [], ◌∷◌, length, take, drop, get_or, Option, Result, Err, ap, sym, refl, subst, sum_by, arith}
 use Rattle.std.proofs.lemmas.List.{length-drop, take_all}
 use Rattle.std.proofs.lemmas.Option.{slice_get-get_or}
@@ -23,7 +23,7 @@ use Rattle.mars_c.specs.declared.settings.MarsSettings.{MarsSettings}
 abbrev total : List MarsWarrior → ℕ
 total ns = sum_by (λ (one : MarsWarrior). one.length) ns
 
--- warriors that are read take as many cells as their lengths come to
+-- Warriors that are read have as many cells as their lengths add up to.
 read_cells : (p : Parameters) (cells : List MarsCell) (ns : List MarsWarrior) (ws : List WarriorValue) (rest : List MarsCell) → Reads p cells ns ws rest → length cells ≡ total ns + length rest
 read_cells p cells [] [] rest all = let same : length cells ≡ length rest = ap (λ (l : List MarsCell). length l) all in let none : total [] ≡ 0 = refl in omega (arith, same, none)
 read_cells p cells [] (w ∷ ws) rest all = absurd all
@@ -34,7 +34,7 @@ read_cells p cells (n ∷ ns) (w ∷ ws) rest all =
     let both : total (n ∷ ns) ≡ n.length + total ns = sum_by-cons (λ (one : MarsWarrior). one.length) n ns in
     omega (arith, more, left, both, all.0)
 
--- so what is left is too short for the next
+-- If the remaining cells are too few for the next warrior, the lengths do not add up to the number of cells.
 pub too_few : (p : Parameters) (cells : List MarsCell) (ns : List MarsWarrior) (i : ℕ) (d : MarsWarrior) (ws : List WarriorValue) (rest : List MarsCell) → Reads p cells (take i ns) ws rest → i < length ns
     → length rest < (get_or ns i d).length → total ns ≢ length cells
 too_few p cells ns i d ws rest all inside short same =
@@ -42,7 +42,7 @@ too_few p cells ns i d ws rest all inside short same =
     let least = sum_by_more_le (λ (one : MarsWarrior). one.length) ns i d inside in
     omega (arith, read, least, short, same)
 
--- or something is left
+-- If cells are left after all warriors, the lengths do not add up to the number of cells.
 pub too_many : (p : Parameters) (cells : List MarsCell) (ns : List MarsWarrior) (i : ℕ) (ws : List WarriorValue) (rest : List MarsCell) → Reads p cells (take i ns) ws rest → length ns ≤ i
     → false ≡ (length rest == 0) → total ns ≢ length cells
 too_many p cells ns i ws rest all past left same =
@@ -51,18 +51,18 @@ too_many p cells ns i ws rest all past left same =
     let whole = ap total (take_all i ns past) in
     omega (arith, read, whole, some, same)
 
--- a warrior whose numbers are no warrior
+-- The first warrior whose numbers are wrong makes the array wrong at its index.
 pub wrong_at : (p : Parameters) (cells : List MarsCell) (ns : List MarsWarrior) (i : ℕ) (d : MarsWarrior) (ws : List WarriorValue) (rest : List MarsCell) (fault : EntrantFault)
     → i < length ns → Reads p cells (take i ns) ws rest → (get_or ns i d).length ≤ length rest
     → IsNoEntrant p (take (get_or ns i d).length rest) (get_or ns i d).start fault → IsWrong p cells ns i fault
 wrong_at p cells ns i d ws rest fault inside all few wrong = (ws, rest, get_or ns i d, slice_get-get_or ns i d inside, all, few, wrong)
 
--- want of memory in a fight refuses any call
+-- A failed allocation in a match is a refusal of every call.
 pub memory : (s : MarsSettings) (text : List ℕ) (count : ℕ) (cells : List MarsCell) (entrants : List MarsWarrior) (fault : MatchFault) (refusal : CallRefusal)
     → refusal ≡ fight_refusal fault → fault ≡ fight.OutOfMemory → RefusesEntry s text count cells entrants refusal
 memory s text count cells entrants fault refusal is wants = subst (RefusesEntry s text count cells entrants) (sym (is ∙ ap fight_refusal wants)) tt
 
--- a fault of what load files are to do, or want of memory
+-- An error of what the warriors do, or a failed allocation, is a refusal of the call.
 pub fails : {X : Type 0} (s : MarsSettings) (text : List ℕ) (count : ℕ) (cells : List MarsCell) (entrants : List MarsWarrior) (fought : Setup → List WarriorValue → Result X MatchFault)
     (setup : Setup) (ws : List WarriorValue) (fault : MatchFault) (refusal : CallRefusal)
     → IsSetup s text setup → AreEntrants setup.params cells entrants ws → (fight_refusal fault ≡ OutOfMemory) ⊎ (fought setup ws ≡ Err fault) → refusal ≡ fight_refusal fault
@@ -70,12 +70,12 @@ pub fails : {X : Type 0} (s : MarsSettings) (text : List ℕ) (count : ℕ) (cel
 fails s text count cells entrants fought setup ws fault refusal made read (inl memory) is = inl (subst (RefusesEntry s text count cells entrants) (sym (is ∙ memory)) tt)
 fails s text count cells entrants fought setup ws fault refusal made read (inr told) is = inr (setup, ws, fault, made, read, told, is)
 
--- want of memory in a fight
+-- A failed allocation in a match is the refusal `OutOfMemory`.
 pub memory_or : {A : Type 0} (fault : MatchFault) → (fault ≡ fight.OutOfMemory) ⊎ A → (fight_refusal fault ≡ OutOfMemory) ⊎ A
 memory_or fault (inl memory) = inl (ap fight_refusal memory)
 memory_or fault (inr told) = inr told
 
--- a round that can't be placed
+-- If the first round cannot be placed, no later round can.
 pub placed_fails : (p : Parameters) (w : ℕ) (fixed : Option ℕ) (k seed : ℕ) (fault : MatchFault) → placed_for p w fixed seed ≡ Err fault → placed_in p w fixed k seed ≡ Err fault
 placed_fails p w fixed zero seed fault told = rw told refl
 placed_fails p w fixed (suc k) seed fault told = rw told refl

@@ -1,4 +1,4 @@
--- The lines of a source fail as its assembly does.
+-- If cells cannot be mapped to the lines of a source, the source cannot be assembled, with the same error.
 use Rattle.std.proofs.Common.{◌≡◌, ℕ, List, Result, Ok, Err, ap}
 use Rattle.mars_cell.specs.Parameters.{Parameters}
 use Rattle.mars_cell.specs.ParameterFaults.{checked_parameters}
@@ -15,7 +15,7 @@ use Rattle.mars_c.specs.Settings.{parameters_in}
 use Rattle.mars_c.specs.Refusals.{RefusesSource, refusal_at}
 use Rattle.mars_c.specs.declared.settings.MarsSettings.{MarsSettings}
 
--- what is made of a result fails as the result does
+-- If a function of a result fails, the result fails with the same error.
 made_of : {A B : Type 0} (r : Result A AsmFault) (f : A → B) (fault : AsmFault) → (r >>= λ x. Ok (f x)) ≡ Err fault → r ≡ Err fault
 made_of (Ok x) f fault told = cc
 made_of (Err e) f fault told = let same : e ≡ fault = cc in ap (λ x. Err x) same
@@ -31,7 +31,7 @@ unfolding assembly
 lines_fail p rounds warriors source fault told =
     lines_by (predefined p rounds warriors) p (text_read (expansion (predefined p rounds warriors) source)) fault told
 
--- so both refuse a source for the same fault
+-- So assembling and mapping reject a source for the same error.
 pub refuses : {X : Type 0} (s : MarsSettings) (p : Parameters) (warriors : ℕ) (source : List ℕ) (problem : AsmProblem) (fault : AsmFault) (made : Result X AsmFault)
     → checked_parameters (parameters_in s) ≡ Ok p → FailsAt problem fault made → (made ≡ Err fault → assembly p s.rounds warriors source ≡ Err fault)
     → RefusesSource s warriors source (refusal_at problem fault)

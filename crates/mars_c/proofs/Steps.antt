@@ -1,4 +1,4 @@
--- One warrior more.
+-- Reading one more warrior.
 use Rattle.std.proofs.Common.{◌≡◌, ℕ, ◌+◌, ◌≤◌, ◌<◌, List, [], ◌∷◌, ◌++◌, length, take, drop, get_or, refl}
 use Rattle.std.proofs.lemmas.List.{take_more}
 use Rattle.mars_cell.specs.Parameters.{Parameters}

@@ -1,4 +1,6 @@
--- Battles as blocks of words that the caller owns: their capacity, what calls write to them, the edits that numbers mean, and why calls are refused.
+-- Battles as blocks of 32-bit words that the caller owns: their capacity, what calls write to them, the edits that numbers
+-- mean, and why calls are rejected. The definitions allow `OutOfMemory` as a refusal of every call,
+-- because an allocation may fail.
 use Rattle.std.specs.Prelude.{◌≡◌, ◌≢◌, ◌≤◌, ◌<◌, ◌⊎◌, ◌+◌, ◌*◌, ℕ, ⊤, List, ◌++◌, length, drop, take, None, Some}
 use Rattle.mars_core.specs.State.{State}
 use Rattle.mars_core.specs.Block.{Spells, block_of, head_words}
@@ -21,24 +23,25 @@ use Rattle.mars_c.specs.declared.edits.MarsEdit.{MarsEdit}
 use Rattle.mars_c.specs.declared.ranges.SettingsFault.TheVariants.{Warriors}
 use Rattle.mars_c.specs.declared.settings.MarsSettings.{MarsSettings}
 
--- the capacity in words that the battle s needs: no number of turns and edits makes its block longer
+-- The capacity in words that the battle `s` needs. Turns and edits never make its block longer than this.
 abbrev pub capacity_of : State → ℕ
 capacity_of s = head_words + 3 * s.params.core_size + length s.queues * s.params.processes
 
--- the words begin with the block of s, and have the capacity that s needs
+-- The words begin with the block of the battle `s`, and there are as many as its capacity needs.
 pub record IsPlayable (s : State) (words : List ℕ) : Type 0 where
   pub spells : Spells s words
   pub capacity : capacity_of s ≤ length words
 
--- the words `after` begin with the block of s; behind it they are as the words `before`
+-- The words `after` begin with the block of `s`; after that block they equal the words `before`.
 abbrev pub IsWritten : State → List ℕ → List ℕ → Type 0
 IsWritten s before after = after ≡ block_of s ++ drop (length (block_of s)) before
 
--- at most `turns` turns from the state s on, one in each row as long as there are turns and rows; the other rows are unchanged
+-- The rows after at most `turns` turns from the state `s`: each turn fills one row as long as there are turns and rows. The
+-- other rows are unchanged.
 abbrev pub played_rows : {Row : Type 0} → (State → Row) → ℕ → State → List Row → List Row
 played_rows row_of turns s rows = recorded row_of s (take turns rows) ++ drop turns rows
 
--- the numbers mean this edit
+-- The numbers of a MarsEdit mean this edit. An edit reads only the fields that it needs.
 abbrev pub Means : MarsEdit → Edit → Type 0
 Means numbers (edit.SetCell address cell) = (numbers.what ≡ 1) × (address ≡ numbers.address) × (plain_cell cell ≡ numbers.cell)
 Means numbers (edit.MoveProcess warrior place address) =
@@ -46,26 +49,26 @@ Means numbers (edit.MoveProcess warrior place address) =
 Means numbers (edit.KillProcess warrior place) = (numbers.what ≡ 3) × (warrior ≡ numbers.warrior) × (place ≡ numbers.place)
 Means numbers (edit.Spawn warrior address) = (numbers.what ≡ 4) × (warrior ≡ numbers.warrior) × (address ≡ numbers.address)
 
--- the block holds the battle of a round as it starts
+-- The words `after` hold the battle with which round `round` starts; the words `before` have enough capacity.
 abbrev pub HoldsStart : MarsSettings → List MarsCell → List MarsWarrior → ℕ → List ℕ → List ℕ → Type 0
 HoldsStart settings cells entrants round before after = (s : State) × IsStart settings cells entrants round s
     × (capacity_of s ≤ length before) × IsWritten s before after
 
--- the battle of a round needs more capacity than the words have
+-- The battle with which round `round` starts needs more capacity than `words` has.
 abbrev pub OverflowsStart : MarsSettings → List MarsCell → List MarsWarrior → ℕ → List ℕ → Type 0
 OverflowsStart settings cells entrants round words = (s : State) × IsStart settings cells entrants round s × (length words < capacity_of s)
 
--- the edit that the numbers mean is made in the block
+-- The words `after` hold the battle of the words `before` after the edit that the numbers mean.
 abbrev pub HoldsEdited : MarsEdit → List ℕ → List ℕ → Type 0
 HoldsEdited numbers before after = (s : State) × (e : Edit) × IsPlayable s before × Means numbers e
     × (edit_fault s e ≡ None) × IsWritten (edited s e) before after
 
--- the battle of a round of these warriors is not started
+-- `refusal` is a reason for which the battle of round `round` of these warriors is not started.
 abbrev pub RefusesStart : MarsSettings → List MarsCell → List MarsWarrior → ℕ → CallRefusal → Type 0
 RefusesStart settings cells entrants round refusal =
     Misses Warriors (AreWarriors (length entrants)) refusal ⊎ RefusesRound settings cells entrants round refusal
 
--- the words do not begin with the block of a battle
+-- `refusal` is a reason for which the words do not begin with the block of a battle.
 abbrev pub RefusesWords : List ℕ → BlockRefusal → Type 0
 RefusesWords words OutOfMemory = ⊤
 RefusesWords words (Block fault) = (fault ≢ block.OutOfMemory) × ((s : State) → Spells s words → ⊥)
@@ -74,7 +77,8 @@ RefusesWords words NoSuchEdit = ⊥
 RefusesWords words (OfEdit fault) = ⊥
 RefusesWords words History = ⊥
 
--- nothing can be played in the words: they do not begin with a block, or have less capacity than its battle needs
+-- `refusal` is a reason for which no turn is executed in the words: they do not begin with a block, or have less capacity than
+-- its battle needs.
 abbrev pub RefusesPlay : List ℕ → BlockRefusal → Type 0
 RefusesPlay words OutOfMemory = ⊤
 RefusesPlay words (Block fault) = RefusesWords words (Block fault)
@@ -83,7 +87,8 @@ RefusesPlay words NoSuchEdit = ⊥
 RefusesPlay words (OfEdit fault) = ⊥
 RefusesPlay words History = ⊥
 
--- the numbers mean no edit, nothing can be played in the words, or the machine refuses the edit
+-- `refusal` is a reason for which an edit of the words is rejected: the numbers mean no edit, the words cannot be played, or
+-- the edit itself has an error.
 abbrev pub RefusesEdit : List ℕ → MarsEdit → BlockRefusal → Type 0
 RefusesEdit words numbers OutOfMemory = ⊤
 RefusesEdit words numbers (Block fault) = RefusesWords words (Block fault)
@@ -92,6 +97,6 @@ RefusesEdit words numbers NoSuchEdit = (e : Edit) → Means numbers e → ⊥
 RefusesEdit words numbers (OfEdit fault) = (s : State) × (e : Edit) × IsPlayable s words × Means numbers e × (edit_fault s e ≡ Some fault)
 RefusesEdit words numbers History = ⊥
 
--- the error is that of a refusal with a cause
+-- The error is that of a refusal for which `Refuses` holds.
 abbrev pub Reports : (BlockRefusal → Type 0) → MarsFault → Type 0
 Reports Refuses fault = (refusal : BlockRefusal) × (fault ≡ block_fault_of refusal) × Refuses refusal

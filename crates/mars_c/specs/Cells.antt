@@ -1,9 +1,9 @@
--- Cells as numbers: each of a part's values by its place in the order of the tables of `include/mars.h`.
+-- Cells as numbers: opcode, modifier and modes are numbered in the order of the enumerations in `include/mars.h`.
 use Rattle.mars_cell.specs.Cells.{op_index, modifier_index, mode_index}
 use Rattle.mars_cell.specs.declared.instruction.Cell.{Cell}
 use Rattle.mars_c.specs.declared.cells.MarsCell.{MarsCell}
 
--- the numbers of a cell
+-- The numbers of a cell.
 abbrev pub plain_cell : Cell → MarsCell
 plain_cell cell = record {
   op = op_index cell.op;

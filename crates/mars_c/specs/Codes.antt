@@ -1,4 +1,4 @@
--- What a caller is told of each refusal: the answer, and the fault's numbers as the program prints them.
+-- The error that the caller gets for each refusal: its code, and its numbers as the program prints them.
 use Rattle.std.specs.Prelude.{ℕ}
 use Rattle.mars_cell.specs.declared.fault.LoadFault.{LoadFault}
 use Rattle.mars_cell.specs.declared.fault.LoadFault.TheVariants as load
@@ -30,6 +30,7 @@ use Rattle.mars_c.specs.declared.warriors.EntrantFault.{EntrantFault}
 use Rattle.mars_c.specs.declared.warriors.EntrantFault.TheVariants as entrant
 use Rattle.mars_c.specs.declared.ranges.SettingsFault.TheVariants as settings
 
+-- The number of an error of the settings or of another argument.
 abbrev pub settings_number : SettingsFault → ℕ
 settings_number settings.Rounds = 1
 settings_number settings.Seed = 2
@@ -40,6 +41,7 @@ settings_number settings.History = 6
 settings_number settings.Rows = 7
 settings_number settings.Round = 8
 
+-- The number of a parameter that is out of its range.
 abbrev pub parameter_number : ParamFault → ℕ
 parameter_number parameter.CoreSize = 1
 parameter_number parameter.Processes = 2
@@ -48,6 +50,7 @@ parameter_number parameter.Limit = 4
 parameter_number parameter.Length = 5
 parameter_number parameter.Distance = 6
 
+-- The number of an error of an expression.
 abbrev pub expression_number : ExprFault → ℕ
 expression_number expression.Syntax = 1
 expression_number expression.Unknown = 2
@@ -55,6 +58,7 @@ expression_number expression.DivideByZero = 3
 expression_number expression.Range = 4
 expression_number expression.Depth = 5
 
+-- The number of an error in a load file.
 abbrev pub load_number : LoadFault → ℕ
 load_number (load.Syntax line) = 1
 load_number load.TooLong = 2
@@ -63,11 +67,12 @@ load_number load.BadOrigin = 4
 load_number load.OutOfMemory = 5
 load_number load.Version = 6
 
--- the line of a load file's fault; 0 where it has none
+-- The line of an error in a load file; 0 if the error has no line.
 abbrev pub load_line : LoadFault → ℕ
 load_line (load.Syntax line) = line
 load_line fault = 0
 
+-- The number of an error of a warrior.
 abbrev pub entrant_number : EntrantFault → ℕ
 entrant_number entrant.Length = 1
 entrant_number entrant.Start = 2
@@ -76,21 +81,24 @@ entrant_number (entrant.Field index) = 4
 entrant_number entrant.Name = 5
 entrant_number entrant.OutOfMemory = 6
 
+-- The number of an error of a lineup.
 abbrev pub lineup_number : LineupFault → ℕ
 lineup_number lineup.Count = 1
 lineup_number lineup.Index = 2
 
--- the index of the first wrong cell of a warrior; 0 for other errors
+-- The index of the first wrong cell of a warrior; 0 for other errors.
 abbrev pub entrant_line : EntrantFault → ℕ
 entrant_line (entrant.Cell index) = index
 entrant_line (entrant.Field index) = index
 entrant_line fault = 0
 
+-- The number of an error of the placement.
 abbrev pub placement_number : PlaceFault → ℕ
 placement_number place.NoRoom = 1
 placement_number place.BadSeed = 2
 placement_number place.OutOfMemory = 3
 
+-- The number of an error of the start of a battle.
 abbrev pub battle_number : BattleFault → ℕ
 battle_number battle.NoWarrior = 1
 battle_number battle.TooMany = 2
@@ -99,6 +107,7 @@ battle_number battle.StartOutside = 4
 battle_number battle.FieldOutside = 5
 battle_number battle.OutOfMemory = 6
 
+-- The number of an error of a block.
 abbrev pub block_number : BlockFault → ℕ
 block_number block.Short = 1
 block_number block.Mark = 2
@@ -111,22 +120,22 @@ block_number block.Clock = 8
 block_number block.Head = 9
 block_number block.OutOfMemory = 10
 
--- the number of the parameter that is out of its range; 0 for other errors of a block
+-- The number of the parameter that is out of its range; 0 for other errors of a block.
 abbrev pub block_problem : BlockFault → ℕ
 block_problem (block.Parameters fault) = parameter_number fault
 block_problem fault = 0
 
--- the address of the first wrong cell; 0 for other errors of a block
+-- The address of the first wrong cell; 0 for other errors of a block.
 abbrev pub block_line : BlockFault → ℕ
 block_line (block.Cell address) = address
 block_line fault = 0
 
--- the first warrior whose queue is wrong; 0 for other errors of a block
+-- The first warrior whose queue is wrong; 0 for other errors of a block.
 abbrev pub block_warrior : BlockFault → ℕ
 block_warrior (block.Queue warrior) = warrior
 block_warrior fault = 0
 
--- number 1 means that there is no such edit
+-- The number of an edit's error. Number 1 is left for `NoSuchEdit`.
 abbrev pub edit_number : EditFault → ℕ
 edit_number edit.Address = 2
 edit_number edit.FieldOutside = 3
@@ -135,6 +144,7 @@ edit_number edit.NoSuchProcess = 5
 edit_number edit.WarriorDead = 6
 edit_number edit.QueueFull = 7
 
+-- The number of a problem of an assembly.
 abbrev pub assembly_number : AsmProblem → ℕ
 assembly_number (assembly.Text problem) = 1
 assembly_number assembly.Operation = 2
@@ -146,6 +156,7 @@ assembly_number assembly.Empty = 7
 assembly_number assembly.TooLong = 8
 assembly_number assembly.OutOfMemory = 9
 
+-- The number of a problem of a text.
 abbrev pub text_number : TextProblem → ℕ
 text_number text.NotAscii = 1
 text_number text.BadToken = 2
@@ -159,22 +170,23 @@ text_number text.TooLong = 9
 text_number (text.Expression fault) = 10
 text_number text.OutOfMemory = 11
 
--- the expression's fault within a text's problem; 0 where there is none
+-- The number of the error of an expression within a problem of a text; 0 if the problem is another one.
 abbrev pub text_expression : TextProblem → ℕ
 text_expression (text.Expression fault) = expression_number fault
 text_expression problem = 0
 
--- the text's problem and the expression's fault within an assembly's; 0 where there is none
+-- The number of the problem of the text, and that of the error of the expression, within a problem of an assembly; 0 for a
+-- number that does not apply.
 abbrev pub problem_numbers : AsmProblem → ℕ × ℕ
 problem_numbers (assembly.Text problem) = (text_number problem, text_expression problem)
 problem_numbers (assembly.Expression fault) = (0, expression_number fault)
 problem_numbers problem = (0, 0)
 
--- an answer with a number; what doesn't apply is 0
+-- The error with this code and number. The other fields do not apply and are 0.
 abbrev pub numbered : ℕ → ℕ → MarsFault
 numbered code number = record { code = code; number = number; problem = 0; expression = 0; line = 0; warrior = 0 }
 
--- what a caller is told of a refusal
+-- The error that the caller gets for this refusal.
 abbrev pub fault_of : CallRefusal → MarsFault
 fault_of OutOfMemory = numbered 1 0
 fault_of (Settings fault) = numbered 2 (settings_number fault)
@@ -195,7 +207,7 @@ fault_of (Score fault) = numbered 9 (expression_number fault)
 fault_of (Warrior index fault) = record { code = 13; number = entrant_number fault; problem = 0; expression = 0; line = entrant_line fault; warrior = index }
 fault_of (Lineup index fault) = record { code = 14; number = lineup_number fault; problem = 0; expression = 0; line = 0; warrior = index }
 
--- the error that a caller gets if a call on a block is refused
+-- The error that the caller of a function on blocks gets for this refusal.
 abbrev pub block_fault_of : BlockRefusal → MarsFault
 block_fault_of refused.OutOfMemory = numbered 1 0
 block_fault_of (refused.Block fault) = record {

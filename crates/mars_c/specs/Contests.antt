@@ -1,4 +1,4 @@
--- What contests of warriors come to.
+-- The results of matches, leagues and populations.
 use Rattle.std.specs.Prelude.{◌≡◌, ℕ, drop, List, map, None, Ok, Result, take, length}
 use Rattle.mars_cell.specs.Warriors.{WarriorValue}
 use Rattle.mars_match.specs.Leagues.{league_of}
@@ -16,38 +16,40 @@ use Rattle.mars_c.specs.declared.warriors.MarsWarrior.{MarsWarrior}
 use Rattle.mars_c.specs.declared.rows.MarsRow.{MarsRow}
 use Rattle.mars_c.specs.declared.settings.MarsSettings.{MarsSettings}
 
--- the numbers of a row
+-- A row as numbers.
 abbrev pub plain_row : RowValue → MarsRow
 plain_row row = record { points = row.points; wins = row.wins; ties = row.ties; losses = row.losses }
 
--- the rows of a match of these warriors
+-- `rows` is the table of a match of these warriors, with the settings `s` and the formula `text`.
 abbrev pub IsMatch : MarsSettings → List ℕ → List MarsCell → List MarsWarrior → List RowValue → Type 0
 IsMatch s text cells entrants rows = (setup : Setup) × (ws : List WarriorValue)
     × IsSetup s text setup × AreEntrants setup.params cells entrants ws × FitsTwo setup.params (length ws) setup.plan.fixed
     × (table_of setup.params ws setup.plan.formula setup.plan.fixed setup.plan.rounds setup.plan.seed ≡ Ok rows)
 
--- the rows of a league of these warriors, which has no position
+-- `rows` is the table of a league of these warriors, with the settings `s` and the formula `text`. The settings may not have a
+-- position.
 abbrev pub IsLeague : MarsSettings → List ℕ → List MarsCell → List MarsWarrior → List RowValue → Type 0
 IsLeague s text cells entrants rows = (setup : Setup) × (ws : List WarriorValue)
     × IsSetup s text setup × AreEntrants setup.params cells entrants ws × (setup.plan.fixed ≡ None)
     × (league_of setup.params ws setup.plan.formula None setup.plan.rounds setup.plan.seed ≡ Ok rows)
 
--- the rows of the caller hold those of a match, or of a league
+-- The caller's rows hold the table of a match.
 abbrev pub HoldsMatch : MarsSettings → List ℕ → List MarsCell → List MarsWarrior → List MarsRow → Type 0
 HoldsMatch s text cells entrants place = (rows : List RowValue) × IsMatch s text cells entrants rows × (place ≡ map plain_row rows)
 
+-- The caller's rows hold the table of a league.
 abbrev pub HoldsLeague : MarsSettings → List ℕ → List MarsCell → List MarsWarrior → List MarsRow → Type 0
 HoldsLeague s text cells entrants place = (rows : List RowValue) × IsLeague s text cells entrants rows × (place ≡ map plain_row rows)
 
--- the sums of a population, in which so many candidates come before the opponents
+-- The sums of a population: the first `candidates` warriors of `ws` are the candidates, and the others their opponents.
 abbrev pub population : Setup → ℕ → List WarriorValue → Result (List Sum) MatchFault
 population setup candidates ws = population_of setup.params setup.plan.formula setup.plan.fixed setup.plan.rounds setup.plan.seed (drop candidates ws) (take candidates ws)
 
--- the numbers of a sum
+-- A sum as numbers.
 abbrev pub plain_sum : Sum → MarsRow
 plain_sum sum = record { points = sum.points; wins = sum.wins; ties = sum.ties; losses = sum.losses }
 
--- the rows of the caller hold the sums of as many candidates
+-- The caller's rows hold the sums of a population, one for each candidate: there are as many candidates as rows.
 abbrev pub HoldsSums : MarsSettings → List ℕ → List MarsCell → List MarsWarrior → List MarsRow → Type 0
 HoldsSums s text cells entrants place = (setup : Setup) × (ws : List WarriorValue) × (sums : List Sum)
     × IsSetup s text setup × AreEntrants setup.params cells entrants ws × FitsTwo setup.params 2 setup.plan.fixed

@@ -1,4 +1,4 @@
--- What the debugger answers over a battle in a block.
+-- The debugger's replies over a battle in a block.
 use Rattle.std.specs.Prelude.{ℕ, ⊤, List}
 use Rattle.mars_core.specs.Block.{Spells}
 use Rattle.mars_core.specs.State.{State}
@@ -8,11 +8,13 @@ use Rattle.mars_c.specs.Blocks.{RefusesWords}
 use Rattle.mars_c.specs.declared.faults.BlockRefusal.{BlockRefusal}
 use Rattle.mars_c.specs.declared.faults.BlockRefusal.TheVariants.{OutOfMemory, Block, Capacity, NoSuchEdit, Edit, History}
 
--- the text that the debugger answers to lines over the battle whose block the words begin with
+-- `text` is what the debugger replies to `lines`, over the battle whose block the words begin with, with a history of `history`
+-- places.
 abbrev pub Debugs : List ℕ → ℕ → List ℕ → List ℕ → Type 0
 Debugs words history lines text = (s : State) × (session : SessionState) × Spells s words × IsHistory history × IsDebugged s history lines session text
 
--- the history is out of its range, or the words do not begin with the block of a battle
+-- `refusal` is a reason for which nothing is debugged: the history is out of its range, or the words do not begin with the
+-- block of a battle.
 abbrev pub RefusesDebugging : List ℕ → ℕ → BlockRefusal → Type 0
 RefusesDebugging words history OutOfMemory = ⊤
 RefusesDebugging words history (Block fault) = RefusesWords words (Block fault)

@@ -14,7 +14,7 @@ use Rattle.mars_c.specs.declared.warriors.EntrantFault.TheVariants.{OutOfMemory,
 use Rattle.mars_c.specs.declared.warriors.MarsProgram.{MarsProgram}
 use Rattle.mars_c.specs.declared.warriors.MarsWarrior.{MarsWarrior}
 
--- the numbers are the cells of w, which has this start and these names
+-- The numbers `cells` are the cells of the warrior `w`, which fits the parameters and has this start and these names.
 pub record IsEntrant (p : Parameters) (cells : List MarsCell) (start : ℕ) (name author : List ℕ) (w : WarriorValue) : Type 0 where
   pub cells_same : map plain_cell w.cells ≡ cells
   pub fits : All (FitsCore p.core_size) w.cells
@@ -24,20 +24,22 @@ pub record IsEntrant (p : Parameters) (cells : List MarsCell) (start : ℕ) (nam
   pub name_same : w.name ≡ name
   pub author_same : w.author ≡ author
 
--- the first wrong cell: numbers that are no cell, or a cell with a number outside the core of m cells
+-- The error is the first wrong cell: the numbers at the index are no cell, or the cell has a number outside the core of `m`
+-- cells.
 abbrev pub IsWrongCell : ℕ → List MarsCell → EntrantFault → Type 0
 IsWrongCell m cells OutOfMemory = ⊤
 IsWrongCell m cells (WrongCell i) = (numbers : MarsCell) × (slice_get cells i ≡ Some numbers) × ((cell : Cell) → plain_cell cell ≢ numbers)
 IsWrongCell m cells (Field i) = (cell : Cell) × (slice_get cells i ≡ Some (plain_cell cell)) × (FitsCore m cell → ⊥)
 IsWrongCell m cells other = ⊥
 
--- the numbers are no warrior with this start
+-- The error is a reason for which the numbers `cells` are no warrior with this start.
 abbrev pub IsNoEntrant : Parameters → List MarsCell → ℕ → EntrantFault → Type 0
 IsNoEntrant p cells start Length = (1 ≤ length cells) → (length cells ≤ p.max_length) → ⊥
 IsNoEntrant p cells start Start = length cells ≤ start
 IsNoEntrant p cells start fault = IsWrongCell p.core_size cells fault
 
--- the warriors whose cells lie one after another at the front of an array, and the cells that are left
+-- The warriors `ws` have the lengths and starts that `entrants` says, and their cells are one after another at the front of
+-- `cells`. `rest` are the cells that are left.
 abbrev pub Reads : Parameters → List MarsCell → List MarsWarrior → List WarriorValue → List MarsCell → Type 0
 Reads p cells [] [] rest = cells ≡ rest
 Reads p cells [] (w ∷ ws) rest = ⊥
@@ -45,22 +47,22 @@ Reads p cells (one ∷ others) [] rest = ⊥
 Reads p cells (one ∷ others) (w ∷ ws) rest =
     (one.length ≤ length cells) × IsEntrant p (take one.length cells) one.start [] [] w × Reads p (drop one.length cells) others ws rest
 
--- the warriors whose cells are all cells of an array
+-- The warriors `ws` are read from the array `cells`, and no cell is left.
 abbrev pub AreEntrants : Parameters → List MarsCell → List MarsWarrior → List WarriorValue → Type 0
 AreEntrants p cells entrants ws = Reads p cells entrants ws []
 
--- a name in 64 bytes, with zeros after it
+-- A name in 64 bytes: zeros follow it.
 abbrev pub plain_name : List ℕ → List ℕ
 plain_name name = name ++ replicate (64 - length name) 0
 
--- the name that stands in such bytes
+-- The name in such bytes: all bytes before the first zero.
 abbrev pub named : List ℕ → List ℕ
 named bytes = take_while (λ b. not (b == 0)) bytes
 
--- at most 60 printable characters of ASCII
+-- The bytes are a valid name: at most 60 printable ASCII characters.
 abbrev pub is_name : List ℕ → Bool
 is_name bytes = nat_le (length bytes) longest_name && list_all (is_within 32 126) bytes
 
--- the numbers of a warrior and its names
+-- The numbers of a warrior and its names.
 abbrev pub plain_program : WarriorValue → MarsProgram
 plain_program w = record { warrior = record { length = length w.cells; start = w.start }; name = plain_name w.name; author = plain_name w.author }

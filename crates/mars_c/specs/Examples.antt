@@ -1,5 +1,5 @@
--- Worked examples, as theorems: errors, cells, programs and records as numbers, warriors in an array, the positions of a later round, what is out of its range, and
--- populations.
+-- Examples, as theorems: errors, cells, programs and records as numbers, warriors in an array, the positions of a later round,
+-- values out of range, and populations.
 use Rattle.std.specs.Prelude.{◌≡◌, ℕ, zero, suc, pos, refl, true, false, All, List, [], ◌∷◌, None, Some, Ok, Err, codes, replicate, slice_index_or}
 use Rattle.std.proofs.Common.{ap, arith, subst}
 use Rattle.std.proofs.lemmas.List.Elements.{All-cons, All-nil}
@@ -59,57 +59,57 @@ use Rattle.mars_c.specs.declared.settings.MarsSettings.{MarsSettings}
 use Rattle.mars_c.specs.declared.warriors.EntrantFault.TheVariants as entrant
 use Rattle.mars_c.specs.declared.warriors.MarsWarrior.{MarsWarrior}
 
--- a limit of 0 is the core size, and each other number its own
+-- A limit of 0 is the core size. Each other number is the parameter itself.
 pub settings_are_parameters : parameters_in (record { core = 8000; processes = 64; cycles = 80000; read_limit = 0; write_limit = 300; longest = 100; distance = 200; rounds = 1; seed = 2; position = 3 })
     ≡ record { core_size = 8000; processes = 64; cycles = 80000; read_limit = 8000; write_limit = 300; max_length = 100; distance = 200 }
 settings_are_parameters = refl
 
--- line 3 of a load file
+-- The caller gets the number of the wrong line of a load file, here 3.
 pub load_file_is_told : fault_of (Load (Syntax 3)) ≡ record { code = 6; number = 1; problem = 0; expression = 0; line = 3; warrior = 0 }
 load_file_is_told = refl
 
--- cell 4 of the second warrior has a number outside the core; the third one has a wrong start
+-- Cell 4 of the second warrior has a number outside the core; the third warrior has a wrong start.
 pub warriors_are_told : (fault_of (Warrior 1 (entrant.Field 4)) ≡ record { code = 13; number = 4; problem = 0; expression = 0; line = 4; warrior = 1 })
     × (fault_of (Warrior 2 entrant.Start) ≡ record { code = 13; number = 2; problem = 0; expression = 0; line = 0; warrior = 2 })
 warriors_are_told = (refl, refl)
 
--- the third lineup has an index that no warrior has
+-- The third lineup has an index that no warrior has.
 pub lineup_is_told : fault_of (Lineup 2 lineup.Index) ≡ record { code = 14; number = 2; problem = 0; expression = 0; line = 0; warrior = 2 }
 lineup_is_told = refl
 
--- the history of a debugger is the sixth of the settings
+-- The debugger's history is setting number 6.
 pub history_is_told : block_fault_of blocks.History ≡ numbered 2 6
 history_is_told = refl
 
--- the count of a loop in line 2 divides by zero
+-- The count of a loop in line 2 divides by zero.
 pub source_is_told : fault_of (Assembly (record { line = 2; problem = Text (Expression DivideByZero) })) ≡ record { code = 5; number = 1; problem = 10; expression = 3; line = 2; warrior = 0 }
 source_is_told = refl
 
--- a number beyond 32 bits in an operand of line 4
+-- A number in an operand of line 4 exceeds 32 bits.
 pub operand_is_told : fault_of (Assembly (record { line = 4; problem = assembly.Expression Range })) ≡ record { code = 5; number = 4; problem = 0; expression = 4; line = 4; warrior = 0 }
 operand_is_told = refl
 
--- the cell at address 7, the queue of warrior 2, and the distance in a block
+-- The cell at address 7, the queue of warrior 2 and the minimum distance are wrong in a block.
 pub blocks_are_reported : (block_fault_of (blocks.Block (block.Cell 7)) ≡ record { code = 11; number = 5; problem = 0; expression = 0; line = 7; warrior = 0 })
     × (block_fault_of (blocks.Block (block.Queue 2)) ≡ record { code = 11; number = 6; problem = 0; expression = 0; line = 0; warrior = 2 })
     × (block_fault_of (blocks.Block (block.Parameters Distance)) ≡ record { code = 11; number = 3; problem = 6; expression = 0; line = 0; warrior = 0 })
 blocks_are_reported = (refl, refl, refl)
 
--- the first and the last number of a refused edit
+-- The error has the first and the last number of an edit.
 pub edits_are_reported : (block_fault_of blocks.NoSuchEdit ≡ numbered 12 1) × (block_fault_of (blocks.Edit Address) ≡ numbered 12 2) × (block_fault_of (blocks.Edit QueueFull) ≡ numbered 12 7)
 edits_are_reported = (refl, refl, refl)
 
--- the process at index 2 of warrior 1 is killed, whatever the address and the cell are
+-- The edit kills the process at index 2 of warrior 1, whatever the address and the cell are.
 pub kill_is_meant : Means (record { what = 3; warrior = 1; place = 2; address = 9; cell = record { op = 99; modifier = 0; a_mode = 0; b_mode = 0; a = 0; b = 0 } }) (KillProcess 1 2)
 kill_is_meant = (refl, refl, refl)
 
--- DJN.BA >7, {3 and SNE.X <1, *2
+-- The cells are DJN.BA >7, {3 and SNE.X <1, *2.
 pub parts_have_their_numbers :
     (plain_cell (cell_of Djn Ba BPostincrement 7 APredecrement 3) ≡ record { op = 10; modifier = 3; a_mode = 7; b_mode = 4; a = 7; b = 3 })
     × (plain_cell (cell_of Sne X BPredecrement 1 AIndirect 2) ≡ record { op = 12; modifier = 5; a_mode = 5; b_mode = 2; a = 1; b = 2 })
 parts_have_their_numbers = (refl, refl)
 
--- the imp writes one cell and goes on there
+-- The imp writes one cell, and its process continues there.
 pub row_of_an_imp : turn_row (lone of_eight (eight (imp ∷ [])) (0 ∷ [])) ≡ record {
   warrior = 0;
   address = 0;
@@ -128,17 +128,17 @@ pub row_of_an_imp : turn_row (lone of_eight (eight (imp ∷ [])) (0 ∷ [])) ≡
 unfolding the_machine
 row_of_an_imp = refl
 
--- MOV.I $1, $2 reads the cell behind it, and writes to the one behind that
+-- MOV.I $1, $2 reads the cell after it, and writes to the second cell after it.
 pub touched_by_a_move : touched_row (lone of_eight (eight (cell_of Mov I Direct 1 Direct 2 ∷ [])) (0 ∷ [])) ≡ record { count = 4; address = 0 ∷ 1 ∷ 2 ∷ 2 ∷ 0 ∷ 0 ∷ 0 ∷ 0 ∷ [] }
 unfolding the_machine touched
 touched_by_a_move = refl
 
--- the first of two has its turn, and then the second is next
+-- The first of two warriors has its turn, and then the second is next.
 pub next_is_told : (turn_row (battle_of of_eight (eight (imp ∷ [])) ((0 ∷ []) ∷ (4 ∷ []) ∷ []))).next ≡ 1
 unfolding the_machine
 next_is_told = refl
 
--- a split writes nothing and queues two processes
+-- A split writes nothing and queues two processes.
 pub row_of_a_split : turn_row (lone of_eight (eight (cell_of Spl B Direct 5 Immediate 0 ∷ [])) (0 ∷ 3 ∷ [])) ≡ record {
   warrior = 0;
   address = 0;
@@ -153,7 +153,7 @@ pub row_of_a_split : turn_row (lone of_eight (eight (cell_of Spl B Direct 5 Imme
 unfolding the_machine
 row_of_a_split = refl
 
--- an empty cell kills a lone process, and the battle is over: one turn was left
+-- An empty cell kills a single process, and the battle is over: one turn was left.
 pub row_of_a_death : turn_row (lone of_eight (eight []) (6 ∷ [])) ≡ record {
   warrior = 0;
   address = 6;
@@ -168,14 +168,14 @@ pub row_of_a_death : turn_row (lone of_eight (eight []) (6 ∷ [])) ≡ record {
 unfolding the_machine
 row_of_a_death = refl
 
--- of two turns at most, one is left; of one turn or none, the second or both rows stay
+-- Only one turn is left, so at most two turns fill only the first row, as one turn does. No turn fills no row.
 pub rows_are_played : (played_rows (λ s. s.turns) 2 (lone of_eight (eight []) (6 ∷ [])) (7 ∷ 7 ∷ []) ≡ 0 ∷ 7 ∷ [])
     × (played_rows (λ s. s.turns) 1 (lone of_eight (eight []) (6 ∷ [])) (7 ∷ 7 ∷ []) ≡ 0 ∷ 7 ∷ [])
     × (played_rows (λ s. s.turns) 0 (lone of_eight (eight []) (6 ∷ [])) (7 ∷ 7 ∷ []) ≡ 7 ∷ 7 ∷ [])
 unfolding the_machine
 rows_are_played = (refl, refl, refl)
 
--- one round of one cycle in a core of four cells, by a formula
+-- The setup of one round of one cycle in a core of four cells, with this formula.
 abbrev by_formula : List ℕ → Setup
 by_formula text = record {
   params = sizes 4 2;
@@ -190,14 +190,14 @@ by_formula text = record {
 abbrev one_cell : Op → Modifier → WarriorValue
 one_cell op modifier = record { name = []; author = []; cells = cell_of op modifier Direct 0 Direct 0 ∷ []; start = 0 }
 
--- JMP.B $0, $0 lives on, and DAT.F $0, $0 dies
+-- JMP.B $0, $0 survives, and DAT.F $0, $0 dies.
 abbrev stay : WarriorValue
 stay = one_cell Jmp B
 
 abbrev dead : WarriorValue
 dead = one_cell Dat F
 
--- the first round draws once for two warriors, so the second is laid by the second draw
+-- The first round draws once for two warriors, so the second round uses the second draw.
 pub second_round_is_drawn_anew : placed_in (sizes 8000 100) 2 None 1 1 ≡ Ok (0 ∷ 1139 ∷ [])
 unfolding starts_of next_seed drawn
 second_round_is_drawn_anew = refl
@@ -205,12 +205,12 @@ second_round_is_drawn_anew = refl
 pub fixed_position_stays : placed_in (sizes 8000 100) 2 (Some 4000) 5 1 ≡ Ok (0 ∷ 4000 ∷ [])
 fixed_position_stays = refl
 
--- in round 1 the second warrior has the first turn, from where it stands
+-- In round 1 the second warrior has the first turn, from its own starting position.
 pub second_round_begins_with_the_second : (begun (by_formula (codes "0")) (stay ∷ dead ∷ []) 1 >>= λ s. Ok s.queues) ≡ Ok ((2 ∷ []) ∷ (0 ∷ []) ∷ [])
 unfolding starts_of next_seed drawn start_state overlap the_machine
 second_round_begins_with_the_second = refl
 
--- settings of nano, with so many rounds, this seed and this position
+-- The settings of the nano hill, with this number of rounds, this seed and this position.
 abbrev nano : ℕ → ℕ → ℕ → MarsSettings
 nano rounds seed position = record {
   core = 80;
@@ -225,7 +225,7 @@ nano rounds seed position = record {
   position = position;
 }
 
--- no round and one too many are outside; the fewest and the most aren't
+-- A match of no rounds or of 100,001 is out of range; one of 1 or 100,000 is not.
 pub rounds_are_judged : IsOutside (nano 0 1 0) 2 [] [] Rounds × IsOutside (nano 100001 1 0) 2 [] [] Rounds
     × (IsOutside (nano 1 1 0) 2 [] [] Rounds → ⊥) × (IsOutside (nano 100000 1 0) 2 [] [] Rounds → ⊥)
 rounds_are_judged = (λ r. omega (arith, r), λ r. omega (arith, r), λ outside. outside (omega arith, omega arith), λ outside. outside (omega arith, omega arith))
@@ -234,11 +234,11 @@ pub seeds_are_judged : IsOutside (nano 1 0 0) 2 [] [] Seed × IsOutside (nano 1 
     × (IsOutside (nano 1 1 0) 2 [] [] Seed → ⊥) × (IsOutside (nano 1 2147483646 0) 2 [] [] Seed → ⊥)
 seeds_are_judged = (λ s. omega (arith, s), λ s. omega (arith, s), λ outside. outside (omega arith, omega arith), λ outside. outside (omega arith, omega arith))
 
--- what fits the settings fits their parameters
+-- A position that fits these settings fits the parameters that they make.
 fits_two : (position : ℕ) (p : Parameters) → checked_parameters (parameters_in (nano 1 1 position)) ≡ Ok p → FitsTwo (parameters_in (nano 1 1 position)) 2 (Some position) → FitsTwo p 2 (Some position)
 fits_two position p checked fixed = let same : parameters_in (nano 1 1 position) ≡ p = cc in subst (λ p. FitsTwo p 2 (Some position)) same fixed
 
--- the second of two warriors stands from 5 to 75; a third has no position, and 0 is none
+-- The second of two warriors may start at 5 to 75, and three warriors may have no position. Position 0 stands for none.
 pub positions_are_judged : IsOutside (nano 1 1 4) 2 [] [] Position × IsOutside (nano 1 1 76) 2 [] [] Position × IsOutside (nano 1 1 5) 3 [] [] Position
     × (IsOutside (nano 1 1 5) 2 [] [] Position → ⊥) × (IsOutside (nano 1 1 75) 2 [] [] Position → ⊥) × (IsOutside (nano 1 1 0) 3 [] [] Position → ⊥)
 positions_are_judged = (
@@ -250,27 +250,27 @@ positions_are_judged = (
   λ outside. outside.2 tt,
 )
 
--- MOV.I $0, $1 as numbers
+-- The numbers of MOV.I $0, $1.
 abbrev numbers : MarsCell
 numbers = record { op = 1; modifier = 6; a_mode = 1; b_mode = 1; a = 0; b = 1 }
 
--- DAT.F $0, $0 as numbers
+-- The numbers of DAT.F $0, $0.
 abbrev other : MarsCell
 other = record { op = 0; modifier = 4; a_mode = 1; b_mode = 1; a = 0; b = 0 }
 
 abbrev of_length : ℕ → ℕ → MarsWarrior
 of_length length start = record { length = length; start = start }
 
--- warriors of 2 and 1 cells, and three or four cells
+-- Warriors of 2 and 1 cells need three cells; four cells are an error.
 pub lengths_are_judged : IsOutside (nano 1 1 0) 2 (numbers ∷ numbers ∷ numbers ∷ numbers ∷ []) (of_length 2 0 ∷ of_length 1 0 ∷ []) Lengths
     × (IsOutside (nano 1 1 0) 2 (numbers ∷ numbers ∷ numbers ∷ []) (of_length 2 0 ∷ of_length 1 0 ∷ []) Lengths → ⊥)
 lengths_are_judged = (λ same. cc, λ outside. outside refl)
 
--- a warrior of imps
+-- A warrior that consists of imps.
 abbrev imps : ℕ → ℕ → WarriorValue
 imps length start = record { name = []; author = []; cells = replicate length imp; start = start }
 
--- the second of two warriors begins at its second cell
+-- Imps fit a core of 80 cells. The second of two warriors starts at its second cell.
 fit : (n : ℕ) → All (FitsCore 80) (replicate n imp)
 fit zero = All-nil (FitsCore 80)
 fit (suc n) = All-cons (FitsCore 80) imp (replicate n imp) (record { a = omega arith; b = omega arith }) (fit n)
@@ -282,7 +282,7 @@ warriors_lie_one_after_another = (
   (omega arith, record { cells_same = refl; fits = fit 2; short = omega arith; start_same = refl; inside = omega arith; name_same = refl; author_same = refl }, refl),
 )
 
--- A warrior starts at one of its cells, is not longer than the maximum, and has no number outside the core; its cells, its start and its names are those that are given.
+-- A warrior starts at one of its cells and is not longer than the maximum. Its cells, start and names are those given.
 pub wrong_warriors :
     ((w : WarriorValue) → IsEntrant (parameters_in (nano 1 1 0)) (numbers ∷ []) 1 [] [] w → ⊥)
     × ((w : WarriorValue) → IsEntrant (parameters_in (nano 1 1 0)) (replicate 6 numbers) 0 [] [] w → ⊥)
@@ -299,11 +299,11 @@ wrong_warriors = (
   λ e. let author = e.author_same in cc,
 )
 
--- two warriors whose cells are not those that are left
+-- Each warrior has its own cells: the second one is not read from the cells of the first.
 pub each_warrior_has_its_own_cells : AreEntrants (parameters_in (nano 1 1 0)) (numbers ∷ other ∷ []) (of_length 1 0 ∷ of_length 1 0 ∷ []) (imps 1 0 ∷ imps 1 0 ∷ []) → ⊥
 each_warrior_has_its_own_cells all = let op = ap (λ (cells : List MarsCell). (slice_index_or cells 0 numbers).op) all.2.1.cells_same in omega (arith, op)
 
--- a name is followed by zeros, and ends before the first
+-- A name is followed by zeros, and ends before the first zero.
 pub name_has_64_bytes : plain_name (codes "A") ≡ 65 ∷ replicate 63 0
 name_has_64_bytes = refl
 
@@ -313,34 +313,34 @@ name_is_padded = refl
 pub program_is_told : (plain_program (record { name = codes "Imp"; author = []; cells = imp ∷ imp ∷ []; start = 1 })).warrior ≡ of_length 2 1
 program_is_told = refl
 
--- want of memory is one refusal, wherever it came
+-- Every kind of failed allocation in a match is the same refusal, `OutOfMemory`.
 pub fights_are_refused : (fight_refusal (fight.Place NoRoom) ≡ Placement NoRoom) × (fight_refusal (fight.Battle FieldOutside) ≡ Battle FieldOutside)
     × (fight_refusal (fight.Score DivideByZero) ≡ Score DivideByZero) × (fight_refusal fight.OutOfMemory ≡ OutOfMemory)
     × (fight_refusal (fight.Place place.OutOfMemory) ≡ OutOfMemory) × (fight_refusal (fight.Battle battle.OutOfMemory) ≡ OutOfMemory)
 fights_are_refused = (refl, refl, refl, refl, refl, refl)
 
--- the first is the candidate, and the others are its opponents
+-- The first warrior is the candidate, and the others are its opponents.
 pub candidates_come_first : population (by_formula (codes "(W*W-1)/S")) 1 (stay ∷ dead ∷ dead ∷ []) ≡ Ok (record { points = pos 6; wins = 2; ties = 0; losses = 0 } ∷ [])
 unfolding table_of starts_of drawn next_seed survivors_of_round end_of scanned value_of tree_within the_machine
 candidates_come_first = refl
 
--- a lineup's seed, and that of the settings if it has none
+-- A lineup has its own seed, or that of the settings if its own is 0.
 pub seeds_of_lineups : ((seeded (nano 3 7 0) 9).seed ≡ 9) × ((seeded (nano 3 7 0) 0).seed ≡ 7)
 seeds_of_lineups = (refl, refl)
 
--- the first two of three indices count
+-- A lineup whose count is two: only the first two of its three indices count.
 abbrev of_two : MarsLineup
 of_two = record { seed = 0; count = 2; warrior = 4 ∷ 1 ∷ 9 ∷ [] }
 
 pub lineup_has_two : indices_of of_two ≡ 4 ∷ 1 ∷ []
 lineup_has_two = refl
 
--- lineups of none and of seventeen warriors, and one with an index too many
+-- Lineups of 0 and of 17 warriors are wrong, and one with an index that no warrior has.
 pub wrong_lineups : (IsLineup 5 (record { seed = 0; count = 0; warrior = [] }) → ⊥) × (IsLineup 5 (record { seed = 0; count = 17; warrior = [] }) → ⊥)
     × (IsLineup 4 of_two → ⊥)
 wrong_lineups = (λ l. omega (arith, l.warriors.0), λ l. omega (arith, l.warriors.1), λ l. let inside = l.indices 0 0 (omega arith) in omega (arith, inside))
 
--- three rounds of two and of two warriors
+-- Three rounds of two lineups of two warriors have twelve rows.
 pub rows_are_counted : rows_for (nano 3 7 0) (of_two ∷ of_two ∷ []) ≡ 12
 rows_are_counted = refl
 

@@ -1,4 +1,4 @@
--- What a reader of the contracts has to believe, in this order; Examples has worked examples of it.
+-- The definitions that a reader of the contracts must trust, in this order. `Examples` has examples of them.
 pub mod Settings
 pub mod Cells
 pub mod Entrants

@@ -1,4 +1,4 @@
--- How warriors fare in each round of many matches.
+-- How each warrior fares in each round of many matches.
 use Rattle.std.specs.Prelude.{◌≡◌, ◌*◌, ◌++◌, ◌==◌, ◌<◌, ◌⊎◌, ℕ, All, List, [], ◌∷◌, Option, Some, Ok, Err, codes, if◌then◌else◌, length, map, slice_get, sum_by, take}
 use Rattle.mars_cell.specs.Parameters.{Parameters}
 use Rattle.mars_cell.specs.ParameterFaults.{checked_parameters}
@@ -22,11 +22,11 @@ use Rattle.mars_c.specs.declared.ranges.SettingsFault.TheVariants.{Rows}
 use Rattle.mars_c.specs.declared.settings.MarsSettings.{MarsSettings}
 use Rattle.mars_c.specs.declared.warriors.MarsWarrior.{MarsWarrior}
 
--- the numbers of a fate
+-- A fate as numbers.
 abbrev pub plain_fate : Fate → MarsOutcome
 plain_fate fate = record { survived = if fate.survived then 1 else 0; turns = fate.turns; start = fate.start }
 
--- the settings with this seed, unless it is 0
+-- The settings `s` with this seed, unless it is 0.
 abbrev pub seeded : MarsSettings → ℕ → MarsSettings
 seeded s seed = record {
   core = s.core;
@@ -41,50 +41,51 @@ seeded s seed = record {
   position = s.position;
 }
 
--- the indices of the warriors of a lineup
+-- The indices of the warriors of a lineup.
 abbrev pub indices_of : MarsLineup → List ℕ
 indices_of lineup = take lineup.count lineup.warrior
 
--- a lineup of 1 to 16 among `count` warriors
+-- The lineup has 1 to 16 warriors, whose indices are below `count`.
 pub record IsLineup (count : ℕ) (lineup : MarsLineup) : Type 0 where
   pub warriors : AreWarriors lineup.count
   pub indices : All (λ i. i < count) (indices_of lineup)
 
--- the number of warriors is out of its range, or an index is
+-- The error is a reason for which a lineup is wrong: the number of its warriors is out of range, or an index is.
 abbrev pub IsNoLineup : ℕ → MarsLineup → LineupFault → Type 0
 IsNoLineup count lineup Count = AreWarriors lineup.count → ⊥
 IsNoLineup count lineup Index = All (λ i. i < count) (indices_of lineup) → ⊥
 
--- the lineup of this index is wrong
+-- `refusal` is the error of a wrong lineup, with its index.
 abbrev pub IsWrongLineup : ℕ → List MarsLineup → CallRefusal → Type 0
 IsWrongLineup count lineups refusal = (index : ℕ) × (lineup : MarsLineup) × (fault : LineupFault)
     × (slice_get lineups index ≡ Some lineup) × IsNoLineup count lineup fault × (refusal ≡ Lineup index fault)
 
--- the warriors with these indices
+-- `chosen` are the warriors of `ws` at these indices.
 abbrev pub AreChosen : List WarriorValue → List ℕ → List WarriorValue → Type 0
 AreChosen ws indices chosen = map (λ i. slice_get ws i) indices ≡ map (λ w. Some w) chosen
 
--- the fates of a lineup's match
+-- `fates` are the fates of all rounds of a lineup's match.
 abbrev pub IsFought : MarsSettings → List WarriorValue → MarsLineup → List Fate → Type 0
 IsFought s ws lineup fates = (setup : Setup) × (chosen : List WarriorValue)
     × IsSetup (seeded s lineup.seed) (codes "0") setup × AreChosen ws (indices_of lineup) chosen × FitsTwo setup.params (length chosen) setup.plan.fixed
     × (fates_of setup.params chosen setup.plan.fixed setup.plan.rounds setup.plan.seed ≡ Ok fates)
 
--- the fates of the matches of lineups, one match after another
+-- `fates` are the fates of the matches of all lineups, one match after another.
 abbrev pub AreFought : MarsSettings → List WarriorValue → List MarsLineup → List Fate → Type 0
 AreFought s ws [] fates = fates ≡ []
 AreFought s ws (lineup ∷ lineups) fates = (first : List Fate) × (others : List Fate) × IsFought s ws lineup first × AreFought s ws lineups others × (fates ≡ first ++ others)
 
--- the places hold these fates
+-- The caller's places hold the fates of the matches of all lineups.
 abbrev pub HoldsOutcomes : MarsSettings → List MarsCell → List MarsWarrior → List MarsLineup → List MarsOutcome → Type 0
 HoldsOutcomes s cells entrants lineups places = (p : Parameters) × (ws : List WarriorValue) × (fates : List Fate)
     × (checked_parameters (parameters_in s) ≡ Ok p) × AreEntrants p cells entrants ws × AreFought s ws lineups fates × (places ≡ map plain_fate fates)
 
--- the number of fates
+-- The number of fates of the matches of all lineups.
 abbrev pub rows_for : MarsSettings → List MarsLineup → ℕ
 rows_for s lineups = sum_by (λ (lineup : MarsLineup). s.rounds * lineup.count) lineups
 
--- the match of a lineup is not held: its setup is refused, or its first round that has an error
+-- `refusal` is a reason for which a lineup's match has no fates: the error of its settings, or of its first round with an
+-- error.
 abbrev pub RefusesLineup : MarsSettings → List WarriorValue → MarsLineup → CallRefusal → Type 0
 RefusesLineup s ws lineup refusal =
     RefusesEntry (seeded s lineup.seed) (codes "0") lineup.count [] [] refusal
@@ -92,12 +93,13 @@ RefusesLineup s ws lineup refusal =
     × IsSetup (seeded s lineup.seed) (codes "0") setup × AreChosen ws (indices_of lineup) chosen
     × (fates_of setup.params chosen setup.plan.fixed setup.plan.rounds setup.plan.seed ≡ Err fault) × (refusal ≡ fight_refusal fault))
 
--- the match of one of the lineups is not held
+-- `refusal` is a reason for which the match of one of the lineups has no fates.
 abbrev pub FailsLineup : MarsSettings → List MarsCell → List MarsWarrior → List MarsLineup → CallRefusal → Type 0
 FailsLineup s cells entrants lineups refusal = (p : Parameters) × (ws : List WarriorValue) × (index : ℕ) × (lineup : MarsLineup)
     × (checked_parameters (parameters_in s) ≡ Ok p) × AreEntrants p cells entrants ws × (slice_get lineups index ≡ Some lineup) × RefusesLineup s ws lineup refusal
 
--- a lineup is wrong, there are more or fewer places than fates, the parameters or the warriors are refused, or a match is not held
+-- `refusal` is a reason for which no fates are returned: a lineup is wrong, the number of places is not that of the fates, the
+-- parameters or the warriors are rejected, or a match fails.
 abbrev pub RefusesOutcomes : MarsSettings → List MarsCell → List MarsWarrior → List MarsLineup → ℕ → CallRefusal → Type 0
 RefusesOutcomes s cells entrants lineups places refusal =
     IsWrongLineup (length entrants) lineups refusal

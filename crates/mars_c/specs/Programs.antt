@@ -14,44 +14,44 @@ use Rattle.mars_c.specs.declared.cells.MarsCell.{MarsCell}
 use Rattle.mars_c.specs.declared.settings.MarsSettings.{MarsSettings}
 use Rattle.mars_c.specs.declared.warriors.MarsProgram.{MarsProgram}
 
--- the buffer begins with a text of this length; after it, the buffer is unchanged
+-- The buffer `after` begins with `text`, whose length is `count`; after the text it equals the buffer `before`.
 abbrev pub BeginsWith : List ℕ → ℕ → List ℕ → List ℕ → Type 0
 BeginsWith text count before after = (count ≡ length text) × (count ≤ length before) × (after ≡ text ++ drop count before)
 
--- a text of this length is longer than the buffer
+-- `text`, whose length is `count`, is longer than the buffer.
 abbrev pub Overflows : List ℕ → ℕ → List ℕ → Type 0
 Overflows text count buffer = (count ≡ length text) × (length buffer < count)
 
--- the buffer holds a text of this kind
+-- The buffer `after` begins with a text for which `Is` holds.
 abbrev pub HoldsText : (List ℕ → Type 0) → ℕ → List ℕ → List ℕ → Type 0
 HoldsText Is count before after = (text : List ℕ) × Is text × BeginsWith text count before after
 
--- a text of this kind is longer than the buffer
+-- A text for which `Is` holds is longer than the buffer.
 abbrev pub OverflowsText : (List ℕ → Type 0) → ℕ → List ℕ → Type 0
 OverflowsText Is count buffer = (text : List ℕ) × Is text × Overflows text count buffer
 
--- the places hold the cells of a program of this kind, and the program has its numbers and names
+-- The places `after` begin with the cells of a warrior for which `Is` holds, and `program` has its numbers and names.
 abbrev pub HoldsProgram : (WarriorValue → Type 0) → MarsProgram → List MarsCell → List MarsCell → Type 0
 HoldsProgram Is program before after = (w : WarriorValue) × Is w × (program ≡ plain_program w)
     × (length w.cells ≤ length before) × (after ≡ map plain_cell w.cells ++ drop (length w.cells) before)
 
--- a program of this kind has more cells than there are places, and the program has its numbers and names
+-- A warrior for which `Is` holds has more cells than there are places; `program` has its numbers and names all the same.
 abbrev pub OverflowsProgram : (WarriorValue → Type 0) → MarsProgram → List MarsCell → Type 0
 OverflowsProgram Is program places = (w : WarriorValue) × Is w × (program ≡ plain_program w) × (length places < length w.cells)
 
--- the program that a source is assembled to
+-- `w` is the warrior that the source is assembled to. `warriors` is the value of WARRIORS.
 abbrev pub IsAssembled : MarsSettings → ℕ → List ℕ → WarriorValue → Type 0
 IsAssembled s warriors source w = (p : Parameters) × (checked_parameters (parameters_in s) ≡ Ok p) × (assembly p s.rounds warriors source ≡ Ok w)
 
--- the program of a load file
+-- `w` is the warrior of the load file `text`.
 abbrev pub IsLoaded : MarsSettings → List ℕ → WarriorValue → Type 0
 IsLoaded s text w = (p : Parameters) × (checked_parameters (parameters_in s) ≡ Ok p) × (load p.core_size p.max_length text ≡ Ok w)
 
--- the load file of these cells and this program
+-- `text` is the load file of these cells and this program.
 abbrev pub IsLoadFile : MarsSettings → List MarsCell → MarsProgram → List ℕ → Type 0
 IsLoadFile s cells program text = (p : Parameters) × (w : WarriorValue) × (checked_parameters (parameters_in s) ≡ Ok p) × (program.warrior.length ≡ length cells)
     × IsEntrant p cells program.warrior.start (named program.name) (named program.author) w × (text ≡ load_text p.core_size w)
 
--- the lines of a source in which its instructions stand
+-- `text` maps the cells of the warrior to the lines of its source.
 abbrev pub AreLines : MarsSettings → ℕ → List ℕ → List ℕ → Type 0
 AreLines s warriors source text = (p : Parameters) × (checked_parameters (parameters_in s) ≡ Ok p) × (source_lines p s.rounds warriors source ≡ Ok text)

@@ -1,4 +1,4 @@
--- What settings ask for.
+-- The parameters and the setup that settings describe.
 use Rattle.std.specs.Prelude.{◌≡◌, ◌≤◌, ◌==◌, ℕ, if◌then◌else◌, List, None, Ok, Option, Some}
 use Rattle.mars_cell.specs.Parameters.{Parameters}
 use Rattle.mars_cell.specs.ParameterFaults.{checked_parameters}
@@ -6,11 +6,11 @@ use Rattle.mars_match.specs.declared.setup.Setup.{Setup}
 use Rattle.redcode_asm.specs.Formula.{formula_of}
 use Rattle.mars_c.specs.declared.settings.MarsSettings.{MarsSettings}
 
--- a limit of 0 is the core size
+-- A read or write limit: 0 stands for the core size.
 abbrev pub limit_of : ℕ → ℕ → ℕ
 limit_of limit core = if limit == 0 then core else limit
 
--- the parameters of settings
+-- The parameters of settings.
 abbrev pub parameters_in : MarsSettings → Parameters
 parameters_in s = record {
   core_size = s.core;
@@ -22,18 +22,19 @@ parameters_in s = record {
   distance = s.distance;
 }
 
--- a position of 0 is none
+-- A position: 0 stands for none.
 abbrev pub position_of : ℕ → Option ℕ
 position_of position = if position == 0 then None else Some position
 
--- how many rounds a match may have, and from which seeds on
+-- The numbers of rounds that a match may have.
 abbrev pub AreRounds : ℕ → Type 0
 AreRounds rounds = (1 ≤ rounds) × (rounds ≤ 100000)
 
+-- The seeds that the first round of a match may have.
 abbrev pub IsSeed : ℕ → Type 0
 IsSeed seed = (1 ≤ seed) × (seed ≤ 2147483646)
 
--- what settings and a formula come to
+-- `setup` is what the settings `s` and the formula `text` describe.
 pub record IsSetup (s : MarsSettings) (text : List ℕ) (setup : Setup) : Type 0 where
   pub params : checked_parameters (parameters_in s) ≡ Ok setup.params
   pub formula : formula_of text ≡ Ok setup.plan.formula

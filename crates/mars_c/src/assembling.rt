@@ -1,4 +1,4 @@
-//! Programs of sources and load files, load files of programs, and the lines in which a source has its instructions.
+//! Assembles sources, reads and writes load files, and maps cells to the lines of a source.
 ghost use Rattle.std.specs.Prelude.{◌≡◌, ◌≢◌, IfErr, IfOk};
 ghost use Rattle.mars_c.specs.Entrants.{IsEntrant, named, plain_program};
 ghost use Rattle.mars_c.specs.Programs.{AreLines, IsAssembled, IsLoadFile, IsLoaded};
@@ -25,6 +25,8 @@ fn made_of(warrior: Warrior) -> Result<Made, CallRefusal>
 }
 
 /// Returns the program that a source is assembled to.
+///
+/// `warriors` is the value of WARRIORS.
 pub fn assembled(
     alloc: Global,
     settings: &MarsSettings,
@@ -44,7 +46,9 @@ pub fn assembled(
     }
 }
 
-/// Returns the lines of a source in which its instructions stand.
+/// Returns the text that maps the cells of a program to the lines of its source.
+///
+/// `warriors` is the value of WARRIORS.
 pub fn lines(
     alloc: Global,
     settings: &MarsSettings,
@@ -80,7 +84,7 @@ pub fn loaded(alloc: Global, settings: &MarsSettings, text: &[u8]) -> Result<Mad
     }
 }
 
-/// Returns the warrior with these cells and the start and the names of a program.
+/// Returns the warrior with these cells and the start and names of `program`.
 fn named_warrior(
     alloc: Global,
     params: &Params,
@@ -95,7 +99,7 @@ fn named_warrior(
     warrior_of(alloc, params, cells, program.warrior.start, name, author)
 }
 
-/// Returns the load file of cells and a program.
+/// Returns the load file of a program that has these cells.
 pub fn written(
     alloc: Global,
     settings: &MarsSettings,

@@ -1,4 +1,4 @@
-//! The battle of a round, and a session over a battle.
+//! The battle at the start of a round, and a debugger's session over a battle.
 ghost use Rattle.std.specs.Prelude.{◌≡◌, ◌≤◌, ◌⊎◌, [], Err, IfErr, IfOk, IfSome, Ok, length, vec_len};
 ghost use Rattle.mars_match.specs.Placement.{FitsTwo};
 ghost use Rattle.mars_c.specs.Battles.{IsDebugged, IsHistory, IsRound, IsStart, begun, placed_in};
@@ -16,7 +16,7 @@ use mars_match::{MatchFault, Setup};
 use mars_session::{RingTape, Session};
 use std::alloc::Global;
 
-/// Where the warriors of a round are laid, by the seeds that the rounds before leave.
+/// Returns the starting positions of a round, drawn with the seed that the rounds before it leave.
 fn starts_in(
     alloc: Global,
     setup: &Setup,
@@ -41,7 +41,7 @@ fn starts_in(
     Ok(starts)
 }
 
-/// The battle of a round.
+/// Returns the battle at the start of a round.
 fn round_battle(
     alloc: Global,
     setup: &Setup,
@@ -65,7 +65,7 @@ fn round_battle(
     }
 }
 
-/// Returns the battle of a round, as it starts.
+/// Returns the battle at the start of a round of a match with these settings and warriors.
 pub fn start_of(
     alloc: Global,
     settings: &MarsSettings,
@@ -95,8 +95,9 @@ pub fn start_of(
     }
 }
 
-/// Returns a session over a battle that has read the debugger's lines, and appends its answers to the transcript. Returns `None` if an
-/// allocation fails.
+/// Returns a session over a battle that has read the debugger's lines, and appends its replies to `transcript`.
+///
+/// `history` is the number of places of the session's history. Returns `None` if an allocation fails.
 pub fn debugged(
     alloc: Global,
     battle: Battle,

@@ -1,4 +1,4 @@
-//! Battles as blocks of words that the caller owns: how they start, play turns, are edited and are checked.
+//! Battles as blocks of words that the caller owns: starting, playing, editing and checking them.
 ghost use Rattle.std.specs.Prelude.{◌≡◌, ◌≢◌, ◌≤◌, ◌<◌, ◌+◌, ◌*◌, IfErr, IfOk, Ok, OnErr, OnOk, false, length, true};
 ghost use Rattle.mars_cell.specs.Parameters.{Parameters};
 ghost use Rattle.mars_cell.specs.ParameterFaults.{checked_parameters};
@@ -23,7 +23,8 @@ use crate::touches::MarsTouched;
 use mars_core::{Battle, BlockFault, most_words};
 use std::alloc::Global;
 
-/// Returns the maximum length of the block of a battle, in words, or 0 if the settings and the number of warriors allow no battle.
+/// Returns the maximum length of the block of a battle in words, or 0 if the settings and the number of warriors allow no
+/// battle.
 pub fn words_of(settings: &MarsSettings, warriors: u32) -> usize
     ensures some { (p : Parameters) → checked_parameters (parameters_in settings.now) ≡ Ok p → AreWarriors warriors
         → result ≡ head_words + 3 * p.core_size + warriors * p.processes }
@@ -38,7 +39,7 @@ pub fn words_of(settings: &MarsSettings, warriors: u32) -> usize
     }
 }
 
-/// Returns the battle of a round, as it starts.
+/// Returns the battle at the start of a round.
 pub fn started(
     alloc: Global,
     settings: &MarsSettings,
@@ -54,7 +55,7 @@ pub fn started(
     start_of(alloc, settings, entrants, round)
 }
 
-/// Writes the block of a battle, if the words have the capacity that the battle needs. Returns whether they have.
+/// Writes the block of a battle if the words have the capacity that the battle needs. Returns whether they have.
 pub fn put_if_fits(battle: &Battle, words: &mut [u32]) -> bool
     ensures fits { result ≡ true → (capacity_of battle.now ≤ length words.old) × IsWritten battle.now words.old words.new }
     ensures short { result ≡ false → length words.old < capacity_of battle.now }
@@ -106,7 +107,7 @@ fn take(alloc: Global, words: &[u32]) -> Result<Battle, BlockRefusal>
     }
 }
 
-/// Writes the block of a battle that was taken from these words.
+/// Writes the block of a battle. The words have the capacity that it needs.
 fn put(battle: &Battle, words: &mut [u32])
     requires { capacity_of battle.now ≤ length words.old }
     ensures { IsWritten battle.now words.old words.new }
@@ -115,7 +116,7 @@ fn put(battle: &Battle, words: &mut [u32])
     battle.write_block(words);
 }
 
-/// Makes at most `turns` turns of a battle, and records the first of them in the rows.
+/// Executes at most `turns` turns of a battle and records the first ones in the rows.
 fn play<R: TurnRow>(battle: &mut Battle, turns: u32, rows: &mut [R])
     ensures rows { rows.new ≡ played_rows R.row_of turns battle.old rows.old }
     ensures battle { battle.new ≡ after_turns turns battle.old }
@@ -125,8 +126,13 @@ fn play<R: TurnRow>(battle: &mut Battle, turns: u32, rows: &mut [R])
     battle.run(turns - count as u32);
 }
 
-/// Records the first turns of a battle in the rows, and leaves the battle as it is. Fails if the allocation of a copy fails; then the rows
-/// are unchanged.
+/// Records the first turns of a battle in the rows, and leaves the battle as it is.
+///
+/// `battle` is copied if there are rows.
+///
+/// # Errors
+///
+/// Returns `OutOfMemory` if the copy cannot be allocated; the rows are unchanged then.
 #[tactic(auto, using(crate::proofs::PlayedBlocks::none_played))]
 fn record<R: TurnRow>(
     alloc: Global,
@@ -151,7 +157,12 @@ fn record<R: TurnRow>(
     }
 }
 
-/// Makes at most `turns` turns in a block, and records the first of them in the rows.
+/// Executes at most `turns` turns of the battle in a block, and records the first ones in the rows.
+///
+/// # Errors
+///
+/// Returns `Block` if the words are no battle, then `Capacity` if there are too few words, and `OutOfMemory` if an allocation
+/// fails. All arguments are unchanged then.
 pub fn play_in(
     alloc: Global,
     words: &mut [u32],
@@ -178,7 +189,12 @@ pub fn play_in(
     }
 }
 
-/// Makes the edit that the numbers mean in a block.
+/// Makes an edit of the battle in a block.
+///
+/// # Errors
+///
+/// In this order: `NoSuchEdit`, `Block`, `Capacity`, `Edit`; `OutOfMemory` if an allocation fails. The words are unchanged
+/// then.
 pub fn edit_in(alloc: Global, words: &mut [u32], numbers: &MarsEdit) -> Result<(), BlockRefusal>
     ensures done { OnOk result (HoldsEdited numbers.now words.old words.new) }
     ensures refused { IfErr result (RefusesEdit words.old numbers.now) }

@@ -6,7 +6,7 @@ ghost use Rattle.mars_c.specs.Cells.{plain_cell};
 use mars_cell::Cell;
 use mars_core::{mode_of, modifier_of, op_of};
 
-/// A cell of the core. Its opcode, modifier and modes are numbers of `include/mars.h`.
+/// A cell of the core. Opcode, modifier and modes are numbers of `include/mars.h`.
 #[repr(C)]
 #[derive(Clone, Copy)]
 pub struct MarsCell {
@@ -19,7 +19,7 @@ pub struct MarsCell {
 }
 
 impl MarsCell {
-    /// Returns the numbers of a cell.
+    /// Returns a cell as numbers.
     pub fn of(cell: &Cell) -> MarsCell
         ensures { result ≡ plain_cell cell.now }
     {
@@ -34,7 +34,7 @@ impl MarsCell {
     }
 }
 
-/// Returns the cell with these numbers, or `None` if a number stands for no opcode, modifier or mode.
+/// Returns the cell with these numbers, or `None` if a number is no opcode, modifier or mode.
 pub fn cell_of(numbers: &MarsCell) -> Option<Cell>
     ensures some { IfSome result (λ cell. plain_cell cell ≡ numbers.now) }
     ensures none { IfNone result ((cell : CellValue) → plain_cell cell ≢ numbers.now) }
@@ -49,7 +49,7 @@ pub fn cell_of(numbers: &MarsCell) -> Option<Cell>
     })
 }
 
-/// Writes the numbers of cells to the front of the places.
+/// Writes the numbers of cells to the front of `places`.
 pub fn put_cells(cells: &[Cell], places: &mut [MarsCell])
     requires { length cells.now ≤ length places.old }
     ensures { places.new ≡ map plain_cell cells.now ++ drop (length cells.now) places.old }

@@ -12,7 +12,7 @@ use crate::settings::{MarsSettings, warriors_fault};
 use mars_match::{Table, league, rounds};
 use std::alloc::Global;
 
-/// The most warriors of a league.
+/// Maximum number of warriors of a league.
 const MOST_OF_A_LEAGUE: usize = 65_536;
 
 /// Returns the table of a match.
@@ -47,7 +47,7 @@ fn league_table(
     ensures refused { let e = entrants.entry in IfErr result (λ refusal. RefusesEntry settings.now formula.now 0 e.cells.now e.warriors.now refusal
         ⊎ FailsLeague settings.now formula.now e.cells.now e.warriors.now refusal) }
 {
-    // A league has no position: one is judged as if there were no warriors.
+    // A position fits only matches of two, and a league may have none. With 0 warriors, every position is rejected.
     let entry = enter(alloc, settings, formula, entrants, 0)?;
     let table = league(alloc, &entry.setup, &entry.warriors);
     drop(entry);
@@ -57,7 +57,7 @@ fn league_table(
     }
 }
 
-/// Writes the rows of a match to the places.
+/// Runs a match and writes its rows to `place`.
 pub fn match_into(
     alloc: Global,
     settings: &MarsSettings,
@@ -82,7 +82,7 @@ pub fn match_into(
     }
 }
 
-/// Writes the rows of a league to the places.
+/// Runs a league and writes its rows to `place`.
 pub fn league_into(
     alloc: Global,
     settings: &MarsSettings,

@@ -10,7 +10,7 @@ use std::alloc::Global;
 /// Maximum number of places of a history.
 const LONGEST_HISTORY: u32 = 1_000_000;
 
-/// Returns what the debugger answers to lines over the battle whose block the words begin with.
+/// Returns what the debugger replies to `lines` over the battle whose block the words begin with.
 pub fn transcript(
     alloc: Global,
     words: &[u32],

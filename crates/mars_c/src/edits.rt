@@ -6,19 +6,19 @@ ghost use Rattle.mars_c.specs.Blocks.{Means};
 use crate::cells::{MarsCell, cell_of};
 use mars_core::Edit;
 
-/// Edit of a battle. An edit reads only the fields that it needs.
+/// An edit of a battle. Each kind of edit reads only the fields that it needs.
 #[repr(C)]
 #[derive(Clone, Copy)]
 pub struct MarsEdit {
-    /// 1 sets a cell, 2 moves a process, 3 kills a process, 4 adds a process.
+    /// Kind of edit: 1 sets a cell, 2 moves a process, 3 kills a process, 4 adds a process.
     pub what: u32,
-    /// Warrior of the process: 2, 3 and 4.
+    /// Warrior of the process, for kinds 2, 3 and 4.
     pub warrior: u32,
-    /// Index of the process in its queue; the front has index 0: 2 and 3.
+    /// Index of the process in its queue, from 0 at the front, for kinds 2 and 3.
     pub place: u32,
-    /// Address of the cell, or of the process from then on: 1, 2 and 4.
+    /// Address of the cell, or new address of the process, for kinds 1, 2 and 4.
     pub address: u32,
-    /// New cell: 1.
+    /// New cell, for kind 1.
     pub cell: MarsCell,
 }
 

@@ -1,4 +1,4 @@
-//! What a contest begins with: its setup, and its warriors.
+//! The setup and the warriors of a match.
 ghost use Rattle.std.specs.Prelude.{◌≡◌, ℕ, IfErr, IfOk, List, Ok, length, vec_len};
 ghost use Rattle.mars_cell.specs.ParameterFaults.{checked_parameters};
 ghost use Rattle.mars_match.specs.Placement.{FitsTwo};
@@ -16,14 +16,14 @@ use mars_cell::{Params, Warrior};
 use mars_match::Setup;
 use std::alloc::Global;
 
-/// Warriors, and their cells one after another.
+/// Warriors as the caller passes them: the cells of all warriors, one after another, and each warrior's length and start.
 #[derive(Clone, Copy)]
 pub struct Entrants<'e> {
     pub cells: &'e [MarsCell],
     pub warriors: &'e [MarsWarrior],
 }
 
-/// Returns the warriors, which have no names.
+/// Returns the warriors, without names.
 pub fn read_all(
     alloc: Global,
     params: &Params,
@@ -58,14 +58,16 @@ pub fn read_all(
     Ok(warriors)
 }
 
-/// What settings and a formula come to, and the warriors.
+/// The setup of a match and its warriors.
 #[derive(Drop)]
 pub struct Entry {
     pub setup: Setup,
     pub warriors: Vec<Warrior>,
 }
 
-/// Returns what settings, a formula and warriors come to, for battles of `count` warriors.
+/// Returns the setup that the settings and the formula describe, and the warriors.
+///
+/// The position of the settings must fit battles of `count` warriors.
 pub fn enter(
     alloc: Global,
     settings: &MarsSettings,

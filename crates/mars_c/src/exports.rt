@@ -1,4 +1,6 @@
-//! What C calls.
+//! The functions that C calls. `include/mars.h` documents them.
+//!
+//! A function that writes a result returns 0 if it succeeds; otherwise it stores the error in `fault` and returns its code.
 ghost use Rattle.std.specs.Prelude.{◌≡◌, ◌≢◌, ◌≤◌, ◌<◌, ◌++◌, drop, false, length, map, true};
 ghost use Rattle.mars_c.specs.Cells.{plain_cell};
 ghost use Rattle.mars_c.specs.Contests.{HoldsLeague, HoldsMatch, HoldsSums};
@@ -20,7 +22,7 @@ use crate::settings::MarsSettings;
 use crate::warriors::{Made, MarsProgram, MarsWarrior};
 use std::alloc::Global;
 
-/// Writes a text to the front of a buffer, if it fits. Returns whether it fits, and its length in `length`.
+/// Copies `text` to the start of `buffer` if it fits, and returns whether it does. Sets `length` in both cases.
 fn give_text(text: &[u8], buffer: &mut [u8], length: &mut usize) -> bool
     ensures fits { result ≡ true → BeginsWith text.now length.new buffer.old buffer.new }
     ensures short { result ≡ false → Overflows text.now length.new buffer.old }
@@ -34,7 +36,7 @@ fn give_text(text: &[u8], buffer: &mut [u8], length: &mut usize) -> bool
     true
 }
 
-/// Writes a program, and its cells to the front of the places, if they fit. Returns whether they fit.
+/// Writes the program, and its cells to the front of `places` if they fit. Returns whether they fit.
 fn give_program(made: &Made, places: &mut [MarsCell], program: &mut MarsProgram) -> bool
     ensures program { program.new ≡ made.now.program }
     ensures fits { result ≡ true → length made.now.warrior.cells ≤ length places.old }
@@ -51,7 +53,7 @@ fn give_program(made: &Made, places: &mut [MarsCell], program: &mut MarsProgram)
     true
 }
 
-/// Stores an error for the caller. Returns its code.
+/// Stores an error for the caller and returns its code.
 fn answer(place: &mut MarsFault, fault: MarsFault) -> u32
     ensures fault { place.new ≡ fault }
     ensures code { result ≡ fault.code }
@@ -60,7 +62,7 @@ fn answer(place: &mut MarsFault, fault: MarsFault) -> u32
     place.code
 }
 
-/// The version: 1,000 for each major one, and the minor one. It is MARS_VERSION of `include/mars.h`.
+/// Version of the library: 1,000 for each major version, plus the minor one. It must equal MARS_VERSION of `include/mars.h`.
 const VERSION: u32 = 2000;
 
 /// Returns the version of the library.
@@ -95,7 +97,7 @@ pub extern "C" fn mars_assemble(
     }
 }
 
-/// Returns the lines of a source in which its instructions stand.
+/// Maps the cells of a source's warrior to the lines of the source.
 #[unsafe(no_mangle)]
 pub extern "C" fn mars_lines(
     alloc: Global,
@@ -118,7 +120,7 @@ pub extern "C" fn mars_lines(
     }
 }
 
-/// Reads the cells of a load file.
+/// Reads the cells and the program of a load file.
 #[unsafe(no_mangle)]
 pub extern "C" fn mars_read_load(
     alloc: Global,
@@ -141,7 +143,7 @@ pub extern "C" fn mars_read_load(
     }
 }
 
-/// Writes the load file of cells and a program.
+/// Writes the load file of a program that has these cells.
 #[unsafe(no_mangle)]
 pub extern "C" fn mars_write_load(
     alloc: Global,
@@ -209,6 +211,8 @@ pub extern "C" fn mars_league(
 }
 
 /// Runs a match of each candidate with each opponent.
+///
+/// The first warriors are the candidates, as many as there are rows.
 #[unsafe(no_mangle)]
 pub extern "C" fn mars_population(
     alloc: Global,

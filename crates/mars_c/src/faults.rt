@@ -1,4 +1,4 @@
-//! Why a call wasn't done, and what a caller is told of it.
+//! Why calls fail, and the errors that their callers get.
 ghost use Rattle.std.specs.Prelude.{◌≡◌, ◌≢◌, ◌≤◌, if◌then◌else◌};
 ghost use Rattle.mars_c.specs.Codes.{block_fault_of, fault_of, numbered as spec_numbered};
 ghost use Rattle.mars_c.specs.Refusals.{fight_refusal, refusal_at};
@@ -18,7 +18,7 @@ use mars_match::{MatchFault, PlaceFault};
 use redcode_asm::{AsmFault, AsmProblem};
 use redcode_text::ExprFault;
 
-/// Why a call wasn't done.
+/// Why a call failed.
 #[derive(Clone, Copy)]
 pub enum CallRefusal {
     OutOfMemory,
@@ -30,13 +30,13 @@ pub enum CallRefusal {
     Placement(PlaceFault),
     Battle(BattleFault),
     Score(ExprFault),
-    /// The warrior of this index, from 0.
+    /// Error of the warrior with this index, from 0.
     Warrior(usize, EntrantFault),
-    /// The lineup of this index, from 0.
+    /// Error of the lineup with this index, from 0.
     Lineup(usize, LineupFault),
 }
 
-/// Why a call on a block is refused.
+/// Why a call on a block failed.
 #[derive(Clone, Copy)]
 pub enum BlockRefusal {
     OutOfMemory,
@@ -51,25 +51,25 @@ pub enum BlockRefusal {
     History,
 }
 
-/// What a caller is told. What doesn't apply is 0.
+/// An error as the caller gets it. Fields that do not apply are 0.
 #[repr(C)]
 #[derive(Clone, Copy)]
 pub struct MarsFault {
-    /// What the call answered, as a number of `include/mars.h`.
+    /// Result of the call, as a number of `include/mars.h`.
     pub code: u32,
-    /// The number of the fault, as the program prints it.
+    /// Number of the error, as the program prints it.
     pub number: u32,
-    /// The number of the text's problem within an assembly's fault.
+    /// Number of a problem of the text, for an assembly; number of a parameter, for a block.
     pub problem: u32,
-    /// The number of the expression's fault within that.
+    /// Number of the error of an expression, for an assembly.
     pub expression: u32,
-    /// The line of a source or of a load file, from 1.
+    /// Line of a source or a load file, from 1; index of a wrong cell of a warrior, or address of a wrong cell of a block.
     pub line: u64,
-    /// The index of a warrior or of a lineup, from 0.
+    /// Index of a warrior or a lineup, from 0.
     pub warrior: u64,
 }
 
-/// An answer with a number.
+/// Returns the error with this code and number; the other fields are 0.
 fn numbered(code: u32, number: u32) -> MarsFault
     ensures { result ≡ spec_numbered code number }
 {
@@ -83,7 +83,7 @@ fn numbered(code: u32, number: u32) -> MarsFault
     }
 }
 
-/// What a caller is told of a source's fault.
+/// Converts the error of a source.
 fn assembly(fault: AsmFault) -> MarsFault
     ensures { result ≡ fault_of (variant.Assembly fault) }
 {
@@ -96,7 +96,7 @@ fn assembly(fault: AsmFault) -> MarsFault
     }
 }
 
-/// What a caller is told of a load file's fault.
+/// Converts the error of a load file.
 fn load(fault: LoadFault) -> MarsFault
     ensures { result ≡ fault_of (variant.Load fault) }
 {
@@ -106,7 +106,7 @@ fn load(fault: LoadFault) -> MarsFault
     }
 }
 
-/// Returns the error that a caller gets if a warrior is wrong.
+/// Converts the error of the warrior at `index`.
 fn entrant(index: usize, fault: EntrantFault) -> MarsFault
     ensures { result ≡ fault_of (variant.Warrior index fault) }
 {
@@ -117,7 +117,7 @@ fn entrant(index: usize, fault: EntrantFault) -> MarsFault
     }
 }
 
-/// Returns the error that a caller gets if a lineup is wrong.
+/// Converts the error of the lineup at `index`.
 fn lineup(index: usize, fault: LineupFault) -> MarsFault
     ensures { result ≡ fault_of (variant.Lineup index fault) }
 {
@@ -127,7 +127,7 @@ fn lineup(index: usize, fault: LineupFault) -> MarsFault
     }
 }
 
-/// What a caller is told of a refusal.
+/// Converts the reason for which a call failed to the error that the caller gets.
 pub fn told(refusal: CallRefusal) -> MarsFault
     ensures fault { result ≡ fault_of refusal }
     ensures some { 1 ≤ result.code }
@@ -148,7 +148,7 @@ pub fn told(refusal: CallRefusal) -> MarsFault
     }
 }
 
-/// Returns the error that a caller gets if words are not a block.
+/// Converts the error of words that are no block.
 fn block(fault: BlockFault) -> MarsFault
     ensures { result ≡ block_fault_of (refused.Block fault) }
 {
@@ -160,7 +160,7 @@ fn block(fault: BlockFault) -> MarsFault
     }
 }
 
-/// Returns the error that a caller gets if a call on a block is refused.
+/// Converts the reason for which a call on a block failed to the error that the caller gets.
 pub fn block_fault(refusal: BlockRefusal) -> MarsFault
     ensures { result ≡ block_fault_of refusal }
 {
@@ -174,7 +174,7 @@ pub fn block_fault(refusal: BlockRefusal) -> MarsFault
     }
 }
 
-/// What a caller is told of a call that wasn't refused, by whether its answer fits the caller's buffers.
+/// Returns the result of a call that did its work: code 0 if the result fits the caller's buffers, and 10 otherwise.
 pub fn given(fits: bool) -> MarsFault
     ensures { result ≡ (if fits then spec_numbered 0 0 else spec_numbered 10 0) }
 {
@@ -185,7 +185,7 @@ pub fn given(fits: bool) -> MarsFault
     }
 }
 
-/// The refusal of a fight.
+/// Converts the error of a match to a refusal. A failed allocation at any step is `OutOfMemory`.
 pub fn refused_fight(fault: MatchFault) -> CallRefusal
     ensures { result ≡ fight_refusal fault }
 {
@@ -199,7 +199,7 @@ pub fn refused_fight(fault: MatchFault) -> CallRefusal
     }
 }
 
-/// The refusal of a source.
+/// Converts the error of a source to a refusal.
 pub fn refused_source(fault: AsmFault) -> CallRefusal
     ensures { result ≡ refusal_at fault.problem fault }
 {

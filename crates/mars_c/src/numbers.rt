@@ -1,4 +1,4 @@
-//! The numbers of faults, as the program prints them.
+//! The numbers of errors, as the program prints them.
 ghost use Rattle.std.specs.Prelude.{◌≡◌};
 ghost use Rattle.mars_c.specs.Codes as codes;
 
@@ -40,7 +40,7 @@ pub fn load_number(fault: LoadFault) -> u32
     }
 }
 
-/// The line of a load file's fault; 0 where it has none.
+/// Returns the line of an error in a load file; 0 if the error has no line.
 pub fn load_line(fault: LoadFault) -> u64
     ensures { result ≡ codes.load_line fault }
 {
@@ -131,7 +131,7 @@ pub fn assembly_number(problem: AsmProblem) -> u32
     }
 }
 
-/// The numbers of the text's problem and of the expression's fault within an assembly's; 0 where there is none.
+/// Returns the number of the problem of the text, and that of the error of the expression; 0 for a number that does not apply.
 pub fn problem_numbers(problem: AsmProblem) -> (u32, u32)
     ensures { result ≡ codes.problem_numbers problem }
 {
@@ -142,7 +142,7 @@ pub fn problem_numbers(problem: AsmProblem) -> (u32, u32)
     }
 }
 
-/// The number of the expression's fault within a text's problem; 0 where there is none.
+/// Returns the number of the error of an expression within a problem of a text; 0 if the problem is another one.
 fn text_expression(problem: TextProblem) -> u32
     ensures { result ≡ codes.text_expression problem }
 {

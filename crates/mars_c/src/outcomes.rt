@@ -1,4 +1,4 @@
-//! How warriors fare in each round of many matches.
+//! How each warrior fares in each round of many matches.
 ghost use Rattle.std.specs.Prelude.{◌≡◌, ◌++◌, ◌≤◌, ℕ, All, IfErr, IfOk, IfSome, List, None, OnErr, OnOk, Some, length, map, slice_get};
 ghost use Rattle.mars_match.specs.declared.fates.Fate.{Fate as FateValue};
 ghost use Rattle.mars_c.specs.Outcomes.{AreChosen, AreFought, HoldsOutcomes, IsFought, IsLineup, IsNoLineup, IsWrongLineup, RefusesLineup, RefusesOutcomes, indices_of, plain_fate, rows_for, seeded as spec_seeded};
@@ -16,32 +16,33 @@ use mars_core::MOST_WARRIORS;
 use mars_match::{Fate, fight_rounds};
 use std::alloc::Global;
 
-/// Match of a batch: its warriors, and the seed of its first round.
+/// A match of a batch: its warriors, and the seed of its first round.
 #[repr(C)]
 #[derive(Clone, Copy)]
 pub struct MarsLineup {
-    /// Seed, 1 to 2,147,483,646; 0 for that of the settings.
+    /// Seed, 1 to 2,147,483,646; 0 stands for the seed of the settings.
     pub seed: u32,
     /// Number of warriors, 1 to 16.
     pub count: u32,
-    /// Indices of the warriors, from 0; the places after them are not used.
+    /// Indices of the warriors, from 0; those after the first `count` are not used.
     pub warrior: [u32; 16],
 }
 
-/// Fate of a warrior in a round.
+/// The fate of a warrior in a round.
 #[repr(C)]
 #[derive(Clone, Copy)]
 pub struct MarsOutcome {
-    /// 1 if it lives at the end.
+    /// 1 if it lives at the end, else 0.
     pub survived: u32,
-    /// Number of turns that all warriors had made when it died, including its last one; if it survived, of all turns of the round.
+    /// Number of turns that all warriors had executed when it died, including its last one; if it survived, of all turns of the
+    /// round.
     pub turns: u32,
     /// Address of its first cell.
     pub start: u32,
 }
 
 impl MarsOutcome {
-    /// Returns the numbers of a fate.
+    /// Returns a fate as numbers.
     fn of(fate: &Fate) -> MarsOutcome
         ensures { result ≡ plain_fate fate.now }
     {
@@ -63,7 +64,7 @@ fn seeded(settings: &MarsSettings, seed: u32) -> MarsSettings
     MarsSettings { seed, ..*settings }
 }
 
-/// Returns why a lineup among `count` warriors is wrong.
+/// Returns the first error of a lineup of warriors with indices below `count`, or `None` if there is none.
 fn lineup_fault(lineup: &MarsLineup, count: usize) -> Option<LineupFault>
     ensures right { result ≡ None → IsLineup count lineup.now }
     ensures wrong { IfSome result (IsNoLineup count lineup.now) }
@@ -79,7 +80,7 @@ fn lineup_fault(lineup: &MarsLineup, count: usize) -> Option<LineupFault>
     None
 }
 
-/// Checks all lineups among `count` warriors.
+/// Checks that all lineups have warriors with indices below `count`.
 fn check_lineups(lineups: &[MarsLineup], count: usize) -> Result<(), CallRefusal>
     ensures right { OnOk result (All (IsLineup count) lineups.now) }
     ensures wrong { IfErr result (IsWrongLineup count lineups.now) }
@@ -158,7 +159,7 @@ fn fight_lineup(
     }
 }
 
-/// Appends the numbers of fates.
+/// Appends fates as numbers.
 fn append(outcomes: &mut Vec<MarsOutcome>, fates: &[Fate]) -> Result<(), CallRefusal>
     ensures appended { OnOk result (outcomes.new.items ≡ outcomes.old.items ++ map plain_fate fates.now) }
     ensures memory { IfErr result (λ refusal. refusal ≡ CallRefusal.OutOfMemory) }
@@ -171,7 +172,7 @@ fn append(outcomes: &mut Vec<MarsOutcome>, fates: &[Fate]) -> Result<(), CallRef
     Ok(())
 }
 
-/// Returns the numbers of the fates of all matches, one match after another.
+/// Returns the fates of all matches as numbers, one match after another.
 fn fight_all(
     alloc: Global,
     settings: &MarsSettings,
@@ -190,7 +191,7 @@ fn fight_all(
     Ok(outcomes)
 }
 
-/// Writes the fates of all matches to the places.
+/// Runs the matches of all lineups and writes their fates to `places`.
 pub fn outcomes_into(
     alloc: Global,
     settings: &MarsSettings,
@@ -211,7 +212,7 @@ pub fn outcomes_into(
     let warriors = read_all(alloc, &params, entrants)?;
     let outcomes = fight_all(alloc, settings, &warriors, lineups)?;
     if outcomes.len() != places.len() {
-        // There is a place for each fate: this is never reached, and any error would do.
+        // There is a place for each fate, so this is never reached, and any error would do.
         return Err(CallRefusal::OutOfMemory);
     }
     places.copy_from_slice(&outcomes);

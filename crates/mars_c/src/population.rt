@@ -11,7 +11,9 @@ use crate::settings::MarsSettings;
 use mars_match::population;
 use std::alloc::Global;
 
-/// Writes the sums of the candidates to the places. There are as many candidates as places; the other warriors are the opponents.
+/// Runs a match of each candidate with each opponent, and writes the sum of each candidate's rows to `place`.
+///
+/// The first warriors are the candidates, as many as there are places; the others are the opponents.
 pub fn population_into(
     alloc: Global,
     settings: &MarsSettings,

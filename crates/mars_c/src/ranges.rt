@@ -1,29 +1,29 @@
-//! Which of a caller's numbers is out of its range.
+//! Errors of the caller's numbers.
 ghost use Rattle.std.specs.Prelude.{◌≡◌};
 ghost use Rattle.mars_c.specs.Codes.{settings_number};
 
-/// Which setting is out of its range.
+/// The setting or argument that is out of its range.
 #[derive(Clone, Copy)]
 pub enum SettingsFault {
-    /// The rounds aren't from 1 to 100,000.
+    /// The number of rounds is not from 1 to 100,000.
     Rounds,
-    /// The seed isn't from 1 to 2,147,483,646.
+    /// The seed is not from 1 to 2,147,483,646.
     Seed,
-    /// A position is given for other than two warriors, or doesn't leave the least distance.
+    /// A position is given for other than two warriors, or is nearer than the minimum distance.
     Position,
     /// There are too few or too many warriors.
     Warriors,
-    /// The lengths together aren't those of the load files.
+    /// The lengths of the warriors do not add up to the number of cells.
     Lengths,
-    /// The history isn't from 1 to 1,000,000 places.
+    /// The history is not from 1 to 1,000,000 places.
     History,
-    /// There isn't a row for each warrior.
+    /// The number of rows is wrong.
     Rows,
-    /// The round isn't one of the match.
+    /// The round is not one of the match.
     Round,
 }
 
-/// Why a lineup is wrong.
+/// The error of a lineup.
 #[derive(Clone, Copy)]
 pub enum LineupFault {
     /// The number of warriors is not from 1 to 16.
@@ -33,7 +33,7 @@ pub enum LineupFault {
 }
 
 impl SettingsFault {
-    /// Its number in `include/mars.h`.
+    /// Returns its number in `include/mars.h`.
     pub fn number(self) -> u32
         ensures { result ≡ settings_number self }
     {

@@ -15,31 +15,31 @@ pub struct MarsChange {
     pub after: MarsCell,
 }
 
-/// What a turn did. What doesn't apply is 0.
+/// The record of a turn. Fields that do not apply are 0.
 #[repr(C)]
 #[derive(Clone, Copy)]
 pub struct MarsRecord {
-    /// The warrior whose turn it was.
+    /// Warrior of the turn.
     pub warrior: u32,
-    /// Where the process stood whose instruction was executed.
+    /// Address of the process that was executed.
     pub address: u32,
-    /// The warrior whose turn is next.
+    /// Warrior whose turn is next.
     pub next: u32,
-    /// How many cycles are complete then.
+    /// Number of cycles that are complete after the turn.
     pub cycle: u32,
-    /// 1 where the warrior died.
+    /// 1 if the warrior died, else 0.
     pub died: u32,
-    /// How many writes of cells there were, 0 to 3.
+    /// Number of writes, 0 to 3.
     pub changes: u32,
-    /// How many processes were queued, 0 to 2.
+    /// Number of processes that were queued, 0 to 2.
     pub queued: u32,
-    /// The writes, in the order of execution.
+    /// Writes, in the order of execution.
     pub change: [MarsChange; 3],
-    /// Where the processes stand that were queued.
+    /// Addresses of the processes that were queued.
     pub process: [u32; 2],
 }
 
-/// The numbers of a write.
+/// Returns a write as numbers.
 fn plain(change: &CellChange) -> MarsChange
     ensures { result ≡ plain_change change.now }
 {
@@ -50,7 +50,7 @@ fn plain(change: &CellChange) -> MarsChange
     }
 }
 
-/// The numbers of a write, where there is one.
+/// Returns a write as numbers, or zeros if there is none.
 fn change_of(change: Option<CellChange>) -> MarsChange
     ensures { result ≡ spec_change_of change }
 {
@@ -72,28 +72,28 @@ fn change_of(change: Option<CellChange>) -> MarsChange
     }
 }
 
-/// The write at a place.
+/// Returns the write at index `place`, or `None` if there are fewer.
 fn change_at(changes: &[CellChange], place: usize) -> Option<CellChange>
     ensures { result ≡ slice_get changes.now place }
 {
     changes.get(place).copied()
 }
 
-/// The address at a place, where there is one.
+/// Returns the address at index `place`, or 0 if there are fewer.
 pub fn address_at(addresses: &[u32], place: usize) -> u32
     ensures { result ≡ slice_index_or addresses.now place 0 }
 {
     addresses.get(place).copied().unwrap_or(0)
 }
 
-/// 1 for what is so.
+/// Returns 1 for true and 0 for false.
 fn number_of(so: bool) -> u32
     ensures { result ≡ (if so then 1 else 0) }
 {
     if so { 1 } else { 0 }
 }
 
-/// The warrior of a turn, and where its process stood.
+/// Returns the warrior of a turn and the address of its process; 0 and 0 for edits.
 fn taken(work: Work) -> (u32, u32)
     ensures { result ≡ taken_by work }
 {
@@ -107,7 +107,7 @@ fn taken(work: Work) -> (u32, u32)
 }
 
 impl MarsRecord {
-    /// The numbers of a turn's record, and the cycles that are complete then.
+    /// Returns the record of a turn as numbers. `cycle` is the number of cycles that are complete after the turn.
     fn of(atom: &Atom, cycle: u32) -> MarsRecord
         ensures { result ≡ plain_record atom.now cycle }
     {

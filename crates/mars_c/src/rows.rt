@@ -5,7 +5,7 @@ ghost use Rattle.mars_c.specs.Contests.{plain_row, plain_sum};
 use mars_match::{MatchFault, Row, Sum};
 use std::alloc::Global;
 
-/// How one warrior fared.
+/// The result of one warrior.
 #[repr(C)]
 #[derive(Clone, Copy)]
 pub struct MarsRow {
@@ -16,7 +16,7 @@ pub struct MarsRow {
 }
 
 impl MarsRow {
-    /// The numbers of a row.
+    /// Returns a row as numbers.
     pub fn of(row: &Row) -> MarsRow
         ensures { result ≡ plain_row row.now }
     {
@@ -28,7 +28,7 @@ impl MarsRow {
         }
     }
 
-    /// The numbers of a sum.
+    /// Returns a sum as numbers.
     fn of_sum(sum: Sum) -> MarsRow
         ensures { result ≡ plain_sum sum }
     {
@@ -41,7 +41,7 @@ impl MarsRow {
     }
 }
 
-/// The numbers of rows.
+/// Returns rows as numbers.
 fn plain_rows(alloc: Global, rows: &[Row]) -> Result<Vec<MarsRow>, MatchFault>
     ensures plain { IfOk result (λ plain. plain.items ≡ map plain_row rows.now) }
     ensures memory { IfErr result (λ fault. fault ≡ MatchFault.OutOfMemory) }
@@ -57,7 +57,9 @@ fn plain_rows(alloc: Global, rows: &[Row]) -> Result<Vec<MarsRow>, MatchFault>
     Ok(plain)
 }
 
-/// Gives rows to the caller, in a place for exactly as many.
+/// Writes rows to `place`, which has exactly as many.
+///
+/// Allocates a vector of the converted rows.
 pub fn give_rows(alloc: Global, rows: &[Row], place: &mut [MarsRow]) -> Result<(), MatchFault>
     ensures ok { OnOk result (place.new ≡ map plain_row rows.now) }
     ensures err { OnErr result (place.new ≡ place.old) }
@@ -65,14 +67,14 @@ pub fn give_rows(alloc: Global, rows: &[Row], place: &mut [MarsRow]) -> Result<(
 {
     let plain = plain_rows(alloc, rows)?;
     if plain.len() != place.len() {
-        // A table has a row for each warrior: this is never reached, and any fault would do.
+        // A table has a row for each warrior, so this is never reached, and any error would do.
         return Err(MatchFault::OutOfMemory);
     }
     place.copy_from_slice(&plain);
     Ok(())
 }
 
-/// Gives sums to the caller, in a place for exactly as many.
+/// Writes sums to `place`, which has exactly as many.
 pub fn give_sums(sums: &[Sum], place: &mut [MarsRow])
     requires { length sums.now ≡ length place.old }
     ensures { place.new ≡ map plain_sum sums.now }

@@ -1,4 +1,4 @@
-//! Settings, and what they come to.
+//! Settings, and the setup of a match that they describe.
 ghost use Rattle.std.specs.Prelude.{◌≡◌, ◌≤◌, ℕ, IfErr, IfOk, IfSome, List, None, Ok};
 ghost use Rattle.mars_cell.specs.ParameterFaults.{checked_parameters};
 ghost use Rattle.mars_core.specs.Limits.{most_warriors};
@@ -16,44 +16,44 @@ use mars_match::{GREATEST_SEED, Plan, Setup};
 use redcode_asm::{Formula, FormulaFault};
 use std::alloc::Global;
 
-/// How many rounds a match has at most.
+/// Maximum number of rounds of a match.
 const MOST_ROUNDS: u32 = 100_000;
 
-/// How contests are held. A limit of 0 is the core size, and a position of 0 is none.
+/// The settings of a match. A limit of 0 is the core size, and a position of 0 is none.
 #[repr(C)]
 #[derive(Clone, Copy)]
 pub struct MarsSettings {
-    /// Cells of the core, 1 to 1,048,576.
+    /// Core size in cells, 1 to 1,048,576.
     pub core: u32,
-    /// Processes of a warrior, 1 to 65,536.
+    /// Maximum number of processes of a warrior, 1 to 65,536.
     pub processes: u32,
-    /// Cycles of a round, 1 to 10,000,000.
+    /// Maximum number of cycles of a round, 1 to 10,000,000.
     pub cycles: u32,
-    /// How far is read, 1 to the core size; 0 for the core size.
+    /// Read limit in cells, 1 to the core size; 0 is the core size.
     pub read_limit: u32,
-    /// How far is written, 1 to the core size; 0 for the core size.
+    /// Write limit in cells, 1 to the core size; 0 is the core size.
     pub write_limit: u32,
-    /// Cells of the longest warrior, 1 to the core size.
+    /// Maximum length of a warrior in cells, 1 to the core size.
     pub longest: u32,
-    /// Cells between the first cells of two warriors, from the longest warrior to the core size.
+    /// Minimum distance between first cells, from the maximum length to the core size.
     pub distance: u32,
-    /// Rounds of a match, 1 to 100,000.
+    /// Number of rounds of a match, 1 to 100,000.
     pub rounds: u32,
-    /// The seed of the first round, 1 to 2,147,483,646.
+    /// Seed for the positions of the first round, 1 to 2,147,483,646.
     pub seed: u32,
-    /// Where the second of two warriors is laid in each round, from the least distance to the core size less it; 0 for a
-    /// drawn position.
+    /// Address of the second of two warriors in each round, from the minimum distance to the core size minus it; 0 if it is
+    /// drawn.
     pub position: u32,
 }
 
-/// A limit: 0 is the core size.
+/// Returns a read or write limit: 0 stands for the core size.
 fn limit(limit: u32, core: u32) -> u32
     ensures { result ≡ limit_of limit core }
 {
     if limit == 0 { core } else { limit }
 }
 
-/// The parameters of settings.
+/// Returns the parameters of settings, or the first error.
 pub fn parameters(settings: &MarsSettings) -> Result<Params, ParamFault>
     ensures { result ≡ checked_parameters (parameters_in settings.now) }
 {
@@ -69,7 +69,7 @@ pub fn parameters(settings: &MarsSettings) -> Result<Params, ParamFault>
     )
 }
 
-/// The fault of a count of warriors that no battle has.
+/// Returns the error of a number of warriors that no battle has, or `None` if a battle may have it.
 pub fn warriors_fault(warriors: usize) -> Option<SettingsFault>
     ensures some { result ≡ None → 1 ≤ warriors }
     ensures few { result ≡ None → warriors ≤ most_warriors }
@@ -81,7 +81,7 @@ pub fn warriors_fault(warriors: usize) -> Option<SettingsFault>
     None
 }
 
-/// The fault of the rounds or of the seed.
+/// Returns the error of the rounds, then that of the seed, or `None`.
 fn numbers_fault(settings: &MarsSettings) -> Option<SettingsFault>
     ensures rounds { result ≡ None → AreRounds settings.now.rounds }
     ensures seed { result ≡ None → IsSeed settings.now.seed }
@@ -96,7 +96,7 @@ fn numbers_fault(settings: &MarsSettings) -> Option<SettingsFault>
     None
 }
 
-/// The position of the second warrior among so many, where there is one.
+/// Returns the position of the second of `warriors` warriors, or `None` if it is drawn.
 fn position(
     settings: &MarsSettings,
     params: &Params,
@@ -118,7 +118,9 @@ fn position(
     Ok(Some(position))
 }
 
-/// What settings and a formula come to, for battles of so many warriors.
+/// Returns the setup that the settings and the formula describe.
+///
+/// The position of the settings must fit battles of `warriors` warriors.
 pub fn make_setup(
     alloc: Global,
     settings: &MarsSettings,

@@ -6,7 +6,7 @@ use crate::playing::TurnRow;
 use crate::records::address_at;
 use mars_core::{Battle, MOST_TOUCHED};
 
-/// The cells that a turn reads or writes: how many addresses there are, and which. What doesn't apply is 0.
+/// The cells that a turn reads or writes: the number of addresses, and the addresses. Unused ones are 0.
 #[repr(C)]
 #[derive(Clone, Copy)]
 pub struct MarsTouched {
@@ -14,7 +14,7 @@ pub struct MarsTouched {
     pub address: [u32; 8],
 }
 
-/// The row of addresses.
+/// Returns the row of these addresses.
 fn plain(addresses: &[u32]) -> MarsTouched
     requires few { length addresses.now ≤ 8 }
     ensures { result ≡ plain_touched addresses.now }

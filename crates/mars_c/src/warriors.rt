@@ -1,4 +1,4 @@
-//! Warriors as numbers: their cells in an array of the caller's, where they start, and their names.
+//! Warriors as numbers: their cells in an array of the caller's, their start, and their names.
 ghost use Rattle.std.specs.Prelude.{◌≡◌, ◌≢◌, ◌≤◌, All, IfErr, IfOk, IfSome, None, Some, false, if◌then◌else◌, length, map, option_map, string_bytes};
 ghost use Rattle.std.specs.List.{list_all};
 ghost use Rattle.mars_cell.specs.Cells.{FitsCore};
@@ -19,7 +19,7 @@ const NAME: usize = 64;
 /// Maximum length of a name in bytes.
 const LONGEST_NAME: usize = 60;
 
-/// Warrior whose cells are part of an array.
+/// A warrior whose cells are part of an array.
 #[repr(C)]
 #[derive(Clone, Copy)]
 pub struct MarsWarrior {
@@ -29,12 +29,12 @@ pub struct MarsWarrior {
     pub start: u32,
 }
 
-/// Program of a source or a load file, besides its cells.
+/// The program of a source or a load file, without its cells.
 #[repr(C)]
 #[derive(Clone, Copy)]
 pub struct MarsProgram {
     pub warrior: MarsWarrior,
-    /// At most 60 printable characters of ASCII, then zeros.
+    /// At most 60 printable ASCII characters, then zeros.
     pub name: [u8; 64],
     /// Like `name`.
     pub author: [u8; 64],
@@ -57,7 +57,7 @@ pub enum EntrantFault {
 }
 
 impl EntrantFault {
-    /// Its number in `include/mars.h`.
+    /// Returns its number in `include/mars.h`.
     pub fn number(self) -> u32
         ensures { result ≡ entrant_number self }
     {
@@ -83,6 +83,10 @@ impl EntrantFault {
 }
 
 /// Returns the cells with these numbers.
+///
+/// # Errors
+///
+/// Returns the error of the first wrong cell. `OutOfMemory` replaces an error that would have been found later.
 fn cells_of(alloc: Global, core_size: u32, numbers: &[MarsCell]) -> Result<Vec<Cell>, EntrantFault>
     ensures cells { IfOk result (λ cells. map plain_cell cells.items ≡ numbers.now) }
     ensures fits { IfOk result (λ cells. All (FitsCore core_size) cells.items) }
@@ -133,7 +137,7 @@ pub fn warrior_of(
     }
 }
 
-/// Returns whether all bytes are printable characters of ASCII.
+/// Returns whether all bytes are printable ASCII characters.
 fn is_printed(text: &[u8]) -> bool
     ensures { result ≡ list_all (is_within 32 126) text.now }
 {
@@ -155,7 +159,7 @@ fn before_zero(bytes: &[u8]) -> &[u8]
     &bytes[..zero_in(bytes)]
 }
 
-/// Returns a name, or `None` if the bytes are none.
+/// Returns the bytes as a name, or `None` if they are not a valid name.
 fn read_name(bytes: &[u8]) -> Option<&str>
     ensures value { option_map (λ name. name.now) result ≡ (if is_name bytes.now then Some bytes.now else None) }
     ensures name { IfSome result (λ name. IsName name.now) }
@@ -166,7 +170,7 @@ fn read_name(bytes: &[u8]) -> Option<&str>
     str::from_utf8(bytes).ok()
 }
 
-/// Returns the name that stands in these bytes, up to the first zero.
+/// Returns the name in these bytes, which ends before the first zero.
 pub fn name_in(alloc: Global, bytes: &[u8]) -> Result<String, EntrantFault>
     ensures value { IfOk result (λ name. string_bytes name ≡ named bytes.now) }
     ensures name { IfOk result (λ name. IsName (string_bytes name)) }
@@ -181,7 +185,7 @@ pub fn name_in(alloc: Global, bytes: &[u8]) -> Result<String, EntrantFault>
     }
 }
 
-/// Returns a name with zeros after it.
+/// Returns a name in 64 bytes: zeros follow it.
 #[tactic(auto, using(crate::proofs::Names::padded))]
 fn name_of(name: &str) -> [u8; 64]
     requires { length name.now ≤ longest_name }
@@ -192,7 +196,7 @@ fn name_of(name: &str) -> [u8; 64]
     bytes
 }
 
-/// Warrior, and the numbers and names of its program.
+/// A warrior, and the numbers and names of its program.
 #[derive(Drop)]
 pub struct Made {
     pub warrior: Warrior,
@@ -206,7 +210,7 @@ impl Made {
         ensures memory { IfErr result (λ fault. fault ≡ EntrantFault.OutOfMemory) }
     {
         let Ok(length) = u32::try_from(warrior.cells().len()) else {
-            // A warrior is not longer than the core: this is never reached, and any error would do.
+            // A warrior is not longer than the core, so this is never reached, and any error would do.
             return Err(EntrantFault::OutOfMemory);
         };
         let program = MarsProgram {

@@ -7,7 +7,7 @@ use Rattle.std.specs.Char.{digit_value, is_ascii_digit}
 use Rattle.std.specs.Int.{IsInRange}
 use Rattle.std.specs.List.{list_all}
 
--- one digit more has room
+-- A value of `i` digits, extended by one digit, has `i + 1` digits.
 pub digit_below : (v i d : ℕ) → v < 10 ^ i → d ≤ 9 → v * 10 + d < 10 ^ (i + 1)
 digit_below v i d below small = rw (add-one, pow-suc 10 i) (omega arith)
 

@@ -1,10 +1,10 @@
--- The first of some lines, and a line without its comment.
+-- The first of several lines, and a line without its comment.
 use Rattle.std.proofs.Common.{◌≡◌, refl, ℕ, Bool, true, false, not, nat_eq, List, [], ◌∷◌, length, take, drop, ap, one-add}
 use Rattle.std.specs.List.{take_while}
 use Rattle.mars_cell.specs.Parts.{onto_first}
 use Rattle.mars_cell.specs.Load.{lines_of}
 
--- the front that passes, by its length
+-- The longest prefix whose bytes satisfy `p` is given by its length.
 pub take_front : (p : ℕ → Bool) (xs : List ℕ) → take (length (take_while p xs)) xs ≡ take_while p xs
 take_front p [] = refl
 take_front p (x ∷ xs) =
@@ -16,7 +16,7 @@ take_front p (x ∷ xs) =
 abbrev pub goes_on : ℕ → Bool
 goes_on b = not (nat_eq b 10)
 
--- some bytes are a first line, and the lines behind its LF
+-- The lines of some bytes are the first line and the lines after its LF.
 pub lines_of-first : (bs : List ℕ) (b : ℕ) → lines_of (b ∷ bs) ≡ take_while goes_on (b ∷ bs) ∷ lines_of (drop 1 (drop (length (take_while goes_on (b ∷ bs))) (b ∷ bs)))
 unfolding lines_of
 lines_of-first [] b =
@@ -30,7 +30,7 @@ lines_of-first (c ∷ cs) b =
       | false ↦ λ e. rw (e, one-add) (ap (onto_first b) (lines_of-first cs c))
     ] refl
 
--- the same, in the terms of the code
+-- The lines of some bytes, stated with the lengths that the code computes.
 pub lines_of-none : (bs : List ℕ) → length bs ≡ 0 → lines_of bs ≡ []
 unfolding lines_of
 lines_of-none [] h = refl

@@ -1,4 +1,4 @@
--- What laws and the crates above stand on, and no function of this crate.
+-- Lemmas that the laws and the crates above depend on. They concern no function of this crate.
 pub mod CutShort
 pub mod RoundTrip
 pub mod Values

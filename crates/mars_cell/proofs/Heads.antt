@@ -1,6 +1,7 @@
--- The head of a load file, line after line.
--- `read_header` cites `header_made` by `using`, with no file of answers: an edit that moves one of its steps is then refused by a goal of a clause.
--- So the lemma shows all its variables, and its premises are the clauses of the steps word for word.
+-- The header of a load file, line after line.
+-- `read_header` cites `header_made` through `using`, without a file of answers. So if a must-fail edit moves one of its steps,
+-- the goal of a clause fails. For this, the lemma has all its variables explicit, and its premises are the clauses of the steps
+-- word for word.
 use Rattle.std.proofs.Common.{◌≡◌, refl, ℕ, zero, suc, ◌<◌, true, List, [], ◌∷◌, drop, Some, Result, Ok, Err, ap, arith}
 use Rattle.std.specs.Prelude.{codes, option_and_then, option_map, slice_get, IsUtf8, IsAscii, MatchResult}
 use Rattle.std.specs.List.{list_all}
@@ -19,13 +20,13 @@ ascii [] all i = omega arith
 ascii (b ∷ bs) all zero = printed_is_ascii b (and_parts (is_within 32 126 b) (list_all (is_within 32 126) bs) all).0
 ascii (b ∷ bs) all (suc i) = ascii bs (and_parts (is_within 32 126 b) (list_all (is_within 32 126) bs) all).1 i
 
--- printed bytes are the UTF-8 of a text, so that a reader of UTF-8 gives them
+-- Printable bytes are valid UTF-8, so a UTF-8 reader returns them as a text.
 pub printed_text : {E : Type 0} (text : List ℕ) (r : Result (Bor (List ℕ)) E) (P : E → Type 0) → list_all (is_within 32 126) text ≡ true
     → MatchResult r (λ s. (s.now ≡ text) × IsUtf8 text) (λ e. ¬ (IsUtf8 text) × P e) → option_map (λ s. s.now) (result_ok r) ≡ Some text
 printed_text text (Ok s) P all read = ap Some read.0
 printed_text text (Err e) P all read = absurd (read.0 (IsUtf8-from_ascii text (ascii text all)))
 
--- the lines of a head are those that are taken one after another
+-- The header consists of the lines that are taken one after another.
 pub header_made : (lines second third : List (List ℕ)) (written : ℕ) (name author : List ℕ)
     → option_and_then size_in (slice_get lines 0) ≡ Some written
     → second ≡ drop 1 lines → option_and_then (name_in (codes ";name ")) (slice_get second 0) ≡ Some name

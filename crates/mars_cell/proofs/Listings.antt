@@ -1,4 +1,4 @@
--- What is read line after line is what the statements of the lines say.
+-- The listing that is read line after line consists of the statements of the lines.
 use Rattle.std.proofs.Common.{◌≡◌, refl, ℕ, ◌+◌, ◌==◌, nat_lt, List, [], ◌∷◌, ◌++◌, length, Option, None, Some, Result, Ok, Err, sym, ap, ◌∙◌, append_assoc, append-nil}
 use Rattle.std.specs.Prelude.{ℤ, pos, if◌then◌else◌, unwrap_or}
 use Rattle.std.specs.Int.RustNames.{unsigned_abs}
@@ -14,7 +14,7 @@ use Rattle.mars_cell.specs.Load.{Loads, body, with_rest, cells_of, end_in, is_in
 use Rattle.mars_cell.specs.Code.Listing.{Listing, ReadsListing, load_from, nothing_read}
 use Rattle.mars_cell.specs.Warriors.{WarriorValue}
 
--- what is read in all, after s
+-- The listing `s` extended by the statements `ss`.
 abbrev after : Listing → List Statement → Listing
 after s ss = record { cells = s.cells ++ cells_of ss; origin = last_or s.origin (flat_map origin_in ss); end = last_or s.end (flat_map end_in ss) }
 
@@ -94,7 +94,7 @@ body-listing h m longest k ls s e = body-with h m longest k ls ∙ with_listing 
 body-bad_line : (h : HeaderValue) (m longest k : ℕ) (ls : List (List ℕ)) (j : ℕ) → load_from h.written m k nothing_read ls ≡ Err j → body h m longest k ls ≡ Err (fault.Syntax j)
 body-bad_line h m longest k ls j e = body-with h m longest k ls ∙ with_bad_line h longest (statements h.written m k ls) j (sym (load_from-statements h.written m k nothing_read ls refl) ∙ e)
 
--- the reader's fault is the defined one
+-- The error of the reader is the defined error.
 pub fault_from_listing : (h : HeaderValue) (m longest k : ℕ) (ls : List (List ℕ)) (f : LoadFault) → ReadsListing (Err f) (load_from h.written m k nothing_read ls) → Loads (Err f) (body h m longest k ls)
 fault_from_listing h m longest k ls fault.OutOfMemory e = tt
 fault_from_listing h m longest k ls (fault.Syntax j) e = body-bad_line h m longest k ls j e

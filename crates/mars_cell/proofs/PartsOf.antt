@@ -1,10 +1,10 @@
--- The first of the parts of a line.
+-- The first part of a line.
 use Rattle.std.proofs.Common.{◌≡◌, refl, ℕ, ◌+◌, true, false, List, [], ◌∷◌, length, take, drop, sym, ap, ◌∙◌, arith, add-one, one-add}
 use Rattle.std.specs.List.{take_while}
 use Rattle.std.specs.Char.{is_ascii_alphanumeric}
 use Rattle.mars_cell.specs.Parts.{begins_word, is_blank, joins, onto_first, parts}
 
--- blanks are passed over
+-- Whitespace at the front of a line does not change its parts.
 pub parts-blanks : (xs : List ℕ) → parts xs ≡ parts (drop (length (take_while is_blank xs)) xs)
 unfolding parts
 parts-blanks [] = refl
@@ -29,7 +29,7 @@ word_bytes_join b e = rw e refl
 word_bytes_show : (b : ℕ) → is_ascii_alphanumeric b ≡ true → is_blank b ≡ false
 word_bytes_show b e = grind arith
 
--- a byte that joins takes the word bytes behind it
+-- A byte that joins forms one part with the letters and digits after it.
 pub parts-joined : (bs : List ℕ) (b : ℕ) → is_blank b ≡ false → joins b ≡ true
     → parts (b ∷ bs) ≡ (b ∷ take_while is_ascii_alphanumeric bs) ∷ parts (drop (length (take_while is_ascii_alphanumeric bs)) bs)
 unfolding parts begins_word
@@ -40,12 +40,12 @@ parts-joined (c ∷ cs) b shows joining =
       | false ↦ λ e. rw (shows, joining, e) refl
     ] refl
 
--- another byte stands alone
+-- A byte that does not join is a part of its own.
 pub parts-single : (b : ℕ) (bs : List ℕ) → is_blank b ≡ false → joins b ≡ false → parts (b ∷ bs) ≡ (b ∷ []) ∷ parts bs
 unfolding parts
 parts-single b bs shows alone = rw (shows, alone) refl
 
--- the front that passes, by its length
+-- The longest prefix of letters and digits is given by its length.
 take_prefix : (xs : List ℕ) → take (length (take_while is_ascii_alphanumeric xs)) xs ≡ take_while is_ascii_alphanumeric xs
 take_prefix [] = refl
 take_prefix (x ∷ xs) =

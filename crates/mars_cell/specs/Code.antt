@@ -1,2 +1,2 @@
--- How the code holds and reaches what is defined. All of this serves the proofs alone.
+-- How the code represents what is defined. These definitions serve only the proofs.
 pub mod Listing

@@ -1,4 +1,4 @@
--- Worked examples. The check computes each of them.
+-- Examples, each of which is computed by the check.
 pub mod Cells
 pub mod LoadFiles
 pub mod Parameters

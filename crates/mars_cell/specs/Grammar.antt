@@ -13,11 +13,13 @@ use Rattle.mars_cell.specs.Numbers.{parse_number, by_value}
 use Rattle.mars_cell.specs.Parts.{parts}
 
 infixl 10 ◌>>=◌
+-- The result of `f` on the value of an option, or `None` if there is none.
 abbrev pub ◌>>=◌ : {A B : Type 0} → Option A → (A → Option B) → Option B
 None >>= f = None
 (Some x) >>= f = f x
 
--- Each of these takes its parts from the front of the line's, and gives those that follow.
+-- Each definition whose name ends in `_at` reads its part at the front of a list of parts `p ∷ ps`, and returns its value with
+-- the parts that follow.
 
 unfoldable pub op_at : List (List ℕ) → Option (Op × List (List ℕ))
 op_at [] = None
@@ -27,12 +29,12 @@ unfoldable pub modifier_at : List (List ℕ) → Option (Modifier × List (List 
 modifier_at [] = None
 modifier_at (p ∷ ps) = option_map (λ o. (o, ps)) (modifier_of p)
 
--- `.` and a modifier, or none
+-- `.` and a modifier, or neither.
 unfoldable pub suffix_at : List (List ℕ) → Option (Option Modifier × List (List ℕ))
 suffix_at [] = Some (None, [])
 suffix_at (p ∷ ps) = if bytes_eq p (codes ".") then option_map (λ r. (Some r.0, r.1)) (modifier_at ps) else Some (None, p ∷ ps)
 
--- a mode or none, which is `$`
+-- A mode; if there is none, the mode is `$`.
 unfoldable pub mode_at : List (List ℕ) → Mode × List (List ℕ)
 mode_at [] = (mode.Direct, [])
 mode_at (p ∷ ps) = elim (mode_of p) [ Some o ↦ (o, ps) | None ↦ (mode.Direct, p ∷ ps) ]
@@ -41,7 +43,7 @@ unfoldable pub number_at : List (List ℕ) → Option (ℤ × List (List ℕ))
 number_at [] = None
 number_at (p ∷ ps) = option_map (λ n. (n, ps)) (parse_number p)
 
--- an operand in a core of m cells, where the text was written for a core of `written` cells
+-- An operand. The text was written for a core of `written` cells and is read for a core of `m` cells.
 unfoldable pub operand_at : ℕ → ℕ → List (List ℕ) → Option (Mode × ℕ × List (List ℕ))
 operand_at written m ps = let o = mode_at ps in option_map (λ r. (o.0, by_value written m r.0, r.1)) (number_at o.1)
 
@@ -49,13 +51,13 @@ unfoldable pub comma_at : List (List ℕ) → Option (List (List ℕ))
 comma_at [] = None
 comma_at (p ∷ ps) = if bytes_eq p (codes ",") then Some ps else None
 
--- AB where A is immediate, else B where B is, else another
+-- The modifier AB if the A-mode is immediate, else B if the B-mode `b` is immediate, else `other`.
 abbrev pub by_operands : Modifier → Mode → Mode → Modifier
 by_operands other mode.Immediate b = modifier.Ab
 by_operands other _ mode.Immediate = modifier.B
 by_operands other _ _ = other
 
--- the modifier of a cell that names none
+-- The modifier of an instruction that names none, by its opcode, its A-mode `a` and its B-mode `b`.
 unfoldable pub default_modifier : Op → Mode → Mode → Modifier
 default_modifier op.Dat a b = modifier.F
 default_modifier op.Nop a b = modifier.F
@@ -74,7 +76,8 @@ default_modifier op.Jmn a b = modifier.B
 default_modifier op.Djn a b = modifier.B
 default_modifier op.Spl a b = modifier.B
 
--- the cell of a core of m cells that these parts spell, and no more
+-- The cell that the parts `ps` of a whole line describe, if they do. They were written for a core of `written` cells and are read
+-- for a core of `m` cells.
 unfoldable pub cell_of : ℕ → ℕ → List (List ℕ) → Option Cell
 cell_of written m ps = do
   head ← op_at ps
@@ -84,6 +87,7 @@ cell_of written m ps = do
   b ← operand_at written m after
   if length b.2 == 0 then Some (record { op = head.0; modifier = unwrap_or suffix.0 (default_modifier head.0 a.0 b.0); a_mode = a.0; a = a.1; b_mode = b.0; b = b.1 }) else None
 
--- the cell of a text alone, with no comment, which was written for the core that reads it: each number is taken modulo m
+-- The cell that a text without a comment describes, in a core of `m` cells. The text was written for this core, so each number is
+-- taken modulo `m`.
 abbrev pub read_cell : ℕ → List ℕ → Option Cell
 read_cell m text = cell_of m m (parts text)

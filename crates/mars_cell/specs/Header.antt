@@ -1,4 +1,4 @@
--- The head of a load file: what it says before its statements.
+-- The header of a load file: what it states before its statements.
 use Rattle.std.specs.Prelude.{ℕ, Bool, false, nat_eq, nat_le, ◌&&◌, List, [], ◌∷◌, length, take, drop, slice_get, Option, None, Some, ok_or, option_and_then, Result, Ok, Err, if◌then◌else◌, codes, bytes_eq}
 use Rattle.std.specs.Char.{is_ascii_digit}
 use Rattle.std.specs.List.{list_all, starts_with}
@@ -9,49 +9,53 @@ use Rattle.mars_cell.specs.Numbers.{parse_digits}
 use Rattle.mars_cell.specs.ParameterFaults.{is_within}
 
 infixl 10 ◌>>=◌
+-- The result of `g` on a successful result, or the first error.
 abbrev pub ◌>>=◌ : {A B : Type 0} → Result A LoadFault → (A → Result B LoadFault) → Result B LoadFault
 (Err f) >>= g = Err f
 (Ok x) >>= g = g x
 
--- the core size that the file was written for, and the names of the warrior and of its author
+-- The header: the size of the core that the file was written for, the warrior's name and the author's name.
 pub record HeaderValue : Type 0 where
   pub written : ℕ
   pub name : List ℕ
   pub author : List ℕ
 
--- a file of version 1 has no head: it was written for the core that reads it
+-- The header with which a file of version 1 is read. Such a file has none; it counts as written for the core that reads it, of
+-- `m` cells.
 abbrev pub no_header : ℕ → HeaderValue
 no_header m = record { written = m; name = codes "Unknown"; author = codes "Anonymous" }
 
--- what follows a word at the front
+-- What follows `word` in `bytes`, if they begin with it.
 abbrev pub behind : List ℕ → List ℕ → Option (List ℕ)
 behind word bytes = if bytes_eq (take (length word) bytes) word then Some (drop (length word) bytes) else None
 
+-- The first byte is a digit.
 abbrev pub begins_digit : List ℕ → Bool
 begins_digit [] = false
 begins_digit (b ∷ bs) = is_ascii_digit b
 
--- whether a file tells its version; one that doesn't is of version 1
+-- A load file states its version: it begins with `;load ` and a digit. A file that doesn't is of version 1.
 unfoldable pub tells_version : List ℕ → Bool
 tells_version bytes = elim (behind (codes ";load ") bytes) [ None ↦ false | Some rest ↦ begins_digit rest ]
 
--- the size of a core that these digits spell, with no 0 before it and nothing behind it
+-- The core size that `digits` state: a number from 1 to the maximum that does not begin with 0.
 unfoldable pub size_of : List ℕ → Option ℕ
 size_of digits =
     if starts_with nat_eq digits (codes "0") then None else option_and_then (λ n. if is_within 1 largest_core n then Some n else None) (parse_digits digits)
 
--- at most 60 printed characters of ASCII
+-- A name has at most 60 bytes, each a printable ASCII character.
 unfoldable pub name_of : List ℕ → Option (List ℕ)
 name_of text = if nat_le (length text) longest_name && list_all (is_within 32 126) text then Some text else None
 
--- the first line says for which core the file was written, the next two give a name behind their word
+-- The core size in the first line, which is `;load 2 ` and the size.
 abbrev pub size_in : List ℕ → Option ℕ
 size_in line = option_and_then size_of (behind (codes ";load 2 ") line)
 
+-- The name in the second or third line, which is `word` and the name.
 abbrev pub name_in : List ℕ → List ℕ → Option (List ℕ)
 name_in word line = option_and_then name_of (behind word line)
 
--- the head of a file of version 2, which is its first three lines, or the first fault
+-- The header of a file of version 2, which is its first three lines, or the first error.
 unfoldable pub header_of : List (List ℕ) → Result HeaderValue LoadFault
 header_of lines = do
   written ← ok_or (option_and_then size_in (slice_get lines 0)) fault.Version

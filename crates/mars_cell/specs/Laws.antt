@@ -1,4 +1,4 @@
--- What is written is read again.
+-- The laws: what is written is read back.
 use Rattle.std.specs.Prelude.{◌≡◌, ℕ, ◌<◌, ◌≤◌, ◌^◌, ℤ, pos, length, map, All, Some, Ok}
 use Rattle.mars_cell.specs.declared.instruction.Cell.{Cell}
 use Rattle.mars_cell.specs.Limits.{largest_core}
@@ -11,28 +11,30 @@ use Rattle.mars_cell.specs.Text.{cell_text}
 use Rattle.mars_cell.specs.Warriors.{WarriorValue, IsWarrior}
 use Rattle.mars_cell.specs.Written.{load_text}
 
--- a number that was written for a core of the same size is taken modulo that size
+-- A number that is read for a core of the size that it was written for is taken modulo that size.
 abbrev pub ValueIsResidue : Type 0
 ValueIsResidue = (m : ℕ) (z : ℤ) → 1 ≤ m → by_value m m z ≡ residue m z
 
--- the text of a cell is read as the cell, in every core that a u32 can size
+-- The text of a cell is read back as the cell, in every core whose size is a u32.
 abbrev pub TextIsRead : Type 0
 TextIsRead = (m : ℕ) (c : Cell) → m < 2 ^ 32 → FitsCore m c → read_cell m (cell_text m c) ≡ Some c
 
--- the load file of a warrior is read as that warrior
+-- The load file of a warrior is read back as the warrior, in a core of the size that it was written for, if the warrior isn't
+-- longer than the maximum length.
 abbrev pub LoadFileIsRead : Type 0
 LoadFileIsRead = (p : Parameters) (w : WarriorValue) → AreInRange p → IsWarrior w → length w.cells ≤ p.max_length → All (FitsCore p.core_size) w.cells
     → load p.core_size p.max_length (load_text p.core_size w) ≡ Ok w
 
--- a number of a core of m cells, by value in a core of another size
+-- The number `n` of a core of `m` cells, carried by its value to a core of `size` cells.
 abbrev pub carried_number : ℕ → ℕ → ℕ → ℕ
 carried_number m size n = by_value m size (pos n)
 
--- a cell with both numbers by value
+-- The cell `c` of a core of `m` cells, with both numbers carried by value to a core of `size` cells.
 abbrev pub carried : ℕ → ℕ → Cell → Cell
 carried m size c = record c { a = carried_number m size c.a; b = carried_number m size c.b }
 
--- a load file that was written for a core of m cells is read in another core as the same warrior, its numbers by value
+-- A load file that was written for a core of `m` cells is read in any other core as the same warrior, with its numbers carried by
+-- value, if the warrior isn't longer than the maximum length there.
 abbrev pub LoadFileIsCarried : Type 0
 LoadFileIsCarried = (m : ℕ) (p : Parameters) (w : WarriorValue) → m ≤ largest_core → AreInRange p → IsWarrior w → length w.cells ≤ p.max_length → All (FitsCore m) w.cells
     → load p.core_size p.max_length (load_text m w) ≡ Ok (record w { cells = map (carried m p.core_size) w.cells })

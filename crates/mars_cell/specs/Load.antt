@@ -15,27 +15,27 @@ use Rattle.mars_cell.specs.Grammar.{cell_of}
 use Rattle.mars_cell.specs.Header.{HeaderValue, ◌>>=◌, header_of, no_header, tells_version}
 use Rattle.mars_cell.specs.Warriors.{WarriorValue}
 
--- the lines of some bytes; the last may have no LF
+-- The lines of a list of bytes, without their LF; the last line may have none.
 unfoldable pub lines_of : List ℕ → List (List ℕ)
 lines_of [] = []
 lines_of (b ∷ bs) = if b == 10 then [] ∷ lines_of bs else onto_first b (lines_of bs)
 
--- a line up to its comment
+-- The line `l` up to its comment, which begins with `;`.
 abbrev pub before_comment : List ℕ → List ℕ
 before_comment l = take_while (λ b. not (b == 59)) l
 
--- a number, and no more
+-- A number that is the only part.
 unfoldable pub lone_number : List (List ℕ) → Option ℤ
 lone_number [] = None
 lone_number (p ∷ []) = parse_number p
 lone_number (p ∷ q ∷ ps) = None
 
--- what stands after END: nothing, or a number
+-- What follows END: nothing, or a number.
 unfoldable pub end_of : List (List ℕ) → Option (Option ℤ)
 end_of [] = Some None
 end_of (p ∷ ps) = option_map (λ n. Some n) (lone_number (p ∷ ps))
 
--- what the parts of a line say in a core of m cells, where the file was written for a core of `written` cells
+-- The statement that the parts of a line form in a core of `m` cells, if the file was written for a core of `written` cells.
 unfoldable pub statement_of : ℕ → ℕ → List (List ℕ) → Option Statement
 statement_of written m [] = Some statement.Nothing
 statement_of written m (p ∷ ps) =
@@ -43,23 +43,23 @@ statement_of written m (p ∷ ps) =
     if str_eq_ignore_ascii_case p (codes "END") then option_map (λ n. statement.End n) (end_of ps) else
     option_map (λ c. statement.Instruction c) (cell_of written m (p ∷ ps))
 
--- what a line says, if it is of the grammar
+-- The statement of the line `l`, or none if the line is invalid.
 abbrev pub line_statement : ℕ → ℕ → List ℕ → Option Statement
 line_statement written m l = statement_of written m (parts (before_comment l))
 
--- a statement and those of the lines that follow, where these are good
+-- The statement `s` followed by those of the next lines, or the number of the first invalid line among them.
 abbrev pub with_rest : Statement → Result (List Statement) ℕ → Result (List Statement) ℕ
 with_rest s (Ok ss) = Ok (s ∷ ss)
 with_rest s (Err k) = Err k
 
--- the same, but that END stops reading
+-- The statement of a line, followed by those of the next lines unless it is END. After END no line is read.
 abbrev pub statements_from : Statement → Result (List Statement) ℕ → Result (List Statement) ℕ
 statements_from (statement.End n) rest = Ok (statement.End n ∷ [])
 statements_from statement.Nothing rest = with_rest statement.Nothing rest
 statements_from (statement.Origin n) rest = with_rest (statement.Origin n) rest
 statements_from (statement.Instruction c) rest = with_rest (statement.Instruction c) rest
 
--- the statements of some lines up to END, or the number of the first bad line; the first line has number k
+-- The statements of the lines up to END, or the number of the first invalid line. The first line has the number `k`.
 unfoldable pub statements : ℕ → ℕ → ℕ → List (List ℕ) → Result (List Statement) ℕ
 statements written m k [] = Ok []
 statements written m k (l ∷ ls) = elim (line_statement written m l) [
@@ -67,39 +67,41 @@ statements written m k (l ∷ ls) = elim (line_statement written m l) [
   | Some s ↦ statements_from s (statements written m (k + 1) ls)
 ]
 
--- the cell, the start and END's start that a statement gives, as lists of at most one
+-- The cell of a statement, as a list of at most one.
 abbrev pub cell_in : Statement → List Cell
 cell_in statement.Nothing = []
 cell_in (statement.Origin n) = []
 cell_in (statement.End n) = []
 cell_in (statement.Instruction c) = c ∷ []
 
+-- The start that an ORG gives, as a list of at most one.
 abbrev pub origin_in : Statement → List ℤ
 origin_in statement.Nothing = []
 origin_in (statement.Origin n) = n ∷ []
 origin_in (statement.End n) = []
 origin_in (statement.Instruction c) = []
 
+-- The start that an END gives, as a list of at most one.
 abbrev pub end_in : Statement → List ℤ
 end_in statement.Nothing = []
 end_in (statement.Origin n) = []
 end_in (statement.End n) = option_to_list n
 end_in (statement.Instruction c) = []
 
--- the cells, in order
+-- The cells of the statements, in order.
 abbrev pub cells_of : List Statement → List Cell
 cells_of ss = flat_map cell_in ss
 
--- the number of the last ORG, or else that of END, or else 0
+-- The start of a warrior: the number of the last ORG, else that of END, else 0.
 abbrev pub start_of : List Statement → ℤ
 start_of ss = unwrap_or (option_or (last_or None (flat_map origin_in ss)) (last_or None (flat_map end_in ss))) (pos 0)
 
--- an index below the length
+-- An integer is an index below the length `len`.
 abbrev pub is_index : ℤ → ℕ → Bool
 is_index (pos n) len = nat_lt n len
 is_index (negsuc n) len = false
 
--- the warrior of a head and of some statements, or the first fault, where a warrior has at most `longest` cells
+-- The warrior of the header `h` and the statements `ss`, or the first error. A warrior has at most `longest` cells.
 abbrev pub warrior_of : HeaderValue → ℕ → List Statement → Result WarriorValue LoadFault
 warrior_of h longest ss =
     if nat_lt longest (length (cells_of ss)) then Err fault.TooLong
@@ -107,20 +109,21 @@ warrior_of h longest ss =
     else if is_index (start_of ss) (length (cells_of ss)) then Ok (record { name = h.name; author = h.author; cells = cells_of ss; start = unsigned_abs (start_of ss) })
     else Err fault.BadOrigin
 
--- the warrior of a head and of the lines behind it, of which the first has number k; a bad line comes before all other faults
+-- The warrior of the header `h` and the lines `ls` after it, of which the first has the number `k`. An invalid line comes before
+-- all other errors.
 unfoldable pub body : HeaderValue → ℕ → ℕ → ℕ → List (List ℕ) → Result WarriorValue LoadFault
 body h m longest k ls = elim (statements h.written m k ls) [
   | Err j ↦ Err (fault.Syntax j)
   | Ok ss ↦ warrior_of h longest ss
 ]
 
--- the warrior of a load file in a core of m cells, or the first fault
+-- The warrior of a load file in a core of `m` cells, or the first error. A warrior has at most `longest` cells.
 unfoldable pub load : ℕ → ℕ → List ℕ → Result WarriorValue LoadFault
 load m longest bytes =
     if tells_version bytes then (header_of (lines_of bytes) >>= λ h. body h m longest 4 (drop 3 (lines_of bytes)))
     else body (no_header m) m longest 1 (lines_of bytes)
 
--- the result is the defined warrior or the defined fault, unless memory ran out
+-- The result of reading is the defined warrior or the defined error, unless an allocation failed.
 abbrev pub Loads : Result WarriorValue LoadFault → Result WarriorValue LoadFault → Type 0
 Loads (Ok w) defined = defined ≡ Ok w
 Loads (Err fault.OutOfMemory) defined = ⊤

@@ -3,19 +3,19 @@ use Rattle.std.specs.Prelude.{ℕ, ◌<◌, ◌≤◌, List, length, All}
 use Rattle.mars_cell.specs.Limits.{longest_name}
 use Rattle.mars_cell.specs.declared.instruction.Cell.{Cell}
 
--- a program with its name and author
+-- A program with its name and author.
 pub record WarriorValue : Type 0 where
   pub name : List ℕ
   pub author : List ℕ
   pub cells : List Cell
   pub start : ℕ
 
--- at most 60 printed characters of ASCII
+-- A name has at most 60 bytes, each a printable ASCII character.
 pub record IsName (bytes : List ℕ) : Type 0 where
   pub short : length bytes ≤ longest_name
   pub printed : All (λ b. (32 ≤ b) × (b ≤ 126)) bytes
 
--- what each warrior keeps: it starts at one of its cells, and its name and author are names
+-- The invariant of a warrior: it starts at one of its cells, and its name and author are names.
 pub record IsWarrior (w : WarriorValue) : Type 0 where
   pub start : w.start < length w.cells
   pub name : IsName w.name

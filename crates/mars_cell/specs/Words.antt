@@ -1,4 +1,4 @@
--- The words of a cell, as they are printed and as they are read.
+-- The names of opcodes, modifiers and modes, as they are printed and as they are read.
 use Rattle.std.specs.Prelude.{ℕ, List, [], ◌∷◌, Option, if◌then◌else◌, codes}
 use Rattle.std.specs.List.{find}
 use Rattle.std.specs.Str.{bytes_eq, str_eq_ignore_ascii_case}
@@ -55,15 +55,15 @@ modifiers = modifier.A ∷ modifier.B ∷ modifier.Ab ∷ modifier.Ba ∷ modifi
 abbrev pub modes : List Mode
 modes = mode.Immediate ∷ mode.Direct ∷ mode.AIndirect ∷ mode.BIndirect ∷ mode.APredecrement ∷ mode.BPredecrement ∷ mode.APostincrement ∷ mode.BPostincrement ∷ []
 
--- the opcode whose name the word is, in either case; CMP is another name of SEQ
+-- The opcode that `word` names, in upper or lower case; CMP is another name of SEQ.
 unfoldable pub op_of : List ℕ → Option Op
 op_of word =
     let name = if str_eq_ignore_ascii_case word (codes "CMP") then codes "SEQ" else word in find (λ o. str_eq_ignore_ascii_case name (op_name o)) ops
 
--- the modifier whose name the word is, in either case
+-- The modifier that `word` names, in upper or lower case.
 unfoldable pub modifier_of : List ℕ → Option Modifier
 modifier_of word = find (λ m. str_eq_ignore_ascii_case word (modifier_name m)) modifiers
 
--- the mode whose byte the word is
+-- The mode whose character is `word`.
 unfoldable pub mode_of : List ℕ → Option Mode
 mode_of word = find (λ m. bytes_eq (mode_name m) word) modes

@@ -1,25 +1,25 @@
-//! What is wrong with a load file.
+//! The errors of a load file.
 use thiserror::Error;
 
-/// Why a load file isn't read. It is displayed as its number and name.
+/// The reason why a load file is rejected. It is displayed as its number and name.
 #[derive(Clone, Copy, Debug, PartialEq, Eq, Error)]
 pub enum LoadFault {
-    /// The line of this number, counted from 1, is the first that isn't of the grammar.
+    /// The line with this number, counted from 1, is the first invalid line.
     #[error("1 Syntax")]
     Syntax(usize),
-    /// There are more cells than the longest warrior has.
+    /// There are more cells than a warrior may have.
     #[error("2 TooLong")]
     TooLong,
-    /// There is no cell.
+    /// There are no cells.
     #[error("3 Empty")]
     Empty,
-    /// The start isn't the index of a cell.
+    /// The start is not the index of a cell.
     #[error("4 BadOrigin")]
     BadOrigin,
-    /// A growth was refused.
+    /// An allocation failed.
     #[error("5 OutOfMemory")]
     OutOfMemory,
-    /// The first line names another version than 2, or no core size behind it.
+    /// The first line does not state version 2 and a valid core size.
     #[error("6 Version")]
     Version,
 }

@@ -1,4 +1,4 @@
-//! The line of a cell.
+//! The grammar of the line of a cell.
 ghost use Rattle.std.specs.Prelude.{◌≡◌, ◌<◌, IfSome, option_map};
 ghost use Rattle.mars_cell.specs.Cells.{FitsCore};
 ghost use Rattle.mars_cell.specs.Parts.{parts};
@@ -9,7 +9,7 @@ use crate::numbers::{Sizes, by_value, read_number};
 use crate::parts::LineParts;
 use crate::words::{read_mode, read_modifier, read_op};
 
-/// The modifier of an instruction that names none, by the defaults of the ICWS'94 draft; NOP has F.
+/// Returns the modifier of an instruction that names none, by the defaults of the ICWS'94 draft; NOP has F.
 #[tactic(auto, unfolding(crate::specs::Grammar::default_modifier))]
 pub fn default_modifier(op: Op, a_mode: Mode, b_mode: Mode) -> Modifier
     ensures { result ≡ default_modifier op a_mode b_mode }
@@ -25,7 +25,7 @@ pub fn default_modifier(op: Op, a_mode: Mode, b_mode: Mode) -> Modifier
     }
 }
 
-// Each of these takes its part from the front of a line, and gives what follows.
+// Each `take_` function below reads one part from the front of `line` and returns its value and the rest of the line.
 
 #[tactic(auto, unfolding(crate::specs::Grammar::op_at))]
 fn take_op<'a>(line: LineParts<'a>) -> Option<(Op, LineParts<'a>)>
@@ -105,7 +105,7 @@ fn take_comma<'a>(line: LineParts<'a>) -> Option<LineParts<'a>>
     }
 }
 
-/// The cell that the whole line spells.
+/// Returns the cell that the line describes, if the whole line is one cell.
 #[tactic(auto, unfolding(crate::specs::Grammar::cell_of))]
 pub fn take_cell(line: LineParts<'_>, sizes: Sizes) -> Option<Cell>
     ensures value { result ≡ cell_of sizes.written sizes.core_size (parts line.entry.rest.now) }
@@ -131,10 +131,11 @@ pub fn take_cell(line: LineParts<'_>, sizes: Sizes) -> Option<Cell>
     })
 }
 
-/// The cell that a text spells, as `Cell::text` prints it or more freely: words in either case, modes and modifier
-/// left out, blanks between the parts and at both ends. Its numbers are taken modulo the core size.
+/// Reads a cell from `text`, which may be what `Cell::text` prints.
 ///
-/// A comment or a line's end makes it no cell.
+/// Upper and lower case are equal, the modes and the modifier may be left out, and whitespace other than LF may be
+/// between the parts and at both ends. Numbers are taken modulo the core size. A comment or an LF makes the text
+/// invalid.
 pub fn read_cell(text: &[u8], core_size: u32) -> Option<Cell>
     requires { 0 < core_size }
     ensures value { result ≡ read_cell core_size text.now }

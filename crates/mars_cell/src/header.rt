@@ -1,4 +1,4 @@
-//! The head of a load file.
+//! The header of a load file.
 ghost use Rattle.std.specs.Prelude.{◌≡◌, ◌+◌, ◌<◌, drop, option_and_then, option_map, slice_get, IfOk, IfSome};
 ghost use Rattle.std.specs.List.{list_all};
 ghost use Rattle.std.specs.Result.{result_map_both};
@@ -12,10 +12,10 @@ use crate::lines::Lines;
 use crate::numbers::read_digits;
 use crate::parameters::LARGEST_CORE;
 
-/// How many bytes a name has at most.
+/// The maximum number of bytes of a name.
 const LONGEST_NAME: usize = 60;
 
-/// What a load file says before its statements.
+/// The header of a load file: what it states before its statements.
 #[derive(Clone, Copy)]
 pub struct Header<'a> {
     /// The size of the core that the file was written for.
@@ -28,7 +28,8 @@ pub struct Header<'a> {
 }
 
 impl Header<'static> {
-    /// What a file of version 1 stands for, which has no head: it was written for the core that reads it.
+    /// Returns the header that a file of version 1 is read with. Such a file has no header; it counts as written for
+    /// the core that reads it.
     pub fn unnamed(core_size: u32) -> Header<'static>
         requires { 0 < core_size }
         ensures { record { written = result.written; name = result.name.now; author = result.author.now } ≡ no_header core_size }
@@ -41,7 +42,7 @@ impl Header<'static> {
     }
 }
 
-/// Whether a file tells its version: `;load ` and a digit stand at its very front.
+/// Returns whether the file states its version, which it does if its first bytes are `;load ` and a digit.
 #[tactic(auto, unfolding(crate::specs::Header::tells_version))]
 pub fn tells_version(bytes: &[u8]) -> bool
     ensures { result ≡ tells_version bytes.now }
@@ -52,7 +53,7 @@ pub fn tells_version(bytes: &[u8]) -> bool
     }
 }
 
-/// The size of a core that these digits spell, with no 0 before it.
+/// Reads a core size, which may not begin with 0.
 #[tactic(auto, unfolding(crate::specs::Header::size_of))]
 fn read_size(digits: &[u8]) -> Option<u32>
     ensures value { result ≡ size_of digits.now }
@@ -68,14 +69,14 @@ fn read_size(digits: &[u8]) -> Option<u32>
     Some(size as u32)
 }
 
-/// Whether all bytes can be printed.
+/// Returns whether all bytes are printable ASCII.
 fn is_printed(text: &[u8]) -> bool
     ensures { result ≡ list_all (is_within 32 126) text.now }
 {
     text.iter().all(|byte| b' ' <= *byte && *byte <= b'~')
 }
 
-/// A name, blanks at its ends included.
+/// Returns `text` as a name if it is valid; spaces at its ends belong to the name.
 #[tactic(auto, unfolding(crate::specs::Header::name_of))]
 fn read_name(text: &[u8]) -> Option<&str>
     ensures value { option_map (λ name. name.now) result ≡ name_of text.now }
@@ -87,7 +88,7 @@ fn read_name(text: &[u8]) -> Option<&str>
     str::from_utf8(text).ok()
 }
 
-/// The core size that the first line gives.
+/// Takes the first line, which states the core size.
 fn take_size(lines: &mut Lines<'_>) -> Option<u32>
     ensures value { result ≡ option_and_then size_in (slice_get (lines_of lines.old.rest.now) 0) }
     ensures some { IfSome result (λ size. 0 < size) }
@@ -97,7 +98,7 @@ fn take_size(lines: &mut Lines<'_>) -> Option<u32>
     read_size(lines.take_first()?.strip_prefix(b";load 2 ")?)
 }
 
-/// The name that the first line gives behind that word.
+/// Takes the first line, which is `word` and a name, and returns the name.
 fn take_name<'a>(lines: &mut Lines<'a>, word: &[u8]) -> Option<&'a str>
     ensures value { option_map (λ name. name.now) result
         ≡ option_and_then (name_in word.now) (slice_get (lines_of lines.old.rest.now) 0) }
@@ -108,7 +109,7 @@ fn take_name<'a>(lines: &mut Lines<'a>, word: &[u8]) -> Option<&'a str>
     read_name(lines.take_first()?.strip_prefix(word)?)
 }
 
-/// Takes the head of a file of version 2, which is its first three lines.
+/// Takes the header of a file of version 2, which is its first three lines.
 #[tactic(auto, using(crate::proofs::Heads::header_made), unfolding(crate::specs::Header::header_of))]
 pub fn read_header<'a>(lines: &mut Lines<'a>) -> Result<Header<'a>, LoadFault>
     ensures value { result_map_both (λ h. record { written = h.written; name = h.name.now; author = h.author.now }) (λ fault. fault) result

@@ -1,6 +1,6 @@
 //! The parts of an instruction, and the cell that holds one.
 
-/// What an instruction does: the opcodes of the ICWS'94 draft with SEQ, SNE and NOP. CMP is another spelling of SEQ.
+/// An opcode of the ICWS'94 draft, or SEQ, SNE or NOP. CMP is another name of SEQ.
 #[derive(Clone, Copy, Debug, PartialEq, Eq)]
 pub enum Op {
     Dat,
@@ -25,7 +25,7 @@ impl Op {
     ghost use Rattle.std.specs.Prelude.{◌≡◌};
     ghost use Rattle.mars_cell.specs.Cells.{op_index};
 
-    /// The opcode's place among all, from 0.
+    /// Returns the index of the opcode among all opcodes, from 0.
     #[inline(always)]
     pub const fn index(self) -> u8
         ensures { result ≡ op_index self }
@@ -34,7 +34,7 @@ impl Op {
     }
 }
 
-/// Which fields of its two cells an instruction uses, as in the ICWS'94 draft.
+/// A modifier: which fields of its two cells an instruction uses, as in the ICWS'94 draft.
 #[derive(Clone, Copy, Debug, PartialEq, Eq)]
 pub enum Modifier {
     A,
@@ -50,7 +50,7 @@ impl Modifier {
     ghost use Rattle.std.specs.Prelude.{◌≡◌};
     ghost use Rattle.mars_cell.specs.Cells.{modifier_index};
 
-    /// The modifier's place among all, from 0.
+    /// Returns the index of the modifier among all modifiers, from 0.
     #[inline(always)]
     pub const fn index(self) -> u8
         ensures { result ≡ modifier_index self }
@@ -59,7 +59,7 @@ impl Modifier {
     }
 }
 
-/// How a number leads to a cell: `#`, `$`, `*`, `@`, `{`, `<`, `}` and `>` in this order.
+/// An addressing mode: `#`, `$`, `*`, `@`, `{`, `<`, `}` and `>`, in this order.
 #[derive(Clone, Copy, Debug, PartialEq, Eq)]
 pub enum Mode {
     Immediate,
@@ -76,7 +76,7 @@ impl Mode {
     ghost use Rattle.std.specs.Prelude.{◌≡◌};
     ghost use Rattle.mars_cell.specs.Cells.{mode_index};
 
-    /// The mode's place among all, from 0.
+    /// Returns the index of the mode among all modes, from 0.
     #[inline(always)]
     pub const fn index(self) -> u8
         ensures { result ≡ mode_index self }
@@ -92,10 +92,10 @@ pub enum Field {
     BNumber,
 }
 
-/// A cell of the core: an instruction, whose numbers are addresses relative to it.
+/// A cell of the core: one instruction, whose numbers are addresses relative to the cell.
 ///
-/// In a core of some size both numbers are below it. The four tags stand together, so that a cell takes 12 bytes and is
-/// copied as whole words.
+/// Both numbers are below the size of the core. The four tags are adjacent bytes, so that a cell has 12 bytes and is
+/// copied as whole machine words.
 #[derive(Clone, Copy, Debug, PartialEq, Eq)]
 pub struct Cell {
     pub op: Op,
@@ -110,7 +110,7 @@ impl Cell {
     ghost use Rattle.std.specs.Prelude.{◌≡◌};
     ghost use Rattle.mars_cell.specs.Cells.{empty_cell, field_of, with_field};
 
-    /// What an empty core is filled with, `DAT.F $0, $0`.
+    /// Returns `DAT.F $0, $0`, the cell that an empty core is filled with.
     pub const fn empty() -> Cell
         ensures { result ≡ empty_cell }
     {
@@ -124,7 +124,7 @@ impl Cell {
         }
     }
 
-    /// The number in a field.
+    /// Returns the number in `field`.
     pub const fn field(&self, field: Field) -> u32
         ensures { result ≡ field_of field self.now }
     {
@@ -134,7 +134,7 @@ impl Cell {
         }
     }
 
-    /// The cell with another number in a field.
+    /// Returns the cell with `number` in `field`.
     pub const fn with_field(self, field: Field, number: u32) -> Cell
         ensures { result ≡ with_field field number self }
     {

@@ -1,25 +1,25 @@
-//! Laws of the definitions: what is written is read again. The functions do nothing; their contracts are the laws.
+//! Laws of the definitions: what is written is read back. The functions do nothing; their contracts are the laws.
 ghost use Rattle.mars_cell.specs.Laws.{LoadFileIsCarried, LoadFileIsRead, TextIsRead, ValueIsResidue};
 
-/// A number that was written for the core that reads it is taken modulo the core size: so `read_cell` reads, and so
-/// `read_load` reads a file of version 1.
+/// A number that was written for the core that reads it is taken modulo the core size. `read_cell` reads its numbers
+/// like this, and `read_load` those of a file of version 1.
 pub fn value_is_residue()
     ensures { ValueIsResidue }
 {}
 
-/// `read_cell` gives back the cell whose text `Cell::text` wrote.
+/// `read_cell` returns the cell whose text `Cell::text` wrote.
 pub fn text_is_read()
     ensures { TextIsRead }
 {}
 
-/// `read_load` gives back the warrior that `write_load` wrote for a core of the same size, where it is no longer than
-/// the longest warrior.
+/// `read_load` returns the warrior that `write_load` wrote for a core of the same size, if it isn't longer than the
+/// maximum length.
 pub fn load_file_is_read()
     ensures { LoadFileIsRead }
 {}
 
-/// For a core of another size it gives back the same name, author, start and cells, but that each number is its value
-/// modulo that size.
+/// For a core of another size, `read_load` returns the warrior that `write_load` wrote with each number replaced by its
+/// value modulo the new size; name, author and start are the same.
 pub fn load_file_is_carried()
     ensures { LoadFileIsCarried }
 {}

@@ -1,12 +1,19 @@
 //! The base of the Core War kit: cells of the core, the parameters of a battle, warriors, and load files.
 //!
-//! The layers above may use: a `Params` is in its ranges; a `Warrior` has a cell, starts at one of its cells, and its
-//! names are names; `residue` brings a value into the core; `read_op` and `read_modifier` read words, `Cell::text` and
-//! `read_cell` write and read the one line of a cell, `write_load` and `read_load` whole load files, each exactly as
-//! `specs/` defines it, with the fault and its line; what is written is read back, by value in a core of another size
-//! (`laws`); `write_text` writes a whole text, or, where the writer fails, a beginning of it, and a `Line` of fixed size takes
-//! numbers (`specs/Output`). Only want of memory can refuse a call beyond its defined faults, and only `Warrior::copy`,
-//! `write_load` and `read_load` take memory.
+//! # Guarantees
+//!
+//! The crates above may rely on these. The definitions are in `specs/`.
+//!
+//! - Every parameter of a `Params` is in its range. A `Warrior` has at least one cell and starts at one of its cells;
+//!   its name and its author's have at most 60 printable ASCII characters.
+//! - `residue` reduces a value modulo the core size. `read_op` and `read_modifier` read opcodes and modifiers.
+//! - `Cell::text` and `read_cell` write and read one cell, `write_load` and `read_load` a whole load file, exactly as
+//!   `specs/` defines it. `read_load` returns the specified error, with the number of an invalid line.
+//! - What is written is read back unchanged; a core of another size reads each number by its value (`laws`).
+//! - `write_text` writes a whole text, or a proper prefix of it if the writer fails. `push_number`, `push_right` and
+//!   `numbered` fill a `Line` of fixed size (`specs/Output`).
+//! - Apart from the specified errors, a call fails only if an allocation fails. Only `Warrior::copy`, `write_load` and
+//!   `read_load` allocate.
 #![tactic(auto)]
 
 mod fault;

@@ -2,17 +2,17 @@
 ghost use Rattle.std.specs.Prelude.{◌≡◌, ◌∷◌, ◌+◌, ◌^◌, ◌<◌, ◌==◌, [], drop, length, not, MatchOption, take_while};
 ghost use Rattle.mars_cell.specs.Load.{lines_of};
 
-/// What is left of some lines.
+/// The lines that are still to be read.
 #[derive(Clone, Copy)]
 pub struct Lines<'a> {
     rest: &'a [u8],
-    /// The number of the first line that is left, counted from 1.
+    /// The number of the next line, counted from 1.
     pub number: usize,
     ghost room: { number + length rest.now < 2 ^ 64 },
 }
 
 impl<'a> Lines<'a> {
-    /// All lines of some bytes.
+    /// Returns all lines of `bytes`.
     pub fn new(bytes: &'a [u8]) -> Lines<'a>
         ensures rest { result.rest.now ≡ bytes.entry.now }
         ensures number { result.number ≡ 1 }
@@ -23,7 +23,7 @@ impl<'a> Lines<'a> {
         }
     }
 
-    /// Takes the first line.
+    /// Takes the next line, without its LF.
     pub fn take_first(&mut self) -> Option<&'a [u8]>
         ensures line { MatchOption result (lines_of self.old.rest.now ≡ [])
             (λ line. lines_of self.old.rest.now ≡ line.now ∷ lines_of self.new.rest.now) }
@@ -42,14 +42,14 @@ impl<'a> Lines<'a> {
     }
 }
 
-/// How many bytes the first line has.
+/// Returns the length of the first line in bytes.
 fn line_len(bytes: &[u8]) -> usize
     ensures { result ≡ length (take_while (λ b. not (b == 10)) bytes.now) }
 {
     bytes.iter().take_while(|byte| **byte != b'\n').count()
 }
 
-/// What follows the LF at the front, where there is one.
+/// Returns what follows the first byte, which is the LF of a line; returns an empty slice unchanged.
 fn behind_newline(rest: &[u8]) -> &[u8]
     ensures { result.now ≡ drop 1 rest.now }
 {

@@ -14,7 +14,7 @@ use crate::statements::{Statement, read_line};
 use crate::warriors::{Warrior, WarriorFault};
 use std::alloc::Global;
 
-/// What was read so far.
+/// The statements that were read so far.
 #[derive(Drop)]
 struct ReadListing {
     cells: Vec<Cell>,
@@ -57,14 +57,14 @@ fn read_listing(alloc: Global, lines: Lines<'_>, sizes: Sizes) -> Result<ReadLis
     }
 }
 
-/// Whether a number is the index of one of so many cells.
+/// Returns whether `number` is the index of one of `length` cells.
 fn is_start(number: i64, length: usize) -> bool
     ensures { result ≡ is_index number length }
 {
     0 <= number && number.unsigned_abs() < length as u64
 }
 
-/// The warrior of a head and of these cells.
+/// Makes the warrior from a header, its cells and its start. Fails only if an allocation fails.
 fn named_warrior(
     alloc: Global,
     header: Header<'_>,
@@ -88,7 +88,7 @@ fn named_warrior(
     }
 }
 
-/// Reads the lines behind the head.
+/// Reads the lines after the header.
 #[tactic(auto, unfolding(crate::specs::Load::body))]
 fn read_body(
     alloc: Global,
@@ -123,19 +123,24 @@ fn read_body(
     named_warrior(alloc, header, cells, start as u32)
 }
 
-/// Reads a load file of version 1 or 2, for a core and a longest warrior of these parameters.
+/// Reads a load file of version 1 or 2, for the core size and the maximum length of `params`.
 ///
-/// Where the file's first bytes are `;load ` and a digit, its first three lines are `;load 2 ` and the size of the core
-/// that it was written for, `;name ` and the warrior's name, `;author ` and the author's; otherwise it is of version 1,
-/// was written for the core that reads it, and its warrior is called `Unknown`, by `Anonymous`.
+/// If the first bytes are `;load ` and a digit, the first three lines are the header: `;load 2 ` and the size of the
+/// core that the file was written for, `;name ` and the warrior's name, `;author ` and the author's name. Otherwise the
+/// file is of version 1: it counts as written for the core that reads it, and its warrior is called `Unknown`, by
+/// `Anonymous`.
 ///
-/// Each further line up to END is empty, `ORG` and the start, `END` with or without a start, or a cell as `read_cell`
+/// Every other line up to END is empty, `ORG` and the start, `END` with or without a start, or a cell as `read_cell`
 /// reads it; a `;` begins a comment. The start is the number of the last ORG, else that of END, else 0. A number of a
-/// cell is read by value: as what it is in the core that it was written for, at most half that core's size from 0.
+/// cell is read by its value in the core that it was written for, which is at most half that core's size away from 0.
 ///
-/// The faults come in their order, but Version comes first, and Syntax names the first bad line. The numbers of the
-/// warrior are below the core size. OutOfMemory comes only where a growth was refused, in place of whatever would have
-/// come later.
+/// All numbers of the warrior are below the core size.
+///
+/// # Errors
+///
+/// Returns the first error in the order of [`LoadFault`], except that `Version` comes before all others. `Syntax` has
+/// the number of the first invalid line. `OutOfMemory` replaces any error that would have been found after the
+/// allocation.
 #[tactic(auto, unfolding(crate::specs::Load::load))]
 pub fn read_load(alloc: Global, bytes: &[u8], params: &Params) -> Result<Warrior, LoadFault>
     ensures value { Loads result (load params.now.core_size params.now.max_length bytes.now) }

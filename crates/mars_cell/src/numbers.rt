@@ -1,11 +1,11 @@
-//! Numbers as they are written.
+//! Reading numbers.
 ghost use Rattle.std.specs.Prelude.{◌≡◌, ◌≤◌, ◌<◌, ◌^◌, IfSome, length, true};
 ghost use Rattle.std.specs.Char.{is_ascii_digit};
 ghost use Rattle.std.specs.List.{list_all};
 ghost use Rattle.std.specs.Str.Parse.{digits_value};
 ghost use Rattle.mars_cell.specs.Numbers.{by_value, nearest, parse_digits, parse_number, split_sign, residue};
 
-/// The size of the core that a text was written for, and of the core that reads it.
+/// The size of the core that a text was written for, and the size of the core that reads it.
 #[derive(Clone, Copy)]
 pub struct Sizes {
     pub written: u32,
@@ -15,7 +15,7 @@ pub struct Sizes {
 }
 
 impl Sizes {
-    /// The sizes of a text that was written for the core that reads it.
+    /// Returns the sizes of a text that was written for the core that reads it.
     pub fn same(core_size: u32) -> Sizes
         requires { 0 < core_size }
         ensures written { result.written ≡ core_size }
@@ -28,7 +28,7 @@ impl Sizes {
     }
 }
 
-/// The value of at most 18 digits.
+/// Returns the value of at most 18 digits.
 fn value(digits: &[u8]) -> u64
     requires digits { list_all is_ascii_digit digits.now ≡ true }
     requires few { length digits.now ≤ 18 }
@@ -42,7 +42,7 @@ fn value(digits: &[u8]) -> u64
     value
 }
 
-/// Whether a minus stands first, and what follows the sign.
+/// Returns whether the first byte is a minus, and what follows the sign if there is one.
 #[tactic(auto, unfolding(crate::specs::Numbers::split_sign))]
 fn split_sign(word: &[u8]) -> (bool, &[u8])
     ensures { let r = result in (r.0, r.1.now) ≡ split_sign word.now }
@@ -60,7 +60,7 @@ fn are_digits(bytes: &[u8]) -> bool
     bytes.iter().all(|byte| byte.is_ascii_digit())
 }
 
-/// The number that 1 to 18 digits spell.
+/// Reads a number of 1 to 18 digits.
 #[tactic(auto, unfolding(crate::specs::Numbers::parse_digits))]
 pub fn read_digits(word: &[u8]) -> Option<u64>
     ensures value { result ≡ parse_digits word.now }
@@ -76,7 +76,7 @@ pub fn read_digits(word: &[u8]) -> Option<u64>
     }
 }
 
-/// The integer that a word spells: an optional sign, and 1 to 18 digits.
+/// Reads an integer: an optional sign and 1 to 18 digits.
 #[tactic(auto, unfolding(crate::specs::Numbers::parse_number))]
 pub fn read_number(word: &[u8]) -> Option<i64>
     ensures { result ≡ parse_number word.now }
@@ -86,7 +86,7 @@ pub fn read_number(word: &[u8]) -> Option<i64>
     Some(if is_negative { -magnitude } else { magnitude })
 }
 
-/// The number from 0 to `core_size - 1` that differs from a value by a multiple of `core_size`.
+/// Returns the number from 0 to `core_size - 1` that differs from `value` by a multiple of `core_size`.
 pub fn residue(value: i64, core_size: u32) -> u32
     requires { 0 < core_size }
     ensures value { result ≡ residue core_size value }
@@ -95,7 +95,8 @@ pub fn residue(value: i64, core_size: u32) -> u32
     value.rem_euclid(i64::from(core_size)) as u32
 }
 
-/// The integer nearest to 0 that differs from a value by a multiple of `core_size`; of two as near, the positive one.
+/// Returns the integer nearest to 0 that differs from `value` by a multiple of `core_size`; of two equally near, the
+/// positive one.
 #[tactic(auto, unfolding(crate::specs::Numbers::nearest))]
 fn nearest(value: i64, core_size: u32) -> i64
     requires { 0 < core_size }
@@ -109,7 +110,7 @@ fn nearest(value: i64, core_size: u32) -> i64
     }
 }
 
-/// The number for the core that reads it: from the value that it had in the core that it was written for.
+/// Converts a number from the core that it was written for to the core that reads it, preserving its value.
 pub fn by_value(value: i64, sizes: Sizes) -> u32
     ensures value { result ≡ by_value sizes.written sizes.core_size value }
     ensures below { result < sizes.core_size }

@@ -1,4 +1,4 @@
-//! Writing a text so that what went out of it is known, and lines of fixed size with numbers in them.
+//! Writing texts so that it is known how much was written, and lines of fixed size that contain numbers.
 ghost use Rattle.std.specs.Prelude.{◌≡◌, ◌+◌, ◌≤◌, ◌++◌, length, decimal, OnOk, OnErr};
 ghost use Rattle.std.specs.Io.KnownBytes.{Appends};
 ghost use Rattle.arrayvec.specs.ArrayString.{array_string_len};
@@ -9,12 +9,12 @@ use itoa::Buffer;
 use std::io::Write;
 use thiserror::Error;
 
-/// A writer that failed, or that took no byte of a text.
+/// The error of a writer that failed or that accepted no byte.
 #[derive(Clone, Copy, Debug, PartialEq, Eq, Error)]
 #[error("cannot write")]
 pub struct WriteFault;
 
-/// Writes the whole text, or a beginning of it that isn't all of it. It takes no memory.
+/// Writes the whole text. On an error, what was written is a proper prefix of it. Does not allocate.
 pub fn write_text<W: Write>(writer: &mut W, text: &[u8]) -> Result<(), WriteFault>
     ensures ok { OnOk result (Appends (W.contents writer.old) (W.contents writer.new) text.now) }
     ensures err { OnErr result (CutShort (W.contents writer.old) (W.contents writer.new) text.now) }
@@ -30,14 +30,14 @@ pub fn write_text<W: Write>(writer: &mut W, text: &[u8]) -> Result<(), WriteFaul
     Ok(())
 }
 
-/// Room for the longest line, that of a result: four numbers of 20 digits with four spaces, and two names of 60 bytes with
-/// six more.
+/// The capacity of a line in bytes. The longest line, that of a result, has 210: four numbers of at most 20 characters,
+/// five spaces, two names of at most 60 bytes, ` by ` and an LF.
 pub const LINE: usize = 211;
 
-/// A line of the output, or a part of one.
+/// A line of output, or a part of one.
 pub type Line = ArrayString<LINE>;
 
-/// Appends a number in decimal.
+/// Appends `number` in decimal.
 pub fn push_number(line: &mut Line, number: u64)
     requires { array_string_len line.old + 20 ≤ LINE }
     ensures bytes { line.new.bytes ≡ line.old.bytes ++ decimal number }
@@ -47,7 +47,7 @@ pub fn push_number(line: &mut Line, number: u64)
     line.push_str(digits.format(number));
 }
 
-/// Appends a text, right in so many places.
+/// Appends `text`, right-aligned in `places` columns.
 pub fn push_right(line: &mut Line, text: &str, places: usize)
     requires places { places ≤ 20 }
     requires text { length text.now ≤ 20 }
@@ -61,7 +61,7 @@ pub fn push_right(line: &mut Line, text: &str, places: usize)
     line.push_str(text);
 }
 
-/// A line that begins with a number, with a word before it and one behind it.
+/// Returns a line of the text `before`, `number` in decimal, and the text `after`.
 pub fn numbered(before: &str, number: u64, after: &str) -> Line
     requires before { length before.now ≤ 40 }
     requires after { length after.now ≤ 40 }

@@ -3,21 +3,21 @@ ghost use Rattle.std.specs.Prelude.{◌≡◌, ◌∷◌, [], length, take_while
 ghost use Rattle.std.specs.Char.{is_ascii_alphanumeric};
 ghost use Rattle.mars_cell.specs.Parts.{is_blank, joins, parts};
 
-/// What is left of a line.
+/// The part of a line that is still to be read.
 #[derive(Clone, Copy)]
 pub struct LineParts<'a> {
     rest: &'a [u8],
 }
 
 impl<'a> LineParts<'a> {
-    /// The whole line.
+    /// Returns the whole line.
     pub fn new(text: &'a [u8]) -> LineParts<'a>
         ensures { result.rest.now ≡ text.entry.now }
     {
         LineParts { rest: text }
     }
 
-    /// Takes the first part.
+    /// Takes the next part, after any whitespace.
     pub fn take_first(&mut self) -> Option<&'a [u8]>
         ensures { MatchOption result (parts self.old.rest.now ≡ [])
             (λ part. parts self.old.rest.now ≡ part.now ∷ parts self.new.rest.now) }
@@ -54,7 +54,7 @@ fn word_len(text: &[u8]) -> usize
         .count()
 }
 
-/// Whether a letter or digit directly behind the byte belongs to the same part.
+/// Returns whether a letter or digit directly after `byte` belongs to the same part.
 #[tactic(auto, unfolding(crate::specs::Parts::joins))]
 fn is_joining(byte: u8) -> bool
     ensures { result ≡ joins byte }

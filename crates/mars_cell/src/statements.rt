@@ -1,4 +1,4 @@
-//! What the lines of a load file say.
+//! The statements of a load file, one on each line.
 ghost use Rattle.std.specs.Prelude.{◌≡◌, ◌==◌, IfSome, length, not, take_while};
 ghost use Rattle.mars_cell.specs.Parts.{parts};
 ghost use Rattle.mars_cell.specs.Code.Listing.{StatementFits};
@@ -10,20 +10,20 @@ use crate::numbers::{Sizes, read_number};
 use crate::parts::LineParts;
 use crate::words::is_word;
 
-/// What a line of a load file says.
+/// The statement of one line of a load file.
 #[derive(Clone, Copy)]
 pub enum Statement {
-    /// The line has no part.
+    /// A line without parts.
     Nothing,
     /// `ORG` and the start.
     Origin(i64),
-    /// `END`, and the start where ORG gives none.
+    /// `END`, with the start that applies if there is no ORG.
     End(Option<i64>),
-    /// The line of a cell.
+    /// A cell.
     Instruction(Cell),
 }
 
-/// A number, and no more.
+/// Reads a number that is the only part of the line.
 #[tactic(auto, unfolding(crate::specs::Load::lone_number))]
 fn read_lone_number(line: LineParts<'_>) -> Option<i64>
     ensures { result ≡ lone_number (parts line.entry.rest.now) }
@@ -36,7 +36,7 @@ fn read_lone_number(line: LineParts<'_>) -> Option<i64>
     read_number(number)
 }
 
-/// What follows `END`.
+/// Reads what follows `END`: nothing or a number.
 #[tactic(auto, unfolding(crate::specs::Load::end_of, crate::specs::Load::lone_number))]
 fn read_end(line: LineParts<'_>) -> Option<Option<i64>>
     ensures { result ≡ end_of (parts line.entry.rest.now) }
@@ -49,7 +49,7 @@ fn read_end(line: LineParts<'_>) -> Option<Option<i64>>
     Some(Some(number))
 }
 
-/// What the parts of a line say.
+/// Reads the statement that the parts of a line form.
 #[tactic(auto, unfolding(crate::specs::Load::statement_of))]
 fn read_statement(line: LineParts<'_>, sizes: Sizes) -> Option<Statement>
     ensures value { result ≡ statement_of sizes.written sizes.core_size (parts line.entry.rest.now) }
@@ -71,7 +71,7 @@ fn read_statement(line: LineParts<'_>, sizes: Sizes) -> Option<Statement>
     }
 }
 
-/// What a line says.
+/// Reads the statement of a line, without its comment.
 pub fn read_line(line: &[u8], sizes: Sizes) -> Option<Statement>
     ensures value { result ≡ line_statement sizes.written sizes.core_size line.now }
     ensures fits { IfSome result (StatementFits sizes.core_size) }
@@ -80,7 +80,7 @@ pub fn read_line(line: &[u8], sizes: Sizes) -> Option<Statement>
     read_statement(LineParts::new(text), sizes)
 }
 
-/// How many bytes come before the comment.
+/// Returns the number of bytes before the comment.
 fn text_len(line: &[u8]) -> usize
     ensures { result ≡ length (take_while (λ b. not (b == 59)) line.now) }
 {

@@ -10,10 +10,10 @@ use itoa::Buffer;
 impl Cell {
     ghost use Rattle.mars_cell.specs.Text.{cell_text};
 
-    /// The text of the cell in a core of that size, as `MOV.I $0, $-1`.
+    /// Returns the text of the cell in a core of `core_size` cells, such as `MOV.I $0, $-1`.
     ///
-    /// A number up to half the core size (whole division) is printed as it is, any other less the core size.
-    /// A load file is read back from such texts.
+    /// A number up to half the core size (rounded down) is printed as it is, any other minus the core size. Load files
+    /// consist of such texts.
     pub fn text(&self, core_size: u32) -> ArrayString<48>
         requires a { self.now.a < core_size }
         requires b { self.now.b < core_size }

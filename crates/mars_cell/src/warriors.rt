@@ -6,9 +6,9 @@ use std::alloc::AllocError;
 use std::marker::Model;
 use thiserror::Error;
 
-/// A program with its name and author: it has a cell, and starts at one of its cells.
+/// A program with a name and an author. It has at least one cell and starts at one of its cells.
 ///
-/// Its name and author are names: at most 60 bytes, each from 32 to 126.
+/// Name and author have at most 60 bytes, each from 32 to 126.
 #[derive(Debug, Drop)]
 pub struct Warrior {
     name: String,
@@ -38,13 +38,13 @@ impl Model for Warrior {
     }) };
 }
 
-/// Why a program is no warrior. It is displayed as its number and name.
+/// The reason why a program is not a warrior. It is displayed as its number and name.
 #[derive(Clone, Copy, Debug, PartialEq, Eq, Error)]
 pub enum WarriorFault {
-    /// There is no cell.
+    /// There are no cells.
     #[error("1 Empty")]
     Empty,
-    /// The start isn't the index of a cell.
+    /// The start is not the index of a cell.
     #[error("2 BadOrigin")]
     BadOrigin,
 }
@@ -53,9 +53,11 @@ impl Warrior {
     ghost use Rattle.mars_cell.specs.WarriorFaults.{checked_warrior};
     ghost use Rattle.mars_cell.specs.Warriors.{IsName};
 
-    /// A warrior of these cells that starts at the cell of index `start`, or the first fault.
+    /// Makes a warrior that starts at the cell with index `start`.
     ///
-    /// A refusal drops the arguments.
+    /// # Errors
+    ///
+    /// Returns the first error in the order of [`WarriorFault`] and drops the arguments.
     pub fn new(
         name: String,
         author: String,
@@ -85,7 +87,7 @@ impl Warrior {
         })
     }
 
-    /// The name: at most 60 bytes, each from 32 to 126.
+    /// Returns the warrior's name: at most 60 bytes, each from 32 to 126.
     pub fn name(&self) -> &str
         ensures value { result.now ≡ self.now.name }
         ensures is_name { IsName self.now.name }
@@ -93,7 +95,7 @@ impl Warrior {
         self.name.as_str()
     }
 
-    /// The author's name: at most 60 bytes, each from 32 to 126.
+    /// Returns the author's name: at most 60 bytes, each from 32 to 126.
     pub fn author(&self) -> &str
         ensures value { result.now ≡ self.now.author }
         ensures is_name { IsName self.now.author }
@@ -101,7 +103,7 @@ impl Warrior {
         self.author.as_str()
     }
 
-    /// The cells, at least one.
+    /// Returns the cells, at least one.
     pub fn cells(&self) -> &[Cell]
         ensures value { result.now ≡ self.now.cells }
         ensures some { 1 ≤ length self.now.cells }
@@ -109,7 +111,7 @@ impl Warrior {
         self.cells.as_slice()
     }
 
-    /// The index of the cell to start at.
+    /// Returns the index of the cell to start at.
     pub fn start(&self) -> u32
         ensures value { result ≡ self.now.start }
         ensures inside { result < length self.now.cells }
@@ -117,7 +119,11 @@ impl Warrior {
         self.start
     }
 
-    /// The same warrior once more, by the allocator of its own texts and cells. Only want of memory refuses it.
+    /// Returns a copy, allocated by the allocators of the warrior's own texts and cells.
+    ///
+    /// # Errors
+    ///
+    /// Returns an error only if an allocation fails.
     pub fn copy(&self) -> Result<Warrior, AllocError>
         ensures { IfOk result (λ w. w ≡ self.now) }
     {

@@ -1,4 +1,4 @@
-//! The words of a cell.
+//! The names of opcodes, modifiers and modes.
 ghost use Rattle.std.specs.Prelude.{◌≡◌, ◌≤◌, length};
 ghost use Rattle.std.specs.Str.{str_eq_ignore_ascii_case};
 ghost use Rattle.mars_cell.specs.Words.{op_name, modifier_name, mode_name, op_of, modifier_of, mode_of};
@@ -26,7 +26,7 @@ impl Op {
         Op::Nop,
     ];
 
-    /// The opcode's name of three letters.
+    /// Returns the opcode's name of three letters.
     pub(crate) fn name(self) -> &'static str
         ensures value { result.now ≡ op_name self }
         ensures short { length result.now ≤ 3 }
@@ -64,7 +64,7 @@ impl Modifier {
         Modifier::I,
     ];
 
-    /// The modifier's name of one or two letters.
+    /// Returns the modifier's name of one or two letters.
     pub(crate) fn name(self) -> &'static str
         ensures value { result.now ≡ modifier_name self }
         ensures short { length result.now ≤ 2 }
@@ -94,7 +94,7 @@ impl Mode {
         Mode::BPostincrement,
     ];
 
-    /// The mode's byte, which stands before a number.
+    /// Returns the mode's character, which comes before a number.
     pub(crate) fn name(self) -> &'static str
         ensures value { result.now ≡ mode_name self }
         ensures short { length result.now ≤ 1 }
@@ -112,14 +112,14 @@ impl Mode {
     }
 }
 
-/// Whether two words are the same but for the case of their letters.
+/// Returns whether two words are equal apart from the case of their letters.
 pub fn is_word(part: &[u8], word: &[u8]) -> bool
     ensures { result ≡ str_eq_ignore_ascii_case part.now word.now }
 {
     part.eq_ignore_ascii_case(word)
 }
 
-/// The opcode that a word names, in either case; `CMP` is another name of `SEQ`.
+/// Returns the opcode that `word` names, in upper or lower case; `CMP` is another name of `SEQ`.
 #[tactic(auto, unfolding(crate::specs::Words::op_of))]
 pub fn read_op(word: &[u8]) -> Option<Op>
     ensures { result ≡ op_of word.now }
@@ -131,7 +131,7 @@ pub fn read_op(word: &[u8]) -> Option<Op>
         .find(|op| is_word(word, op.name().as_bytes()))
 }
 
-/// The modifier that a word names, in either case.
+/// Returns the modifier that `word` names, in upper or lower case.
 #[tactic(auto, unfolding(crate::specs::Words::modifier_of))]
 pub fn read_modifier(word: &[u8]) -> Option<Modifier>
     ensures { result ≡ modifier_of word.now }
@@ -142,7 +142,7 @@ pub fn read_modifier(word: &[u8]) -> Option<Modifier>
         .find(|modifier| is_word(word, modifier.name().as_bytes()))
 }
 
-/// The mode of a byte.
+/// Returns the mode whose character is `word`.
 #[tactic(auto, unfolding(crate::specs::Words::mode_of))]
 pub fn read_mode(word: &[u8]) -> Option<Mode>
     ensures { result ≡ mode_of word.now }

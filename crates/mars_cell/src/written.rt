@@ -10,9 +10,9 @@ use crate::warriors::Warrior;
 use itoa::Buffer;
 use std::alloc::{AllocError, Global};
 
-// An error of each of these leaves the text as it was, or with a beginning of the line.
+// If one of the functions below fails, the text keeps what was there and may have a part of the new lines after it.
 
-/// Adds the line of a word and what follows it to a text.
+/// Appends a line of `word` and `rest` to `text`.
 fn push_line(text: &mut Vec<u8>, word: &[u8], rest: &[u8]) -> Result<(), AllocError>
     ensures { OnOk result (text.new.items ≡ text.old.items ++ with_newline (word.now ++ rest.now)) }
 {
@@ -22,7 +22,7 @@ fn push_line(text: &mut Vec<u8>, word: &[u8], rest: &[u8]) -> Result<(), AllocEr
     Ok(())
 }
 
-/// Adds the line of a word and a number to a text.
+/// Appends a line of `word` and `number` in decimal to `text`.
 fn push_number(text: &mut Vec<u8>, word: &[u8], number: u32) -> Result<(), AllocError>
     ensures { OnOk result (text.new.items ≡ text.old.items ++ with_newline (word.now ++ decimal number)) }
 {
@@ -30,7 +30,7 @@ fn push_number(text: &mut Vec<u8>, word: &[u8], number: u32) -> Result<(), Alloc
     push_line(text, word, digits.format(number).as_bytes())
 }
 
-/// Adds the line of a cell to a text.
+/// Appends the line of `cell` to `text`.
 fn push_cell(text: &mut Vec<u8>, cell: Cell, core_size: u32) -> Result<(), AllocError>
     requires { FitsCore core_size cell }
     ensures { OnOk result (text.new.items ≡ text.old.items ++ with_newline (cell_text core_size cell)) }
@@ -38,7 +38,7 @@ fn push_cell(text: &mut Vec<u8>, cell: Cell, core_size: u32) -> Result<(), Alloc
     push_line(text, cell.text(core_size).as_str().as_bytes(), b"")
 }
 
-/// Adds the lines of some cells to a text.
+/// Appends the lines of `cells` to `text`.
 fn push_cells(text: &mut Vec<u8>, cells: &[Cell], core_size: u32) -> Result<(), AllocError>
     requires { All (FitsCore core_size) cells.now }
     ensures { OnOk result (text.new.items ≡ text.old.items ++ flat_map with_newline (map (cell_text core_size) cells.now)) }
@@ -49,10 +49,14 @@ fn push_cells(text: &mut Vec<u8>, cells: &[Cell], core_size: u32) -> Result<(), 
     Ok(())
 }
 
-/// The load file of a warrior for a core of that size, of version 2.
+/// Returns the load file of a warrior for a core of `core_size` cells, in version 2.
 ///
-/// Its lines, each ended by LF, are `;load 2 ` and the size of the core, `;name ` and the warrior's name, `;author ` and
-/// the author's, `ORG ` and the start, then each cell's text. Only want of memory refuses it.
+/// The lines, each terminated by LF, are `;load 2 ` and the core size, `;name ` and the warrior's name, `;author ` and
+/// the author's name, `ORG ` and the start, then the text of each cell.
+///
+/// # Errors
+///
+/// Returns an error only if an allocation fails.
 pub fn write_load(alloc: Global, warrior: &Warrior, core_size: u32) -> Result<Vec<u8>, AllocError>
     requires size { core_size ≤ largest_core }
     requires fits { All (FitsCore core_size) warrior.now.cells }

@@ -1,4 +1,4 @@
-//! The worked cases of `mars_cell`, by its calls.
+//! Tests of `mars_cell` through its public functions.
 #![tactic(auto)]
 
 #[cfg(test)]

@@ -21,7 +21,7 @@ fn cell(op: Op, modifier: Modifier, a_mode: Mode, a: u32, b_mode: Mode, b: u32) 
     }
 }
 
-/// Parameters of that core size and longest warrior.
+/// Returns parameters with this core size and this maximum length.
 fn sizes(core_size: u32, max_length: u32) -> Result<Params, ParamFault>
     ensures { IfOk result (λ params. params.core_size ≡ core_size) }
 {
@@ -146,7 +146,7 @@ fn default_modifiers(rt: HostRuntime) {
     }
 }
 
-/// The parameters of these numbers, in their order.
+/// Returns the parameters with these numbers, in order.
 fn params_of(numbers: [u32; 7]) -> Result<Params, ParamFault> {
     let [core_size, processes, cycles, read, write, longest, distance] = numbers;
     Params::new(core_size, processes, cycles, read, write, longest, distance)
@@ -187,13 +187,13 @@ fn parameters(rt: HostRuntime) -> Result<(), Fail> {
     Ok(())
 }
 
-/// Whether a warrior has these names, cells and start.
+/// Returns whether a warrior has these names, cells and start.
 fn is_warrior(warrior: &Warrior, name: &str, author: &str, cells: &[Cell], start: u32) -> bool {
     (warrior.name(), warrior.author(), warrior.start()) == (name, author, start)
         && warrior.cells() == cells
 }
 
-/// A warrior of these jumps without names.
+/// Returns the error of making a warrior of these cells without names, if there is one.
 fn nameless(alloc: Global, cells: &[Cell], start: u32) -> Result<Option<WarriorFault>, Fail> {
     let cells = Vec::from_slice(alloc, cells)?;
     let warrior = Warrior::new(String::new(alloc), String::new(alloc), cells, start);

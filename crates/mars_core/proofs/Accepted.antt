@@ -1,4 +1,4 @@
--- What an edit that isn't refused was asked.
+-- The conditions that hold for an edit that has no error.
 use Rattle.std.proofs.Common.{◌≡◌, ℕ, ◌<◌, Bool, true, false, length, refl, arith, Option, None, Some, []}
 use Rattle.std.specs.Prelude.{nat_lt, ◌&&◌, if◌then◌else◌}
 use Rattle.std.specs.Option.{option_or}
@@ -77,7 +77,7 @@ module _ (s : State) where
       let first = none_or (address_fault s.params.core_size a) (warrior_fault s w) second.0 in
       record { address_in = address_in a first.0; warrior = warrior_in w first.1; alive = alive_is w second.1; room = room_is w third.1 }
 
-  -- warriors and places of processes are small numbers
+  -- The index of a warrior and the place of a process are small numbers.
   pub small_warrior : IsValid s → (w : ℕ) → w < length s.queues → w < 65536
   small_warrior v w h = omega (arith, v.few)
 

@@ -1,4 +1,4 @@
--- What a record that leads from a state tells the code that applies it.
+-- What follows, for the code that applies a record, from the fact that the record leads from the present state.
 use Rattle.std.proofs.Common.{◌≡◌, ℕ, ◌+◌, ◌-◌, ◌<◌, List, [], length, drop, inl, inr, sym, subst, arith, true, false, None}
 use Rattle.std.proofs.lemmas.List.{length-take, length-drop}
 use Rattle.std.proofs.lemmas.List.Elements.{All-cons}
@@ -26,14 +26,14 @@ use Rattle.mars_core.proofs.Inside.{AreInside, execution_inside}
 use Rattle.mars_core.proofs.Reverts.{no_cells}
 use Rattle.mars_core.proofs.Turns.{running, filled_length, queue_fits, turn_valid}
 
--- what the code that applies a record has to know
+-- The facts that the code needs to apply a record.
 pub record CanApply (atom : Atom) (s : State) : Type 0 where
   pub cells : AreInside (length s.core) atom.cells.items
   pub queue : HasQueue (warrior_of atom.work) (CanRequeue s.params.processes atom.work (length atom.queued.items)) s.queues
   pub deaths : atom.died ≡ true → length s.deaths < most_warriors
 
 module _ (s : State) (v : IsValid s) where
-  -- where somebody lives, not all have died
+  -- If a warrior lives, the list of deaths is not full.
   room_for_death : (w : ℕ) → w < length s.queues → ((queue_of s.queues w ≡ []) → ⊥) → length s.deaths < most_warriors
   room_for_death w h lives =
       let alive = live_survives s.queues w h lives in
@@ -90,12 +90,12 @@ pub can_apply : (s t : State) (atom : Atom) → Leads s atom t → CanApply atom
 can_apply s t atom (inl l) = rw l.atom_is (turn_can s l.valid l.running)
 can_apply s t atom (inr l) = rw l.atom_is (edit_can s l.valid l.edit l.accepted)
 
--- the state that a record leads to is valid
+-- The state that a record leads to is valid.
 pub lead_to_valid : (s t : State) (atom : Atom) → Leads s atom t → IsValid t
 lead_to_valid s t atom (inl l) = rw l.state_is (turn_valid s l.valid l.running)
 lead_to_valid s t atom (inr l) = rw l.state_is (edit_valid s l.edit l.valid l.accepted)
 
--- the code's battle after a record was applied
+-- The battle that the code has after it applied a record.
 pub applied_state : (p : Parameters) (core : List Cell) (qs : List Queue) (next cycle turns : ℕ) (deaths : List Death) (atom : Atom)
     (core' : List Cell) (qs' : List Queue) (cycles' turns' : ℕ) (deaths' : List Death)
     → core' ≡ rewritten atom.cells.items core

@@ -43,7 +43,7 @@ length-head_of s v =
     let front = length-append (field_words s) (padded 16 (lengths_of s.queues)) in
     omega (arith, all, front, length-field_words s, length-padded 16 (lengths_of s.queues) (counts_fit s v), length-padded 32 (death_words s.deaths) (deaths_fit s v))
 
--- the length of a block
+-- The length of a block.
 pub length-block_of : (s : State) → IsValid s → length (block_of s) ≡ 64 + 3 * length s.core + sum (lengths_of s.queues)
 unfolding block_of
 length-block_of s v =
@@ -51,19 +51,19 @@ length-block_of s v =
     let front = length-append (head_of s) (core_words s.core) in
     omega (arith, all, front, length-head_of s v, length-core_words s.core, length-concat s.queues)
 
--- the length of a block fits 32 bits
+-- The length of a block fits 32 bits.
 pub few_words : (s : State) → IsValid s → 64 + 3 * length s.core + sum (lengths_of s.queues) ≤ 4194368
 few_words s v =
     let each : sum (lengths_of s.queues) ≤ length s.queues * 65536 = rw (sum-map (λ (q : List ℕ). length q) s.queues) (sum_by-le (λ (q : List ℕ). length q) 65536 s.queues (λ k d h. omega (arith, (v.queues k d h).room, v.params.processes_most))) in
     omega (arith, each, v.few, v.core.size, v.params.core_most)
 
--- the maximum length of a block is enough for all queues
+-- The maximum length of a block is enough for all queues.
 pub room_words : (s : State) → IsValid s → 64 + 3 * length s.core + sum (lengths_of s.queues) ≤ 64 + 3 * s.params.core_size + length s.queues * s.params.processes
 room_words s v =
     let each : sum (lengths_of s.queues) ≤ length s.queues * s.params.processes = rw (sum-map (λ (q : List ℕ). length q) s.queues) (sum_by-le (λ (q : List ℕ). length q) s.params.processes s.queues (λ k d h. (v.queues k d h).room)) in
     omega (arith, each, v.core.size)
 
--- the first words of the header of a state's block
+-- The first words of the header of a state's block.
 pub fields_are : (s : State) (words core processes cycles reads writes longest distance warriors turns cycle next over deaths : ℕ) → words ≡ words_of s → core ≡ s.params.core_size → processes ≡ s.params.processes → cycles ≡ s.params.cycles
     → reads ≡ s.params.read_limit → writes ≡ s.params.write_limit → longest ≡ s.params.max_length → distance ≡ s.params.distance → warriors ≡ length s.queues → turns ≡ s.turns → cycle ≡ s.cycle → next ≡ s.next
     → over ≡ (if is_over_of s then 1 else 0) → deaths ≡ length s.deaths
@@ -71,7 +71,7 @@ pub fields_are : (s : State) (words core processes cycles reads writes longest d
 unfolding field_words
 fields_are s words core processes cycles reads writes longest distance warriors turns cycle next over deaths e1 e2 e3 e4 e5 e6 e7 e8 e9 e10 e11 e12 e13 e14 = cc
 
--- the parts of words that begin with a state's block
+-- The parts of words that begin with a state's block.
 split_words : (s : State) (words : List ℕ) → Spells s words → words ≡ head_of s ++ (core_words s.core ++ (concat s.queues ++ drop (length (block_of s)) words))
 unfolding block_of
 split_words s words sp =
@@ -99,7 +99,7 @@ spelled_long s words sp =
     let all = ap length sp.block ∙ length-append (block_of s) (drop (length (block_of s)) words) in
     omega (arith, all, length-block_of s sp.valid)
 
--- the fields of a header
+-- The fields of a header.
 pub head_mark : (s : State) → get_or (head_of s) 0 0 ≡ 22167885
 unfolding head_of field_words
 head_mark s = refl
@@ -130,7 +130,7 @@ head_deaths s n v e =
     ap (take (2 * n)) (drop_at front (padded 32 (death_words s.deaths)) 32 long)
     ∙ take_at (death_words s.deaths) _ (2 * n) (length-death_words s.deaths ∙ ap (λ (k : ℕ). 2 * k) (sym e))
 
--- three lists of words, appended
+-- Three lists of words, appended.
 pub pieces : (words : List ℕ) (n m k : ℕ) (h o a p b : List ℕ) → h ≡ take n words → o ≡ drop n words → a ≡ take m o → p ≡ drop m o → b ≡ take k p → n + m + k ≤ length words
     → take (length (h ++ a ++ b)) words ≡ h ++ a ++ b
 pieces words n m k h o a p b e f g i j r =
@@ -145,7 +145,7 @@ pub head_deaths_count : (s : State) → get_or (head_of s) 14 0 ≡ length s.dea
 unfolding head_of field_words
 head_deaths_count s = refl
 
--- the parts of a valid state
+-- The parts of a valid state.
 pub valid_parts : (params : Parameters) (core : List Cell) (queues these those : List Queue) (clock : Clock) (turns cycles : ℕ) (deaths others : List Death) → AreInRange params → IsCore params.core_size core → 1 ≤ length queues → length queues ≤ most_warriors
     → All (IsQueue params.core_size params.processes) (addresses_of queues) → these ≡ queues → those ≡ queues → others ≡ deaths → cycles ≡ params.cycles → AreDeaths (addresses_of these) others → IsClock cycles (addresses_of those) clock turns
     → IsValid (state_of params core queues clock.next clock.cycle turns deaths)
@@ -155,7 +155,7 @@ valid_parts params core queues these those clock turns cycles deaths others r c 
     let told : IsClock params.cycles (addresses_of queues) clock turns = subst (λ (k : ℕ). IsClock k (addresses_of queues) clock turns) n (subst (λ (l : List Queue). IsClock cycles (addresses_of l) clock turns) f t) in
     record { params = r; core = c; some = omega (arith, many, some); few = omega (arith, many, few); queues = qs; deaths = died; clock = told }
 
--- words that have the parts of a state's block spell that state
+-- Words that have the parts of a state's block spell that state.
 pub spelled : (s : State) (words head cells processes : List ℕ) → IsValid s → take (length (head ++ cells ++ processes)) words ≡ head ++ cells ++ processes → head ≡ head_of s → core_words s.core ≡ cells → concat s.queues ≡ processes → Spells s words
 unfolding block_of
 spelled s words head cells processes v e h c q =
@@ -167,7 +167,7 @@ joined : (s : State) (l : List ℕ) → head_of s ++ (core_words s.core ++ (conc
 unfolding block_of
 joined s l = sym (append_assoc (head_of s) (core_words s.core) (concat s.queues ++ l)) ∙ sym (append_assoc (head_of s ++ core_words s.core) (concat s.queues) l)
 
--- the parts of a state's block are written to the front of words
+-- The parts of a state's block are written to the front of words.
 pub written : (s : State) (words head others cells back rest : List ℕ) (n : ℕ) → IsValid s → head ≡ head_of s → cells ≡ core_words s.core → others ≡ drop 64 words → back ≡ drop n others → n ≡ 3 * length s.core
     → rest ≡ concat s.queues ++ drop (sum (lengths_of s.queues)) back → head ++ (cells ++ rest) ≡ block_of s ++ drop (length (block_of s)) words
 written s words head others cells back rest n v h c o b e r =

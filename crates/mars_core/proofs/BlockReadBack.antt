@@ -1,4 +1,4 @@
--- Different values have different words.
+-- Different states have different blocks: each part of a state can be read back from its words.
 use Rattle.std.proofs.Common.{◌≡◌, ℕ, ◌+◌, ◌*◌, ◌<◌, List, [], ◌∷◌, ◌++◌, length, take, drop, get_or, refl, ap, sym, ◌∙◌, arith, drop_at, take_at}
 use Rattle.std.specs.List.{concat}
 use Rattle.std.specs.Prelude.{sum}
@@ -163,7 +163,7 @@ queues_same (p ∷ xs) (q ∷ ys) e f =
     let rest : concat xs ≡ concat ys = sym (drop_at p (concat xs) (length p) refl) ∙ ap (drop (length p)) f ∙ drop_at q (concat ys) (length p) (sym n) in
     ap (λ (z : List ℕ). z ∷ xs) same ∙ ap (λ (l : List (List ℕ)). q ∷ l) (queues_same xs ys (ap rest_of e) rest)
 
--- the state that is read from the parts of a state's block is that state
+-- The state that is read from the parts of a state's block is that state.
 pub state_read : (s : State) (params : Parameters) (core : List Cell) (queues : List (List ℕ)) (deaths : List Death) (head counts cells processes : List ℕ) → IsValid s → AreParts s head counts cells processes
     → params ≡ params_in head → core_words core ≡ cells → lengths_of queues ≡ counts → concat queues ≡ processes → death_words deaths ≡ take (2 * get_or head 14 0) (drop 32 head)
     → record { params = params; core = core; queues = queues; next = get_or head 12 0; cycle = get_or head 11 0; turns = get_or head 10 0; deaths = deaths } ≡ s
@@ -179,11 +179,11 @@ state_read s params core queues deaths head counts cells processes v parts p c l
     let turns : get_or head 10 0 ≡ s.turns = ap (λ (h : List ℕ). get_or h 10 0) parts.head in
     λ i. record { params = ps i; core = cs i; queues = qs i; next = next i; cycle = cycle i; turns = turns i; deaths = ds i }
 
--- the block of a valid state spells that state
+-- The block of a valid state spells that state.
 pub blocks_spelled : (s : State) (rest : List ℕ) → IsValid s → Spells s (block_of s ++ rest)
 blocks_spelled s rest v = record { valid = v; block = ap (λ (l : List ℕ). block_of s ++ l) (sym (drop_at (block_of s) rest (length (block_of s)) refl)) }
 
--- words spell at most one state
+-- Words spell at most one state.
 pub one_spelled : (s t : State) (words : List ℕ) → Spells s words → Spells t words → s ≡ t
 unfolding head_of field_words
 one_spelled s t words p q =

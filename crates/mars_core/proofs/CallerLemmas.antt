@@ -1,4 +1,4 @@
--- What the layers above may cite of turns, edits and records, whose definitions they don't see into.
+-- Lemmas about turns, edits and records for the crates above, which can't unfold these definitions.
 use Rattle.std.specs.Prelude.{◌≡◌, ℕ, ◌+◌, ◌≤◌, Option, None, Some, refl, List, [], ◌∷◌, remove, slice_set}
 use Rattle.std.proofs.Common.{arith, sym, ◌∙◌}
 use Rattle.std.proofs.lemmas.List.{length-set}
@@ -12,13 +12,13 @@ use Rattle.mars_core.specs.declared.record.Atom.{Atom}
 use Rattle.mars_core.specs.declared.battle.edit.Edit.{Edit}
 use Rattle.mars_core.specs.declared.battle.edit.Edit.TheVariants as edit
 use Rattle.mars_core.specs.declared.machine.clock.Clock.{Clock}
--- turns and edits of a valid state are valid, and a record gives back the states that it leads from and to
+-- Turns and edits of a valid state are valid, and a record determines the states that it leads from and to.
 pub use Rattle.mars_core.proofs.Edits.{edit_valid}
 pub use Rattle.mars_core.proofs.Restored.{record_reverted}
 pub use Rattle.mars_core.proofs.Rewritten.{record_applied}
 pub use Rattle.mars_core.proofs.Turns.{turn_valid}
 
--- one cycle more, or none
+-- The number grows by one or stays.
 abbrev pub OneMore : ℕ → ℕ → Type 0
 OneMore before after = (before ≤ after) × (after ≤ before + 1)
 
@@ -31,7 +31,7 @@ advanced_cycle : (queues : List (List ℕ)) (clock : Clock) (i : ℕ) → OneMor
 unfolding advanced
 advanced_cycle queues clock i = moved_cycle clock (live_from queues i) (live_from queues 0)
 
--- a turn makes the turns one more
+-- A turn increases the number of turns by one.
 pub turns-turn_of : (s : State) → (turn_of s).turns ≡ s.turns + 1
 unfolding turn_of executed
 turns-turn_of s = refl
@@ -40,12 +40,12 @@ pub cycle-turn_of : (s : State) → OneMore s.cycle (turn_of s).cycle
 unfolding turn_of executed
 cycle-turn_of s = advanced_cycle (executed s).queues (record { next = s.next; cycle = s.cycle }) (s.next + 1)
 
--- a turn keeps the parameters and the number of warriors
+-- A turn changes neither the parameters nor the number of warriors.
 pub shape-turn_of : (s : State) → SameShape (turn_of s) s
 unfolding turn_of executed
 shape-turn_of s = record { params = refl; warriors = length-set s.queues s.next _ }
 
--- what is left after a kill
+-- The turns, the cycle and the shape of the state after a kill.
 turns-left_of : (s : State) (w : ℕ) (q : List ℕ) → (left_of s w q).turns ≡ s.turns
 turns-left_of s w [] = refl
 turns-left_of s w (x ∷ q) = refl
@@ -58,7 +58,7 @@ shape-left_of : (s : State) (w : ℕ) (q : List ℕ) → SameShape (left_of s w 
 shape-left_of s w [] = record { params = refl; warriors = length-set s.queues w _ }
 shape-left_of s w (x ∷ q) = record { params = refl; warriors = length-set s.queues w _ }
 
--- an edit makes no turn
+-- An edit does not change the number of turns.
 pub turns-edited : (s : State) (e : Edit) → (edited s e).turns ≡ s.turns
 unfolding edited killed
 turns-edited s (edit.SetCell a c) = refl
@@ -73,7 +73,7 @@ cycle-edited s (edit.MoveProcess w i a) = (omega arith, omega arith)
 cycle-edited s (edit.KillProcess w i) = cycle-left_of s w (remove (queue_of s.queues w) i)
 cycle-edited s (edit.Spawn w a) = (omega arith, omega arith)
 
--- an edit keeps the parameters and the number of warriors
+-- An edit changes neither the parameters nor the number of warriors.
 pub shape-edited : (s : State) (e : Edit) → SameShape (edited s e) s
 unfolding edited killed
 shape-edited s (edit.SetCell a c) = record { params = refl; warriors = refl }
@@ -81,15 +81,15 @@ shape-edited s (edit.MoveProcess w i a) = record { params = refl; warriors = len
 shape-edited s (edit.KillProcess w i) = shape-left_of s w (remove (queue_of s.queues w) i)
 shape-edited s (edit.Spawn w a) = record { params = refl; warriors = length-set s.queues w _ }
 
--- a record adds its turns
+-- Applying a record adds its turns.
 pub turns-applied : (atom : Atom) (s : State) → (applied atom s).turns ≡ s.turns + turns_of atom.work
 unfolding applied
 turns-applied atom s = refl
 
--- a record leads to a state from only one
+-- A record leads to a given state from only one state.
 pub one_before : (s t : State) (atom : Atom) (here : State) → Leads s atom here → Leads t atom here → s ≡ t
 one_before s t atom here first second = sym (record_reverted s atom here first) ∙ record_reverted t atom here second
 
--- a record leads from a state to only one
+-- A record leads from a given state to only one state.
 pub one_after : (s t : State) (atom : Atom) (here : State) → Leads here atom s → Leads here atom t → s ≡ t
 one_after s t atom here first second = sym (record_applied here atom s first) ∙ record_applied here atom t second

@@ -1,4 +1,4 @@
--- In a valid state as many warriors are dead as died.
+-- In a valid state, the number of dead warriors is the number of deaths.
 use Rattle.std.proofs.Common.{◌≡◌, ℕ, zero, suc, ◌+◌, ◌<◌, List, [], ◌∷◌, length, get_or, All, refl, ◌∙◌, arith, cond}
 use Rattle.std.specs.Prelude.{◌==◌, false}
 use Rattle.std.proofs.lemmas.Bool.Decides.{nat_tests}
@@ -8,7 +8,7 @@ use Rattle.mars_core.specs.State.{State, is_empty, queue_of, survivors_of}
 use Rattle.mars_core.specs.Validity.{times_died, IsValid}
 use Rattle.mars_core.specs.declared.deaths.Death.{Death}
 
--- f 0 and so on, n numbers together
+-- The sum of `f` over the first `n` numbers.
 abbrev total : (ℕ → ℕ) → ℕ → ℕ
 total f zero = 0
 total f (suc n) = f 0 + total (λ k. f (suc k)) n
@@ -29,7 +29,7 @@ total_none : (n : ℕ) → total (λ k. 0) n ≡ 0
 total_none zero = refl
 total_none (suc n) = omega (arith, total_none n)
 
--- 1 at the place
+-- 1 if `k` is `w`, else 0.
 abbrev at_place : ℕ → ℕ → ℕ
 at_place w k = cond (w == k) 1 0
 
@@ -54,7 +54,7 @@ one_place (suc w) (suc n) h =
     let rest = total_same (λ k. at_place (suc w) (suc k)) (at_place w) n (λ k l. beside w k) ∙ one_place w n (omega arith) in
     omega (arith, earlier w, rest)
 
--- the deaths of all warriors are all deaths
+-- The deaths of all warriors together are all deaths.
 all_deaths : (ds : List Death) (n : ℕ) → All (λ (d : Death). d.warrior < n) ds → total (times_died ds) n ≡ length ds
 all_deaths [] n h = total_none n
 all_deaths (d ∷ ds) n h =
@@ -64,7 +64,7 @@ all_deaths (d ∷ ds) n h =
     let both = total_both (at_place d.warrior) (times_died ds) n in
     omega (arith, first, rest, apart, both)
 
--- the empty queues and the others are all queues
+-- The empty queues and the other queues are all queues.
 all_queues : (qs : List (List ℕ)) → total (λ k. cond (is_empty (get_or qs k [])) 1 0) (length qs) + survivors_of qs ≡ length qs
 all_queues [] = refl
 all_queues ([] ∷ qs) =

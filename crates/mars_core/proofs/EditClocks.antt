@@ -10,7 +10,7 @@ use Rattle.mars_core.specs.declared.machine.clock.Clock.{Clock}
 use Rattle.mars_core.proofs.Clocks.{IsLive, live_from_is, somebody}
 use Rattle.mars_core.proofs.Turns.{filled_one}
 
--- the first live index is not above a live one
+-- The first live index is at most every live index.
 first_live_least : (qs : List (List ℕ)) (k : ℕ) → k < length qs → get_or qs k [] ≢ [] → (j : ℕ) × (first_live qs ≡ Some j) × (j ≤ k)
 first_live_least [] k h n = absurd (omega arith)
 first_live_least ([] ∷ qs) zero h n = absurd (n refl)
@@ -19,7 +19,7 @@ first_live_least ([] ∷ qs) (suc k) h n =
     (suc found.0, ap (option_map suc) found.1, omega (arith, found.2))
 first_live_least ((x ∷ q) ∷ qs) k h n = (0, refl, omega arith)
 
--- the least live index from i on is not above a live one from i on
+-- The first live index from `i` on is at most every live index from `i` on.
 pub live_from_least : (qs : List (List ℕ)) (i k : ℕ) → IsLive qs i k → (j : ℕ) × (live_from qs i ≡ Some j) × (j ≤ k)
 live_from_least qs i k l =
     let inside : k - i < length (drop i qs) = simp length-drop (omega (arith, l.above, l.below)) in
@@ -28,7 +28,7 @@ live_from_least qs i k l =
     let found = first_live_least (drop i qs) (k - i) inside lives in
     (i + found.0, ap (option_map (λ n. i + n)) found.1, omega (arith, found.2, l.above))
 
--- a live warrior is a survivor
+-- A live warrior is counted as a survivor.
 pub live_survives : (qs : List (List ℕ)) (k : ℕ) → k < length qs → get_or qs k [] ≢ [] → 1 ≤ survivors_of qs
 live_survives [] k h n = absurd (omega arith)
 live_survives ([] ∷ qs) zero h n = absurd (n refl)
@@ -43,7 +43,7 @@ module _ (cycles : ℕ) (qs : List (List ℕ)) (clock : Clock) (made w : ℕ) (k
   alive : 1 ≤ survivors_of qs
   alive = live_survives qs w inside lives
 
-  -- who lives after the death of w lived before it
+  -- A warrior that lives after the death of `w` lived before it.
   lived : (i j : ℕ) → IsLive (set qs w []) i j → IsLive qs i j
   lived i j l =
       let other : j ≢ w = λ e. l.lives (ap (λ n. get_or (set qs w []) n []) e ∙ get_or-set_same qs w [] [] inside) in
@@ -54,7 +54,7 @@ module _ (cycles : ℕ) (qs : List (List ℕ)) (clock : Clock) (made w : ℕ) (k
         lives = λ e. l.lives (get_or-set_other qs w j [] [] other ∙ e);
       }
 
-  -- in the last cycle nobody below next lives
+  -- After the last cycle, no warrior before `next` lives.
   not_below : (j : ℕ) → clock.cycle ≡ cycles → IsLive (set qs w []) 0 j → clock.next ≤ j
   not_below j last l =
       let first = live_from_least qs 0 j (lived 0 j l) in
@@ -117,7 +117,7 @@ module _ (cycles : ℕ) (qs : List (List ℕ)) (clock : Clock) (made w : ℕ) (k
   unfolding advanced
   clock_after_death = clock_moved (live_from (set qs w []) clock.next) (live_from (set qs w []) 0) refl refl
 
--- a queue that stays filled doesn't change who lives
+-- Changing a queue that is not empty before and after does not change which warriors live.
 first_live_kept : (qs : List (List ℕ)) (w : ℕ) (q : List ℕ) → w < length qs → get_or qs w [] ≢ [] → q ≢ [] → first_live (set qs w q) ≡ first_live qs
 first_live_kept [] w q h n m = absurd (omega arith)
 first_live_kept ([] ∷ qs) zero q h n m = absurd (n refl)

@@ -24,7 +24,7 @@ use Rattle.mars_core.proofs.Live.{addresses_at}
 use Rattle.mars_core.proofs.Turns.{same_eq, counted_after}
 use Rattle.mars_core.proofs.TurnState.{addresses-set}
 
--- what is left of a state once w's queue is a
+-- The state after an edit left the warrior `w` with the queue `a`, from its parts.
 same_left : (s : State) (w : ℕ) (a : List ℕ) (queues : List (List ℕ)) (clock : Clock) (deaths : List Death)
     → queues ≡ set s.queues w a → deaths ≡ with_death (is_empty a) w s.turns s.deaths
     → clock ≡ (if is_empty a then advanced (set s.queues w a) (clock_of s) s.next else clock_of s)
@@ -32,7 +32,7 @@ same_left : (s : State) (w : ℕ) (a : List ℕ) (queues : List (List ℕ)) (clo
 same_left s w [] queues clock deaths e f g = rw (e, f, g) refl
 same_left s w (x ∷ a) queues clock deaths e f g = rw (e, f, g) refl
 
--- two records are equal where their parts are
+-- Two records are equal if their parts are equal.
 pub atom_is : {work work' : Work} {cells cells' : List CellChange} {queued queued' : List ℕ} {before before' after after' : ℕ} {added added' died died' : Bool}
     → work ≡ work' → cells ≡ cells' → queued ≡ queued' → before ≡ before' → after ≡ after' → added ≡ added' → died ≡ died'
     → ◌≡◌ {A = Atom}
@@ -57,19 +57,19 @@ module _ (p : Parameters) (core : List Cell) (qs : List Queue) (next cycle turns
   pub queue_at : queue_of (addresses_of qs) w ≡ q.addresses
   queue_at = addresses_at qs w q inside ∙ ap (λ (q : Queue). q.addresses) (sym q_is)
 
-  -- the limit of a queue is that of the battle
+  -- The limit of each queue is the process limit of the battle.
   pub limit_is : All (λ (q : Queue). q.limit ≡ p.processes) qs → q.limit ≡ p.processes
   limit_is all = ap (λ (q : Queue). q.limit) q_is ∙ All-get_or (λ (q : Queue). q.limit ≡ p.processes) qs w q inside all
 
   pub limits_kept : q'.limit ≡ q.limit → All (λ (q : Queue). q.limit ≡ p.processes) qs → All (λ (q : Queue). q.limit ≡ p.processes) (set qs w q')
   limits_kept same all = All-set (λ (q : Queue). q.limit ≡ p.processes) qs w q' (same ∙ limit_is all) all
 
-  -- a queue that stays filled kills nobody
+  -- Changing a queue that is not empty before and after kills no warrior.
   pub counted_kept : q.addresses ≢ [] → q'.addresses ≢ [] → length deaths + survivors_of (addresses_of qs) ≡ length qs → length deaths + survivors_of (addresses_of (set qs w q')) ≡ length (set qs w q')
   counted_kept filled filled' counted =
       rw (addresses-set, length-set, survivors_kept (addresses_of qs) w q'.addresses warrior (λ e. filled (sym queue_at ∙ e)) filled') counted
 
-  -- somebody lives, so not all have died
+  -- If a warrior lives, the list of deaths is not full.
   pub kill_room : q.addresses ≢ [] → length deaths + survivors_of (addresses_of qs) ≡ length qs → length deaths < most_warriors
   kill_room filled counted =
       let alive = live_survives (addresses_of qs) w warrior (λ e. filled (sym queue_at ∙ e)) in

@@ -1,4 +1,4 @@
--- An edit of a valid state is valid.
+-- An edit of a valid state results in a valid state.
 use Rattle.std.proofs.Common.{◌≡◌, ◌≢◌, ℕ, suc, ◌<◌, List, [], ◌∷◌, ◌++◌, length, set, take, drop, refl, ap, sym, ◌∙◌, arith, false, None}
 use Rattle.std.specs.Prelude.{remove}
 use Rattle.std.proofs.lemmas.List.{length-set, length-append}
@@ -16,7 +16,7 @@ use Rattle.mars_core.proofs.EditClocks.{clock_after_death, clock_kept}
 use Rattle.mars_core.proofs.Live.{is_filled}
 use Rattle.mars_core.proofs.Turns.{deaths_after, queue_fits}
 
--- a queue with a process at a place isn't empty
+-- A queue with a process at the place `i` is not empty.
 pub place_filled : (q : List ℕ) (i : ℕ) → i < length q → q ≢ []
 place_filled [] i h = absurd (omega arith)
 place_filled (x ∷ q) i h = λ e. cc
@@ -48,7 +48,7 @@ module _ (s : State) (v : IsValid s) where
     clock = v.clock;
   }
 
-  -- a queue that stays filled takes the place of a live one's
+  -- Replacing the queue of a live warrior by one that is not empty keeps the state valid.
   valid_requeued : (w : ℕ) (q : List ℕ) → w < length s.queues → queue_of s.queues w ≢ [] → q ≢ [] → IsQueue s.params.core_size s.params.processes q
       → IsValid (record s { queues = set s.queues w q })
   valid_requeued w q h n m f =
@@ -89,7 +89,7 @@ module _ (s : State) (v : IsValid s) where
         room = omega (arith, length-remove q i p.place, fits.room);
       }
 
-  -- the queue q is what is left of that of w
+  -- The state after an edit that left the warrior `w` with the queue `q` is valid.
   valid_left : (w : ℕ) (q : List ℕ) → w < length s.queues → queue_of s.queues w ≢ [] → IsQueue s.params.core_size s.params.processes q → IsValid (left_of s w q)
   unfolding killed
   valid_left w [] h n f = record {
@@ -108,7 +108,7 @@ module _ (s : State) (v : IsValid s) where
   valid_killed w i p =
       valid_left w (remove (queue_of s.queues w) i) p.warrior (place_filled (queue_of s.queues w) i p.place) (removed_fits w i p)
 
--- each edit by itself
+-- Each kind of edit keeps a state valid.
 pub set_cell_valid : (s : State) (a : ℕ) (c : Cell) → IsValid s → FitsCore s.params.core_size c → IsValid (edited s (edit.SetCell a c))
 unfolding edited
 set_cell_valid s a c v f = valid_set_cell s v a c f
@@ -125,7 +125,7 @@ pub spawn_valid : (s : State) (w a : ℕ) → IsValid s → CanSpawn s w a → I
 unfolding edited
 spawn_valid s w a v k = valid_spawned s v w a k
 
--- an edit of a valid state is valid
+-- An edit of a valid state results in a valid state.
 pub edit_valid : (s : State) (e : Edit) → IsValid s → edit_fault s e ≡ None → IsValid (edited s e)
 edit_valid s (edit.SetCell a c) v f = set_cell_valid s a c v (accepted_set_cell s a c f).1
 edit_valid s (edit.MoveProcess w i a) v f =

@@ -1,4 +1,4 @@
--- Fights, turn after turn: the deaths, the queues, and how long a fight in which nobody dies goes on.
+-- Battles, turn after turn: the deaths, the queues, and how many turns a battle without deaths has.
 use Rattle.std.proofs.Common.{◌≡◌, ◌≢◌, ℕ, zero, suc, ◌+◌, ◌*◌, ◌<◌, ◌≤◌, Bool, true, false, cond, List, [], ◌∷◌, ◌++◌, length, get_or, Some, refl, ap, sym, ◌∙◌, subst, arith, inl, inr}
 use Rattle.std.specs.Prelude.{if◌then◌else◌, ◌==◌, ◌&&◌, ◌||◌, nat_le}
 use Rattle.std.proofs.lemmas.Bool.{cases_lt}
@@ -41,7 +41,7 @@ shape_after (suc n) s =
           record { params = later.params ∙ first.params; warriors = later.warriors ∙ first.warriors }
     ]
 
--- the first are followed by more
+-- The list `first` is a prefix of the list `all`.
 abbrev Grow : List Death → List Death → Type 0
 Grow first all = (more : List Death) × (all ≡ first ++ more)
 
@@ -64,7 +64,7 @@ deaths_grow (suc n) s =
           (first.0 ++ later.0, later.1 ∙ ap (λ ds. ds ++ later.0) first.1 ∙ append_assoc s.deaths first.0 later.0)
     ]
 
--- a turn leaves the queues of the others
+-- A turn does not change the queues of other warriors.
 pub others_stay : (s : State) (w : ℕ) → w ≢ s.next → queue_of (turn_of s).queues w ≡ queue_of s.queues w
 unfolding turn_of executed
 others_stay s w other = get_or-set_other s.queues s.next w _ [] other
@@ -117,23 +117,23 @@ one_longer p core queue lives =
     let some = filled_length queue lives in
     simp (length-append, length-take, length-drop) (omega (arith, few, some))
 
--- a turn adds one process at most
+-- A turn adds at most one process.
 pub one_more_process : (s : State) → IsValid s → is_over_of s ≡ false → length (queue_of (turn_of s).queues s.next) ≤ length (queue_of s.queues s.next) + 1
 unfolding turn_of executed
 one_more_process s v over =
     rw (get_or-set_same s.queues s.next (queue_after s.params s.core (queue_of s.queues s.next)) [] v.clock.next)
     (one_longer s.params s.core (queue_of s.queues s.next) (next_lives s v over))
 
--- so far each warrior has had a turn in each cycle
+-- So far, each warrior has had a turn in each cycle.
 abbrev pub HasAllTurns : State → Type 0
 HasAllTurns s = s.turns ≡ s.cycle * length s.queues + s.next
 
--- where nobody died, all live
+-- If there are no deaths, all warriors live.
 pub all_live : (s : State) → IsValid s → s.deaths ≡ [] → (w : ℕ) → w < length s.queues → queue_of s.queues w ≢ []
 all_live s v none w h e =
     let once = rw (none, e) at (v.deaths.once w h) in absurd (omega (arith, once))
 
--- where all live, the clock goes on by one turn
+-- If all warriors live, a turn advances the clock by one turn.
 next_turn : (qs : List (List ℕ)) (clock : Clock) → ((w : ℕ) → w < length qs → queue_of qs w ≢ []) → clock.next < length qs → (advanced qs clock (clock.next + 1)).cycle * length qs + (advanced qs clock (clock.next + 1)).next ≡ clock.cycle * length qs + clock.next + 1
 unfolding advanced
 next_turn qs clock live h =
@@ -171,7 +171,7 @@ after_has_all (suc n) s v none all =
 cycles_over : (cycles cycle n alive : ℕ) → alive ≡ n → 1 ≤ n → ((cycle == cycles) || (nat_le 2 n && nat_le alive 1) || (n == 1 && alive == 0)) ≡ true → cycle ≡ cycles
 cycles_over cycles cycle n alive same some e = grind (arith, nat_tests)
 
--- where all live, only the last cycle ends a battle, and the first warrior would be next
+-- If all warriors live, a battle is over only after its last cycle, and the first warrior would be next.
 full_at_end : (s : State) → IsValid s → s.deaths ≡ [] → is_over_of s ≡ true → (s.cycle ≡ s.params.cycles) × (s.next ≡ 0)
 unfolding ends
 full_at_end s v none over =

@@ -1,6 +1,7 @@
--- Cells on one address, by the distances between the starts.
--- The definition says that an address stands twice in the list of all loaded ones; the code compares distances. The lemmas go over residues, by
--- cases on which is greater. `omega` closes each case, but applies an implication only where its premise follows, so `cases_lt` splits first.
+-- Cells with the same address, by the distances between starting positions.
+-- The definition states that an address occurs twice in the list of all loaded addresses; the code compares distances. The lemmas
+-- are about residues, by cases on which of two is greater. `omega` proves each case, but uses an implication only if its premise
+-- follows, so `cases_lt` splits first.
 use Rattle.std.proofs.Common.{◌≡◌, ◌≢◌, ℕ, zero, suc, ◌+◌, ◌-◌, ◌<◌, ◌≤◌, ◌%◌, Bool, true, false, List, [], ◌∷◌, ◌++◌, length, drop, get_or, refl, ap, sym, ◌∙◌, arith, add-one, inl, inr}
 use Rattle.std.specs.Prelude.{◌||◌, ◌⊎◌, ◌==◌, nat_lt}
 use Rattle.std.specs.List.{list_any}
@@ -13,7 +14,7 @@ use Rattle.mars_cell.specs.Warriors.{WarriorValue}
 use Rattle.mars_core.specs.Start.{addresses_from, loaded_addresses, is_in, has_duplicate, overlap}
 use Rattle.mars_core.specs.Code.Distances.{distance, share}
 
--- an address b, seen from an address a
+-- The address `b` is `d` cells after the address `a`.
 record IsAway (m a b d : ℕ) : Type 0 where
   behind : b < a → d + a ≡ b + m
   ahead : a ≤ b → d + a ≡ b
@@ -43,7 +44,7 @@ module _ (m : ℕ) (positive : 1 ≤ m) where
   unfolding distance
   away s t = rw (← mod-add-mod t m (m - s % m)) (wrapped (s % m) (t % m) (below s) (below t))
 
-  -- the next address
+  -- The residue of the next address is one more, or zero at the end of the core.
   next_is : (s : ℕ) → ((s + 1) % m ≡ s % m + 1) ⊎ (((s + 1) % m ≡ 0) × (s % m + 1 ≡ m))
   next_is s =
       let step : (s + 1) % m ≡ suc (s % m) % m = rw add-one (suc-mod s m) in
@@ -55,7 +56,7 @@ module _ (m : ℕ) (positive : 1 ≤ m) where
         | inr n ↦ inl (step ∙ reduced (suc (s % m)) (omega (arith, below s)) ∙ omega arith)
       ]
 
-  -- from the next address it is one less
+  -- From the next address, the distance is one less.
   one_nearer : (s t : ℕ) → s % m ≢ t % m → distance m s t ≡ distance m (s + 1) t + 1
   one_nearer s t n =
       let far = away s t in
@@ -78,7 +79,7 @@ module _ (m : ℕ) (positive : 1 ≤ m) where
   none_away : (s t : ℕ) → s % m ≡ t % m → distance m s t ≡ 0
   none_away s t e = omega (arith, (away s t).ahead (omega arith))
 
-  -- once round, but for one
+  -- From the next address back to an address, the distance is the size of the core less one.
   round : (s : ℕ) → distance m (s + 1) (s % m) + 1 ≡ m
   round s =
       let same : (s % m) % m ≡ s % m = reduced (s % m) (below s) in
@@ -88,7 +89,7 @@ module _ (m : ℕ) (positive : 1 ≤ m) where
         | inr e ↦ (let a = rw e.0 at near in omega (arith, a.ahead (omega arith), below s, e.1))
       ]
 
-  -- there and back again is once round
+  -- The distances from one address to another and back add up to the size of the core.
   both_ways : (s t : ℕ) → s % m ≢ t % m → distance m s t + distance m t s ≡ m
   both_ways s t n =
       let there = away s t in
@@ -108,7 +109,7 @@ module _ (m : ℕ) (positive : 1 ≤ m) where
         | inr g ↦ omega (arith, near.ahead g, far.ahead g)
       ]
 
-  -- an address is in a row where it is less far from its start than the row is long
+  -- An address is in a range if its distance from the start is less than the length of the range.
   is_in_row : (n s x : ℕ) → x < m → is_in (addresses_from m s n) x ≡ nat_lt (distance m s x) n
   is_in_row zero s x h = grind (arith, nat_tests)
   is_in_row (suc n) s x h =
@@ -127,7 +128,7 @@ module _ (m : ℕ) (positive : 1 ≤ m) where
             )
       ]
 
-  -- a row has an address twice where it is longer than the core
+  -- A range contains an address twice if it is longer than the core.
   pub row_has_duplicate : (n s : ℕ) → has_duplicate (addresses_from m s n) ≡ nat_lt m n
   row_has_duplicate zero s = grind (arith, nat_tests)
   row_has_duplicate (suc n) s =
@@ -138,7 +139,7 @@ module _ (m : ℕ) (positive : 1 ≤ m) where
         | inr g ↦ grind (arith, nat_tests)
       ])
 
-  -- an address of a row that is in another one
+  -- Two ranges have an address in common if one starts within the other.
   rows_share_from : (n k s t : ℕ) → 1 ≤ k → share (addresses_from m s (suc n)) (addresses_from m t k) ≡ (nat_lt (distance m s t) (suc n) || nat_lt (distance m t s) k)
   unfolding share
   rows_share_from zero k s t h = rw (is_in_row k t (s % m) (below s), to_reduced t s) (
@@ -165,7 +166,7 @@ module _ (m : ℕ) (positive : 1 ≤ m) where
   rows_share zero k s t h l = absurd (omega arith)
   rows_share (suc n) k s t h l = rows_share_from n k s t l
 
--- lists that are put together
+-- Lists that are appended to one another.
 swap_or : (a b c d : Bool) → ((a || b) || (c || d)) ≡ ((a || c) || (b || d))
 swap_or true b c d = refl
 swap_or false true true d = refl
@@ -199,7 +200,7 @@ has_duplicate-append (x ∷ xs) ys =
     rw (has_duplicate-append xs ys, list_any-append (λ y. x == y) xs ys)
     (regrouped (is_in xs x) (is_in ys x) (has_duplicate xs) (share xs ys) (has_duplicate ys))
 
--- one warrior more
+-- The addresses of one more warrior.
 pub share_more : (m : ℕ) (row : List ℕ) (w : WarriorValue) (warriors : List WarriorValue) (s : ℕ) (starts : List ℕ)
     → share row (loaded_addresses m (w ∷ warriors) (s ∷ starts)) ≡ (share row (addresses_from m s (length w.cells)) || share row (loaded_addresses m warriors starts))
 share_more m row w warriors s starts = share-append row (addresses_from m s (length w.cells)) (loaded_addresses m warriors starts)
@@ -218,7 +219,7 @@ pub overlap_nothing : (m : ℕ) (starts : List ℕ) → overlap m [] starts ≡ 
 unfolding overlap
 overlap_nothing m starts = refl
 
--- the warriors from an index on are the one there, and the others
+-- The warriors from the index `i` on are the warrior `w` there, and those after it.
 pub shared_step : (m : ℕ) (row : List ℕ) (warriors : List WarriorValue) (starts : List ℕ) (i : ℕ) (w : WarriorValue) → i < length warriors → length starts ≡ length warriors → w ≡ get_or warriors i w
     → share row (loaded_addresses m (drop i warriors) (drop i starts))
     ≡ (share row (addresses_from m (get_or starts i 0) (length w.cells)) || share row (loaded_addresses m (drop (i + 1) warriors) (drop (i + 1) starts)))
@@ -237,7 +238,7 @@ overlap_step m warriors starts i w h same is =
     ∙ ap (λ (v : WarriorValue). overlap m (v ∷ drop (i + 1) warriors) (get_or starts i 0 ∷ drop (i + 1) starts)) (sym is)
     ∙ overlap_more m w (drop (i + 1) warriors) (get_or starts i 0) (drop (i + 1) starts)
 
--- past the last one
+-- After the last warrior, there are no addresses.
 pub shared_end : (m : ℕ) (row : List ℕ) (warriors : List WarriorValue) (starts : List ℕ) (i : ℕ) → length warriors ≤ i → share row (loaded_addresses m (drop i warriors) (drop i starts)) ≡ false
 shared_end m row warriors starts i h =
     ap (λ l. share row (loaded_addresses m l (drop i starts))) (drop_all i warriors h) ∙ share_nothing row

@@ -39,7 +39,7 @@ set_back [] i x d = refl
 set_back (y ∷ xs) zero x d = refl
 set_back (y ∷ xs) (suc i) x d = ap (λ l. y ∷ l) (set_back xs i x d)
 
--- what the writes to a core lead back to
+-- The core that results from undoing all writes.
 abbrev origin : WrittenCore → List Cell
 origin written = restored written.changes written.core
 
@@ -71,7 +71,7 @@ origin-evaluated p written pc BPredecrement n = origin-predecremented p _ writte
 origin-evaluated p written pc APostincrement n = origin-postincremented p _ written pc n
 origin-evaluated p written pc BPostincrement n = origin-postincremented p _ written pc n
 
--- the writes of both operands lead back to the core before them
+-- Undoing the writes of both operands gives the core before them.
 pub origin-operands : (p : Parameters) (core : List Cell) (pc : ℕ) (i : Cell) → origin (b_evaluated p core pc i).written ≡ core
 origin-operands p core pc i =
     origin-evaluated p (a_evaluated p core pc i).written pc i.b_mode i.b ∙ origin-evaluated p (unwritten core) pc i.a_mode i.a
@@ -80,7 +80,7 @@ origin-after_effect : (written : WrittenCore) (a : ℕ) (target : Option Cell) �
 origin-after_effect written a None = refl
 origin-after_effect written a (Some cell) = origin-written written a cell
 
--- the writes of an execution lead back to the core before it
+-- Undoing the writes of an execution gives the core before it.
 pub origin-execution : (p : Parameters) (core : List Cell) (pc : ℕ) → origin (execution_of p core pc).written ≡ core
 unfolding execution_of
 origin-execution p core pc =
@@ -100,7 +100,7 @@ front_back : (q rest : List ℕ) → q ≢ [] → front_of q ∷ without_last (l
 front_back [] rest h = absurd (h refl)
 front_back (x ∷ q) rest h = ap (λ (l : List ℕ). x ∷ l) (without_last-append q rest)
 
--- where a queue took the place of another, that one takes its place again
+-- Replacing a queue and then putting the previous queue back changes nothing.
 requeued_back : (qs : List (List ℕ)) (w : ℕ) (q r : List ℕ) → r ≡ queue_of qs w → set (set qs w q) w r ≡ qs
 requeued_back qs w q r e = ap (set (set qs w q) w) e ∙ set_back qs w q []
 
@@ -125,7 +125,7 @@ clock_back : (qs : List (List ℕ)) (clock : Clock) (i : ℕ) → let c = (advan
 unfolding advanced
 clock_back qs clock i = cycle_back clock (live_from qs i) (live_from qs 0)
 
--- the record of a kill after which q is left of the queue of w
+-- The record of a kill that left the warrior `w` with the queue `q`.
 abbrev pub killing : State → ℕ → ℕ → List ℕ → Atom
 killing s w i q = record {
   work = work.KillProcess w i (get_or (queue_of s.queues w) i 0);
@@ -185,7 +185,7 @@ module _ (s : State) (v : IsValid s) where
       (ap (without_last 1) queue_is ∙ without_last-append q (a ∷ [])) in
       rw (queues_is, no_turn, no_cycle)
 
-  -- what is left once q is what remains of the queue of w
+  -- Reverting a kill that left the warrior `w` with the queue `q`.
   left_back : (w i : ℕ) (q : List ℕ) → insert q i (get_or (queue_of s.queues w) i 0) ≡ queue_of s.queues w → w < length s.queues → reverted (killing s w i q) (left_of s w q) ≡ s
   unfolding reverted
   left_back w i [] e h =
@@ -207,7 +207,7 @@ module _ (s : State) (v : IsValid s) where
   edit_back (edit.KillProcess w i) f = kill_back w i (accepted_kill s w i f)
   edit_back (edit.Spawn w a) f = spawn_back w a (accepted_spawn s w a f)
 
--- a record gives back the state that it leads from
+-- Reverting a record gives the state that it leads from.
 pub record_reverted : (s : State) (atom : Atom) (t : State) → Leads s atom t → reverted atom t ≡ s
 record_reverted s atom t (inl l) = rw (l.state_is, l.atom_is) (turn_back s l.valid l.running)
 record_reverted s atom t (inr l) = rw (l.state_is, l.atom_is) (edit_back s l.valid l.edit l.accepted)

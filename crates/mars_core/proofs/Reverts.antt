@@ -1,7 +1,8 @@
--- What a record that leads to a state tells the code that reverts it.
--- `revert` asks that the record leads here from some state, a pair that the caller gives, and leaves each such state (`one_before`: there is one).
--- What the code needs of it is a statement by cases on the work (`CanRestore`), drawn from `Leads` once. A queue is changed by a function of one
--- queue (`with_queue`), so that all works have one index.
+-- What follows, for the code that reverts a record, from the fact that the record leads to the present state.
+-- `revert` requires that the record leads here from some state, a pair that the caller provides, and results in every such state
+-- (`one_before` states that there is one). The facts that the code needs are stated by cases on the work (`CanRestore`) and
+-- derived from `Leads` once. A queue is changed by a function of one queue (`with_queue`), so that all kinds of work are indexed
+-- alike.
 use Rattle.std.proofs.Common.{◌≡◌, ℕ, ◌+◌, ◌-◌, ◌<◌, ◌≤◌, List, [], ◌∷◌, length, set, drop, inl, inr, sym, subst, arith, false, cond, Option, Some, None}
 use Rattle.std.specs.Prelude.{◌==◌, not, remove}
 use Rattle.std.proofs.lemmas.List.{length-set, length-append, length-drop}
@@ -30,7 +31,7 @@ use Rattle.mars_core.proofs.Inside.{AreInside, execution_inside}
 use Rattle.mars_core.proofs.Restored.{killing, queue_set}
 use Rattle.mars_core.proofs.Turns.{running, filled_length, queue_fits}
 
--- what the code that reverts a record has to know
+-- The facts that the code needs to revert a record.
 pub record CanRevert (atom : Atom) (t : State) : Type 0 where
   pub cells : AreInside (length t.core) atom.cells.items
   pub queue : HasQueue (warrior_of atom.work) (CanRestore t.params.processes atom.work (length atom.queued.items)) t.queues
@@ -139,12 +140,12 @@ pub can_revert : (s t : State) (atom : Atom) → Leads s atom t → CanRevert at
 can_revert s t atom (inl l) = rw (l.state_is, l.atom_is) (turn_can s l.valid l.running)
 can_revert s t atom (inr l) = rw (l.state_is, l.atom_is) (edit_can s l.valid l.edit l.accepted)
 
--- the state that a record leads from is valid
+-- The state that a record leads from is valid.
 pub led_valid : (s t : State) (atom : Atom) → Leads s atom t → IsValid s
 led_valid s t atom (inl l) = l.valid
 led_valid s t atom (inr l) = l.valid
 
--- the code's battle after a record was reverted
+-- The battle that the code has after it reverted a record.
 pub reverted_state : (p : Parameters) (core : List Cell) (qs : List Queue) (next cycle turns : ℕ) (deaths : List Death) (atom : Atom)
     (core' : List Cell) (qs' : List Queue) (cycles' turns' : ℕ) (deaths' : List Death)
     → core' ≡ restored atom.cells.items core

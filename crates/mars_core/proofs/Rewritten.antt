@@ -1,4 +1,4 @@
--- A record applied is what was recorded.
+-- Applying a record gives the state that it was recorded with.
 use Rattle.std.proofs.Common.{◌≡◌, ℕ, ◌+◌, List, [], ◌∷◌, ◌++◌, set, inl, inr, refl, ap, ◌∙◌, arith, Option, Some, None}
 use Rattle.std.specs.Prelude.{◌==◌, not, remove}
 use Rattle.std.proofs.lemmas.Bool.Decides.{nat_tests}
@@ -29,7 +29,7 @@ rewritten-append [] ys core = refl
 rewritten-append (x ∷ xs) ys core = rewritten-append xs ys (set core x.address x.after)
 
 module _ (core : List Cell) where
-  -- the changes of a logged core lead from the core to it
+  -- Redoing the changes of a written core on the core before them gives the written core.
   abbrev pub Replays : WrittenCore → Type 0
   Replays written = rewritten written.changes core ≡ written.core
 
@@ -116,7 +116,7 @@ module _ (s : State) where
   edit_on (edit.KillProcess w i) = kill_on w i
   edit_on (edit.Spawn w a) = rw (no_turn, no_cycle)
 
--- a record gives the state that it leads to
+-- Applying a record gives the state that it leads to.
 pub record_applied : (s : State) (atom : Atom) (t : State) → Leads s atom t → applied atom s ≡ t
 record_applied s atom t (inl l) = rw (l.state_is, l.atom_is) (turn_on s)
 record_applied s atom t (inr l) = rw (l.state_is, l.atom_is) (edit_on s l.edit)

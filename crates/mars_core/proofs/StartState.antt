@@ -30,13 +30,13 @@ each_inside m cells h =
       at (cell ∷ cells) zero k h = (and_parts _ _ h).0
       at (cell ∷ cells) (suc i) k h = at cells i (omega arith) (and_parts _ _ h).1
 
--- the cells of the warrior at a place are in the core
+-- The cells of the warrior at an index fit the core.
 pub inside_at : (m : ℕ) (ws : List WarriorValue) (i : ℕ) (w : WarriorValue) → i < length ws → w ≡ get_or ws i w → fields_inside m ws ≡ true → All (FitsCore m) w.cells
 inside_at m [] i w k is h = absurd (omega arith)
 inside_at m (v ∷ ws) zero w k is h = subst (λ (x : WarriorValue). All (FitsCore m) x.cells) (sym is) (each_inside m v.cells (and_parts _ _ h).0)
 inside_at m (v ∷ ws) (suc i) w k is h = inside_at m ws i w (omega arith) is (and_parts (list_all (is_inside m) v.cells) _ h).1
 
--- one process
+-- A queue of one process.
 abbrev pub one : ℕ → List ℕ
 one a = a ∷ []
 
@@ -108,13 +108,13 @@ module _ (p : Parameters) (ws : List WarriorValue) (ss : List ℕ) (core : List 
         };
       }
 
-  -- the battle's state at the start is valid
+  -- The battle's state at the start is valid.
   pub started_valid : (qs : List Queue) → addresses_of qs ≡ map one (first_processes p.core_size ws ss) → IsValid (state_of p core qs 0 0 0 [])
   unfolding firsts
   started_valid qs e =
       subst (λ (queues : List (List ℕ)). IsValid (record { params = p; core = core; queues = queues; next = 0; cycle = 0; turns = 0; deaths = [] })) (sym e) start_valid
 
-  -- everybody lives
+  -- All warriors live at the start.
   pub started_counted : (qs : List Queue) → addresses_of qs ≡ map one (first_processes p.core_size ws ss) → survivors_of (addresses_of qs) ≡ length qs
   unfolding firsts
   started_counted qs e =

@@ -1,4 +1,5 @@
--- A battle as a block of 32-bit words: a header of 64 words, then three words for each cell of the core, then one word for each process.
+-- A battle as a block of 32-bit words: a header of 64 words, then three words for each cell of the core, then one word for each
+-- process.
 use Rattle.std.specs.Prelude.{◌≡◌, ℕ, ◌+◌, ◌*◌, ◌-◌, if◌then◌else◌, List, [], ◌∷◌, ◌++◌, length, map, sum, drop, replicate, slice_index_or}
 use Rattle.std.specs.List.{concat}
 use Rattle.mars_cell.specs.declared.instruction.Cell.{Cell}
@@ -8,46 +9,47 @@ use Rattle.mars_core.specs.State.{State, is_over_of}
 use Rattle.mars_core.specs.Validity.{IsValid}
 use Rattle.mars_core.specs.declared.deaths.Death.{Death}
 
--- the first word of a block: the bytes M, A, R and the version of the layout, 1; M is the lowest byte
+-- The first word of a block: the bytes M, A, R and the version of the layout, 1; M is the lowest byte.
 abbrev pub block_mark : ℕ
 block_mark = 22167885
 
--- the length of the header in words
+-- The length of the header in words.
 abbrev pub head_words : ℕ
 head_words = 64
 
--- the opcode, the modifier and the two modes of the cell c in one word, one byte each; the opcode is the lowest byte
+-- The opcode, the modifier and the two modes of the cell `c` in one word, one byte each; the opcode is the lowest byte.
 abbrev pub tags_word : Cell → ℕ
 tags_word c = op_index c.op + 256 * modifier_index c.modifier + 65536 * mode_index c.a_mode + 16777216 * mode_index c.b_mode
 
--- the three words of the cell c: its tags, its A-number and its B-number
+-- The three words of the cell `c`: its tags, its A-number and its B-number.
 abbrev pub cell_words : Cell → List ℕ
 cell_words c = tags_word c ∷ c.a ∷ c.b ∷ []
 
--- the words of a list of cells, in the order of their addresses
+-- The words of a list of cells, in the order of their addresses.
 abbrev pub core_words : List Cell → List ℕ
 core_words [] = []
 core_words (c ∷ cells) = tags_word c ∷ c.a ∷ c.b ∷ core_words cells
 
--- the two words of each death: the warrior, and how many turns all warriors had made by then, its last one included
+-- The two words of each death: the warrior, and the number of turns that all warriors had executed by then, including the fatal
+-- one if it died in a turn.
 abbrev pub death_words : List Death → List ℕ
 death_words [] = []
 death_words (d ∷ deaths) = d.warrior ∷ d.turns ∷ death_words deaths
 
--- the list xs, followed by zeros up to the length `places`
+-- The list `xs`, followed by zeros up to the length `places`.
 abbrev pub padded : ℕ → List ℕ → List ℕ
 padded places xs = xs ++ replicate (places - length xs) 0
 
--- the number of processes of each warrior
+-- The number of processes of each warrior.
 abbrev pub lengths_of : List (List ℕ) → List ℕ
 lengths_of queues = map (λ (q : List ℕ). length q) queues
 
--- the length of the block of the state s in words: the header, three for each cell, one for each process
+-- The length of the block of the state `s` in words: the header, three for each cell, one for each process.
 abbrev pub words_of : State → ℕ
 words_of s = head_words + 3 * length s.core + sum (lengths_of s.queues)
 
--- the first sixteen words of the header: the mark, the length of the block, the parameters, the number of warriors, the turns, the
--- completed cycles, the next warrior, 1 if the battle is over, the number of deaths, and a word that is always 0
+-- The first sixteen words of the header: the mark, the length of the block, the parameters, the number of warriors, the turns,
+-- the completed cycles, the next warrior, 1 if the battle is over, the number of deaths, and a word that is always 0.
 unfoldable pub field_words : State → List ℕ
 field_words s =
     block_mark ∷ words_of s
@@ -55,11 +57,11 @@ field_words s =
     ∷ s.params.max_length ∷ s.params.distance
     ∷ length s.queues ∷ s.turns ∷ s.cycle ∷ s.next ∷ (if is_over_of s then 1 else 0) ∷ length s.deaths ∷ 0 ∷ []
 
--- the header: those sixteen words, the number of processes of each warrior (16 words), and the deaths (32 words)
+-- The header: the sixteen words of `field_words`, the number of processes of each warrior (16 words), and the deaths (32 words).
 unfoldable pub head_of : State → List ℕ
 head_of s = field_words s ++ padded 16 (lengths_of s.queues) ++ padded 32 (death_words s.deaths)
 
--- the parameters in the words of a header
+-- The parameters in the words of a header.
 abbrev pub params_in : List ℕ → Parameters
 params_in head = record {
   core_size = slice_index_or head 2 0;
@@ -71,16 +73,17 @@ params_in head = record {
   distance = slice_index_or head 8 0;
 }
 
--- the block of the state s: the header, the cells, and the addresses of all processes, queue by queue, the front of each queue first
+-- The block of the state `s`: the header, the cells, and the addresses of all processes, queue by queue, the front of each queue
+-- first.
 unfoldable pub block_of : State → List ℕ
 block_of s = head_of s ++ core_words s.core ++ concat s.queues
 
--- the words begin with the block of s, and s is a valid state
+-- The words begin with the block of `s`, and `s` is a valid state.
 pub record Spells (s : State) (words : List ℕ) : Type 0 where
   pub valid : IsValid s
   pub block : words ≡ block_of s ++ drop (length (block_of s)) words
 
--- the header, the process counts, the cells and the processes of the block of s
+-- The header, the process counts, the cells and the processes of the block of `s`.
 pub record AreParts (s : State) (head' counts' cells' processes' : List ℕ) : Type 0 where
   pub head : head' ≡ head_of s
   pub counts : counts' ≡ lengths_of s.queues

@@ -1,4 +1,4 @@
--- How the code holds and reaches what is defined. All of this serves the proofs alone.
+-- How the code represents what is defined. These definitions serve only the proofs.
 pub mod Operands
 pub mod Opcodes
 pub mod Turns

@@ -1,4 +1,4 @@
--- Worked examples, as theorems: the check computes what the definitions give. Here are the words that they are told in.
+-- Examples, as theorems: the check computes what the definitions result in. This file has the terms in which they are written.
 pub mod Edits
 pub mod Apart
 pub mod Reach
@@ -31,56 +31,56 @@ use Rattle.mars_core.specs.Start.{overlap, start_state}
 use Rattle.mars_core.specs.declared.machine.writes.CellChange.{CellChange}
 use Rattle.mars_core.specs.declared.battle.edit.Edit.{Edit}
 
--- what an example unfolds to compute the machine
+-- The definitions that an example unfolds to compute a turn.
 unfoldable pub the_machine : ⊤
 unfolding turn_of turn_record executed accepted execution_of touched evaluated predecremented postincremented indirect_operand direct_operand write_field effect_of division are_equal address_after fold raised lowered write_cell ends advanced edited edit_fault edit_record killed reverted applied overlap start_state
 the_machine = tt
 
--- a cell, written in the order of its text
+-- A cell, with the arguments in the order of its text.
 abbrev pub cell_of : Op → Modifier → Mode → ℕ → Mode → ℕ → Cell
 cell_of op modifier a_mode a b_mode b = record { op = op; modifier = modifier; a_mode = a_mode; a = a; b_mode = b_mode; b = b }
 
--- a cell that does nothing but hold two numbers
+-- A cell that does nothing and holds the numbers `a` and `b`.
 abbrev pub numbers : ℕ → ℕ → Cell
 numbers a b = cell_of Dat F Direct a Direct b
 
--- the imp, MOV.I $0, $1, copies itself
+-- The imp, `MOV.I $0, $1`, which copies itself.
 abbrev pub imp : Cell
 imp = cell_of Mov I Direct 0 Direct 1
 
--- parameters of a core size, a process limit, a read and a write limit
+-- Parameters with a core size, a process limit, a read limit and a write limit.
 abbrev pub sizes : ℕ → ℕ → ℕ → ℕ → Parameters
 sizes m p r w = record { core_size = m; processes = p; cycles = 10; read_limit = r; write_limit = w; max_length = 3; distance = 3 }
 
--- a core of eight cells without further limits
+-- A core of eight cells and a process limit of eight, with limits under which nothing is folded.
 abbrev pub of_eight : Parameters
 of_eight = sizes 8 8 8 8
 
--- a core of eight cells, of which the first are these
+-- A core of eight cells that begins with the given cells.
 abbrev pub eight : List Cell → List Cell
 eight cells = take 8 (cells ++ replicate 8 empty_cell)
 
--- a battle at its start, with these processes of each warrior
+-- A battle at its start, with the given processes of each warrior.
 abbrev pub battle_of : Parameters → List Cell → List (List ℕ) → State
 battle_of p core queues = record { params = p; core = core; queues = queues; next = 0; cycle = 0; turns = 0; deaths = [] }
 
--- a lone warrior at its start
+-- A battle of a single warrior at its start.
 abbrev pub lone : Parameters → List Cell → List ℕ → State
 lone p core queue = battle_of p core (queue ∷ [])
 
--- a lone warrior after a turn that it has survived
+-- A battle of a single warrior after a turn that the warrior survived.
 abbrev pub lone_after : Parameters → List Cell → List ℕ → State
 lone_after p core queue = record (lone p core queue) { cycle = 1; turns = 1 }
 
--- a lone warrior after a turn in which it died
+-- A battle of a single warrior after a turn in which the warrior died.
 abbrev pub lone_dead : Parameters → List Cell → State
 lone_dead p core = record (lone p core []) { turns = 1; deaths = record { warrior = 0; turns = 1 } ∷ [] }
 
--- one write of a cell
+-- One write of a cell.
 abbrev pub change : ℕ → Cell → Cell → CellChange
 change address before after = record { address = address; before = before; after = after }
 
--- the turn of s leads to t by these writes, and these addresses are queued; its record leads back and forth again
+-- The turn of `s` results in `t`, with these writes, and queues these addresses; its record leads back and forth again.
 pub record IsTurn (s t : State) (writes : List CellChange) (addresses : List ℕ) : Type 0 where
   pub state : turn_of s ≡ t
   pub changes : (turn_record s).cells.items ≡ writes
@@ -88,7 +88,7 @@ pub record IsTurn (s t : State) (writes : List CellChange) (addresses : List ℕ
   pub back : reverted (turn_record s) t ≡ s
   pub forth : applied (turn_record s) s ≡ t
 
--- the edit of s leads to t; its record leads back and forth again
+-- The edit of `s` results in `t`; its record leads back and forth again.
 pub record IsEdit (s : State) (e : Edit) (t : State) : Type 0 where
   pub state : edited s e ≡ t
   pub back : reverted (edit_record s e) t ≡ s

@@ -1,4 +1,4 @@
--- What a reader of the contracts has to believe, in this order; Examples has worked examples of it.
+-- The specification that a reader of the contracts has to trust, in reading order. `Examples` has examples of it.
 pub mod Limits
 pub mod Queue
 pub mod State
@@ -14,7 +14,7 @@ pub mod Block
 pub mod Shape
 pub mod Leads
 pub mod Record
--- what the laws speak of, and no contract of a call
+-- Definitions that only the laws use, and no contract of a call.
 pub mod Moved
 pub mod Reach
 pub mod Touched

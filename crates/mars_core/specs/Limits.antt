@@ -1,10 +1,10 @@
 -- The limits of a battle.
 use Rattle.std.specs.Prelude.{ℕ}
 
--- the most warriors of a battle
+-- The maximum number of warriors in a battle.
 abbrev pub most_warriors : ℕ
 most_warriors = 16
 
--- a number of turns that no battle comes to
+-- A number of turns that no battle reaches.
 abbrev pub turns_bound : ℕ
 turns_bound = 170000000

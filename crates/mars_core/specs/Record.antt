@@ -1,5 +1,6 @@
--- What a record makes of the state that it leads to, going back, and of the state that it leads from, going forth. By the laws these are
--- the states that it leads from and to, so no contract of `revert` or `apply` rests on them.
+-- What a record makes of a state: `reverted` goes back from the state that it leads to, `applied` goes forth from the state that
+-- it leads from. By the laws, the results are the states that the record leads from and to, so no contract of `revert` or `apply`
+-- depends on these definitions.
 use Rattle.std.specs.Prelude.{ℕ, ◌+◌, ◌-◌, Bool, if◌then◌else◌, List, [], ◌∷◌, ◌++◌, length, take, drop, insert, remove, Option, None, Some, slice_set}
 use Rattle.mars_cell.specs.declared.instruction.Cell.{Cell}
 use Rattle.mars_core.specs.State.{State, queue_of}
@@ -10,21 +11,21 @@ use Rattle.mars_core.specs.declared.deaths.Death.{Death}
 use Rattle.mars_core.specs.declared.record.Work.{Work}
 use Rattle.mars_core.specs.declared.record.Work.TheVariants as work
 
--- the core before the changes: what each cell was is written back, the last change first
+-- The core before the changes: the previous cell of each change is written back, the last change first.
 abbrev pub restored : List CellChange → List Cell → List Cell
 restored [] core = core
 restored (change ∷ changes) core = slice_set (restored changes core) change.address change.before
 
--- the core after the changes, each in turn
+-- The core after the changes, which are made in order.
 abbrev pub rewritten : List CellChange → List Cell → List Cell
 rewritten [] core = core
 rewritten (change ∷ changes) core = rewritten changes (slice_set core change.address change.after)
 
--- a list without its last n items
+-- The list `xs` without its last `n` items.
 abbrev pub without_last : {X : Type 0} → ℕ → List X → List X
 without_last n xs = take (length xs - n) xs
 
--- the warrior whose queue the work changes
+-- The warrior whose queue the work changes.
 abbrev pub warrior_of : Work → Option ℕ
 warrior_of (work.Turn w address) = Some w
 warrior_of work.SetCell = None
@@ -32,7 +33,7 @@ warrior_of (work.MoveProcess w i from to) = Some w
 warrior_of (work.KillProcess w i address) = Some w
 warrior_of (work.Spawn w address) = Some w
 
--- its queue before the work, which queued so many addresses
+-- The queue before the work, from the queue after it; a turn queued `queued` addresses.
 abbrev pub queue_before : Work → ℕ → List ℕ → List ℕ
 queue_before (work.Turn w address) queued queue = address ∷ without_last queued queue
 queue_before work.SetCell queued queue = queue
@@ -40,7 +41,7 @@ queue_before (work.MoveProcess w i from to) queued queue = slice_set queue i fro
 queue_before (work.KillProcess w i address) queued queue = insert queue i address
 queue_before (work.Spawn w address) queued queue = without_last 1 queue
 
--- its queue after the work, which queued these addresses
+-- The queue after the work, from the queue before it; a turn queued the addresses `queued`.
 abbrev pub queue_after_work : Work → List ℕ → List ℕ → List ℕ
 queue_after_work (work.Turn w address) queued queue = drop 1 queue ++ queued
 queue_after_work work.SetCell queued queue = queue
@@ -48,17 +49,17 @@ queue_after_work (work.MoveProcess w i from to) queued queue = slice_set queue i
 queue_after_work (work.KillProcess w i address) queued queue = remove queue i
 queue_after_work (work.Spawn w address) queued queue = queue ++ address ∷ []
 
--- the queues, where that of the warrior becomes f of what it was
+-- The queues in which the warrior's queue, if there is a warrior, is replaced by `f` of it.
 abbrev pub with_queue : Option ℕ → (List ℕ → List ℕ) → List (List ℕ) → List (List ℕ)
 with_queue None f queues = queues
 with_queue (Some w) f queues = slice_set queues w (f (queue_of queues w))
 
--- the deaths, and that of the warrior if it died
+-- The deaths, followed by that of the warrior if it died.
 abbrev pub deaths_after : Option ℕ → Bool → ℕ → List Death → List Death
 deaths_after None died turns deaths = deaths
 deaths_after (Some w) died turns deaths = with_death died w turns deaths
 
--- how many turns the work is
+-- The number of turns that the work counts as.
 abbrev pub turns_of : Work → ℕ
 turns_of (work.Turn w address) = 1
 turns_of work.SetCell = 0
@@ -66,11 +67,11 @@ turns_of (work.MoveProcess w i from to) = 0
 turns_of (work.KillProcess w i address) = 0
 turns_of (work.Spawn w address) = 0
 
--- how many cycles were added
+-- The number of completed cycles that the work added.
 abbrev pub cycles_of : Bool → ℕ
 cycles_of added = if added then 1 else 0
 
--- the state before the record, from the one after it
+-- The state before the record, from the state `s` after it.
 unfoldable pub reverted : Atom → State → State
 reverted atom s = record {
   params = s.params;
@@ -82,7 +83,7 @@ reverted atom s = record {
   deaths = if atom.died then without_last 1 s.deaths else s.deaths;
 }
 
--- the state after the record, from the one before it
+-- The state after the record, from the state `s` before it.
 unfoldable pub applied : Atom → State → State
 applied atom s = record {
   params = s.params;

@@ -1,8 +1,8 @@
--- Which battles can be copied over one another without memory.
+-- Which battles can be copied over one another without allocating.
 use Rattle.std.specs.Prelude.{◌≡◌, length}
 use Rattle.mars_core.specs.State.{State}
 
--- the same parameters, and as many warriors
+-- The states have the same parameters and equally many warriors.
 pub record SameShape (s t : State) : Type 0 where
   pub params : s.params ≡ t.params
   pub warriors : length s.queues ≡ length t.queues

@@ -1,4 +1,5 @@
--- How a battle starts: warriors that are loaded into a core of DAT.F $0, $0 (sections 4 and 5 of the ICWS'94 draft), and why they may not be.
+-- How a battle starts: warriors are loaded into a core of `DAT.F $0, $0` (sections 4 and 5 of the ICWS'94 draft); and the errors
+-- for which it can't start.
 use Rattle.std.specs.Prelude.{ℕ, zero, suc, ◌+◌, ◌%◌, Bool, true, false, ◌&&◌, ◌||◌, not, ◌==◌, nat_lt, if◌then◌else◌, List, [], ◌∷◌, ◌++◌, length, map, Option, None, Some, slice_set, replicate}
 use Rattle.std.specs.List.{list_all, list_any}
 use Rattle.mars_cell.specs.declared.instruction.Cell.{Cell}
@@ -10,40 +11,40 @@ use Rattle.mars_core.specs.State.{State}
 use Rattle.mars_core.specs.declared.battle.start.BattleFault.{BattleFault}
 use Rattle.mars_core.specs.declared.battle.start.BattleFault.TheVariants.{NoWarrior, TooMany, Overlap, StartOutside, FieldOutside}
 
--- the addresses of n cells in a row, the first of them at s
+-- The addresses of `n` adjacent cells in a core of `m` cells, beginning at `s`.
 abbrev pub addresses_from : ℕ → ℕ → ℕ → List ℕ
 addresses_from m s zero = []
 addresses_from m s (suc n) = (s % m) ∷ addresses_from m (s + 1) n
 
--- the address of each loaded cell
+-- The address of each cell of each warrior, loaded at its starting position.
 abbrev pub loaded_addresses : ℕ → List WarriorValue → List ℕ → List ℕ
 loaded_addresses m [] starts = []
 loaded_addresses m (w ∷ warriors) [] = []
 loaded_addresses m (w ∷ warriors) (s ∷ starts) = addresses_from m s (length w.cells) ++ loaded_addresses m warriors starts
 
--- an address is in a list
+-- The address `x` is in the list `xs`.
 abbrev pub is_in : List ℕ → ℕ → Bool
 is_in xs x = list_any (λ y. x == y) xs
 
--- an address stands twice in a list
+-- An address occurs twice in the list.
 abbrev pub has_duplicate : List ℕ → Bool
 has_duplicate [] = false
 has_duplicate (x ∷ xs) = is_in xs x || has_duplicate xs
 
--- two loaded cells have one address
+-- Two loaded cells have the same address.
 unfoldable pub overlap : ℕ → List WarriorValue → List ℕ → Bool
 overlap m warriors starts = has_duplicate (loaded_addresses m warriors starts)
 
--- both numbers of a cell are addresses in the core
+-- Both numbers of the cell are addresses in a core of `m` cells.
 abbrev pub is_inside : ℕ → Cell → Bool
 is_inside m cell = nat_lt cell.a m && nat_lt cell.b m
 
--- the numbers of each cell of each warrior are
+-- All numbers of all cells of the warriors are addresses in a core of `m` cells.
 abbrev pub fields_inside : ℕ → List WarriorValue → Bool
 fields_inside m [] = true
 fields_inside m (w ∷ warriors) = list_all (is_inside m) w.cells && fields_inside m warriors
 
--- the first reason not to start
+-- The first error for which the battle can't start.
 abbrev pub start_fault : Parameters → List WarriorValue → List ℕ → Option BattleFault
 start_fault p warriors starts =
     if length warriors == 0 then Some NoWarrior
@@ -53,24 +54,24 @@ start_fault p warriors starts =
     else if not (fields_inside p.core_size warriors) then Some FieldOutside
     else None
 
--- the core with cells laid from an address on
+-- The core with the cells loaded from `address` on.
 abbrev pub laid : ℕ → ℕ → List Cell → List Cell → List Cell
 laid m address [] core = core
 laid m address (cell ∷ cells) core = laid m (address + 1) cells (slice_set core (address % m) cell)
 
--- the core with each warrior laid from its start on
+-- The core with each warrior loaded at its starting position.
 abbrev pub all_laid : ℕ → List WarriorValue → List ℕ → List Cell → List Cell
 all_laid m [] starts core = core
 all_laid m (w ∷ warriors) [] core = core
 all_laid m (w ∷ warriors) (s ∷ starts) core = all_laid m warriors starts (laid m s w.cells core)
 
--- where the first process of each warrior stands
+-- The address of the first process of each warrior.
 abbrev pub first_processes : ℕ → List WarriorValue → List ℕ → List ℕ
 first_processes m [] starts = []
 first_processes m (w ∷ warriors) [] = []
 first_processes m (w ∷ warriors) (s ∷ starts) = ((s + w.start) % m) ∷ first_processes m warriors starts
 
--- the state at the start
+-- The state at the start of a battle.
 unfoldable pub start_state : Parameters → List WarriorValue → List ℕ → State
 start_state p warriors starts = record {
   params = p;

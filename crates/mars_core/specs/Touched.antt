@@ -1,4 +1,4 @@
--- The cells that an execution reads or writes, among all that the limits let it reach.
+-- The cells that an execution reads or writes, among all those that the limits let it reach.
 use Rattle.std.specs.Prelude.{ℕ, List, [], ◌∷◌, ◌++◌}
 use Rattle.mars_cell.specs.declared.instruction.Cell.{Cell}
 use Rattle.mars_cell.specs.declared.instruction.Mode.{Mode}
@@ -9,14 +9,16 @@ use Rattle.mars_core.specs.Addresses.{address_after, fold}
 use Rattle.mars_core.specs.Operand.{pointed_address, evaluated}
 use Rattle.mars_core.specs.Turn.{front_of}
 
--- the cells that the number of an indirect mode leads to, for reading and for writing: a field of each is read, and that of the second may be lowered or raised
+-- The addresses to which the number `n` of an indirect mode leads, for reading and for writing. A field of each cell is read, and
+-- that of the second may be decremented or incremented.
 abbrev pub pointed_addresses : Parameters → ℕ → Mode → ℕ → List ℕ
 pointed_addresses p pc Immediate n = []
 pointed_addresses p pc Direct n = []
 pointed_addresses p pc mode n = address_after p.core_size pc (fold p.core_size p.read_limit n) ∷ pointed_address p pc n ∷ []
 
--- the addresses of the cells that the execution of the instruction at pc reads or writes: its own; for each operand those by which it goes, and that of the
--- cell that is copied; and the B-target. All of them are named, whatever the opcode makes of the copies, and though it may write nothing
+-- The addresses of the cells that the execution of the instruction at `pc` reads or writes: the instruction itself; for each
+-- operand the cells by which it is indirect and the cell that is copied; and the B-target. All of them are listed, even if the
+-- opcode doesn't use the copies or writes nothing.
 unfoldable pub touched : Parameters → List Cell → ℕ → List ℕ
 touched p core pc =
     let m = p.core_size in
@@ -27,6 +29,6 @@ touched p core pc =
     ++ address_after m pc a.operand.read ∷ pointed_addresses p pc instruction.b_mode instruction.b
     ++ address_after m pc b.operand.read ∷ address_after m pc b.operand.write ∷ []
 
--- those of the turn that is next
+-- The addresses of the cells that the next turn reads or writes.
 abbrev pub touched_in_turn : State → List ℕ
 touched_in_turn s = touched s.params s.core (front_of (queue_of s.queues s.next))

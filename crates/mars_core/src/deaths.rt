@@ -7,18 +7,18 @@ ghost use Rattle.mars_core.specs.Record.{without_last};
 
 use arrayvec::ArrayVec;
 
-/// The most warriors of a battle.
+/// The maximum number of warriors in a battle.
 pub const MOST_WARRIORS: usize = 16;
 
-/// The death of a warrior, by its index, and how many turns had been made by all: with the turn that killed it, or at the
-/// edit that did.
+/// The death of a warrior, given by its index. `turns` is the number of turns that all warriors had executed by then,
+/// including the one that killed it if it died in a turn.
 #[derive(Clone, Copy, Debug, PartialEq, Eq, Default)]
 pub struct Death {
     pub warrior: u32,
     pub turns: u32,
 }
 
-/// Notes the death of a warrior, if it died.
+/// Appends the death of a warrior if `died`.
 #[inline(always)]
 pub fn note_death(deaths: &mut ArrayVec<Death, MOST_WARRIORS>, died: bool, warrior: u32, turns: u32)
     requires { died ≡ true → array_vec_len deaths.old < most_warriors }
@@ -29,7 +29,7 @@ pub fn note_death(deaths: &mut ArrayVec<Death, MOST_WARRIORS>, died: bool, warri
     }
 }
 
-/// Notes a death. It is cold, so that turns without one are laid out in a row.
+/// Appends a death. It is marked as cold, so that the code of turns without a death is contiguous.
 #[cold]
 #[inline(never)]
 pub fn add_death(deaths: &mut ArrayVec<Death, MOST_WARRIORS>, death: Death)
@@ -39,7 +39,7 @@ pub fn add_death(deaths: &mut ArrayVec<Death, MOST_WARRIORS>, death: Death)
     deaths.push(death);
 }
 
-/// Takes the last death back, if the warrior died.
+/// Removes the last death if `died`.
 pub fn forget_death(deaths: &mut ArrayVec<Death, MOST_WARRIORS>, died: bool)
     ensures { deaths.new.items ≡ (if died then without_last 1 deaths.old.items else deaths.old.items) }
 {
@@ -48,7 +48,7 @@ pub fn forget_death(deaths: &mut ArrayVec<Death, MOST_WARRIORS>, died: bool)
     }
 }
 
-/// Copies of the deaths.
+/// Returns a copy of the deaths.
 pub fn copy_deaths(deaths: &[Death]) -> ArrayVec<Death, MOST_WARRIORS>
     requires { length deaths.now ≤ most_warriors }
     ensures { result.items ≡ deaths.now }

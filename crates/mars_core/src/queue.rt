@@ -1,4 +1,4 @@
-//! The queues of processes: where a process goes on, and how its queue takes that.
+//! Process queues, and how a queue accepts the addresses at which a process continues.
 ghost use Rattle.std.specs.Prelude.{◌≡◌, ℕ, ◌+◌, ◌-◌, ◌<◌, ◌≤◌, ◌∷◌, [], ◌++◌, length, take, All, IfOk, IfSome, IfNone, slice_get, ◌==◌, nat_lt, if◌then◌else◌, false};
 ghost use Rattle.mars_core.specs.State.{is_empty as spec_is_empty};
 ghost use Rattle.mars_core.specs.Queue.{Queue as Contents};
@@ -11,7 +11,8 @@ use circular_buffer::HeapCircularBuffer;
 use std::alloc::{AllocError, Global};
 use std::marker::Model;
 
-/// The processes of a warrior, in the order of their turns. Room for all of them is reserved.
+/// The processes of a warrior, in the order of their turns. Memory for the maximum number of them is reserved when the
+/// queue is made.
 #[derive(Debug, Drop)]
 pub struct ProcessQueue {
     ring: HeapCircularBuffer<u32>,
@@ -25,19 +26,19 @@ impl Model for ProcessQueue {
     ghost view = { λ q. record { addresses = q.ring.items; limit = q.ring.capacity } };
 }
 
-/// Where a process goes on.
+/// The addresses at which a process continues.
 #[derive(Clone, Copy)]
 pub enum Continuation {
-    /// The process ends.
+    /// The process dies.
     Ends,
-    /// It goes on at an address.
+    /// The process continues at the address.
     Goes(u32),
-    /// It goes on at the first address, and a further process at the second.
+    /// The process continues at the first address, and a new process starts at the second.
     Splits(u32, u32),
 }
 
 impl Continuation {
-    /// The addresses, in order.
+    /// Returns the addresses, in order.
     pub fn list(&self) -> ArrayVec<u32, 2>
         ensures { result.items ≡ addresses_to self.now }
     {
@@ -54,7 +55,7 @@ impl Continuation {
     }
 }
 
-/// Where a process was really queued, and whether its queue is empty.
+/// The addresses that a queue accepted, and whether the queue is empty after that.
 #[derive(Clone, Copy)]
 pub struct Accepted {
     pub queued: Continuation,
@@ -62,7 +63,7 @@ pub struct Accepted {
 }
 
 impl ProcessQueue {
-    /// An empty queue with room for `limit` processes. It fails if memory is refused.
+    /// Returns an empty queue with capacity for `limit` processes. Fails if the allocation fails.
     pub fn with_limit(alloc: Global, limit: usize) -> Result<ProcessQueue, AllocError>
         ensures { IfOk result (λ q. q ≡ record { addresses = []; limit = limit }) }
     {
@@ -71,7 +72,7 @@ impl ProcessQueue {
         })
     }
 
-    /// How many processes there are.
+    /// Returns the number of processes.
     pub fn len(&self) -> usize
         ensures value { result ≡ length self.now.addresses }
         ensures bound { result ≤ self.now.limit }
@@ -82,14 +83,14 @@ impl ProcessQueue {
         len
     }
 
-    /// How many processes there is room for.
+    /// Returns the maximum number of processes.
     pub fn limit(&self) -> usize
         ensures { result ≡ self.now.limit }
     {
         self.ring.capacity()
     }
 
-    /// Whether there is no process.
+    /// Returns whether there are no processes.
     #[tactic(auto, using(crate::proofs::Live::length_is_empty))]
     pub fn is_empty(&self) -> bool
         ensures { result ≡ spec_is_empty self.now.addresses }
@@ -97,14 +98,14 @@ impl ProcessQueue {
         self.ring.is_empty()
     }
 
-    /// The address at a place, the front being place 0.
+    /// Returns the address of the process with the index `place`, the front being 0.
     pub fn get(&self, place: usize) -> Option<u32>
         ensures { result ≡ slice_get self.now.addresses place }
     {
         self.ring.get(place).copied()
     }
 
-    /// Takes the process at the front, if there is one.
+    /// Removes the process at the front, if there is one, and returns its address.
     pub fn pop(&mut self) -> Option<u32>
         ensures some { IfSome result (λ address. self.old.addresses ≡ address ∷ self.new.addresses) }
         ensures none { IfNone result (self.old.addresses ≡ []) }
@@ -114,7 +115,7 @@ impl ProcessQueue {
         self.ring.pop_front()
     }
 
-    /// Takes the process at the front.
+    /// Removes the process at the front and returns its address.
     pub fn take_front(&mut self) -> u32
         requires { 1 ≤ length self.old.addresses }
         ensures front { self.old.addresses ≡ result ∷ self.new.addresses }
@@ -126,7 +127,7 @@ impl ProcessQueue {
         }
     }
 
-    /// Puts a process at the end. There must be room.
+    /// Appends a process. The queue must not be full.
     pub fn push(&mut self, address: u32)
         requires { length self.old.addresses < self.old.limit }
         ensures { self.new ≡ record { addresses = self.old.addresses ++ address ∷ []; limit = self.old.limit } }
@@ -134,7 +135,7 @@ impl ProcessQueue {
         let _ = self.ring.try_push_back(address);
     }
 
-    /// Puts a process at the end where there is room, and says whether there was.
+    /// Appends a process if the queue isn't full; returns whether it was appended.
     #[inline(always)]
     pub fn try_push(&mut self, address: u32) -> bool
         ensures answer { result ≡ nat_lt (length self.old.addresses) self.old.limit }
@@ -144,7 +145,8 @@ impl ProcessQueue {
         self.ring.try_push_back(address).is_ok()
     }
 
-    /// Puts a process at the end again where it goes on, and says whether the queue is empty. There must be room for one.
+    /// Appends the addresses at which a process continues, as far as there is capacity; returns whether the queue is
+    /// empty after that. There must be capacity for one.
     #[inline(always)]
     #[tactic(auto, using(crate::proofs::Live::filled_by_one, crate::proofs::Live::filled_by_two))]
     pub fn requeue(&mut self, continuation: Continuation) -> bool
@@ -170,7 +172,7 @@ impl ProcessQueue {
         }
     }
 
-    /// Puts those addresses at the end for which there is room.
+    /// Appends the addresses for which there is capacity, and returns them.
     #[inline(always)]
     #[tactic(auto, using(crate::proofs::Live::filled_by_one, crate::proofs::Live::filled_by_two))]
     pub fn accept(&mut self, continuation: Continuation) -> Accepted
@@ -199,7 +201,7 @@ impl ProcessQueue {
         }
     }
 
-    /// What was accepted, and whether the queue is empty.
+    /// Returns the accepted addresses with whether the queue is empty.
     #[inline(always)]
     fn accepted(&self, queued: Continuation) -> Accepted
         ensures queued { result.queued ≡ queued }
@@ -211,7 +213,7 @@ impl ProcessQueue {
         }
     }
 
-    /// Leaves one process alone.
+    /// Replaces all processes by a single one at `address`.
     pub fn restart(&mut self, address: u32)
         requires { 1 ≤ self.old.limit }
         ensures { self.new ≡ record { addresses = address ∷ []; limit = self.old.limit } }
@@ -220,7 +222,7 @@ impl ProcessQueue {
         self.push(address);
     }
 
-    /// The same queue once more, with room of its own.
+    /// Returns a copy with memory of its own.
     pub fn copy(&self, alloc: Global) -> Result<ProcessQueue, AllocError>
         ensures { IfOk result (λ queue. queue ≡ self.now) }
     {
@@ -252,7 +254,7 @@ impl ProcessQueue {
         last.copy_from_slice(back);
     }
 
-    /// Copies this queue over another one of the same limit, without memory.
+    /// Copies this queue over another one of the same limit, without allocating.
     pub fn copy_over(&self, target: &mut ProcessQueue)
         requires { self.now.limit ≡ target.old.limit }
         ensures { target.new ≡ self.now }
@@ -266,7 +268,7 @@ impl ProcessQueue {
     }
 }
 
-/// Something was accepted.
+/// Returns the accepted addresses, of which there is at least one, so the queue is not empty.
 #[inline(always)]
 fn filled(queued: Continuation) -> Accepted
     ensures queued { result.queued ≡ queued }
@@ -278,7 +280,7 @@ fn filled(queued: Continuation) -> Accepted
     }
 }
 
-/// Copies of the queues, each with room of its own.
+/// Returns copies of the queues, each with memory of its own.
 pub fn copy_queues(alloc: Global, queues: &[ProcessQueue]) -> Result<Vec<ProcessQueue>, AllocError>
     ensures { IfOk result (λ copies. copies.items ≡ queues.now) }
 {
@@ -290,7 +292,7 @@ pub fn copy_queues(alloc: Global, queues: &[ProcessQueue]) -> Result<Vec<Process
     Ok(copies)
 }
 
-/// Copies each queue over the one at its place, without memory.
+/// Copies each queue over the one with the same index, without allocating.
 pub fn copy_queues_over(queues: &[ProcessQueue], targets: &mut [ProcessQueue])
     requires count { length queues.now ≡ length targets.old }
     requires limits { (m : ℕ) × All (λ (q : Contents). q.limit ≡ m) queues.now × All (λ (q : Contents). q.limit ≡ m) targets.old }

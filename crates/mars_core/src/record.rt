@@ -1,4 +1,4 @@
-//! What a turn or an edit did to a battle: enough to go back and forth over it.
+//! Records of turns and edits, which suffice to step back and forth over them.
 ghost use Rattle.std.specs.Prelude.{◌≡◌, [], false};
 ghost use Rattle.mars_core.specs.Record.{warrior_of as spec_warrior_of, turns_of as spec_turns_of, cycles_of as spec_cycles_of};
 ghost use Rattle.mars_core.specs.Code.Turns.{made_atom};
@@ -11,24 +11,25 @@ use crate::machine::turn::MadeTurn;
 use crate::machine::writes::CellChange;
 use arrayvec::ArrayVec;
 
-/// What was done. Warriors are counted from 0, and so are places in a queue, the front being 0.
+/// The kind of a turn or edit. Warriors and places in a queue are counted from 0; place 0 is the front.
 #[derive(Clone, Copy, Debug, PartialEq, Eq)]
 pub enum Work {
-    /// A turn of a warrior, and the address that was taken from its queue.
+    /// A turn: the warrior, and the address that was taken from its queue.
     Turn(u32, u32),
-    /// A cell was set; the one change of the record tells which.
+    /// A cell was set; the only change of the record has its address.
     SetCell,
-    /// A process of a warrior was moved: warrior, place, the address before, the address after.
+    /// A process was moved: the warrior, the place in its queue, the address before, the address after.
     MoveProcess(u32, u32, u32, u32),
-    /// A process of a warrior was taken out: warrior, place, address.
+    /// A process was removed: the warrior, the place in its queue, the address.
     KillProcess(u32, u32, u32),
-    /// A warrior got a further process: warrior, address.
+    /// A process was added: the warrior, the address.
     Spawn(u32, u32),
 }
 
-/// The record of one turn or edit: what was done, each write of a cell in the order of execution, the addresses that were
-/// really queued by a turn, whose turn it was before and is after, whether a cycle was completed, and whether the warrior
-/// died.
+/// The record of one turn or edit.
+///
+/// It has the kind of work, each write of a cell in the order of execution, the addresses that a turn actually queued,
+/// the next warrior before and after, whether a cycle was completed, and whether the warrior died.
 #[derive(Debug, Drop)]
 pub struct Atom {
     pub work: Work,
@@ -41,14 +42,14 @@ pub struct Atom {
 }
 
 impl Default for Atom {
-    /// A record to be written over.
+    /// Returns a record that is meant to be overwritten.
     #[inline(always)]
     fn default() -> Self {
         quiet_atom(Work::SetCell, ArrayVec::new(), 0)
     }
 }
 
-/// The warrior whose queue the work changes.
+/// Returns the warrior whose queue the work changes, if there is one.
 pub fn warrior_of(work: Work) -> Option<u32>
     ensures { result ≡ spec_warrior_of work }
 {
@@ -61,7 +62,7 @@ pub fn warrior_of(work: Work) -> Option<u32>
     }
 }
 
-/// How many turns were made: one, or none where it was an edit.
+/// Returns the number of turns that the work counts as: 1 for a turn, 0 for an edit.
 pub fn turns_of(work: Work) -> u32
     ensures { result ≡ spec_turns_of work }
 {
@@ -74,14 +75,14 @@ pub fn turns_of(work: Work) -> u32
     }
 }
 
-/// How many cycles were completed.
+/// Returns the number of completed cycles that the work added.
 pub fn cycles_of(added: bool) -> u32
     ensures { result ≡ spec_cycles_of added }
 {
     if added { 1 } else { 0 }
 }
 
-/// Completes the record of a turn, whose changes of cells it has.
+/// Completes the record of a turn, which already has the changes of cells.
 #[inline(always)]
 pub fn note_turn(atom: &mut Atom, before: Clock, made: MadeTurn)
     ensures { atom.new ≡ made_atom before made atom.old.cells }
@@ -94,7 +95,7 @@ pub fn note_turn(atom: &mut Atom, before: Clock, made: MadeTurn)
     atom.died = made.died;
 }
 
-/// The record of an edit that kills nobody, and so leaves the clock.
+/// Returns the record of an edit that kills no warrior and therefore leaves the clock unchanged.
 pub fn quiet_atom(work: Work, cells: ArrayVec<CellChange, 3>, next: u32) -> Atom
     ensures { result ≡ record {
       work = work;

@@ -1,4 +1,4 @@
-//! The worked cases of `mars_core`, by its calls.
+//! Tests of `mars_core` through its public functions.
 #![tactic(auto)]
 
 #[cfg(test)]

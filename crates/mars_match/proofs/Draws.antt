@@ -1,4 +1,4 @@
--- Draws and exchanges, one after the other.
+-- Draws and exchanges, one after another.
 use Rattle.std.proofs.Common.{◌≡◌, refl, ℕ, zero, suc, ◌+◌, ◌-◌, ◌*◌, ◌%◌, ◌<◌, ◌≤◌, List, [], ◌∷◌, ◌++◌, length, get_or, take, drop, set, arith, append_assoc, All}
 use Rattle.std.proofs.lemmas.List.{take_more_set, drop_more, drop-set-lt}
 use Rattle.std.proofs.lemmas.List.Elements.{All-nil, All-cons, All-tail}
@@ -12,7 +12,7 @@ pub seed_after-add : (a b seed : ℕ) → seed_after (a + b) seed ≡ seed_after
 seed_after-add zero b seed = let e : zero + b ≡ b = omega arith in rw e refl
 seed_after-add (suc a) b seed = let e : suc a + b ≡ suc (a + b) = omega arith in rw e (seed_after-add a b (drawn seed))
 
--- one more value is drawn
+-- One more value is drawn.
 pub draws_more : (room : ℕ) (xs : List ℕ) (i seed : ℕ) → i < length xs → take (i + 1) (set xs i (drawn seed % room)) ++ draws room (length xs - (i + 1)) (drawn seed) ≡ take i xs ++ draws room (length xs - i) seed
 draws_more room xs i seed h =
     let e : length xs - i ≡ suc (length xs - (i + 1)) = omega arith in
@@ -30,7 +30,7 @@ pub length-draws : (room n seed : ℕ) → length (draws room n seed) ≡ n
 length-draws room zero seed = refl
 length-draws room (suc n) seed = rw (length-draws room n (drawn seed)) refl
 
--- one more start has its distance
+-- One more start gets its distance.
 pub spread_more : (distance : ℕ) (xs : List ℕ) (i y : ℕ) → i < length xs → y ≡ get_or xs i 0 + i * distance →
     take (i + 1) (set xs i y) ++ spread distance (i + 1) (drop (i + 1) (set xs i y)) ≡ take i xs ++ spread distance i (drop i xs)
 spread_more distance xs i y h e =
@@ -45,7 +45,7 @@ below_more P xs i y h all =
 exchanged_step : (n seed : ℕ) (xs : List ℕ) → exchanged (suc n) seed xs ≡ exchanged n (drawn seed) (swap xs (n + 2) (1 + drawn seed % (n + 2)))
 exchanged_step n seed xs = refl
 
--- one more exchange
+-- One more exchange.
 pub exchanged_more : (i seed : ℕ) (xs ys : List ℕ) → 2 < i → ys ≡ swap xs (i - 1) (1 + drawn seed % (i - 1)) → exchanged (i - 1 - 2) (drawn seed) ys ≡ exchanged (i - 2) seed xs
 exchanged_more i seed xs ys h e =
     let n : i - 2 ≡ suc (i - 1 - 2) = omega arith in

@@ -1,4 +1,4 @@
--- How a battle goes on to its end.
+-- How a battle reaches its end.
 use Rattle.std.proofs.Common.{◌≡◌, refl, sym, ◌∙◌, ap, ℕ, zero, suc, ◌*◌, ◌%◌, ◌<◌, ◌≤◌, inl, inr, List, [], ◌∷◌, length, Option, None, Some, Ok, arith}
 use Rattle.std.proofs.lemmas.Bool.{cases_Bool}
 use Rattle.std.proofs.lemmas.List.{length-map}
@@ -42,7 +42,7 @@ params-start : (p : Parameters) (warriors : List WarriorValue) (starts : List �
 unfolding start_state
 params-start p warriors starts = refl
 
--- ---- a round that starts
+-- ---- A round that starts
 
 pub unless_ok : {A : Type 0} (f : Option BattleFault) (a b : A) → unless f a ≡ Ok b → (f ≡ None) × (a ≡ b)
 unless_ok None a b e = (refl, cc)
@@ -59,7 +59,7 @@ ended_from_started p warriors starts k s e =
     let both = unless_ok (round_fault p warriors starts k) (round_start p warriors starts k) s e in
     rw (both.0, both.1) refl
 
--- the battle of a round has its parameters, and a queue for each warrior
+-- The battle of a round has its parameters, and a queue for each warrior.
 pub room_started : (p : Parameters) (warriors : List WarriorValue) (starts : List ℕ) (k : ℕ) (s : State) → length starts ≡ length warriors → 1 ≤ length warriors → started p warriors starts k ≡ Ok s → HasRoom p (length warriors) (end_of s)
 room_started p warriors starts k s same some e =
     let both = unless_ok (round_fault p warriors starts k) (round_start p warriors starts k) s e in

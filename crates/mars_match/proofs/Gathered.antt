@@ -1,4 +1,4 @@
--- The fates of one round more.
+-- The fates of one more round.
 use Rattle.std.proofs.Common.{◌≡◌, refl, ap, ℕ, suc, ◌+◌, ◌-◌, ◌%◌, ◌<◌, ◌≤◌, List, [], ◌∷◌, ◌++◌, length, drop, get_or, Option, None, Some, Result, Ok, Err, append_assoc, arith}
 use Rattle.std.proofs.lemmas.List.{append-nil, drop_more}
 use Rattle.mars_cell.specs.Parameters.{Parameters}
@@ -13,7 +13,7 @@ use Rattle.mars_match.specs.declared.fates.Fate.{Fate}
 use Rattle.mars_match.specs.declared.fault.MatchFault.{MatchFault}
 use Rattle.mars_match.specs.declared.fault.MatchFault.TheVariants as fault
 
--- fates, and those of the rounds that are left
+-- The fates in `done`, followed by those of the remaining rounds.
 abbrev pub gathered : List Fate → Result (List Fate) MatchFault → Result (List Fate) MatchFault
 gathered done rest = rest >>= λ later. Ok (done ++ later)
 
@@ -33,7 +33,7 @@ module _ (p : Parameters) (warriors : List WarriorValue) (fixed : Option ℕ) wh
   pub begun : (n seed : ℕ) → gathered [] (fates p warriors fixed (n - 0) 0 seed) ≡ fates p warriors fixed n 0 seed
   begun n seed = let all : n - 0 ≡ n = omega arith in rw all (none_gathered (fates p warriors fixed n 0 seed))
 
-  -- the fates of a match, by how many warriors there are
+  -- The fates of a match whose number of warriors is valid.
   pub counted_fates : (n seed : ℕ) → count_fault (length warriors) ≡ None → fates_of p warriors fixed n seed ≡ fates p warriors fixed n 0 seed
   unfolding fates_of
   counted_fates n seed good = rw good refl

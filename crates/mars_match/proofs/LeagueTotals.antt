@@ -1,6 +1,7 @@
--- The tallies of all matches are the sums over each warrior's rows.
--- The definition lists all pairs, plays each, and sums up each warrior's rows; the tallies along that list serve the proof alone. Both loops keep
--- `after_matches` of the pairs that are left, over `drop i` and `drop j`. Their bound is linear in both counters, so that `omega` is enough.
+-- The tallies of all matches are the sums over each warrior's rows. The definition lists all pairs, plays the match of
+-- each, and sums up each warrior's rows. Only the proof uses the tallies along that list. The invariant of both loops has
+-- `after_matches` of the pairs that are left, over `drop i` and `drop j`. The bounds are linear in both counters, so that
+-- `omega` is enough.
 use Rattle.std.proofs.Common.{◌≡◌, refl, sym, ◌∙◌, ap, ℕ, zero, suc, ◌+◌, ◌<◌, ◌+ℤ◌, List, [], ◌∷◌, ◌++◌, length, replicate, Option, true, false, nat_eq, Result, Ok, Err, arith}
 use Rattle.std.specs.Prelude.{sum_by}
 use Rattle.std.proofs.lemmas.Int.{ints}
@@ -18,7 +19,7 @@ use Rattle.mars_match.specs.declared.fault.MatchFault.{MatchFault}
 use Rattle.mars_match.specs.declared.table.Tally.{Tally}
 use Rattle.mars_match.proofs.Totals.{same_tally}
 
--- ---- the matches one after the other
+-- ---- The matches one after another
 
 with_rows-append : (xs ys : List PlacedRow) (tallies : List Tally) → with_rows (xs ++ ys) tallies ≡ with_rows ys (with_rows xs tallies)
 with_rows-append [] ys tallies = refl
@@ -41,14 +42,14 @@ after_is p f fixed n seed [] tallies = refl
 after_is p f fixed n seed (x ∷ xs) tallies =
     table_first (table_of p (x.one ∷ x.other ∷ []) f fixed n seed) (placed_rows (x.first ∷ x.second ∷ [])) (rows_of_pairs p f fixed n seed xs) (after_matches p f fixed n seed xs) tallies (after_is p f fixed n seed xs)
 
--- ---- one warrior
+-- ---- One warrior
 
--- a tally with rows
+-- A tally with rows added.
 with_own : List RowValue → Tally → Tally
 with_own [] t = t
 with_own (row ∷ rows) t = with_own rows (joined t (sums row))
 
--- each tally from warrior i on, with the rows of its warrior
+-- The tallies from warrior `i` on, each with the rows of its warrior added.
 all_own : ℕ → List PlacedRow → List Tally → List Tally
 all_own i rows [] = []
 all_own i rows (t ∷ tallies) = with_own (own_rows i rows) t ∷ all_own (i + 1) rows tallies
@@ -58,7 +59,7 @@ unfolding all_own with_own
 all_own-none i [] = refl
 all_own-none i (t ∷ tallies) = ap (λ l. t ∷ l) (all_own-none (i + 1) tallies)
 
--- a row of a warrior before those is none of theirs
+-- A row of a warrior before warrior `i` changes none of these tallies.
 all_own-before : (i : ℕ) (x : PlacedRow) (rows : List PlacedRow) (tallies : List Tally) → x.place < i → all_own i (x ∷ rows) tallies ≡ all_own i rows tallies
 unfolding all_own
 all_own-before i x rows [] h = refl
@@ -80,7 +81,7 @@ with_rows_is : (rows : List PlacedRow) (tallies : List Tally) → with_rows rows
 with_rows_is [] tallies = sym (all_own-none 0 tallies)
 with_rows_is (x ∷ rows) tallies = with_rows_is rows (joined_at x.place (sums x.row) tallies) ∙ sym (all_own-one 0 x.place x rows tallies (omega arith))
 
--- ---- its sums
+-- ---- The sums
 
 tally_with : List RowValue → Tally → Tally
 tally_with rows t = record {
@@ -111,7 +112,7 @@ unfolding all_own
 rows_are i [] rows = refl
 rows_are i (w ∷ warriors) rows = rw (row_is w (own_rows i rows), rows_are (i + 1) warriors rows) refl
 
--- ---- the league
+-- ---- The league
 
 module _ (p : Parameters) (warriors : List WarriorValue) (f : Scanned) (fixed : Option ℕ) (n seed : ℕ) where
   rows_after : (all : Result (List PlacedRow) MatchFault) →
@@ -119,7 +120,7 @@ module _ (p : Parameters) (warriors : List WarriorValue) (f : Scanned) (fixed : 
   rows_after (Ok rows) = rw (with_rows_is rows (replicate (length warriors) no_rounds), rows_are 0 warriors rows) refl
   rows_after (Err e) = refl
 
-  -- the league from the tallies that the code keeps
+  -- The table of a league, from the tallies of the code.
   pub league_from : league_of p warriors f fixed n seed ≡ (after_matches p f fixed n seed (all_pairs 0 warriors) (replicate (length warriors) no_rounds) >>= λ tallies. checked_rows (rows_with warriors tallies))
   unfolding league_of
   league_from = sym (rw (after_is p f fixed n seed (all_pairs 0 warriors) (replicate (length warriors) no_rounds)) (rows_after (rows_of_pairs p f fixed n seed (all_pairs 0 warriors))))

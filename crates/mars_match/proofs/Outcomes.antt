@@ -1,4 +1,4 @@
--- One round more.
+-- One more round.
 use Rattle.std.proofs.Common.{◌≡◌, refl, ℕ, zero, suc, ◌+◌, ◌-◌, ◌<◌, ◌⊎◌, ℤ, Option, Result, Ok, Err, List, [], ◌∷◌, length, get_or, pos, nat_eq, true, false, arith}
 use Rattle.std.proofs.lemmas.List.{length-map}
 use Rattle.std.proofs.lemmas.List.Folds.{list_all_at}
@@ -24,7 +24,7 @@ use Rattle.mars_match.proofs.Sums.{how_many-rotated, how_many-lives}
 pub fault_answer : {A B : Type 0} (view : A → B) (defined : Result B MatchFault) (result : Result A MatchFault) (f : MatchFault) → result ≡ Err f → (f ≡ OutOfMemory) ⊎ (defined ≡ Err f) → IsAnswer view defined result
 fault_answer view defined result f e h = rw e h
 
--- the score is the same in load order and in the order of turns
+-- The score is the same in load order and in the order of turns.
 pub score-in_order : (f : Scanned) (first : ℕ) (s : State) → round_score f (in_load_order first s) ≡ round_score f (lives s)
 score-in_order f first s =
     let n = length s.queues - first in
@@ -52,13 +52,13 @@ module _ (p : Parameters) (warriors : List WarriorValue) (f : Scanned) (fixed : 
       tallied p warriors f fixed (n - (k + 1)) (k + 1) left (all_added o 0 tallies) ≡ tallied p warriors f fixed (n - k) k seed tallies
   tallied_more starts left o e h = rw (rest, e, h) refl
 
--- the score of a battle in which somebody lives
+-- The score of a battle in which a warrior survives.
 pub score_is : (f : Scanned) (s : State) → (survivors_of s.queues ≡ 0 → ⊥) → round_score f (lives s) ≡ as_score (score_of f (pos (length s.queues)) (pos (survivors_of s.queues)))
 score_is f s some =
     let test : nat_eq (survivors_of s.queues) 0 ≡ false = grind (arith, some) in
     rw (how_many-lives s.queues, length-map s.queues (λ queue. not (is_empty queue)), test) refl
 
--- the row of warrior i
+-- There is a row for each warrior.
 pub length-rows : (warriors : List WarriorValue) (tallies : List Tally) → length tallies ≡ length warriors → length (rows_with warriors tallies) ≡ length warriors
 length-rows [] tallies e = refl
 length-rows (w ∷ warriors) [] e = absurd (omega (arith, e))
@@ -70,7 +70,7 @@ row_at (x ∷ warriors) [] i w t r e h = absurd (omega (arith, e))
 row_at (x ∷ warriors) (y ∷ tallies) zero w t r e h = refl
 row_at (x ∷ warriors) (y ∷ tallies) (suc i) w t r e h = row_at warriors tallies i w t r (omega (arith, e)) (omega (arith, h))
 
--- a warrior's points don't fit
+-- The points of a warrior don't fit 64 bits.
 pub unfit : (rows : List RowValue) (i : ℕ) (r : RowValue) → i < length rows → fits_in_64 (get_or rows i r).points ≡ false → checked_rows rows ≡ Err (Score Range)
 unfit rows i r h e = rw (list_all_at (λ row. fits_in_64 row.points) rows i r h e) refl
 

@@ -1,4 +1,4 @@
--- Leagues: one match more, and one warrior more.
+-- Leagues: one more match, and one more warrior.
 use Rattle.std.proofs.Common.{◌≡◌, refl, sym, ◌∙◌, ap, ℕ, zero, suc, ◌+◌, ◌<◌, ◌≤◌, List, [], ◌∷◌, ◌++◌, length, drop, get_or, set, take, All, true, false, Option, Result, Ok, Err, arith}
 use Rattle.std.proofs.lemmas.Int.{ints}
 use Rattle.std.proofs.lemmas.List.{drop_more, length-set, get_or-set_other}
@@ -19,7 +19,7 @@ use Rattle.mars_match.specs.declared.table.Tally.{Tally}
 use Rattle.mars_match.proofs.Totals.{table_err, table_with}
 use Rattle.mars_match.proofs.Outcomes.{unfit, fit}
 
--- ---- bounds
+-- ---- Bounds
 
 pub IsOf-joined : (a b : ℕ) (t more : Tally) → IsOf a t → IsOf b more → IsOf (a + b) (joined t more)
 IsOf-joined a b t more x y = record {
@@ -43,14 +43,14 @@ pub all_more : (a b : ℕ) (xs : List Tally) → a ≤ b → All (IsOf a) xs →
 all_more a b [] h all = All-nil (IsOf b)
 all_more a b (t ∷ xs) h all = All-cons (IsOf b) t xs (IsOf-more a b t h (All-head (IsOf a) t xs all)) (all_more a b xs h (All-tail (IsOf a) t xs all))
 
--- ---- one match
+-- ---- One match
 
 pub joined_at-set : (i : ℕ) (xs : List Tally) (more d : Tally) → i < length xs → joined_at i more xs ≡ set xs i (joined (get_or xs i d) more)
 joined_at-set i [] more d h = absurd (omega (arith, h))
 joined_at-set zero (t ∷ xs) more d h = refl
 joined_at-set (suc i) (t ∷ xs) more d h = ap (λ l. t ∷ l) (joined_at-set i xs more d (omega (arith, h)))
 
--- both tallies of a match
+-- Setting the tallies of both warriors adds the match to them.
 module _ (xs : List Tally) (i j : ℕ) (t u a b d : Tally) (before : i < j) (inside : j < length xs) (one : a ≡ joined (get_or xs i d) t) (other : b ≡ joined (get_or (set xs i a) j d) u) where
   pub set_both : set (set xs i a) j b ≡ joined_at j u (joined_at i t xs)
   set_both =
@@ -69,7 +69,7 @@ module _ (xs : List Tally) (i j : ℕ) (t u a b d : Tally) (before : i < j) (ins
       let second : IsOf (m + c) b = rw other (IsOf-joined m c (get_or (set xs i a) j d) u (other_bound m all) y) in
       All-set (IsOf (m + c)) (set xs i a) j b second (All-set (IsOf (m + c)) xs i a first (all_more m (m + c) xs (omega arith) all))
 
--- the first of some warriors with each of others
+-- The pairs of the first of some warriors with each of the others.
 abbrev pub pairs_left : ℕ → ℕ → List WarriorValue → List WarriorValue → List Pair
 pairs_left i j [] others = []
 pairs_left i j (one ∷ rest) others = pairs_with i one j others
@@ -80,11 +80,11 @@ nobody = record { name = []; author = []; cells = []; start = 0 }
 pub from_first : (ws : List WarriorValue) (i : ℕ) → i < length ws → pairs_left i (i + 1) (drop i ws) (drop (i + 1) ws) ≡ pairs_of_first i (drop i ws)
 from_first ws i h = rw (drop_more ws i nobody h) refl
 
--- the list from a warrior on
+-- The list from warrior `i` on starts with that warrior.
 pub from_one : (ws : List WarriorValue) (i : ℕ) (a : WarriorValue) → i < length ws → a ≡ get_or ws i a → drop i ws ≡ a ∷ drop (i + 1) ws
 from_one ws i a h e = drop_more ws i a h ∙ ap (λ x. x ∷ drop (i + 1) ws) (sym e)
 
--- a warrior, and another in the second place
+-- After replacing the second warrior, the lineup has warrior `i` and the other one.
 pub lined_up : (ws before after : List WarriorValue) (i : ℕ) (a b : WarriorValue) → i < length ws → a ≡ get_or ws i a → take 1 before ≡ take 1 (drop i ws) → after ≡ take 1 before ++ b ∷ []
     → after ≡ a ∷ b ∷ []
 lined_up ws before after i a b h e first told = told ∙ rw (first, from_one ws i a h e) refl
@@ -99,7 +99,7 @@ module _ (p : Parameters) (f : Scanned) (fixed : Option ℕ) (n seed : ℕ) wher
       after_matches p f fixed n seed (pairs_left i (j + 1) (drop i ws) (drop (j + 1) ws)) (joined_at j u (joined_at i t ts)) ≡ after_matches p f fixed n seed (pairs_left i j (drop i ws) (drop j ws)) ts
   match_more ws i j a b ts t u hi hj ea eb e = rw (from_one ws i a hi ea, from_one ws j b hj eb, e) refl
 
-  -- ---- one warrior
+  -- ---- One warrior
 
   joined_after : (table : Result (List RowValue) MatchFault) (x : Pair) (xs ys : List Pair) (ts : List Tally) →
       ((us : List Tally) → after_matches p f fixed n seed (xs ++ ys) us ≡ (after_matches p f fixed n seed xs us >>= λ us. after_matches p f fixed n seed ys us)) →
@@ -123,7 +123,7 @@ module _ (p : Parameters) (f : Scanned) (fixed : Option ℕ) (n seed : ℕ) wher
       after_matches p f fixed n seed (pairs_of_first i (drop i ws)) ts ≡ Ok us → after_matches p f fixed n seed (all_pairs (i + 1) (drop (i + 1) ws)) us ≡ after_matches p f fixed n seed (all_pairs i (drop i ws)) ts
   first_more ws i ts us h e = sym (all_split ws i ts h ∙ rw e refl)
 
--- ---- the tallies of two
+-- ---- The tallies of two warriors
 
 pub two_tallies : (ts : List Tally) (d : Tally) → length ts ≡ 2 → ts ≡ get_or ts 0 d ∷ get_or ts 1 d ∷ []
 two_tallies [] d e = absurd (omega (arith, e))
@@ -131,7 +131,7 @@ two_tallies (t ∷ []) d e = absurd (omega (arith, e))
 two_tallies (t ∷ (u ∷ [])) d e = refl
 two_tallies (t ∷ (u ∷ (v ∷ ts))) d e = absurd (omega (arith, e))
 
--- the table of a match of two from its tallies
+-- The table of a match of two warriors, from its tallies.
 module _ (p : Parameters) (a b : WarriorValue) (f : Scanned) (fixed : Option ℕ) (n seed : ℕ) where
   pub pair_err : (x : MatchFault) → tallied p (a ∷ b ∷ []) f fixed n 0 seed (no_rounds ∷ no_rounds ∷ []) ≡ Err x → table_of p (a ∷ b ∷ []) f fixed n seed ≡ Err x
   pair_err x e = table_err p (a ∷ b ∷ []) f fixed n seed x refl e

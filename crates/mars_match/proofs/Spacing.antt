@@ -1,4 +1,4 @@
--- Any two starts lie at least the distance apart.
+-- Any two starts are at least the minimum distance apart.
 use Rattle.std.proofs.Common.{◌≡◌, refl, ℕ, zero, suc, ◌+◌, ◌-◌, ◌*◌, ◌%◌, ◌<◌, ◌≤◌, ◌≢◌, List, [], ◌∷◌, ◌⊎◌, inl, inr, length, get_or, add-one, arith, All}
 use Rattle.std.proofs.Math.Nat.{mod-eq_of_lt, add-mod_left, mul-le-mul_right, suc-mul}
 use Rattle.std.proofs.lemmas.Bool.{cases_lt, cases_eq}
@@ -13,7 +13,7 @@ use Rattle.mars_match.proofs.Draws.{length-spread, length-draws, draws_below}
 use Rattle.std.specs.List.{swap}
 use Rattle.mars_match.specs.Placement.{drawn, way_up, AreApart, IsSpaced, exchanged, spread, draws, ascending, room_for, seed_after, starts_of}
 
--- the lower one and the distance lead at most to the upper one, and from there at most round to the lower one
+-- The address `b` is at least `d` above `a`, and from `b` to `a` around the core of `m` cells it is at least `d`.
 record IsGap (m d a b : ℕ) : Type 0 where
   up : a + d ≤ b
   round : b + d ≤ a + m
@@ -36,14 +36,14 @@ apart_from_gap m d a b one inside gap =
 turned : (m d a b : ℕ) → AreApart m d a b → AreApart m d b a
 turned m d a b apart = record { up = apart.down; down = apart.up }
 
--- ---- before the exchanges
+-- ---- Before the exchanges
 
 get_or-spread : (d k : ℕ) (xs : List ℕ) (i : ℕ) → i < length xs → get_or (spread d k xs) i 0 ≡ get_or xs i 0 + (k + i) * d
 get_or-spread d k [] i h = absurd (omega (arith, h))
 get_or-spread d k (x ∷ xs) zero h = let e : k + 0 ≡ k = omega arith in rw e refl
 get_or-spread d k (x ∷ xs) (suc i) h = let e : k + 1 + i ≡ k + suc i = omega arith in rw (← e) (get_or-spread d (k + 1) xs i (omega (arith, h)))
 
--- the distances of the warriors before one, and its own
+-- The distances of the first `i + 1` warriors add up to at most those of the first `j` warriors.
 one_further : (i j d : ℕ) → i < j → i * d + d ≤ j * d
 one_further i j d h = let e : (i + 1) * d ≡ i * d + d = rw (add-one, suc-mul) refl in omega (arith, e, mul-le-mul_right {m = i + 1} {n = j} d (omega arith))
 
@@ -75,9 +75,9 @@ module _ (m d w : ℕ) (xs : List ℕ) (one : 1 ≤ d) (fits : w * d ≤ m) (man
         ];
   }
 
--- ---- after the exchanges
+-- ---- After the exchanges
 
--- what stands at k after the exchange of a and b stood at j
+-- The item at `k` after the exchange of `a` and `b` was at `j` before it.
 abbrev IsMoved : ℕ → ℕ → ℕ → ℕ → Type 0
 IsMoved a b k j = ((k ≡ a) × (j ≡ b)) ⊎ (((k ≡ b) × (j ≡ a)) ⊎ ((k ≢ a) × ((k ≢ b) × (j ≡ k))))
 
@@ -130,7 +130,7 @@ spaced_exchanged m d (suc n) seed xs (inl h) spaced =
     spaced_exchanged m d n (drawn seed) (swap xs (n + 2) (1 + drawn seed % (n + 2))) (inl (omega (arith, h, length-swap xs (n + 2) (1 + drawn seed % (n + 2)))))
     (spaced_swap m d (n + 2) (1 + drawn seed % (n + 2)) xs (omega (arith, h)) j spaced)
 
--- ---- the starts
+-- ---- The starts
 
 pub spaced_starts : (p : Parameters) (w seed : ℕ) → AreInRange p → 1 ≤ w → w * p.distance ≤ p.core_size → IsSpaced p.core_size p.distance (starts_of p w seed)
 unfolding starts_of

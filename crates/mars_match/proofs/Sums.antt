@@ -10,7 +10,7 @@ use Rattle.mars_match.specs.Rounds.{Outcome, how_many}
 use Rattle.mars_match.specs.Code.Tallies.{added, all_added}
 use Rattle.mars_match.specs.declared.table.Tally.{Tally}
 
--- one more tally has the round
+-- One more tally has the round added.
 pub added_more : (o : Outcome) (xs : List Tally) (i : ℕ) (t d : Tally) → i < length xs → t ≡ added o i (get_or xs i d) →
     take (i + 1) (set xs i t) ++ all_added o (i + 1) (drop (i + 1) (set xs i t)) ≡ take i xs ++ all_added o i (drop i xs)
 added_more o xs i t d h e =
@@ -25,7 +25,7 @@ left_more P xs i t d h all =
 pub done_more : (P : Tally → Type 0) (xs : List Tally) (i : ℕ) (t : Tally) → i < length xs → P t → All P (take i xs) → All P (take (i + 1) (set xs i t))
 done_more P xs i t h p all = rw (take_more_set xs i t h) (All-push P (take i xs) t all p)
 
--- ---- the survivors
+-- ---- The survivors
 
 how_many-append : (xs ys : List Bool) → how_many (xs ++ ys) ≡ how_many xs + how_many ys
 how_many-append xs ys = sum_by-append (λ alive. cond alive 1 0) xs ys

@@ -1,6 +1,6 @@
--- The tallies of all rounds are the sums over the rounds.
--- The definition is a list of rounds, and a sum for each warrior; the code adds as it goes. Its loop keeps that the rounds that are left lead to the
--- tallies of all; that these are the sums is said here, apart from the code.
+-- The tallies of all rounds are the sums over the rounds. The definition has a list of rounds, and a sum for each
+-- warrior; the code adds each round when it is over. The invariant of its loop says that the remaining rounds lead to the
+-- tallies of all rounds. That these are the sums is proved here, independent of the code.
 use Rattle.std.proofs.Common.{◌≡◌, refl, sym, ◌∙◌, ap, ℕ, zero, suc, ◌+◌, ℤ, ◌+ℤ◌, cond, List, [], ◌∷◌, length, replicate, Option, Some, None, Result, Ok, Err, arith}
 use Rattle.std.specs.Prelude.{count_by, MatchOption, IsOk}
 use Rattle.std.proofs.lemmas.Int.{ints}
@@ -17,7 +17,7 @@ use Rattle.mars_match.specs.declared.fault.MatchFault.{MatchFault}
 use Rattle.mars_match.specs.declared.fault.MatchFault.TheVariants as fault
 use Rattle.mars_match.specs.declared.table.Tally.{Tally}
 
--- ---- the rounds one after the other
+-- ---- The rounds one after another
 
 pub folded : List Outcome → List Tally → List Tally
 folded [] tallies = tallies
@@ -48,7 +48,7 @@ tallied_is p warriors f fixed (suc n) k seed tallies =
     one_placed (placed_for p (length warriors) fixed seed) (λ starts. round_outcome p warriors f starts k) (λ left o. tallied p warriors f fixed n (k + 1) left (all_added o 0 tallies)) (λ left. outcomes p warriors f fixed n (k + 1) left) tallies
     (λ left o. tallied_is p warriors f fixed n (k + 1) left (all_added o 0 tallies))
 
--- ---- one warrior
+-- ---- One warrior
 
 each_added : ℕ → List Outcome → Tally → Tally
 each_added i [] t = t
@@ -119,13 +119,13 @@ rows_after : (warriors : List WarriorValue) (all : Result (List Outcome) MatchFa
 rows_after warriors (Ok os) = ap checked_rows (rows_of_tallies warriors os)
 rows_after warriors (Err e) = refl
 
--- the table from the tallies is that of the rounds
+-- The table from the tallies is that from the outcomes of the rounds.
 pub table_from : (p : Parameters) (warriors : List WarriorValue) (f : Scanned) (fixed : Option ℕ) (n seed : ℕ) →
     (tallied p warriors f fixed n 0 seed (replicate (length warriors) no_rounds) >>= λ tallies. checked_rows (rows_with warriors tallies))
     ≡ (outcomes p warriors f fixed n 0 seed >>= λ all. checked_rows (rows_from 0 warriors all))
 table_from p warriors f fixed n seed = rw (tallied_is p warriors f fixed n 0 seed (replicate (length warriors) no_rounds)) (rows_after warriors (outcomes p warriors f fixed n 0 seed))
 
--- ---- the table
+-- ---- The table
 
 module _ (p : Parameters) (warriors : List WarriorValue) (f : Scanned) (fixed : Option ℕ) (n seed : ℕ) where
   pub counted_err : (x : BattleFault) → count_fault (length warriors) ≡ Some x → table_of p warriors f fixed n seed ≡ Err (fault.Battle x)
@@ -142,7 +142,7 @@ module _ (p : Parameters) (warriors : List WarriorValue) (f : Scanned) (fixed : 
   pub table_with : (tallies : List Tally) → count_fault (length warriors) ≡ None → tallied p warriors f fixed n 0 seed (replicate (length warriors) no_rounds) ≡ Ok tallies → table_of p warriors f fixed n seed ≡ checked_rows (rows_with warriors tallies)
   table_with tallies none e = counted_table none ∙ rw e refl
 
--- ---- too few or too many warriors
+-- ---- No warrior or too many
 
 pub refused_count : {A : Type 0} (o : Option BattleFault) (r : Result A MatchFault) (x : MatchFault) → MatchOption o (IsOk r) (λ f. r ≡ Err (fault.Battle f)) → r ≡ Err x → (y : BattleFault) × (o ≡ Some y) × (x ≡ fault.Battle y)
 refused_count None r x h e = let bad = rw e at h in absurd (cc)

@@ -1,4 +1,4 @@
--- Worked examples. The check computes each of them.
+-- Examples. The check computes each of them.
 pub mod Placements
 pub mod Listings
 pub mod Rounds

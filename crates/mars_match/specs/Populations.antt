@@ -1,4 +1,4 @@
--- Populations: each candidate fights a match with each opponent, and what it gets is summed.
+-- Populations: each candidate plays a match with each opponent, and its results are added up.
 use Rattle.std.specs.Prelude.{ℕ, ◌+◌, ◌^◌, pos, ◌+ℤ◌, Bool, ◌&&◌, nat_lt, if◌then◌else◌, List, [], ◌∷◌, Option, Result, Ok, Err}
 use Rattle.mars_cell.specs.Parameters.{Parameters}
 use Rattle.mars_cell.specs.Warriors.{WarriorValue}
@@ -11,31 +11,32 @@ use Rattle.mars_match.specs.declared.fault.MatchFault.{MatchFault}
 use Rattle.mars_match.specs.declared.fault.MatchFault.TheVariants.{Score}
 use Rattle.mars_match.specs.declared.table.Sum.{Sum}
 
--- the sum of no matches
+-- The sum of no matches.
 abbrev pub no_matches : Sum
 no_matches = record { points = pos 0; wins = 0; ties = 0; losses = 0 }
 
--- a sum and a row of a match
+-- A sum with the row of a match added.
 abbrev pub plus : Sum → RowValue → Sum
 plus sum row = record { points = sum.points +ℤ row.points; wins = sum.wins + row.wins; ties = sum.ties + row.ties; losses = sum.losses + row.losses }
 
--- a sum's numbers have 64 bits
+-- The numbers of the sum fit 64 bits.
 abbrev pub fits : Sum → Bool
 fits sum = fits_in_64 sum.points && nat_lt sum.wins (2 ^ 64) && nat_lt sum.ties (2 ^ 64) && nat_lt sum.losses (2 ^ 64)
 
--- a sum and the first row of a match, where that fits; a match of two has two rows
+-- A sum with the first row of a match added, if the result fits 64 bits. The table of a match has two rows, and the
+-- candidate's is the first one.
 abbrev pub with_match : Sum → List RowValue → Result Sum MatchFault
 with_match sum [] = Ok sum
 with_match sum (row ∷ rows) = if fits (plus sum row) then Ok (plus sum row) else Err (Score Range)
 
--- a sum and what a candidate gets in its matches with opponents, each of n rounds and from the same seed, one after the other; or the fault of the first
--- match, or sum, that has one
+-- A sum with the results of a candidate's matches with the opponents added, one after another. Each match has `n` rounds
+-- and begins with `seed`. The error is that of the first match that has one, or whose sum does not fit.
 abbrev pub sum_from : Parameters → Scanned → Option ℕ → ℕ → ℕ → WarriorValue → Sum → List WarriorValue → Result Sum MatchFault
 sum_from p formula fixed n seed candidate sum [] = Ok sum
 sum_from p formula fixed n seed candidate sum (opponent ∷ opponents) =
     table_of p (candidate ∷ opponent ∷ []) formula fixed n seed >>= with_match sum >>= λ more. sum_from p formula fixed n seed candidate more opponents
 
--- what each candidate gets, in order; or the fault of the first of them that has one
+-- The sums of the candidates, in order, or the error of the first candidate that has one.
 abbrev pub population_of : Parameters → Scanned → Option ℕ → ℕ → ℕ → List WarriorValue → List WarriorValue → Result (List Sum) MatchFault
 population_of p formula fixed n seed opponents [] = Ok []
 population_of p formula fixed n seed opponents (candidate ∷ candidates) =

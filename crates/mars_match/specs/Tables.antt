@@ -1,8 +1,8 @@
--- What a table of results holds.
+-- The content of a table of results.
 use Rattle.std.specs.Prelude.{ℕ, ℤ, List}
 use Rattle.mars_cell.specs.Warriors.{IsName}
 
--- how one warrior fared
+-- The results of one warrior.
 pub record RowValue : Type 0 where
   pub name : List ℕ
   pub author : List ℕ
@@ -11,7 +11,7 @@ pub record RowValue : Type 0 where
   pub ties : ℕ
   pub losses : ℕ
 
--- what each row keeps: its names are names
+-- What holds for each row: its name and author are valid names.
 pub record IsRow (r : RowValue) : Type 0 where
   pub name : IsName r.name
   pub author : IsName r.author

@@ -1,4 +1,4 @@
-//! How each warrior fares in each round of a match.
+//! The fate of each warrior in each round of a match.
 ghost use Rattle.std.specs.Prelude.{◌≡◌, ◌++◌, ◌+◌, ◌-◌, ◌*◌, ◌%◌, ◌<◌, ◌≤◌, ◌≢◌, Box, IfErr, IfOk, IfSome, MatchResult, Vec, length, vec_len};
 ghost use Rattle.std.specs.Global.{Global};
 ghost use Rattle.mars_core.specs.Limits.{most_warriors};
@@ -16,18 +16,20 @@ use mars_cell::Warrior;
 use mars_core::{Battle, Death};
 use std::alloc::Global;
 
-/// Fate of a warrior in a round.
+/// The fate of a warrior in a round.
 #[derive(Clone, Copy, Debug, PartialEq, Eq)]
 pub struct Fate {
-    /// Whether it lives at the end.
+    /// Whether it is alive at the end.
     pub survived: bool,
-    /// Number of turns that all warriors had made when it died, including its last one; if it survived, of all turns of the round.
+    /// The number of turns that all warriors had executed when it died, including its last one. If it survived, the
+    /// number of turns of the round.
     pub turns: u32,
-    /// Address of its first cell.
+    /// The address of its first cell.
     pub start: u32,
 }
 
-/// Returns the number of turns that had been made when a warrior died, by its place in the order of turns, or `all` if it lives.
+/// Returns the number of turns that had been executed when the warrior at a place in the order of turns died, or `all` if
+/// it is alive.
 fn turns_until(deaths: &[Death], place: usize, all: u32) -> u32
     ensures { result ≡ spec_turns_until deaths.now place all }
 {
@@ -50,7 +52,7 @@ fn place_of(count: usize, first: usize, warrior: usize) -> usize
     count - (first - warrior)
 }
 
-/// Returns the fate of a warrior in a battle that is over, in which warrior `first` had the first turn.
+/// Returns the fate of a warrior in a battle that is over and in which warrior `first` had the first turn.
 fn fate_of(battle: &Battle, first: usize, warrior: usize, start: u32) -> Fate
     requires first { first < length battle.now.queues }
     requires warrior { warrior < length battle.now.queues }
@@ -64,7 +66,7 @@ fn fate_of(battle: &Battle, first: usize, warrior: usize, start: u32) -> Fate
     }
 }
 
-/// Appends the fates of a round in load order.
+/// Appends the fates of a round, in load order.
 fn append_fates(
     fates: &mut Vec<Fate>,
     battle: &Battle,
@@ -113,9 +115,14 @@ fn fight_lineup(alloc: Global, setup: &Setup, lineup: &Lineup) -> Result<Vec<Fat
     Ok(fates)
 }
 
-/// Returns the fate of each warrior in each round of a match, in load order, one round after another. The rounds are those of `rounds` for
-/// the same setup, and no formula is evaluated. If a round cannot be held, the first error is returned. It takes the memory of one battle
-/// and of the fates.
+/// Returns the fate of each warrior in each round of a match, in load order, one round after another.
+///
+/// The rounds are those of `rounds` for the same setup, but no formula is evaluated. Allocates copies of the warriors, one
+/// battle, and the fates.
+///
+/// # Errors
+///
+/// Returns the first error of the warriors' number or of a round, or `OutOfMemory` if an allocation fails.
 pub fn fight_rounds(
     alloc: Global,
     setup: &Setup,

@@ -1,12 +1,12 @@
-//! Why a match can't be held.
+//! The errors of matches and leagues.
 
 use crate::placement::PlaceFault;
 use mars_core::BattleFault;
 use redcode_text::ExprFault;
 use thiserror::Error;
 
-/// Why a match or a league can't be held: the first that applies. It is displayed as its number and name, and the fault
-/// inside it after it.
+/// The reason why a match or a league can't be run. It is displayed as its number and name, followed by the error inside
+/// it.
 #[derive(Clone, Copy, Debug, PartialEq, Eq, Error)]
 pub enum MatchFault {
     /// The warriors can't be placed.
@@ -15,10 +15,10 @@ pub enum MatchFault {
     /// A battle can't start.
     #[error("2 Battle {0}")]
     Battle(BattleFault),
-    /// The formula has no value, or a warrior's points don't fit 64 bits.
+    /// The formula has no value, or the points of a warrior don't fit 64 bits.
     #[error("3 Score {0}")]
     Score(ExprFault),
-    /// A growth was refused.
+    /// An allocation failed.
     #[error("4 OutOfMemory")]
     OutOfMemory,
 }

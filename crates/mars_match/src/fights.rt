@@ -1,4 +1,4 @@
-//! Battles of a round, turned until they are over, and the warriors from each one on.
+//! The battle of a round, executed until it is over, and the rotations of the warriors.
 ghost use Rattle.std.specs.Prelude.{◌≡◌, ◌+◌, ◌%◌, ◌<◌, ◌≤◌, length, Some, None, IfSome, Ok, Err, MatchOption, MatchResult, IfOk, IfErr, IsOk, ◌≢◌, slice_index_or, false, Bool, Vec, ◌++◌, ◌∷◌, [], take, Box};
 ghost use Rattle.std.specs.Global.{Global};
 ghost use Rattle.mars_core.specs.State.{State};
@@ -16,7 +16,8 @@ use mars_core::{Battle, BattleFault, MOST_WARRIORS};
 use std::alloc::{AllocError, Global};
 use std::marker::Model;
 
-/// Copies of warriors, and then of all but the last of them, so that the warriors from each one on stand in a row.
+/// The warriors of a match, stored so that every rotation of them is a contiguous slice: all of them, followed by all but
+/// the last again.
 #[derive(Drop)]
 pub struct Lineup {
     copies: Vec<Warrior>,
@@ -46,7 +47,7 @@ fn append_copies(copies: &mut Vec<Warrior>, warriors: &[Warrior]) -> Result<(), 
 }
 
 impl Lineup {
-    /// Warriors in load order.
+    /// Copies the warriors, in load order.
     pub fn new(alloc: Global, warriors: &[Warrior]) -> Result<Lineup, AllocError>
         requires { 1 ≤ length warriors.now }
         ensures { IfOk result (λ lineup. lineup ≡ warriors.now) }
@@ -60,7 +61,7 @@ impl Lineup {
         })
     }
 
-    /// A warrior twice, until another takes the second place.
+    /// Copies a warrior twice; `replace_second` then replaces the second copy.
     pub fn twice(alloc: Global, warrior: &Warrior) -> Result<Lineup, AllocError>
         ensures { IfOk result (λ lineup. lineup ≡ warrior.now ∷ warrior.now ∷ []) }
     {
@@ -71,7 +72,7 @@ impl Lineup {
         Ok(Lineup { copies, count: 2 })
     }
 
-    /// Puts a copy of a warrior into the place of the second of two.
+    /// Replaces the second of two warriors by a copy of another one.
     pub fn replace_second(&mut self, warrior: &Warrior) -> Result<(), AllocError>
         requires { length self.old ≡ 2 }
         ensures { IfOk result (λ _. self.new ≡ take 1 self.old ++ warrior.now ∷ []) }
@@ -80,14 +81,14 @@ impl Lineup {
         Ok(())
     }
 
-    /// How many warriors there are.
+    /// Returns the number of warriors.
     pub fn len(&self) -> usize
         ensures { result ≡ length self.now }
     {
         self.count
     }
 
-    /// The warriors from one on, and then those before it.
+    /// Returns the warriors from number `first` on, followed by those before it.
     pub fn starting_at(&self, first: usize) -> &[Warrior]
         requires { first < length self.now }
         ensures { result.now ≡ rotated first self.now }
@@ -96,7 +97,7 @@ impl Lineup {
     }
 }
 
-/// A round of a match: its warriors, where each is laid, and its number.
+/// A round of a match: its warriors, their starts and its number, from 0.
 #[derive(Clone, Copy)]
 pub struct Round<'r> {
     pub lineup: &'r Lineup,
@@ -107,7 +108,7 @@ pub struct Round<'r> {
     ghost few: { length lineup.now ≤ most_warriors },
 }
 
-/// Turns the battle until it is over.
+/// Executes turns until the battle is over.
 #[tactic(auto, unfolding(crate::specs::Battles::end_of))]
 fn end(battle: &mut Battle)
     ensures { battle.new ≡ end_of battle.old }
@@ -115,7 +116,7 @@ fn end(battle: &mut Battle)
     battle.run_to_end();
 }
 
-/// Too few or too many warriors.
+/// Checks that there is a warrior, and that there are not too many.
 pub fn check_count(count: usize) -> Result<(), MatchFault>
     ensures { MatchOption (count_fault count) (IsOk result) (λ fault. result ≡ Err (MatchFault.Battle fault)) }
 {
@@ -128,7 +129,7 @@ pub fn check_count(count: usize) -> Result<(), MatchFault>
     Ok(())
 }
 
-/// The starts from one on, and then those before it.
+/// Returns the starts from number `first` on, followed by those before it.
 fn rotated_starts(starts: &[u32], first: usize) -> ArrayVec<u32, MOST_WARRIORS>
     requires few { length starts.now ≤ most_warriors }
     requires first { first ≤ length starts.now }
@@ -140,7 +141,7 @@ fn rotated_starts(starts: &[u32], first: usize) -> ArrayVec<u32, MOST_WARRIORS>
     rotated
 }
 
-/// A new battle, when it starts.
+/// Allocates a battle and starts it.
 fn new_battle(
     alloc: Global,
     params: &Params,
@@ -161,7 +162,7 @@ fn new_battle(
     }
 }
 
-/// The battle of a round, when it starts, in the memory of the last one, if there is one; then it takes none.
+/// Starts the battle of a round, in the memory of the last one, if there is one; then it doesn't allocate.
 fn start_round(
     alloc: Global,
     params: &Params,
@@ -185,7 +186,7 @@ fn start_round(
     }
 }
 
-/// Whether a warrior lives, by its place in load order, where warrior `first` has the first turn.
+/// Returns whether a warrior, given by its place in load order, is alive, if warrior `first` has the first turn.
 pub fn is_alive(battle: &Battle, first: usize, warrior: usize) -> bool
     requires first { first < length battle.now.queues }
     requires warrior { warrior < length battle.now.queues }
@@ -197,7 +198,8 @@ pub fn is_alive(battle: &Battle, first: usize, warrior: usize) -> bool
     battle.alive(battle.warriors() - (first - warrior))
 }
 
-/// The battle of a round, when it is over, in the memory of the last one, if there is one; then it takes none.
+/// Executes the battle of a round until it is over, in the memory of the last one, if there is one; then it doesn't
+/// allocate.
 pub fn fight_round(
     alloc: Global,
     params: &Params,
@@ -210,7 +212,7 @@ pub fn fight_round(
     ensures state { let r = round.entry in IsAnswer (λ (battle : Box State Global). battle.value) (ended params.now r.lineup.now r.starts.now r.number) result }
     ensures room { IfOk result (λ battle. HasRoom params.now (length round.entry.lineup.now) battle.value) }
 
-    // In the memory of a last battle none is asked for.
+    // With the memory of a last battle, nothing is allocated.
     ensures no_memory { IfSome last (λ _. IfErr result (λ fault. fault ≢ MatchFault.OutOfMemory)) }
 {
     let mut battle = start_round(alloc, params, round, last)?;
@@ -218,7 +220,7 @@ pub fn fight_round(
     Ok(battle)
 }
 
-/// Who survives, in load order, where warrior `first` has the first turn.
+/// Returns whether each warrior is alive, in load order, if warrior `first` has the first turn.
 fn survivors_list(alloc: Global, battle: &Battle, first: usize) -> Result<Vec<bool>, MatchFault>
     requires first { first < length battle.now.queues }
     ensures { MatchResult result (λ list. list.items ≡ in_load_order first battle.now) (λ fault. fault ≡ MatchFault.OutOfMemory) }
@@ -235,8 +237,15 @@ fn survivors_list(alloc: Global, battle: &Battle, first: usize) -> Result<Vec<bo
     Ok(list)
 }
 
-/// Who survives the battle of round `round`, in load order: that of the warriors rotated by the round's number, so that
-/// each has the first turn in its round. It takes memory for copies of the warriors and for the battle.
+/// Executes the battle of a round and returns whether each warrior survives, in load order.
+///
+/// The warriors are rotated by the number of the round, so that the first turn passes from warrior to warrior. Allocates
+/// copies of the warriors and the battle.
+///
+/// # Errors
+///
+/// Returns the error of the number of warriors, or the error of starting the battle. `OutOfMemory` is returned if an
+/// allocation fails.
 pub fn fight(
     alloc: Global,
     params: &Params,

@@ -1,13 +1,18 @@
-//! Matches: where warriors are laid, the battle of a round, the rounds of a match, and the text of results.
+//! Matches: the starting positions of the warriors, the battle of a round, the rounds of a match, leagues, and the text
+//! of results.
 //!
-//! The layers above may use: `place` gives exactly the defined starts and next seed (`specs/Placement`), or its first
-//! fault; any two of the starts lie at least the least distance apart, both ways round the core. `Setup::round_starts` is that, or a fixed
-//! position of the second of two. `fight` tells who survives a
-//! round (`specs/Battles`), `rounds` gives the table of a match (`specs/Rounds`), `league` that of a league
-//! (`specs/Leagues`), `population` the sums of candidates (`specs/Populations`), and `fight_rounds` how each warrior fares in each round
-//! (`specs/Fates`), each or its first error, or out of memory (`specs/Answers`). `write_results` writes exactly the
-//! defined text of a table (`specs/Results`), or, where the writer fails, a beginning of it; it takes no memory. What
-//! ascending order and a ranking are stands in `laws`.
+//! The crates above this one may use:
+//! - `place` returns the defined starts and next seed (`specs/Placement`), or the first error. Any two starts are at
+//!   least the minimum distance apart, both ways around the core. `Setup::round_starts` does the same, or uses a fixed
+//!   position for the second of two warriors.
+//! - `fight` returns the survivors of a round (`specs/Battles`), `rounds` the table of a match (`specs/Rounds`), `league`
+//!   that of a league (`specs/Leagues`), `population` the sums of candidates (`specs/Populations`), and `fight_rounds`
+//!   the fate of each warrior in each round (`specs/Fates`). Each of them may return its first error, or run out of
+//!   memory (`specs/Answers`).
+//! - `write_results` writes the defined text of a table (`specs/Results`), or a prefix of it if the writer fails. It
+//!   doesn't allocate.
+//!
+//! The module `laws` says what an ascending order and a ranking are.
 #![tactic(auto)]
 
 mod fates;

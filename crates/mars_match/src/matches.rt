@@ -1,4 +1,4 @@
-//! Matches of several rounds, and leagues, in which every pair of warriors fights a match.
+//! Matches of several rounds, and leagues, in which every pair of warriors plays a match.
 ghost use Rattle.std.specs.Prelude.{◌≡◌, ℕ, ◌+◌, ◌%◌, ◌<◌, ◌≤◌, All, length, ℤ, ◌-◌, Some, None, Ok, Err, IfSome, IfOk, IfErr, ◌≢◌, MatchOption, true, false, MatchResult, Vec, replicate, ◌*◌, drop, [], ◌∷◌, Box};
 ghost use Rattle.mars_core.specs.State.{State};
 ghost use Rattle.mars_cell.specs.Warriors.{WarriorValue};
@@ -28,7 +28,7 @@ use mars_core::{Battle, MOST_WARRIORS};
 use redcode_text::ExprFault;
 use std::alloc::Global;
 
-/// A tally for each of so many warriors.
+/// Returns `count` tallies of no rounds.
 pub fn first_tallies(alloc: Global, count: usize) -> Result<Vec<Tally>, MatchFault>
     ensures { MatchResult result (λ tallies. tallies.items ≡ replicate count spec_no_rounds) (λ fault. fault ≡ MatchFault.OutOfMemory) }
 {
@@ -43,14 +43,14 @@ pub fn first_tallies(alloc: Global, count: usize) -> Result<Vec<Tally>, MatchFau
     Ok(tallies)
 }
 
-/// The points in 64 bits, where they fit.
+/// Returns the points as a 64-bit number, if they fit.
 pub fn fitting(points: i128) -> Option<i64>
     ensures { MatchOption result (fits_in_64 points ≡ false) (λ same. (fits_in_64 points ≡ true) × (same ≡ points)) }
 {
     i64::try_from(points).ok()
 }
 
-/// The row of a warrior with its tally, where its points fit 64 bits.
+/// Returns the row of a warrior with its tally, if its points fit 64 bits.
 fn row_of(warrior: &Warrior, tally: Tally) -> Result<Row, MatchFault>
     ensures { MatchResult result (λ row. (fits_in_64 tally.points ≡ true) × (row ≡ row_with warrior.now tally))
         (λ fault. (fault ≡ MatchFault.Score ExprFault.Range) × (fits_in_64 tally.points ≡ false)) }
@@ -67,7 +67,7 @@ fn row_of(warrior: &Warrior, tally: Tally) -> Result<Row, MatchFault>
     Ok(Row::new(warrior.name(), warrior.author(), sum))
 }
 
-/// The row of each warrior with its tally, where all points fit 64 bits.
+/// Returns the row of each warrior with its tally, if all points fit 64 bits.
 pub fn rows_of(
     alloc: Global,
     warriors: &[Warrior],
@@ -88,7 +88,7 @@ pub fn rows_of(
     Ok(rows)
 }
 
-/// A tally of a league's matches before one of them, and that of this match, added.
+/// Adds the tally of a match of a league to the tally of the matches before it.
 fn joined(tally: Tally, more: Tally) -> Tally
     requires before { IsOf most_before tally }
     requires one { IsOf most_rounds more }
@@ -102,7 +102,7 @@ fn joined(tally: Tally, more: Tally) -> Tally
     }
 }
 
-/// Whether a tally's points fit 64 bits.
+/// Checks that the points of a tally fit 64 bits.
 fn check_points(tally: Tally) -> Result<(), MatchFault>
     ensures { MatchResult result (λ _. fits_in_64 tally.points ≡ true)
         (λ fault. (fault ≡ MatchFault.Score ExprFault.Range) × (fits_in_64 tally.points ≡ false)) }
@@ -113,17 +113,18 @@ fn check_points(tally: Tally) -> Result<(), MatchFault>
     Ok(())
 }
 
-/// The matches of one call: where they take memory, and what each leaves to the next.
+/// The matches of one call: the allocator, and what each match leaves to the next one.
 #[derive(Drop)]
 pub struct Matches {
     pub alloc: Global,
-    /// A battle in whose memory another of as many warriors can start. It is boxed, since each round hands it on.
+    /// A battle in whose memory another one with the same number of warriors can start. It is boxed, so that passing it
+    /// from round to round doesn't copy it.
     pub last: Option<Box<Battle>>,
     pub scores: Scores,
 }
 
 impl Matches {
-    /// No match was played.
+    /// Returns the state before the first match.
     pub fn new(alloc: Global) -> Matches
         ensures { (setup : SetupValue) (count : ℕ) → IsKept setup count result }
     {
@@ -134,7 +135,8 @@ impl Matches {
         }
     }
 
-    /// The battle of a round, when it is over, and what each survivor gets. Where a battle is kept, it takes no memory.
+    /// Executes the battle of a round, and returns it with the points of each survivor. Doesn't allocate if there is a
+    /// last battle.
     fn play_round(
         &mut self,
         setup: &Setup,
@@ -152,7 +154,7 @@ impl Matches {
         Ok((battle, score))
     }
 
-    /// Plays the rounds of a match, and adds each to the tallies.
+    /// Plays the rounds of a match, and adds each round to the tallies.
     fn play_rounds(
         &mut self,
         setup: &Setup,
@@ -189,7 +191,7 @@ impl Matches {
         Ok(())
     }
 
-    /// The tallies of the two of a lineup after their match.
+    /// Plays the match of the two warriors of a lineup, and returns their tallies.
     pub fn play_pair(
         &mut self,
         setup: &Setup,
@@ -210,7 +212,7 @@ impl Matches {
         Ok((tallies[0], tallies[1]))
     }
 
-    /// Plays the matches of warrior i with each after it, and adds them to the tallies.
+    /// Plays the matches of warrior `i` with each warrior after it, and adds them to the tallies.
     fn play_others(
         &mut self,
         setup: &Setup,
@@ -263,9 +265,15 @@ impl Matches {
     }
 }
 
-/// The table of a match: so many rounds between all warriors, each placed with the seed that the last one left, and
-/// begun by the next warrior in load order. Where a round can't be held, or a warrior's points don't fit 64 bits at the
-/// end, it answers the first fault. It takes the memory of one battle, however many rounds there are.
+/// Runs a match and returns its table.
+///
+/// Each round draws its starting positions from the seed that the previous round left, and each is started by the next
+/// warrior in load order. Allocates copies of the warriors, one battle for all rounds, and the table.
+///
+/// # Errors
+///
+/// Returns the error of the number of warriors, then the first error of a round, then an error if a warrior's points
+/// don't fit 64 bits. `OutOfMemory` is returned if an allocation fails.
 pub fn rounds(alloc: Global, setup: &Setup, warriors: &[Warrior]) -> Result<Table, MatchFault>
     requires fixed { FitsTwo setup.now.params (length warriors.now) setup.now.plan.fixed }
     ensures count { IfSome (count_fault (length warriors.now)) (λ fault. result ≡ Err (MatchFault.Battle fault)) }
@@ -283,11 +291,17 @@ pub fn rounds(alloc: Global, setup: &Setup, warriors: &[Warrior]) -> Result<Tabl
     Ok(Table { rows })
 }
 
-/// The table of a league: every pair of warriors plays a match of the plan's rounds, in load order of the first, then of
-/// the second, and each match begins with the plan's seed. The warrior earlier in load order is the first of the pair.
-/// Where a match can't be held, or a warrior's points don't fit 64 bits at its end or at that of the league, it answers the
-/// first fault. There are at most 65,536 warriors. Fewer than two play nothing; a plan with a fixed position asks for two,
-/// whose match is the league. It takes memory for one match at a time, a tally for each warrior and the table.
+/// Runs a league and returns its table: every pair of warriors plays a match of the plan's rounds.
+///
+/// The pairs are in load order of the first warrior, then of the second one, and the first warrior of a pair is the
+/// earlier one in load order. Each match begins with the plan's seed. At most 65,536 warriors are allowed; fewer than two
+/// play no match. A plan with a fixed position requires two warriors. Allocates memory for one match at a time, a tally
+/// for each warrior, and the table.
+///
+/// # Errors
+///
+/// Returns the first error of a match, or an error if a warrior's points don't fit 64 bits at the end of a match or of
+/// the league. `OutOfMemory` is returned if an allocation fails.
 pub fn league(alloc: Global, setup: &Setup, warriors: &[Warrior]) -> Result<Table, MatchFault>
     requires few { length warriors.now ≤ most_of_league }
     requires fixed { FitsTwo setup.now.params (length warriors.now) setup.now.plan.fixed }

@@ -1,4 +1,4 @@
-//! Where the warriors of a battle are laid.
+//! The starting positions of the warriors of a battle.
 ghost use Rattle.std.specs.Prelude.{◌≡◌, ◌+◌, ◌-◌, ◌*◌, ◌%◌, ◌<◌, ◌≤◌, ◌∷◌, All, length, IfOk, IfErr, IfSome};
 ghost use Rattle.mars_match.specs.Placement.{drawn as spec_drawn, seed_after, draws, spread, exchanged, starts_of, next_seed, place_fault, IsSpaced};
 ghost use Rattle.mars_core.specs.Limits.{most_warriors};
@@ -8,24 +8,24 @@ use mars_cell::Params;
 use std::alloc::Global;
 use thiserror::Error;
 
-/// The greatest seed; the least is 1.
+/// The maximum seed; the minimum is 1.
 pub const GREATEST_SEED: u32 = 2_147_483_646;
 
-/// Why warriors can't be placed: the first that applies. It is displayed as its number and name.
+/// The reason why warriors can't be placed, in the order of the checks. It is displayed as its number and name.
 #[derive(Clone, Copy, Debug, PartialEq, Eq, Error)]
 pub enum PlaceFault {
-    /// The warriors' distances together are more than the core.
+    /// The minimum distances of the warriors add up to more than the core size.
     #[error("1 NoRoom")]
     NoRoom,
     /// The seed isn't from 1 to 2147483646.
     #[error("2 BadSeed")]
     BadSeed,
-    /// A growth was refused.
+    /// An allocation failed.
     #[error("3 OutOfMemory")]
     OutOfMemory,
 }
 
-/// One draw of the generator of Park and Miller.
+/// Draws from the generator of Park and Miller. The result is both the drawn number and the new seed.
 #[tactic(auto, unfolding(crate::specs::Placement::drawn))]
 fn drawn(seed: u32) -> u32
     ensures { result ≡ spec_drawn seed }
@@ -33,7 +33,7 @@ fn drawn(seed: u32) -> u32
     (16807 * u64::from(seed) % 2_147_483_647) as u32
 }
 
-/// Sets each start but start 0 to a draw modulo `room`. Gives the seed that is left.
+/// Sets each start except start 0 to a draw modulo `room`, and returns the seed that is left.
 fn draw_values(starts: &mut [u32], room: u32, seed: u32) -> u32
     requires room { 1 ≤ room }
     requires some { 1 ≤ length starts.old }
@@ -49,7 +49,7 @@ fn draw_values(starts: &mut [u32], room: u32, seed: u32) -> u32
     state
 }
 
-/// Adds i times the distance to start i.
+/// Adds `i` times the distance to start `i`.
 fn spread(starts: &mut [u32], distance: u32)
     requires few { length starts.old ≤ most_warriors }
     requires distance { length starts.old * distance ≤ largest_core }
@@ -61,7 +61,8 @@ fn spread(starts: &mut [u32], distance: u32)
     }
 }
 
-/// Exchanges each start from the last down to start 2 with a drawn one, which isn't start 0. Gives the seed that is left.
+/// Exchanges each start, from the last one down to start 2, with a drawn one other than start 0, and returns the seed
+/// that is left.
 fn exchange(starts: &mut [u32], seed: u32) -> u32
     ensures starts { starts.new ≡ exchanged (length starts.old - 2) seed starts.old }
     ensures seed { result ≡ seed_after (length starts.old - 2) seed }
@@ -74,8 +75,9 @@ fn exchange(starts: &mut [u32], seed: u32) -> u32
     state
 }
 
-/// Places as many warriors as there are starts, where there is room for them. Gives the seed that is left. It takes no
-/// memory.
+/// Places one warrior for each item of `starts`, for which there must be room, and returns the seed that is left.
+///
+/// Doesn't allocate.
 pub fn place_all(params: &Params, seed: u32, starts: &mut [u32]) -> u32
     requires some { 1 ≤ length starts.old }
     requires few { length starts.old ≤ most_warriors }
@@ -93,7 +95,7 @@ pub fn place_all(params: &Params, seed: u32, starts: &mut [u32]) -> u32
     exchange(starts, seed)
 }
 
-/// The first reason not to place so many warriors, but for memory.
+/// Returns the first error of placing warriors, except for `OutOfMemory`.
 pub fn find_fault(params: &Params, warriors: u32, seed: u32) -> Option<PlaceFault>
     requires { warriors ≤ most_warriors }
     ensures { result ≡ place_fault params.now warriors seed }
@@ -108,7 +110,13 @@ pub fn find_fault(params: &Params, warriors: u32, seed: u32) -> Option<PlaceFaul
     None
 }
 
-/// The starts of 1 to 16 warriors, in load order, and the seed for the next round; or the first fault.
+/// Returns the starts of 1 to 16 warriors, in load order, and the seed for the next round.
+///
+/// # Errors
+///
+/// - `NoRoom` if the minimum distances of the warriors add up to more than the core size
+/// - `BadSeed` if the seed isn't from 1 to 2147483646
+/// - `OutOfMemory` if the allocation fails
 pub fn place(
     alloc: Global,
     params: &Params,
@@ -118,15 +126,15 @@ pub fn place(
     requires some { 1 ≤ warriors }
     requires few { warriors ≤ most_warriors }
 
-    // Refused exactly for the defined fault, or for memory.
+    // It fails exactly with the defined error, or if memory runs out.
     ensures fault { IfSome (place_fault params.now warriors seed) (λ fault. result ≡ Err fault) }
     ensures only_memory { place_fault params.now warriors seed ≡ None → IfErr result (λ fault. fault ≡ PlaceFault.OutOfMemory) }
 
-    // Else the defined starts and the seed that is left.
+    // Otherwise it returns the defined starts and the seed that is left.
     ensures starts { IfOk result (λ placed. placed.0.items ≡ starts_of params.now warriors seed) }
     ensures seed { IfOk result (λ placed. placed.1 ≡ next_seed warriors seed) }
 
-    // What callers need of them.
+    // The properties of the starts that callers need.
     ensures many { IfOk result (λ placed. length placed.0.items ≡ warriors) }
     ensures spaced { IfOk result (λ placed. IsSpaced params.now.core_size params.now.distance placed.0.items) }
 {

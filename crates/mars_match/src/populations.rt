@@ -1,4 +1,4 @@
-//! Populations, in which each candidate fights a match with each opponent.
+//! Populations, in which each candidate plays a match with each opponent.
 ghost use Rattle.std.specs.Prelude.{◌≡◌, IfOk, MatchOption, Vec, false, length, true, vec_len};
 ghost use Rattle.std.specs.Global.{Global};
 ghost use Rattle.mars_match.specs.Answers.{IsAnswer};
@@ -17,7 +17,7 @@ use mars_cell::Warrior;
 use redcode_text::ExprFault;
 use std::alloc::Global;
 
-/// The sum of no matches.
+/// Returns the sum of no matches.
 fn no_matches() -> Sum
     ensures { result ≡ spec_no_matches }
 {
@@ -29,7 +29,7 @@ fn no_matches() -> Sum
     }
 }
 
-/// A sum with the tally of one match more; none where that doesn't fit.
+/// Adds the tally of a match to a sum, or returns `None` if the result doesn't fit 64 bits.
 fn added(sum: Sum, tally: Tally) -> Option<Sum>
     requires { IsOf most_rounds tally }
     ensures { MatchOption result (fits (summed sum tally) ≡ false) (λ more. (fits (summed sum tally) ≡ true) × (more ≡ summed sum tally)) }
@@ -46,7 +46,7 @@ fn added(sum: Sum, tally: Tally) -> Option<Sum>
 }
 
 impl Matches {
-    /// What a candidate gets in its matches with the opponents.
+    /// Plays the matches of a candidate with the opponents, and returns its sum.
     fn sum_of(
         &mut self,
         setup: &Setup,
@@ -76,9 +76,15 @@ impl Matches {
     }
 }
 
-/// What each candidate gets in its matches with all opponents, each of the plan's rounds and begun with its seed, in which the candidate
-/// is the first; a fixed position is that of the opponent. Where a match can't be held, or a sum doesn't fit 64 bits, it answers the first
-/// fault, candidate by candidate. It takes memory for one match at a time, and a sum for each candidate.
+/// Plays a match of each candidate with each opponent, and returns the sum of each candidate's results.
+///
+/// Each match has the plan's rounds and begins with the plan's seed. The candidate is the first warrior, and a fixed
+/// position is that of the opponent. Allocates memory for one match at a time, and a sum for each candidate.
+///
+/// # Errors
+///
+/// Returns the first error of a match, or an error if a sum doesn't fit 64 bits, candidate by candidate. `OutOfMemory` is
+/// returned if an allocation fails.
 pub fn population(
     alloc: Global,
     setup: &Setup,

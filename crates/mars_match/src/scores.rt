@@ -1,4 +1,4 @@
-//! What each survivor of a round gets.
+//! The points of each survivor of a round.
 ghost use Rattle.std.specs.Prelude.{◌≡◌, ◌≤◌, ◌≢◌, length, IfErr};
 ghost use Rattle.mars_core.specs.Limits.{most_warriors};
 ghost use Rattle.mars_match.specs.Battles.{lives};
@@ -9,10 +9,10 @@ use crate::fault::MatchFault;
 use mars_core::{Battle, MOST_WARRIORS};
 use redcode_asm::Formula;
 
-/// What each survivor gets, by how many there are, where it was worked out: that of one survivor is the first.
+/// The points of each survivor, by the number of survivors, if they were computed. The item 0 is for one survivor.
 pub type Scores = [Option<i64>; MOST_WARRIORS];
 
-/// What each survivor of a battle gets, worked out once for each number of survivors.
+/// Returns the points of each survivor of a battle. They are computed once for each number of survivors.
 pub fn score_round(
     formula: &Formula,
     battle: &Battle,

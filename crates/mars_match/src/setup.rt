@@ -1,4 +1,4 @@
-//! How matches are held, and where the warriors of a round are laid: drawn, or at a fixed position.
+//! The setup of matches, and the starting positions of the warriors of a round: drawn, or at a fixed position.
 ghost use Rattle.std.specs.Prelude.{◌≡◌, ◌≤◌, ℕ, length, IfOk, IfSome, MatchResult, Ok, Err, Vec, vec_len};
 ghost use Rattle.std.specs.Global.{Global};
 ghost use Rattle.mars_core.specs.Limits.{most_warriors};
@@ -12,21 +12,21 @@ use mars_cell::Params;
 use redcode_asm::Formula;
 use std::alloc::Global;
 
-/// What a match consists of.
+/// The plan of a match.
 #[derive(Drop)]
 pub struct Plan {
-    /// How many rounds, or for each pair of a league how many.
+    /// The number of rounds of a match, which in a league is a match of one pair.
     pub rounds: u32,
     /// The seed of the first round, from 1 to 2147483646.
     pub seed: u32,
-    /// Where the second of two warriors starts in each round, in place of a drawn position: from the least distance to the
-    /// core size less it.
+    /// The start of the second of two warriors in each round, instead of a drawn position. It is at least the minimum
+    /// distance, and at most the core size minus the minimum distance.
     pub fixed: Option<u32>,
-    /// What each survivor of a round gets.
+    /// The formula for the points of each survivor of a round.
     pub formula: Formula,
 }
 
-/// How a match or a league is held: the parameters of its battles, and its plan.
+/// The setup of a match or a league: the parameters of its battles, and its plan.
 #[derive(Drop)]
 pub struct Setup {
     pub params: Params,
@@ -34,7 +34,7 @@ pub struct Setup {
 }
 
 impl Setup {
-    /// The starts of a round. Gives the seed that is left.
+    /// Sets the starts of a round, and returns the seed that is left.
     pub(crate) fn place_round(&self, seed: u32, starts: &mut [u32]) -> Result<u32, MatchFault>
         requires some { 1 ≤ length starts.old }
         requires few { length starts.old ≤ most_warriors }
@@ -53,8 +53,14 @@ impl Setup {
         Ok(place_all(&self.params, seed, starts))
     }
 
-    /// The starts of a round of so many warriors in load order, and the seed that is left: drawn from the seed, or with the
-    /// fixed position of the second of two, which leaves the seed as it is. The faults are those of `place`.
+    /// Returns the starts of the warriors of a round, in load order, and the seed that is left.
+    ///
+    /// The starts are drawn from the seed. If the plan has a fixed position, it is the start of the second of two
+    /// warriors, and the seed is returned unchanged.
+    ///
+    /// # Errors
+    ///
+    /// Returns the errors of `place`.
     pub fn round_starts(
         &self,
         alloc: Global,

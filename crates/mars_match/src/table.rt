@@ -1,4 +1,4 @@
-//! Tables of results, and the sums of rounds that they are made of.
+//! Tables of results, and the tallies that they are made of.
 ghost use Rattle.std.specs.Prelude.{◌≡◌, ◌+◌, ◌<◌, ◌≤◌, ◌%◌, All, length};
 ghost use Rattle.mars_cell.specs.Warriors.{IsName};
 ghost use Rattle.mars_match.specs.Battles.{in_load_order};
@@ -9,23 +9,23 @@ use arrayvec::ArrayString;
 use mars_core::Battle;
 use std::marker::Model;
 
-/// What a warrior got in all its matches.
+/// The results of a warrior in all its matches.
 #[derive(Clone, Copy, Debug, PartialEq, Eq)]
 pub struct Sum {
     /// The sum of the scores.
     pub points: i64,
-    /// How many rounds it survived alone.
+    /// The number of rounds in which it was the only survivor.
     pub wins: u64,
-    /// How many it survived with others.
+    /// The number of rounds in which it survived with others.
     pub ties: u64,
-    /// How many it didn't survive.
+    /// The number of rounds in which it didn't survive.
     pub losses: u64,
 }
 
-/// How one warrior fared in a match or a league.
+/// The results of one warrior in a match or a league.
 #[derive(Debug, Drop)]
 pub struct Row {
-    // In place, so that a table takes memory once.
+    // Stored in place, so that a table needs one allocation.
     name: ArrayString<60>,
     author: ArrayString<60>,
     sum: Sum,
@@ -56,7 +56,7 @@ impl Model for Row {
 }
 
 impl Row {
-    /// A row of a warrior's name and author, of at most 60 bytes from 32 to 126 each, and what it got.
+    /// Returns a row with the name and the author of a warrior, each of at most 60 bytes from 32 to 126, and its results.
     pub fn new(name: &str, author: &str, sum: Sum) -> Row
         requires name { IsName name.now }
         requires author { IsName author.now }
@@ -79,7 +79,7 @@ impl Row {
         }
     }
 
-    /// The name: at most 60 bytes, each from 32 to 126.
+    /// Returns the name: at most 60 bytes, each from 32 to 126.
     pub fn name(&self) -> &str
         ensures value { result.now ≡ self.now.name }
         ensures is_name { IsName self.now.name }
@@ -87,7 +87,7 @@ impl Row {
         self.name.as_str()
     }
 
-    /// The author's name: at most 60 bytes, each from 32 to 126.
+    /// Returns the author's name: at most 60 bytes, each from 32 to 126.
     pub fn author(&self) -> &str
         ensures value { result.now ≡ self.now.author }
         ensures is_name { IsName self.now.author }
@@ -95,28 +95,28 @@ impl Row {
         self.author.as_str()
     }
 
-    /// The sum of the scores.
+    /// Returns the sum of the scores.
     pub fn points(&self) -> i64
         ensures { result ≡ self.now.points }
     {
         self.sum.points
     }
 
-    /// How often it survived alone.
+    /// Returns the number of rounds in which it was the only survivor.
     pub fn wins(&self) -> u64
         ensures { result ≡ self.now.wins }
     {
         self.sum.wins
     }
 
-    /// How often it survived with others.
+    /// Returns the number of rounds in which it survived with others.
     pub fn ties(&self) -> u64
         ensures { result ≡ self.now.ties }
     {
         self.sum.ties
     }
 
-    /// How often it didn't survive.
+    /// Returns the number of rounds in which it didn't survive.
     pub fn losses(&self) -> u64
         ensures { result ≡ self.now.losses }
     {
@@ -124,13 +124,14 @@ impl Row {
     }
 }
 
-/// How each warrior of a match or a league fared, in load order.
+/// The results of each warrior of a match or a league, in load order.
 #[derive(Debug, Drop)]
 pub struct Table {
     pub rows: Vec<Row>,
 }
 
-/// The sums of one warrior.
+/// The results of one warrior so far. The points have 128 bits, so that they stay exact even if they don't fit 64 bits
+/// before the end.
 #[derive(Clone, Copy)]
 pub struct Tally {
     pub points: i128,
@@ -139,7 +140,7 @@ pub struct Tally {
     pub losses: u64,
 }
 
-/// A tally of no rounds.
+/// Returns a tally of no rounds.
 pub fn no_rounds() -> Tally
     ensures sums { result ≡ spec_no_rounds }
     ensures bounds { IsOf 0 result }
@@ -152,7 +153,8 @@ pub fn no_rounds() -> Tally
     }
 }
 
-/// The tally with one more round: whether its warrior lived, and if so whether alone, and what each survivor gets.
+/// Returns the tally after one more round. `lived` is true if the warrior survived, `is_alone` if it was the only
+/// survivor, and `score` has the points of each survivor.
 fn with_round(tally: Tally, lived: bool, is_alone: bool, score: i64, round: u32) -> Tally
     requires { IsOf round tally }
     ensures sums { result ≡ added_if lived is_alone score tally }
@@ -180,7 +182,8 @@ fn with_round(tally: Tally, lived: bool, is_alone: bool, score: i64, round: u32)
     }
 }
 
-/// Adds a round to the tally of each warrior, in load order: its battle, which is over, and the score of each survivor.
+/// Adds a round to the tally of each warrior, in load order. `battle` is the battle of the round, which is over, and
+/// `score` has the points of each survivor.
 pub fn add_round(tallies: &mut [Tally], battle: &Battle, round: u32, score: i64)
     requires many { length tallies.old ≡ length battle.now.queues }
     requires some { 1 ≤ length tallies.old }

@@ -1,4 +1,4 @@
-//! The worked cases of `mars_match`, by its calls.
+//! Test cases of `mars_match`, through its public calls.
 #![tactic(auto)]
 
 #[cfg(test)]

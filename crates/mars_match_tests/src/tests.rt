@@ -1,4 +1,4 @@
-//! The worked cases, by calls.
+//! The test cases.
 ghost use Rattle.std.specs.Prelude.{◌≡◌, ◌-◌, ◌≤◌, IfSome, IsTrue, Some};
 ghost use Rattle.mars_cell.specs.Warriors.{IsName};
 
@@ -20,13 +20,13 @@ use std::io::{ErrorKind, Write};
 use std::process::Abort;
 use std::test::Fail;
 
-/// The cell of a warrior that lives on.
+/// The cell of a warrior that survives.
 const STAY: &str = "JMP.B $0, $0";
 
-/// The cell of a warrior that dies at its first turn.
+/// The cell of a warrior that dies in its first turn.
 const DEAD: &str = "DAT.F $0, $0";
 
-/// Parameters of a core size and a least distance.
+/// Parameters with this core size and minimum distance.
 fn sizes(core_size: u32, distance: u32) -> Result<Params, Fail> {
     let params = Params::new(core_size, 8, 10, core_size, core_size, 1, distance)
         .ok()
@@ -34,13 +34,13 @@ fn sizes(core_size: u32, distance: u32) -> Result<Params, Fail> {
     Ok(params)
 }
 
-/// A writer that takes a few bytes at a time, and fails when it is full.
+/// A writer that accepts a few bytes at a time, and fails when it is full.
 #[derive(Drop)]
 struct Narrow {
     bytes: Vec<u8>,
     size: usize,
     room: usize,
-    /// Whether it takes no byte when it is full, in place of a fault.
+    /// Whether it accepts no byte when it is full, instead of returning an error.
     idles: bool,
 }
 
@@ -62,7 +62,7 @@ impl Write for Narrow {
     }
 }
 
-/// A writer with so much room.
+/// A writer that accepts `size` bytes at a time and `room` bytes in total.
 fn writer_of(alloc: Global, size: usize, room: usize, idles: bool) -> Narrow {
     Narrow {
         bytes: Vec::new(alloc),
@@ -72,13 +72,13 @@ fn writer_of(alloc: Global, size: usize, room: usize, idles: bool) -> Narrow {
     }
 }
 
-/// What a writer took of the results, and whether they were written.
+/// The bytes that a writer accepted of the results, and whether they were written.
 fn written(table: &Table, sorted: bool, mut writer: Narrow) -> (Vec<u8>, Result<(), WriteFault>) {
     let done = write_results(table, sorted, &mut writer);
     (writer.bytes, done)
 }
 
-/// A row of points, and of wins, ties and losses.
+/// A row with these points, wins, ties and losses.
 fn row(name: &str, author: &str, points: i64, counts: [u64; 3]) -> Row
     requires name { IsName name.now }
     requires author { IsName author.now }
@@ -131,7 +131,7 @@ fn one_cells(alloc: Global, core_size: u32, texts: &[&str]) -> Result<Vec<Warrio
     Ok(warriors)
 }
 
-/// Who survives a round.
+/// Whether each warrior survives a round.
 fn fought(
     alloc: Global,
     params: &Params,
@@ -145,10 +145,10 @@ fn fought(
     fight(alloc, params, warriors, starts, round)
 }
 
-/// One warrior more than there may be.
+/// One warrior more than the maximum.
 const TOO_MANY: [&str; 17] = [STAY; 17];
 
-/// Whether two warriors may meet at this position, or none is given.
+/// Whether a fixed position is allowed for two warriors, or none is given.
 fn fits_two(params: &Params, warriors: usize, fixed: Option<u32>) -> bool
     ensures { IsTrue result → IfSome fixed (λ position. (warriors ≡ 2) × (params.now.distance ≤ position) × (position ≤ params.now.core_size - params.now.distance)) }
 {
@@ -161,13 +161,13 @@ fn fits_two(params: &Params, warriors: usize, fixed: Option<u32>) -> bool
     }
 }
 
-/// Rounds, seed, fixed position and formula.
+/// The rounds, the seed, the fixed position and the formula.
 type Plans = (u32, u32, Option<u32>, &'static str);
 
-/// What a match or a league comes to: the lines of its results behind their heading, in load order, or its fault.
+/// The result of a match or a league: the lines after the heading, in load order, or the error.
 type Outcome = Result<&'static str, MatchFault>;
 
-/// The setup of these parameters and this plan, where there is memory.
+/// The setup with these parameters and this plan, if there is memory for it.
 fn setup_of(alloc: Global, params: &Params, plans: Plans) -> Option<Setup>
     ensures { IfSome result (λ setup. (setup.params ≡ params.now) × (setup.plan.fixed ≡ plans.entry.2)) }
 {
@@ -184,7 +184,7 @@ fn setup_of(alloc: Global, params: &Params, plans: Plans) -> Option<Setup>
     })
 }
 
-/// The table of a match, or its fault.
+/// The table of a match, or its error.
 fn held(
     alloc: Global,
     params: &Params,
@@ -204,7 +204,7 @@ const HEADING: &str = "  points   wins   ties losses  warrior\n";
 
 const BY_DEFAULT: &str = "(W*W-1)/S";
 
-/// The results of a table are the heading and these lines.
+/// Checks that the results of a table are the heading and these lines.
 fn check_lines(rt: &impl Abort, alloc: Global, table: &Table, lines: &str) {
     let (text, done) = written(table, false, writer_of(alloc, 1000, 1000, false));
     assert_eq!(rt; done, Ok(()));
@@ -213,7 +213,7 @@ fn check_lines(rt: &impl Abort, alloc: Global, table: &Table, lines: &str) {
     assert_eq!(rt; rest, lines.as_bytes());
 }
 
-/// A match or a league came to this.
+/// Checks the result of a match or a league.
 fn check_outcome(
     rt: &impl Abort,
     alloc: Global,
@@ -227,10 +227,10 @@ fn check_outcome(
     }
 }
 
-/// One round with the first seed, anywhere.
+/// One round with the first seed, without a fixed position.
 const ONE_ROUND: Plans = (1, 1, None, BY_DEFAULT);
 
-/// The imp and the one that stays.
+/// The imp and the warrior that survives.
 fn imp_and_stay(alloc: Global) -> Result<Vec<Warrior>, Fail> {
     let mut warriors = Vec::new(alloc);
     warriors.push(one_cell(alloc, "Imp", "Dewdney", 8000, "MOV.I $0, $1")?)?;

@@ -1,4 +1,4 @@
--- One place after another, and each time the oldest forgotten: all are appended, and then those that are too many forgotten.
+-- Appending places one by one and evicting after each gives the same as appending all of them and evicting once.
 use Rattle.std.proofs.Common.{◌≡◌, ℕ, zero, suc, ◌<◌, ◌≤◌, Bool, true, false, List, [], ◌∷◌, length, take, Option, None, Some, Ok, refl, ap, ◌∙◌, arith, nat_lt}
 use Rattle.std.specs.Prelude.{◌||◌}
 use Rattle.std.proofs.lemmas.Bool.{ltb-true, ltb-false, lt-ltb}
@@ -49,13 +49,13 @@ go_on_twice : (h : History) (m : Retention) (s t : State) → go_on (go_on (reco
 go_on_twice h m s t =
     rw (left_again m.most (record { state = s; mark = false }) (h.present ∷ h.before), noted_again m.most m.forgotten (h.present ∷ h.before)) refl
 
--- from a first place on
+-- Appending at least one place: evicting after each append gives the same as evicting once at the end.
 pub all_kept : (h : History) (m : Retention) (s : State) (ss : List State)
     → go_on_all (go_on (record { history = h; retention = m }) s) ss ≡ record { history = retained m.most (append_all (append h s) ss); retention = retention_after m (append_all (append h s) ss) }
 all_kept h m s [] = refl
 all_kept h m s (t ∷ ss) = ap (λ (k : Kept). go_on_all k ss) (go_on_twice h m s t) ∙ all_kept (append h s) m t ss
 
--- a command that has room
+-- A command for which there is room has the specified outcome.
 pub command_made : (m n : Retention) (h end : History) (s : State) (ss : List State) (o : Option Refusal) (one all : Kept) (standing : Standing)
     → o ≡ None → one ≡ go_on (record { history = cut (marked h); retention = m }) s → all ≡ go_on_all one ss → end ≡ marked all.history → n ≡ all.retention → standing ≡ standing_of end
     → appended m h (s, ss) o ≡ record { history = end; retention = n; reply = Ok standing }

@@ -1,4 +1,5 @@
--- What it means that turns never fall along a tape, and rise by at most one a place: which of them goto finds.
+-- Turns never fall along a tape, and rise by at most one from place to place. So goto finds exactly the numbers of turns
+-- between those of the first and of the last place.
 use Rattle.std.proofs.Common.{◌≡◌, ℕ, ◌+◌, ◌<◌, ◌≤◌, ◌≢◌, inl, inr, Bool, true, false, List, [], ◌∷◌, Option, Some, None, refl, ap, sym, ◌∙◌, arith, nat_eq, eq-eqb, ne_eqb, if◌then◌else◌}
 use Rattle.std.specs.Prelude.{IsSome, is_some, ◌↔◌, nat_le, reverse, ◌++◌}
 use Rattle.std.proofs.lemmas.Bool.{eqb-true, eqb-false, leb-true, leb-false}
@@ -10,12 +11,12 @@ use Rattle.mars_session.specs.Laws.{RisesAlong, TurnsAndCyclesRise, GotoBetween}
 use Rattle.mars_session.proofs.Walking.{last_turns_rewound, rewound_first}
 use Rattle.mars_session.proofs.Places.{places_rewound}
 
--- one place on, the turns are as many or one more
+-- From one place to the next, the number of turns stays or rises by one.
 pub one_turn : (s t : State) → Follows s t → (s.turns ≤ t.turns) × (t.turns ≤ s.turns + 1)
 one_turn s t (inl h) = let more : t.turns ≡ s.turns + 1 = ap (λ (x : State). x.turns) h.1 ∙ turns-turn_of s in (omega (arith, more), omega (arith, more))
 one_turn s t (inr h) = let same : t.turns ≡ s.turns = ap (λ (x : State). x.turns) h.2 ∙ turns-edited s h.0 in (omega (arith, same), omega (arith, same))
 
--- and so are the cycles
+-- From one place to the next, the number of cycles stays or rises by one.
 pub one_cycle : (s t : State) → Follows s t → (s.cycle ≤ t.cycle) × (t.cycle ≤ s.cycle + 1)
 one_cycle s t (inl h) = rw h.1 (cycle-turn_of s)
 one_cycle s t (inr h) = rw h.2 (cycle-edited s h.0)
@@ -24,22 +25,22 @@ rises_from : (number : State → ℕ) → ((s t : State) → Follows s t → (nu
 rises_from number one s [] a = tt
 rises_from number one s (p ∷ ps) a = ((one s p.state a.0).0, (one s p.state a.0).1, rises_from number one p.state ps a.1)
 
--- the turns from a state on
+-- The turns rise from the state `s` along the places `ps`.
 abbrev Rise : State → List Place → Type 0
 Rise s ps = RisesFrom (λ (t : State). t.turns) s ps
 
--- the places in one list follow one another too
+-- The places of the rewound history follow one another too.
 pub AllFollow-rewound : (before : List Place) (p : Place) (after : List Place) → FollowsAll before p.state → AllFollow p.state after
     → AllFollow (rewound_from before p after).present.state (rewound_from before p after).after
 AllFollow-rewound [] p after b a = a
 AllFollow-rewound (q ∷ before) p after b a = AllFollow-rewound before q (p ∷ after) b.1 (b.0, a)
 
--- they rise from each place on
+-- If the turns rise from the first place, they rise from each place on.
 rises_here : (before : List Place) (p : Place) (after : List Place) → Rise (rewound_from before p after).present.state (rewound_from before p after).after → Rise p.state after
 rises_here [] p after r = r
 rises_here (b ∷ before) p after r = (rises_here before b (p ∷ after) r).2
 
--- so no place before one with fewer than t turns is the first after t turns
+-- If the place `p` has fewer than `t` turns, no place before it is the first one with `t` turns.
 none_before_from : (t : ℕ) (before : List Place) (p : Place) (after : List Place) → p.state.turns < t → Rise (rewound_from before p after).present.state (rewound_from before p after).after
     → first_at_turn t (rewound_from before p after) ≡ first_at_turn_from t before p after
 none_before_from t [] p after l r = refl
@@ -51,7 +52,7 @@ none_before_from t (b ∷ before) p after l r =
 pub none_before : (t : ℕ) (h : History) → TurnsRise h → h.present.state.turns < t → goto t h ≡ first_at_turn t h
 none_before t h r l = none_before_from t h.before h.present h.after l r
 
--- the last place has at least as many turns
+-- The last place has at least as many turns as `p`.
 last_above : (p : Place) (after : List Place) → Rise p.state after → p.state.turns ≤ (last_place p after).state.turns
 last_above p [] r = omega arith
 last_above p (q ∷ after) r = omega (arith, r.0, last_above q after r.2)
@@ -64,7 +65,7 @@ either : (P : Type 0) (b : Bool) (k : History) (x : Option History) → IsSome (
 either P true k x some here there = here refl
 either P false k x some here there = there refl some
 
--- between them each number of turns is met
+-- Each number of turns between those of `p` and of the last place occurs.
 met : (t : ℕ) (before : List Place) (p : Place) (after : List Place) → Rise p.state after → p.state.turns ≤ t → t ≤ (last_place p after).state.turns → IsSome (first_at_turn_from t before p after)
 met t before p [] r low high = let e : p.state.turns ≡ t = omega arith in rw (eq-eqb p.state.turns t e) refl
 met t before p (q ∷ after) r low high =
@@ -72,7 +73,7 @@ met t before p (q ∷ after) r low high =
     (λ e. let differs : p.state.turns ≢ t = eqb-false p.state.turns t e in
     met t (p ∷ before) q after r.2 (omega (arith, differs, r.1)) high)
 
--- what is met lies between them
+-- Each number of turns that occurs is between those of `p` and of the last place.
 met_between : (t : ℕ) (before : List Place) (p : Place) (after : List Place) → Rise p.state after → IsSome (first_at_turn_from t before p after) → (p.state.turns ≤ t) × (t ≤ (last_place p after).state.turns)
 met_between t before p [] r some =
     either ((p.state.turns ≤ t) × (t ≤ p.state.turns)) (nat_eq p.state.turns t) (record { before = before; present = p; after = [] }) None some
@@ -100,12 +101,12 @@ none_unless : (P : Type 0) (x : Option History) → (IsSome x → P) → (P → 
 none_unless P None some never = refl
 none_unless P (Some k) some never = absurd (never (some refl))
 
--- nothing is met past the last place
+-- No place has more turns than the last one.
 pub met_past : (t last : ℕ) (h : History) → TurnsRise h → last ≡ last_turns h → nat_le t last ≡ false → nat_le t last ≡ is_some (goto t h)
 met_past t last h rise e past =
     past ∙ sym (none_unless (t ≤ last_turns h) (goto t h) (λ some. ((turns_between h t rise).0 some).1) (λ l. absurd (omega (arith, leb-false t last past, e, l))))
 
--- up to it what isn't before the first place is met
+-- Up to the turns of the last place, each number that is not below the turns of the first place occurs.
 pub met_up_to : (t first last : ℕ) (h : History) → TurnsRise h → first ≡ first_turns h → last ≡ last_turns h → t ≤ last → nat_le first t ≡ is_some (goto t h)
 met_up_to t first last h rise e f up_to = by_first (nat_le first t) refl
   where

@@ -1,4 +1,4 @@
--- Whole copies as a history.
+-- A tape of whole copies, as a history.
 use Rattle.std.proofs.lemmas.Bool.{eqb-true, eqb-false}
 use Rattle.std.proofs.Math.ListN.{length-set}
 use Rattle.std.proofs.Common.{Bool, nat_eq, ◌≡◌, ◌≢◌, ℕ, zero, suc, ◌+◌, ◌-◌, ◌<◌, ◌≤◌, true, false, List, ◌++◌, length, get_or, set, take, drop, refl, ap, sym, ◌∙◌, arith, add-one}
@@ -23,7 +23,7 @@ whole_position ks at len = before_length ks at
 pub whole_following : (ks : List Snapshot) (at len : ℕ) → following (whole_history ks at len) ≡ len - (at + 1)
 whole_following ks at len = after_length ks (at + 1) (len - (at + 1))
 
--- the place before
+-- Moving the index back by one is one step back in the history.
 pub whole_back : (ks : List Snapshot) (at len : ℕ) → 0 < at → at < len → whole_history ks (at - 1) len ≡ back (whole_history ks at len)
 whole_back ks zero len l m = absurd (omega arith)
 whole_back ks (suc n) len l m =
@@ -31,7 +31,7 @@ whole_back ks (suc n) len l m =
     let more : len - (n + 1) ≡ suc (len - (suc n + 1)) = omega arith in
     rw (e, more, add-one n) refl
 
--- copies that agree make the same places
+-- Lists of copies that agree make the same places.
 before_same : (ks js : List Snapshot) (n : ℕ) → ((k : ℕ) → k < n → snapshot_at js k ≡ snapshot_at ks k) → before_of js n ≡ before_of ks n
 before_same ks js zero h = refl
 before_same ks js (suc n) h =
@@ -52,7 +52,7 @@ whole_same ks js at len l h =
 pub whole_grown : (ks js : List Snapshot) (at len : ℕ) → at < len → len ≤ length ks → IsGrown ks js at → whole_history js at len ≡ whole_history ks at len
 whole_grown ks js at len l m g = whole_same ks js at len l (λ k n. g.kept k (omega arith))
 
--- the present copy is marked
+-- Marking the copy at the index marks the present place.
 pub whole_marked : (ks : List Snapshot) (at len : ℕ) → at < length ks → whole_history (set ks at (record { battle = (snapshot_at ks at).battle; mark = true })) at len ≡ marked (whole_history ks at len)
 whole_marked ks at len l =
     let kept : Snapshot = record { battle = (snapshot_at ks at).battle; mark = true } in
@@ -62,7 +62,7 @@ whole_marked ks at len l =
       after_same ks (set ks at kept) (at + 1) (len - (at + 1)) (λ k m n. get_or-set_other ks at k kept nowhere (omega arith)),
     ) refl
 
--- one copy more is the present place
+-- Writing the copy after the present one appends a place, which is the present one then.
 pub whole_append : (ks : List Snapshot) (at len : ℕ) (s : State) → at + 1 < length ks
     → whole_history (set ks (at + 1) (record { battle = s; mark = false })) (at + 1) (at + 1 + 1) ≡ append (whole_history ks at len) s
 whole_append ks at len s l =
@@ -77,21 +77,21 @@ whole_forward ks at len l =
     let more : len - (at + 1) ≡ suc (len - (at + 1 + 1)) = omega arith in
     rw (more, add-one at) refl
 
--- the element after a front part is written
+-- Writing the first element after a front part, as an update of the whole list.
 pub next_written : (front back : List Snapshot) (x : Snapshot) (n : ℕ) → length front ≡ n → front ++ set back 0 x ≡ set (front ++ back) n x
 next_written front back x n e =
     let none : n - n ≡ 0 = omega arith in
     sym (set-append_right front back n n x e (omega arith) ∙ ap (λ k. front ++ set back k x) none)
 
--- a copy that was read, of the front part
+-- A copy that was read from the front part is a copy of the whole list.
 pub read_of_front : (front back : List Snapshot) (x : Snapshot) (at : ℕ) → at < length front → x ≡ get_or front at x → x ≡ snapshot_at (front ++ back) at
 read_of_front front back x at l e = get_or_read front at x l e nowhere ∙ sym (get_or_append_left front back nowhere at l)
 
--- a slice that was lent out of a Vec comes back as it was left
+-- A slice that was borrowed from a Vec returns to it as it was left.
 pub refilled : (n : ℕ) (xs ys : List Snapshot) → length ys ≡ n → take n (ys ++ drop (length ys) xs) ≡ ys
 refilled n xs ys e = take_at ys (drop (length ys) xs) n e
 
--- the copy after the present one was made the present one, and then changed
+-- The copy after the present one was overwritten by the present one, and then changed.
 pub changed_on : (n : ℕ) (items new : List Snapshot) (at : ℕ) (s t battle : State) (kept : Snapshot) → at + 1 < length items → length new ≡ n
     → new ≡ set items (at + 1) (record { battle = s; mark = false })
     → kept ≡ get_or (take n (new ++ drop (length new) items)) (at + 1) kept → (kept.battle ≡ s → battle ≡ t)
@@ -110,7 +110,7 @@ shape_sym s t h = record { params = sym h.params; warriors = sym h.warriors }
 shape_trans : (s t u : State) → SameShape s t → SameShape t u → SameShape s u
 shape_trans s t u h k = record { params = h.params ∙ k.params; warriors = h.warriors ∙ k.warriors }
 
--- where one copy is made again, each has the shape that all had
+-- If one copy is overwritten by one of the same shape, each copy still has the shape that all had.
 shape_set : (ks : List Snapshot) (n i : ℕ) (x : Snapshot) (u : State) (b : Bool) → nat_eq i n ≡ b → n < length ks → SameShape x.battle u → SameShape (snapshot_at ks i).battle u
     → SameShape (snapshot_at (set ks n x) i).battle u
 shape_set ks n i x u true e l h k =
@@ -118,7 +118,7 @@ shape_set ks n i x u true e l h k =
     rw same (rw (get_or-set_same ks n x nowhere l) h)
 shape_set ks n i x u false e l h k = rw (get_or-set_other ks n i x nowhere (eqb-false i n e)) k
 
--- where the copy after the present one is made again, and the tape ends there, turns still rise by at most one
+-- If the copy after the present one is overwritten and becomes the last place, turns still rise by at most one.
 rises_set : (ks : List Snapshot) (at len : ℕ) (x : Snapshot) → IsWhole ks at len → at + 1 < length ks → (turns_at ks at ≤ x.battle.turns) × (x.battle.turns ≤ turns_at ks at + 1)
     → (i : ℕ) → i + 1 < at + 1 + 1 → (turns_at (set ks (at + 1) x) i ≤ turns_at (set ks (at + 1) x) (i + 1)) × (turns_at (set ks (at + 1) x) (i + 1) ≤ turns_at (set ks (at + 1) x) i + 1)
 rises_set ks at len x w l h i m = by_place (nat_eq i at) refl
@@ -137,7 +137,8 @@ rises_set ks at len x w l h i m = by_place (nat_eq i at) refl
         let one = w.rises i (omega (arith, differs, m, w.present)) in
         (omega (arith, here, next, one.0), omega (arith, here, next, one.1))
 
--- the tape stands at the copy after the present one, which has the same shape, and as many turns or one more
+-- The invariant holds if the tape moves on to the copy after the present one, which has the same shape, and as many turns or
+-- one more.
 pub whole_more : (ks : List Snapshot) (at len : ℕ) (s : State) → IsWhole ks at len → at + 1 < length ks → SameShape s (snapshot_at ks at).battle
     → (turns_at ks at ≤ s.turns) × (s.turns ≤ turns_at ks at + 1)
     → IsWhole (set ks (at + 1) (record { battle = s; mark = false })) (at + 1) (at + 1 + 1)

@@ -1,6 +1,6 @@
--- How many turns the ends of a tape of records have.
--- They are kept beside the list, and the invariant says so of the history that is seen. Each method says already which history it leaves, so one
--- lemma for each of back, forward, marked, cut and append keeps them; only forgetting looks at a record.
+-- The numbers of turns of the first and last place of a tape of records.
+-- They are stored beside the list, and the invariant relates them to the history. Each method already states the history after
+-- it, so one lemma for each of back, forward, marked, cut and append preserves them; only evicting reads a record.
 use Rattle.std.proofs.Common.{◌≡◌, ℕ, zero, suc, ◌+◌, ◌-◌, ◌<◌, ◌≤◌, Bool, true, false, List, [], ◌∷◌, ◌++◌, length, set, take, refl, ap, sym, ◌∙◌, arith, add-one, nat_lt, if◌then◌else◌}
 use Rattle.std.proofs.lemmas.List.{length_push}
 use Rattle.std.proofs.lemmas.Bool.{ltb-true, ltb-false}
@@ -16,7 +16,7 @@ use Rattle.mars_session.proofs.Rising.{leads_turns}
 use Rattle.mars_session.proofs.Stepping.{journal_back, journal_forward, journal_marked, journal_cut, journal_append, append_kept, dropped_here}
 use Rattle.mars_session.proofs.Walking.{rewound_back, rewound_forward, last_turns_rewound}
 
--- the state of the first place, whatever follows
+-- The state of the first place does not depend on the places that follow.
 first_state : (before : List Place) (p q : Place) (after other : List Place) → p.state ≡ q.state → (rewound_from before p after).present.state ≡ (rewound_from before q other).present.state
 first_state [] p q after other e = e
 first_state (b ∷ before) p q after other e = first_state before b b (p ∷ after) (q ∷ other) refl
@@ -25,7 +25,7 @@ last_state : (p q : Place) (after : List Place) → p.state ≡ q.state → (las
 last_state p q [] e = e
 last_state p q (a ∷ after) e = refl
 
--- moves keep both ends
+-- Moves preserve both ends.
 ends_moved : (h k : History) (f l : ℕ) → rewound k ≡ rewound h → HasEnds h f l → HasEnds k f l
 ends_moved h k f l e d = record {
   first = d.first ∙ ap (λ (x : History). x.present.state.turns) (sym e);
@@ -53,7 +53,7 @@ ends_append h t f l d = record {
   last = refl;
 }
 
--- so it is where they are seen as records
+-- The moves preserve both ends of a history that is stored as records.
 module _ (first : Bool) (es : List (Atom × Bool)) (at : ℕ) (s : State) (f l : ℕ) (ends : HasEnds (journal_history first es at s) f l) where
   pub journal_ends_back : 0 < at → IsJournal es at s → HasEnds (journal_history first es (at - 1) (reverted (entry_at es (at - 1)).0 s)) f l
   journal_ends_back k d = rw (journal_back first es at s k d) (ends_back (journal_history first es at s) f l ends)
@@ -70,7 +70,7 @@ module _ (first : Bool) (es : List (Atom × Bool)) (at : ℕ) (s : State) (f l :
   pub journal_ends_append : (t : State) (a : Atom) → length es ≡ at → Leads s a t → HasEnds (journal_history first (es ++ (a, false) ∷ []) (at + 1) t) f t.turns
   journal_ends_append t a e leads = rw (journal_append first es at s t a e leads) (ends_append (journal_history first es at s) t f l ends)
 
--- the state that n records led from
+-- The state from which `n` records led to `s`.
 abbrev first_of : List (Atom × Bool) → ℕ → State → State
 first_of es zero s = s
 first_of es (suc n) s = first_of es n (reverted (entry_at es n).0 s)
@@ -91,12 +91,12 @@ first_below es zero s d = omega arith
 first_below es (suc n) s d =
     let t : State = reverted (entry_at es n).0 s in omega (arith, first_below es n t d.1, (leads_turns t s (entry_at es n).0 d.0).0)
 
--- where the first record is dropped, the first place has its turns more
+-- If the first record is dropped, the turns of the first place rise by those of that record.
 dropped_first : (e : Atom × Bool) (es : List (Atom × Bool)) (n : ℕ) (s : State) → LeadHere (e ∷ es) (suc n) s → (first_of es n s).turns ≡ (first_of (e ∷ es) (suc n) s).turns + turns_of e.0.work
 dropped_first e es zero s d = ap (λ (t : State). t.turns) (sym (record_applied (reverted e.0 s) e.0 s d.0)) ∙ turns-applied e.0 (reverted e.0 s)
 dropped_first e es (suc n) s d = dropped_first e es n (reverted (entry_at es n).0 s) d.1
 
--- the present place has as many turns as the second place, or more
+-- The present place has at least as many turns as the second place.
 pub second_below : (first : Bool) (es : List (Atom × Bool)) (at : ℕ) (s : State) (f l : ℕ) → IsJournal es at s → length es ≡ at → HasEnds (journal_history first es at s) f l
     → f + turns_of (entry_at es 0).0.work ≤ s.turns
 second_below first [] zero s f l d e h = omega (arith, h.first)
@@ -122,7 +122,7 @@ full_ends first (x ∷ es) most at s t a f l d e m some leads h =
       last = rw none refl;
     })
 
--- one place more, where the first one is forgotten if there is no room
+-- Appending a place preserves the ends; the first place is evicted if the ring is full.
 pub pushed_ends : (first : Bool) (es : List (Atom × Bool)) (most at : ℕ) (s t : State) (a : Atom) (f l : ℕ) → IsRing es most at s → length es ≡ at → Leads s a t
     → HasEnds (journal_history first es at s) f l
     → HasEnds (journal_history (if nat_lt at most then first else (entry_at es 0).1) (keep_last most (es ++ (a, false) ∷ [])) (if nat_lt at most then at + 1 else at) t)

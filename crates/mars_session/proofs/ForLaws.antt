@@ -1,4 +1,4 @@
--- What laws and the crates above stand on, and no function of this crate.
+-- Lemmas that the laws and the crates above use, but no function of this crate.
 pub mod Arriving
 pub mod Few
 pub mod Keeping

@@ -1,4 +1,4 @@
--- One battle and the records between the last places, as a history.
+-- A tape of one battle and the records between the last places, as a history.
 use Rattle.std.proofs.Common.{◌≡◌, ℕ, ◌+◌, ◌-◌, ◌<◌, ◌≤◌, Bool, true, false, List, [], ◌∷◌, ◌++◌, length, set, take, Some, refl, ap, sym, ◌∙◌, arith, add-one, nat_lt, if◌then◌else◌}
 use Rattle.std.specs.Prelude.{◌||◌}
 use Rattle.std.proofs.lemmas.List.{length_push, length-take-le}
@@ -15,7 +15,7 @@ use Rattle.mars_session.specs.Code.Journals.{entry_at, journal_history, IsJourna
 use Rattle.mars_session.proofs.Appending.{take_all}
 use Rattle.mars_session.proofs.Stepping.{journal_position, journal_marked, marked_kept, journal_append, append_kept, cut_kept, history_is, dropped_before, dropped_mark, dropped_here}
 
--- the buffer in which the record that leads to the present place has a mark, where there is such a record
+-- The buffer after the present place is marked: the mark is beside the record that leads to it, if there is one.
 abbrev pub marked_buffer : Buffer (Atom × Bool) → ℕ → Buffer (Atom × Bool)
 marked_buffer b at = if nat_lt 0 at then buffer (set b.items (at - 1) ((entry_at b.items (at - 1)).0, true)) b.capacity else b
 
@@ -46,7 +46,7 @@ cut_ring es most at s d = record {
   within = omega (arith, length-take-le at es d.journal.inside, d.journal.inside, d.within);
 }
 
--- the first place is forgotten
+-- Dropping the first record evicts the first place.
 dropped_history : (first : Bool) (e : Atom × Bool) (es : List (Atom × Bool)) (at : ℕ) (t : State) → length es ≡ at
     → journal_history e.1 es at t ≡ retained (Some at) (journal_history first (e ∷ es) (at + 1) t)
 dropped_history first e es at t l =
@@ -64,7 +64,7 @@ dropped_ring e es most at t l m some few d =
       within = omega arith;
     }
 
--- one place more, where all are kept
+-- If there are at most `most` places before the present one, all are kept.
 kept_all : (most : ℕ) (h : History) → position_of h ≤ most → retained (Some most) h ≡ h
 kept_all most h l = ap (λ (b : List Place). record h { before = b }) (take_all most h.before l)
 

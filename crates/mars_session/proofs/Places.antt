@@ -1,4 +1,4 @@
--- The moves over the list of all places.
+-- The moves in terms of the list of all places.
 use Rattle.std.proofs.Common.{◌≡◌, ℕ, zero, suc, ◌+◌, ◌<◌, ◌≤◌, Bool, true, false, List, [], ◌∷◌, ◌++◌, length, take, Option, None, Some, refl, ap, sym, ◌∙◌, subst, arith, add-one, nat_eq, inl, inr, if◌then◌else◌}
 use Rattle.std.specs.Prelude.{reverse, option_map, ◌==◌}
 use Rattle.std.proofs.lemmas.Bool.{eqb-true, eqb-false}
@@ -10,7 +10,7 @@ use Rattle.mars_session.specs.Laws.{passes_at, IsGreatestBelow, IsLeastBetween, 
 use Rattle.mars_session.proofs.Walking.{rewound_again, position_rewound}
 use Rattle.mars_session.proofs.Undoing.{after_append_all}
 
--- the nearest place before, and those before that
+-- The nearest place before the present one follows those before it.
 pub places_from : (b : Place) (before rest : List Place) → reverse (b ∷ before) ++ rest ≡ reverse before ++ b ∷ rest
 places_from b before rest = ap (λ (l : List Place). l ++ rest) (reverse-append (b ∷ []) before) ∙ append_assoc (reverse before) (b ∷ []) rest
 
@@ -21,12 +21,12 @@ places_rewound (b ∷ before) p after = places_rewound before b (p ∷ after) �
 places_same : (h k : History) → rewound h ≡ rewound k → places h ≡ places k
 places_same h k e = sym (places_rewound h.before h.present h.after) ∙ ap places e ∙ places_rewound k.before k.present k.after
 
--- what holds in both cases
+-- A property of both branches holds for the conditional.
 found : (P : Option History → Type 0) (b : Bool) (x y : Option History) → (b ≡ true → P x) → (b ≡ false → P y) → P (if b then x else y)
 found P true x y h k = h refl
 found P false x y h k = k refl
 
--- a history that was found has this first place
+-- A history that was found has this first place.
 abbrev pub SameStart : History → Option History → Type 0
 SameStart r None = Unit {0}
 SameStart r (Some to) = rewound to ≡ r
@@ -60,7 +60,7 @@ moves_keep_places h to (inr (inr g)) =
     let r : History = rewound h in
     places_same to h (start_of (rewound r) (goto g.0 h) to (goto_start g.0 r.before r.present r.after) g.1 ∙ rewound_again h)
 
--- a place by its number
+-- The place with number `length front + k` is place `k` of the rest.
 passes_behind : (test : Place → Bool) (front rest : List Place) (k n : ℕ) → n ≡ length front + k → passes_at test (front ++ rest) n ≡ passes_at test rest k
 passes_behind test [] rest k n e = let same : n ≡ k = omega (arith, e) in rw same refl
 passes_behind test (x ∷ front) rest k zero e = absurd (omega (arith, e))
@@ -73,7 +73,7 @@ passes_here test all before p after e =
 places_count : (all before : List Place) (p : Place) (after : List Place) → all ≡ reverse before ++ p ∷ after → length all ≡ suc (length before + length after)
 places_count all before p after e = rw e (omega (arith, length-append (reverse before) (p ∷ after), length-reverse before))
 
--- one number more
+-- If a test fails below `n` and at `n`, it fails below `n + 1`.
 last_fails : (f : ℕ → Bool) (n k : ℕ) (b : Bool) → nat_eq k n ≡ b → k < suc n → (k < n → f k ≡ false) → f n ≡ false → f k ≡ false
 last_fails f n k true e l h z = let same : k ≡ n = eqb-true k n e in rw same z
 last_fails f n k false e l h z = h (omega (arith, l, eqb-false k n e))
@@ -141,7 +141,7 @@ goto_finds_first h t =
     let all = goto_finds t (places h) r.before r.present r.after (sym (places_rewound h.before h.present h.after)) in
     subst (λ (n : ℕ). IsLeastBetween (passes_at (λ (q : Place). q.state.turns == t) (places h)) n (length (places h)) (option_map position_of (goto t h))) (position_rewound h) all
 
--- the places of a command, behind those before it
+-- The places of a command, after those before it.
 appended_places : (before : List Place) (s : State) (ss : List State)
     → places (marked (append_all (record { before = before; present = record { state = s; mark = false }; after = [] }) ss)) ≡ reverse before ++ command_places s ss
 appended_places before s [] = refl

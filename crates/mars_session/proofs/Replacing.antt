@@ -1,10 +1,10 @@
--- The last item of a buffer is replaced.
+-- Replacing the last item of a buffer.
 use Rattle.std.proofs.Common.{◌≡◌, ℕ, ◌+◌, ◌-◌, ◌≤◌, List, [], ◌∷◌, ◌++◌, length, set, drop, arith}
 use Rattle.std.proofs.Math.Seq.{set-append_seam}
 use Rattle.std.proofs.lemmas.List.{length_push, drop-append-le}
 use Rattle.circular_buffer.specs.Buffer.{keep_last}
 
--- what is kept with an item behind it, which is replaced then
+-- Appending `e` and then replacing it by `f` is the same as appending `f`.
 pub replaced : {X : Type 0} (n : ℕ) (xs : List X) (e f : X) → 1 ≤ n → set (keep_last n (xs ++ e ∷ [])) (length (keep_last n (xs ++ e ∷ [])) - 1) f ≡ keep_last n (xs ++ f ∷ [])
 replaced n xs e f some =
     let k = length xs + 1 - n in

@@ -1,6 +1,6 @@
--- Turns never fall along a tape, and rise by at most one a place.
--- Each tape draws it from its invariant and says it in two readers (`position`, `last_turns`). It lets `goto` stop early: what its small questions
--- (`may_lie_before`, `is_met`) answer for the definition follows from it, so the walk itself needs no lemma.
+-- Turns never fall along a tape, and rise by at most one from place to place.
+-- Each tape derives this from its invariant and states it in two of its methods (`position`, `last_turns`). It lets `goto` stop
+-- early: the results of `may_lie_before` and `is_met` follow from it, so the walk itself needs no lemma.
 use Rattle.std.proofs.Common.{◌≡◌, ℕ, zero, suc, ◌+◌, ◌-◌, ◌<◌, ◌≤◌, inl, inr, Bool, List, length, refl, ap, sym, subst, ◌∙◌, arith, add-one}
 use Rattle.mars_core.specs.State.{State}
 use Rattle.mars_core.specs.Leads.{Leads}
@@ -16,11 +16,11 @@ use Rattle.mars_session.proofs.Copying.{whole_forward}
 use Rattle.mars_session.proofs.Stepping.{from_first}
 use Rattle.mars_session.proofs.Walking.{rewound_forward, last_turns_rewound}
 
--- the turns from a state on
+-- The turns rise from the state `s` along the places `ps`.
 abbrev Rise : State → List Place → Type 0
 Rise s ps = RisesFrom (λ (t : State). t.turns) s ps
 
--- a record leads to as many turns, or to one more
+-- A record leads to the same number of turns, or to one more.
 pub leads_turns : (s t : State) (a : Atom) → Leads s a t → (s.turns ≤ t.turns) × (t.turns ≤ s.turns + 1)
 leads_turns s t a (inl h) = let more : t.turns ≡ s.turns + 1 = ap (λ (x : State). x.turns) h.state_is ∙ turns-turn_of s in (omega (arith, more), omega (arith, more))
 leads_turns s t a (inr h) = let same : t.turns ≡ s.turns = ap (λ (x : State). x.turns) h.state_is ∙ turns-edited s h.edit in (omega (arith, same), omega (arith, same))
@@ -36,7 +36,7 @@ journal_rises first es at s d =
     let all = from_first first es at s d in
     subst (λ (h : History). Rise h.present.state h.after) (sym all.same) (on_rises es 0 (length es - 0) all.start all.journal.on)
 
--- whole copies, from the first
+-- Rewinding a tape of whole copies moves its index to 0.
 whole_rewound : (ks : List Snapshot) (at len : ℕ) → at < len → rewound (whole_history ks at len) ≡ whole_history ks 0 len
 whole_rewound ks zero len l = refl
 whole_rewound ks (suc n) len l =

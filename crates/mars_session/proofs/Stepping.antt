@@ -1,4 +1,4 @@
--- One battle and the records between places, as a history.
+-- A tape of one battle and the records between its places, as a history.
 use Rattle.std.proofs.Common.{◌≡◌, ℕ, zero, suc, ◌+◌, ◌-◌, ◌<◌, ◌≤◌, ◌≢◌, Bool, true, false, List, [], ◌∷◌, ◌++◌, length, get_or, set, take, refl, ap, sym, subst, ◌∙◌, arith, add-one, nat_eq}
 use Rattle.std.proofs.lemmas.List.{get_or-set_same, get_or-set_other, get_or-take, get_or_append_left, get_or_push, get_or_read, length_push, length-take-le}
 use Rattle.std.proofs.Math.ListN.{length-set}
@@ -30,7 +30,7 @@ journal_following first es at s = after_length es at (length es - at) s
 pub journal_last : (first : Bool) (es : List (Atom × Bool)) (at : ℕ) (s : State) → at ≤ length es → last_of (journal_history first es at s) ≡ length es
 journal_last first es at s l = omega (arith, before_length first es at s, after_length es at (length es - at) s)
 
--- one place back
+-- Reverting the last record is one step back in the history.
 pub journal_back : (first : Bool) (es : List (Atom × Bool)) (at : ℕ) (s : State) → 0 < at → IsJournal es at s
     → journal_history first es (at - 1) (reverted (entry_at es (at - 1)).0 s) ≡ back (journal_history first es at s)
 journal_back first es zero s l d = absurd (omega arith)
@@ -48,7 +48,7 @@ back_kept es (suc n) s l d =
     let again = record_applied (reverted (entry_at es n).0 s) (entry_at es n).0 s d.here.0 in
     rw e (record { inside = omega (arith, d.inside); here = d.here.1; on = rw (more, again, add-one n) (d.here.0, d.on) })
 
--- one place on
+-- Applying the next record is one step forward in the history.
 pub journal_forward : (first : Bool) (es : List (Atom × Bool)) (at : ℕ) (s : State) → at < length es → IsJournal es at s
     → journal_history first es (at + 1) (applied (entry_at es at).0 s) ≡ forward (journal_history first es at s)
 journal_forward first es at s l d =
@@ -64,7 +64,7 @@ forward_kept es at s l d =
     let again = record_reverted s (entry_at es at).0 (applied (entry_at es at).0 s) on.0 in
     record { inside = omega arith; here = rw (add-one at, again) (on.0, d.here); on = on.1 }
 
--- records and marks that agree make the same places
+-- Lists whose records and marks agree make the same places.
 before_same : (first : Bool) (es fs : List (Atom × Bool)) (n : ℕ) (s : State) → ((k : ℕ) → k < n → (entry_at fs k).0 ≡ (entry_at es k).0)
     → ((k : ℕ) → k < n → mark_at first fs k ≡ mark_at first es k) → journal_before first fs n s ≡ journal_before first es n s
 before_same first es fs zero s h m = refl
@@ -86,7 +86,7 @@ on_same es fs from zero s h d = tt
 on_same es fs from (suc n) s h d =
     rw (h from (omega arith)) (d.0, on_same es fs (from + 1) n (applied (entry_at es from).0 s) (λ k l. h k (omega arith)) d.1)
 
--- the records of a list with another mark
+-- Changing a mark keeps all records.
 marked_entry : (es : List (Atom × Bool)) (i k : ℕ) (m : Bool) → i < length es → (entry_at (set es i ((entry_at es i).0, m)) k).0 ≡ (entry_at es k).0
 marked_entry es i k m l = same_or (nat_eq k i) refl
   where
@@ -94,17 +94,17 @@ marked_entry es i k m l = same_or (nat_eq k i) refl
     same_or true e = let here : k ≡ i = eqb-true k i e in rw here (ap (λ (x : Atom × Bool). x.0) (get_or-set_same es i ((entry_at es i).0, m) no_entry l))
     same_or false e = let other : k ≢ i = eqb-false k i e in ap (λ (x : Atom × Bool). x.0) (get_or-set_other es i k ((entry_at es i).0, m) no_entry other)
 
--- the marks of places other than the one after record i
+-- Changing entry `i` keeps the marks of all places except the one after it.
 marked_other : (first : Bool) (es : List (Atom × Bool)) (i k : ℕ) (x : Atom × Bool) → k ≢ suc i → mark_at first (set es i x) k ≡ mark_at first es k
 marked_other first es i zero x n = refl
 marked_other first es i (suc k) x n = ap (λ (y : Atom × Bool). y.1) (get_or-set_other es i k x no_entry (λ e. n (ap suc e)))
 
--- a history by its parts
+-- Histories with equal parts are equal.
 pub history_is : (s : State) (before before' : List Place) (mark mark' : Bool) (after after' : List Place) → before ≡ before' → mark ≡ mark' → after ≡ after'
     → ◌≡◌ {A = History} (record { before = before; present = record { state = s; mark = mark }; after = after }) (record { before = before'; present = record { state = s; mark = mark' }; after = after' })
 history_is s before before' mark mark' after after' b m a = rw (b, m, a) refl
 
--- the present place is marked
+-- Setting the mark beside the last record marks the present place.
 pub journal_marked : (first : Bool) (es : List (Atom × Bool)) (at : ℕ) (s : State) → 0 < at → at ≤ length es
     → journal_history first (set es (at - 1) ((entry_at es (at - 1)).0, true)) at s ≡ marked (journal_history first es at s)
 journal_marked first es zero s l p = absurd (omega arith)
@@ -132,7 +132,7 @@ marked_kept es (suc n) s l d =
       on = rw len (on_same es (set es n x) (suc n) (length es - suc n) s (λ k m. get_or-set_other es n k x no_entry (omega arith)) d.on);
     })
 
--- what a list has below an index is what its first part has
+-- The first part of a list has the same entries up to its end.
 taken_entry : (es : List (Atom × Bool)) (at k : ℕ) → k < at → (entry_at (take at es) k).0 ≡ (entry_at es k).0
 taken_entry es at k l = ap (λ (y : Atom × Bool). y.0) (get_or-take at es k no_entry l)
 
@@ -151,7 +151,7 @@ cut_kept es at s d =
     let none : length (take at es) - at ≡ 0 = omega (arith, len) in
     record { inside = omega (arith, len); here = here_same es (take at es) at s (λ k m. taken_entry es at k m) d.here; on = rw none tt }
 
--- what a list has is what it has with one more
+-- Appending an entry keeps the entries before it.
 pushed_entry : (es : List (Atom × Bool)) (x : Atom × Bool) (k : ℕ) → k < length es → (entry_at (es ++ x ∷ []) k).0 ≡ (entry_at es k).0
 pushed_entry es x k l = ap (λ (y : Atom × Bool). y.0) (get_or_append_left es (x ∷ []) no_entry k l)
 
@@ -159,7 +159,7 @@ pushed_mark : (first : Bool) (es : List (Atom × Bool)) (x : Atom × Bool) (k : 
 pushed_mark first es x zero l = refl
 pushed_mark first es x (suc k) l = ap (λ (y : Atom × Bool). y.1) (get_or_append_left es (x ∷ []) no_entry k (omega arith))
 
--- a further place, after the last
+-- Appending a record that leads to `t` appends the place with the state `t`.
 pub journal_append : (first : Bool) (es : List (Atom × Bool)) (at : ℕ) (s t : State) (a : Atom) → length es ≡ at → Leads s a t
     → journal_history first (es ++ (a, false) ∷ []) (at + 1) t ≡ append (journal_history first es at s) t
 journal_append first es at s t a e leads =
@@ -189,30 +189,30 @@ append_kept es at s t a e leads d =
       on = rw none tt;
     }
 
--- the last record leads to the present place
+-- The last record leads to the present place.
 pub leads_here : (es : List (Atom × Bool)) (at : ℕ) (s : State) → 0 < at → LeadHere es at s → Leads (reverted (entry_at es (at - 1)).0 s) (entry_at es (at - 1)).0 s
 leads_here es zero s l d = absurd (omega arith)
 leads_here es (suc n) s l d = let e : suc n - 1 ≡ n = omega arith in rw e d.0
 
--- the next record leads on from it
+-- The next record leads from the present place to the next one.
 pub leads_on : (es : List (Atom × Bool)) (at : ℕ) (s : State) → at < length es → LeadOn es at (length es - at) s → Leads s (entry_at es at).0 (applied (entry_at es at).0 s)
 leads_on es at s l d = let more : length es - at ≡ suc (length es - (at + 1)) = omega arith in (rw more at d).0
 
--- the battle that the last record reverts
+-- Reverting the last record gives the state before it.
 pub gone_back : (es : List (Atom × Bool)) (at : ℕ) (s t : State) (a : Atom) → 0 < at → LeadHere es at s → a ≡ (entry_at es (at - 1)).0
     → ((before : State) → Leads before a s → t ≡ before) → t ≡ reverted (entry_at es (at - 1)).0 s
 gone_back es at s t a l d read is = is (reverted (entry_at es (at - 1)).0 s) (rw read (leads_here es at s l d))
 
--- the battle that the next record is applied to
+-- Applying the next record gives the state after it.
 pub gone_on : (es : List (Atom × Bool)) (at : ℕ) (s t : State) (a : Atom) → at < length es → LeadOn es at (length es - at) s → a ≡ (entry_at es at).0
     → ((after : State) → Leads s a after → t ≡ after) → t ≡ applied (entry_at es at).0 s
 gone_on es at s t a l d read is = is (applied (entry_at es at).0 s) (rw read (leads_on es at s l d))
 
--- a record that was read
+-- The record that was read is that of the entry.
 pub read_entry : (es : List (Atom × Bool)) (i : ℕ) (x : Atom × Bool) → i < length es → x ≡ get_or es i x → x.0 ≡ (entry_at es i).0
 read_entry es i x l e = ap (λ (y : Atom × Bool). y.0) (get_or_read es i x l e no_entry)
 
--- records that lead on from a place lead along the places after it
+-- Records that lead on from a place lead along the places after it.
 leads_after : (es : List (Atom × Bool)) (from n : ℕ) (s : State) (mark : Bool) (i : ℕ) → i < n → LeadOn es from n s
     → LeadsFrom (record { state = s; mark = mark }) (journal_after es from n s) i (entry_at es (from + i)).0
 leads_after es from zero s mark i l d = absurd (omega arith)
@@ -221,7 +221,7 @@ leads_after es from (suc n) s mark (suc i) l d =
     let e : from + suc i ≡ from + 1 + i = omega arith in
     rw e (leads_after es (from + 1) n (applied (entry_at es from).0 s) (entry_at es from).1 i (omega arith) d.1)
 
--- the same places, from the first
+-- The history from its first place: the state of that place, and the records that lead on from it.
 pub record FromFirst (first : Bool) (es : List (Atom × Bool)) (at : ℕ) (s : State) : Type 0 where
   pub start : State
   pub journal : IsJournal es 0 start
@@ -236,7 +236,7 @@ from_first first es (suc n) s d =
     let rest = from_first first es n (reverted (entry_at es n).0 s) kept in
     record { start = rest.start; journal = rest.journal; same = ap rewound (sym moved) ∙ rest.same }
 
--- each record leads from its place to the next
+-- Each record leads from its place to the next one.
 pub journal_leads : (first : Bool) (es : List (Atom × Bool)) (at : ℕ) (s : State) (i : ℕ) → IsJournal es at s → i < length es
     → LeadsAt (places (journal_history first es at s)) i (entry_at es i).0
 journal_leads first es at s i d l =
@@ -246,7 +246,7 @@ journal_leads first es at s i d l =
     let e : 0 + i ≡ i = omega arith in
     rw same (rw e at (leads_after es 0 (length es - 0) all.start first i (omega (arith, l)) all.journal.on))
 
--- a list that loses its first
+-- Dropping the first record drops the first place, which is the last one in the list of the places before.
 pub dropped_before : (first : Bool) (e : Atom × Bool) (es : List (Atom × Bool)) (n : ℕ) (s : State) → journal_before e.1 es n s ≡ take n (journal_before first (e ∷ es) (suc n) s)
 dropped_before first e es zero s = refl
 dropped_before first e es (suc zero) s = refl

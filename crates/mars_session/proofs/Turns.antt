@@ -1,4 +1,4 @@
--- One turn more, and no turn more.
+-- Executing one more turn, or none.
 use Rattle.std.proofs.Common.{◌≡◌, ℕ, zero, suc, ◌+◌, ◌-◌, ◌<◌, ◌≤◌, Bool, true, false, [], ◌∷◌, refl, arith, sub-one}
 use Rattle.std.specs.Prelude.{Option, None, Some, nat_lt, if◌then◌else◌}
 use Rattle.std.specs.Option.{option_or}
@@ -17,29 +17,29 @@ use Rattle.std.proofs.lemmas.Bool.{le-ltb}
 use Rattle.mars_session.specs.Commands.{command_limit, turns_until, fills, cells_between, fill_states}
 use Rattle.mars_session.specs.Code.Appending.{Kept, go_on, go_on_all}
 
--- a turn is made where one is left and the state is not done
+-- If a turn is left and the state is not done, the turns start with that of the state.
 pub turns_until_more : (done : State → Bool) (n : ℕ) (s : State) → 0 < n → done s ≡ false → turns_until done n s ≡ turn_of s ∷ turns_until done (n - 1) (turn_of s)
 turns_until_more done zero s h e = absurd (omega arith)
 turns_until_more done (suc n) s h e = rw (e, sub-one) refl
 
--- none is made where the state is done
+-- If the state is done, no turn is executed.
 pub turns_until_done : (done : State → Bool) (n : ℕ) (s : State) → done s ≡ true → turns_until done n s ≡ []
 turns_until_done done zero s h = refl
 turns_until_done done (suc n) s h = rw h refl
 
--- the places that the turns from a tape lead to, one turn later
+-- The places after the turns from a tape, with the first turn executed.
 pub one_turned : (done : State → Bool) (n : ℕ) (t new end : Kept) → 0 < n → done t.history.present.state ≡ false
     → go_on_all t (turns_until done n t.history.present.state) ≡ end → new ≡ go_on t (turn_of t.history.present.state)
     → go_on_all new (turns_until done (n - 1) new.history.present.state) ≡ end
 one_turned done n t new end left runs so_far is = rw is (rw (turns_until_more done n t.history.present.state left runs) at so_far)
 
--- one cell more
+-- A fill starts with its first cell.
 pub fills_more : (n address : ℕ) (cell : Cell) (s : State) → 0 < n
     → fills n address cell s ≡ edited s (edits.SetCell address cell) ∷ fills (n - 1) (address + 1) cell (edited s (edits.SetCell address cell))
 fills_more zero address cell s h = absurd (omega arith)
 fills_more (suc n) address cell s h = rw sub-one refl
 
--- the places that the cells from a tape lead to, one cell later
+-- The places after the cells from a tape, with the first cell set.
 pub one_filled : (to address : ℕ) (cell : Cell) (t new end : Kept) → address < to
     → go_on_all t (fills (to - address) (address + 1) cell t.history.present.state) ≡ end → new ≡ go_on t (edited t.history.present.state (edits.SetCell (address + 1) cell))
     → go_on_all new (fills (to - (address + 1)) (address + 1 + 1) cell new.history.present.state) ≡ end
@@ -47,7 +47,7 @@ one_filled to address cell t new end left so_far is =
     let less : (to - address) - 1 ≡ to - (address + 1) = omega arith in
     rw is (rw (fills_more (to - address) (address + 1) cell t.history.present.state (omega arith), less) at so_far)
 
--- whether a cell can be set doesn't change by setting others
+-- Setting other cells does not change whether a cell can be set.
 pub fault_kept : (s : State) (e : Edit) (address : ℕ) (cell : Cell) → edit_fault (edited s e) (edits.SetCell address cell) ≡ edit_fault s (edits.SetCell address cell)
 unfolding edit_fault
 fault_kept s e address cell = rw (shape-edited s e).params refl
@@ -57,12 +57,12 @@ inside-below : (a b size : ℕ) (fits : Option EditFault) → a ≤ b
     → option_or (if nat_lt a size then None else Some faults.Address) fits ≡ None
 inside-below a b size fits l h = grind (common_steps, arith)
 
--- where a cell can be set, so can each one below
+-- If a cell can be set, so can each cell with a lower address.
 pub fault_below : (s : State) (a b : ℕ) (cell : Cell) → a ≤ b → edit_fault s (edits.SetCell b cell) ≡ None → edit_fault s (edits.SetCell a cell) ≡ None
 unfolding edit_fault
 fault_below s a b cell l h = inside-below a b s.params.core_size (cell_fault s.params.core_size cell) l h
 
--- the cells from one address to another, where they can be set
+-- The cells from one address to another, if they can be set.
 pub filled : (from to : ℕ) (cell : Cell) (s : State) → from ≤ to → to - from < command_limit → edit_fault s (edits.SetCell to cell) ≡ None
     → let one = edited s (edits.SetCell from cell) in fill_states from to cell s ≡ Ok (one, fills (to - from) (from + 1) cell one)
 filled from to cell s l few none =

@@ -10,22 +10,22 @@ use Rattle.mars_session.specs.Retention.{Retention, never, retained, retention_a
 use Rattle.mars_session.specs.Script.{CallKind, Command, Move, kind_of, outcome_of, outcome, command_outcome, appended, move_outcome, no_room, first, rest, script}
 use Rattle.mars_session.specs.Laws.{command_places, times, is_command, count_of, appended_by, AllAccepted, UndosGiveBack, RedosGiveAgain, RedoAfterUndo}
 
--- the present place is marked, and these places follow
+-- The history `h` with its present place marked, and followed by these places.
 abbrev pub base : History → List Place → History
 base h after = record { before = h.before; present = record { state = h.present.state; mark = true }; after = after }
 
--- undo from the last of appended places goes on from the place before them
+-- Undo from the last of the appended places continues from the place before them.
 undo_appended : (b : List Place) (p : Place) (s : State) (ss : List State) (x : List Place)
     → undo (base (append_all (record { before = b; present = p; after = [] }) (s ∷ ss)) x)
     ≡ (if p.mark then Some (record { before = b; present = p; after = command_places s ss ++ x }) else marked_before b p (command_places s ss ++ x))
 undo_appended b p s [] x = refl
 undo_appended b p s (t ∷ ss) x = undo_appended (p ∷ b) (record { state = s; mark = false }) t ss x
 
--- undo of an accepted command stands at the place before it
+-- Undo of an accepted command leads to the place before it.
 pub undo_accepted : (h : History) (s : State) (ss : List State) (x : List Place) → undo (base (after_command h s ss) x) ≡ Some (base h (command_places s ss ++ x))
 undo_accepted h s ss x = undo_appended h.before (record { state = h.present.state; mark = true }) s ss x
 
--- redo finds the last of appended places
+-- Redo finds the last of the appended places.
 redo_appended : (b : List Place) (p : Place) (s : State) (ss : List State) (x : List Place)
     → marked_after b p (command_places s ss ++ x) ≡ Some (base (append_all (record { before = b; present = p; after = [] }) (s ∷ ss)) x)
 redo_appended b p s [] x = refl
@@ -34,7 +34,7 @@ redo_appended b p s (t ∷ ss) x = redo_appended (p ∷ b) (record { state = s; 
 pub redo_accepted : (h : History) (s : State) (ss : List State) (x : List Place) → redo (base h (command_places s ss ++ x)) ≡ Some (base (after_command h s ss) x)
 redo_accepted h s ss x = redo_appended h.before (record { state = h.present.state; mark = true }) s ss x
 
--- appending moves on by as many places, and stands last
+-- Appending places raises the position by their number.
 pub position_append_all : (h : History) (ss : List State) → position_of (append_all h ss) ≡ position_of h + length ss
 position_append_all h [] = omega arith
 position_append_all h (s ∷ ss) = position_append_all (append h s) ss ∙ omega arith
@@ -43,13 +43,13 @@ pub after_append_all : (h : History) (ss : List State) → h.after ≡ [] → (a
 after_append_all h [] e = e
 after_append_all h (s ∷ ss) e = after_append_all (append h s) ss refl
 
--- an accepted command stands at a marked last place
+-- After an accepted command, the present place is marked and is the last one.
 pub base_accepted : (h : History) (s : State) (ss : List State) → base (after_command h s ss) [] ≡ after_command h s ss
 base_accepted h s ss =
     let end : History = after_command h s ss in
     ap (λ (a : List Place). record { before = end.before; present = end.present; after = a }) (sym (after_append_all (append (cut (marked h)) s) ss refl))
 
--- one time more, at the end
+-- One more repetition, at the end.
 some_again : (x : Option History) → option_and_then (λ k. Some k) x ≡ x
 some_again None = refl
 some_again (Some k) = refl
@@ -62,13 +62,13 @@ pub times_more : (n : ℕ) (move : History → Option History) (h : History) →
 times_more zero move h = some_again (move h)
 times_more (suc n) move h = more_from n move (times_more n move) (move h)
 
--- either the place is marked and is the one found, or the search goes on
+-- Either the place is marked and is the one found, or the search continues.
 found_again : (m : Bool) (here : History) (further on : Option History) (h back : History) → (if m then Some here else further) ≡ Some back → on ≡ Some h → redo here ≡ on
     → (further ≡ Some back → (if m then Some here else on) ≡ Some h → redo back ≡ Some h) → redo back ≡ Some h
 found_again true here further on h back u r e more = let same : here ≡ back = cc in rw (sym same) (e ∙ r)
 found_again false here further on h back u r e more = more u r
 
--- from p back to the nearest marked place and on again
+-- From `p` back to the nearest marked place, and forward again.
 redo_undo_from : (before : List Place) (p : Place) (after : List Place) (h back : History) → marked_before before p after ≡ Some back
     → (if p.mark then Some (record { before = before; present = p; after = after }) else marked_after before p after) ≡ Some h → redo back ≡ Some h
 redo_undo_from [] p after h back u r = absurd (cc)
@@ -79,7 +79,7 @@ redo_undo_from (b ∷ before) p after h back u r =
 pub redo_undo : RedoAfterUndo
 redo_undo h back m u = redo_undo_from h.before h.present h.after h back u (rw m refl)
 
--- an accepted command reaches n states
+-- An accepted command reaches `n` states.
 pub record Accepted (m : Retention) (n : ℕ) (h new : History) : Type 0 where
   pub first : State
   pub others : List State
@@ -103,7 +103,7 @@ pub accepted_call : (m : Retention) (limit : ℕ) (call : Call) (poor : Bool) (h
     → Accepted m (appended_by (kind_of call) h.present.state) h (outcome m limit call poor h).history
 accepted_call m limit call poor h c ok = accepted_kind m limit (kind_of call) poor h c ok
 
--- what a call remembers: as much as before, or what is noted of a history
+-- A call leaves the retention as it is, or notes the evictions of a history.
 abbrev Remembers : Retention → Retention → Type 0
 Remembers m n = (n ≡ m) ⊎ ((x : History) × (n ≡ retention_after m x))
 
@@ -130,7 +130,7 @@ never_remembered : (n : Retention) → Remembers never n → n ≡ never
 never_remembered n (inl e) = e
 never_remembered n (inr e) = e.1
 
--- where all places are kept, so they are after each call
+-- If all places are kept, they still are after each call.
 pub stays_never : (limit : ℕ) (call : Call) (poor : Bool) (h : History) → (outcome never limit call poor h).retention ≡ never
 stays_never limit call poor h = never_remembered (outcome never limit call poor h).retention (remembers_call never limit call poor h)
 
@@ -138,11 +138,11 @@ most_remembered : (m n : Retention) → Remembers m n → n.most ≡ m.most
 most_remembered m n (inl e) = ap (λ (x : Retention). x.most) e
 most_remembered m n (inr e) = ap (λ (x : Retention). x.most) e.1
 
--- as many places are kept after each call
+-- A call does not change how many places are kept.
 pub same_most : (m : Retention) (limit : ℕ) (call : Call) (poor : Bool) (h : History) → (outcome m limit call poor h).retention.most ≡ m.most
 same_most m limit call poor h = most_remembered m (outcome m limit call poor h).retention (remembers_call m limit call poor h)
 
--- from the end, n undos lead to h and the places after it, and n redos lead from there to the end
+-- From `end`, `n` undos lead to `h` with the places after it, and `n` redos lead from there to `end`.
 pub record Undone (n : ℕ) (h end : History) : Type 0 where
   pub follow : List Place
   pub back : times n undo end ≡ Some (base h follow)
@@ -164,7 +164,7 @@ all_undone limit (call ∷ calls) poor h s ss a =
     let more : AllAccepted limit calls (rest poor) (after_command k one.first one.others) = rw one.is at a.2 in
     rw (stays_never limit call (first poor) k) (one_undone (length calls) k _ one.first one.others (rw one.is (all_undone limit calls (rest poor) k one.first one.others more)))
 
--- as many undos, from wherever the commands began
+-- After accepted commands from any history, the same number of undos leads back.
 some_undone : (limit : ℕ) (call : Call) (calls : List Call) (poor : List Bool) (h : History) → AllAccepted limit (call ∷ calls) poor h → Undone (suc (length calls)) h (script never limit (call ∷ calls) poor h).history
 some_undone limit call calls poor h a =
     let one = accepted_call never limit call (first poor) h a.0 a.1 in

@@ -1,8 +1,8 @@
--- What the moves by one place keep.
+-- What a step back or forward preserves.
 use Rattle.std.proofs.Common.{◌≡◌, ℕ, zero, suc, ◌+◌, ◌<◌, ◌≤◌, List, [], ◌∷◌, length, Some, None, refl, ap, sym, ◌∙◌, arith, eq-eqb}
 use Rattle.mars_session.specs.History.{Place, History, position_of, following, last_of, step_back, back, step_forward, forward, marked_before, undo, marked_after, redo, rewound_from, rewound, first_at_turn_from, first_at_turn, last_place, last_turns}
 
--- as parts: before, present, after
+-- A step back has the same first place and order of places.
 rewound_step_back : (before : List Place) (p : Place) (after : List Place) → rewound (step_back before p after) ≡ rewound_from before p after
 rewound_step_back [] p after = refl
 rewound_step_back (b ∷ before) p after = refl
@@ -24,7 +24,7 @@ position_step_forward before p (a ∷ after) h = omega arith
 pub position_forward : (h : History) → 0 < following h → position_of (forward h) ≡ position_of h + 1
 position_forward h = position_step_forward h.before h.present h.after
 
--- the last place's number, from the first place
+-- The number of the last place, counted from the first place.
 last_rewound_from : (before : List Place) (p : Place) (after : List Place) → following (rewound_from before p after) ≡ length before + length after
 last_rewound_from [] p after = omega arith
 last_rewound_from (b ∷ before) p after = last_rewound_from before b (p ∷ after) ∙ omega arith
@@ -32,11 +32,11 @@ last_rewound_from (b ∷ before) p after = last_rewound_from before b (p ∷ aft
 pub last_rewound : (h : History) → following (rewound h) ≡ last_of h
 last_rewound h = last_rewound_from h.before h.present h.after
 
--- histories of the same places have the same last place
+-- Histories of the same places have the same last place.
 pub same_last : (h k : History) → rewound h ≡ rewound k → last_of h ≡ last_of k
 same_last h k e = sym (last_rewound h) ∙ ap following e ∙ last_rewound k
 
--- n places on
+-- `n` places forward.
 forwards : ℕ → History → History
 forwards zero h = h
 forwards (suc n) h = forward (forwards n h)
@@ -46,14 +46,14 @@ unfolding forwards
 forwards_rewound_from [] p after = refl
 forwards_rewound_from (b ∷ before) p after = ap forward (forwards_rewound_from before b (p ∷ after))
 
--- a history is known from its places and its position
+-- A history is determined by its places and its position.
 pub same_place : (h k : History) → rewound h ≡ rewound k → position_of h ≡ position_of k → h ≡ k
 same_place h k e n =
     let there = forwards_rewound_from h.before h.present h.after in
     let here = forwards_rewound_from k.before k.present k.after in
     sym there ∙ ap (λ m. forwards m (rewound h)) n ∙ ap (forwards (position_of k)) e ∙ here
 
--- nothing lies before the first place
+-- No place is before the first place.
 pub rewound_first : (before : List Place) (p : Place) (after : List Place) → (rewound_from before p after).before ≡ []
 rewound_first [] p after = refl
 rewound_first (b ∷ before) p after = rewound_first before b (p ∷ after)
@@ -61,7 +61,7 @@ rewound_first (b ∷ before) p after = rewound_first before b (p ∷ after)
 rewound_at_first : (h : History) → h.before ≡ [] → rewound h ≡ h
 rewound_at_first h e = rw (ap (λ (b : List Place). rewound_from b h.present h.after) e) (ap (λ (b : List Place). record { before = b; present = h.present; after = h.after }) (sym e))
 
--- going to the first place again changes nothing
+-- Rewinding twice is the same as rewinding once.
 pub rewound_again : (h : History) → rewound (rewound h) ≡ rewound h
 rewound_again h = rewound_at_first (rewound h) (rewound_first h.before h.present h.after)
 

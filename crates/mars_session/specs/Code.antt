@@ -1,4 +1,4 @@
--- How the tapes hold their places. All of this serves the proofs alone.
+-- How each tape stores its places, as a history. Only the proofs use these definitions.
 pub mod Whole
 pub mod Journals
 pub mod Appending

@@ -1,4 +1,4 @@
--- What a command makes of a state: the states that it reaches, one after another, or why it is refused.
+-- What a command does to a state: the states that it reaches, one after another, or the reason for which it is refused.
 use Rattle.std.specs.Prelude.{ℕ, zero, suc, Bool, ◌+◌, ◌-◌, ◌*◌, ◌==◌, ◌||◌, nat_lt, nat_le, List, [], ◌∷◌, length, Option, Some, None, Result, Ok, Err, if◌then◌else◌}
 use Rattle.mars_cell.specs.declared.instruction.Cell.{Cell}
 use Rattle.mars_core.specs.State.{State, is_over_of}
@@ -11,44 +11,44 @@ use Rattle.mars_core.specs.declared.battle.edit.EditFault.TheVariants as faults
 use Rattle.mars_session.specs.declared.calls.Refusal.{Refusal}
 use Rattle.mars_session.specs.declared.calls.Refusal.TheVariants.{Count, Address, FieldOutside, NoSuchWarrior, NoSuchProcess, WarriorDead, QueueFull, Over, CyclePassed}
 
--- the most turns or cells of one command
+-- The maximum number of turns or cells of one command.
 abbrev pub command_limit : ℕ
 command_limit = 1000000
 
--- the states that a command reaches: the first, and the others in order; so there is always one
+-- The states that a command reaches, in order: the first one, and the others. So a command reaches at least one state.
 abbrev pub States : Type 0
 States = State × List State
 
--- the turns from s on, at most n of them, up to the first state that is done
+-- The states after each turn from `s` on: at most `n` turns, up to the first state that is `done`.
 abbrev pub turns_until : (State → Bool) → ℕ → State → List State
 turns_until done zero s = []
 turns_until done (suc n) s = if done s then [] else (turn_of s ∷ turns_until done n (turn_of s))
 
--- the battle is over, or stands in cycle c
+-- The battle is over, or is in cycle `c`.
 abbrev pub in_cycle : ℕ → State → Bool
 in_cycle c s = is_over_of s || s.cycle == c
 
--- where the turns of a command stop: in a cycle, or where the battle is over
+-- Whether the turns of a command stop at `s`: if the battle is over, or, for `Some c`, also if it is in cycle `c`.
 abbrev pub stops_at : Option ℕ → State → Bool
 stops_at None s = is_over_of s
 stops_at (Some c) s = in_cycle c s
 
--- one turn
+-- The state that `step` reaches: one turn.
 abbrev pub step_states : State → Result States Refusal
 step_states s = if is_over_of s then Err Over else Ok (turn_of s, [])
 
--- n turns, or as many as there are
+-- The states that `run n` reaches: `n` turns, or as many as are left.
 abbrev pub run_states : ℕ → State → Result States Refusal
 run_states n s =
     if n == 0 || nat_lt command_limit n then Err Count
     else if is_over_of s then Err Over
     else Ok (turn_of s, turns_until (stops_at None) (n - 1) (turn_of s))
 
--- the most turns up to cycle c: each cycle has at most one for each warrior, the dead counted too
+-- The maximum number of turns up to cycle `c`: each cycle has at most one turn for each warrior, dead ones included.
 abbrev pub until_bound : ℕ → State → ℕ
 until_bound c s = (c - s.cycle) * length s.queues
 
--- the turns up to cycle c, or as many as there are
+-- The states that `until c` reaches: the turns up to cycle `c`, or as many as are left.
 abbrev pub until_states : ℕ → State → Result States Refusal
 until_states c s =
     if nat_lt command_limit (until_bound c s) then Err Count
@@ -56,7 +56,7 @@ until_states c s =
     else if nat_le c s.cycle then Err (CyclePassed s.cycle)
     else Ok (turn_of s, turns_until (stops_at (Some c)) (until_bound c s - 1) (turn_of s))
 
--- the refusal for the fault of an edit
+-- The refusal for an error of an edit.
 abbrev pub refusal_of : EditFault → Refusal
 refusal_of faults.Address = Address
 refusal_of faults.FieldOutside = FieldOutside
@@ -65,26 +65,27 @@ refusal_of faults.NoSuchProcess = NoSuchProcess
 refusal_of faults.WarriorDead = WarriorDead
 refusal_of faults.QueueFull = QueueFull
 
--- these states, where there is no fault
+-- These states, unless the edit has an error.
 abbrev pub unless_fault : Option EditFault → States → Result States Refusal
 unless_fault None states = Ok states
 unless_fault (Some fault) states = Err (refusal_of fault)
 
--- one edit
+-- The state that an edit reaches.
 abbrev pub edit_states : Edit → State → Result States Refusal
 edit_states e s = unless_fault (edit_fault s e) (edited s e, [])
 
--- n cells from an address on are set, one after another
+-- The states after each of `n` cells from `address` on is set to `cell`.
 abbrev pub fills : ℕ → ℕ → Cell → State → List State
 fills zero address cell s = []
 fills (suc n) address cell s =
     let next = edited s (edits.SetCell address cell) in next ∷ fills n (address + 1) cell next
 
--- the number of cells from one address to another, both included
+-- The number of cells from one address to another, both included.
 abbrev pub cells_between : ℕ → ℕ → ℕ
 cells_between from to = (to + 1) - from
 
--- the cells from one address to another are set, both included; where the last one can be set, so can each
+-- The states that `fill` reaches: the cells from `from` to `to`, both included, are set one after another. If the last one can
+-- be set, each other one can, so only the last one is checked.
 abbrev pub fill_states : ℕ → ℕ → Cell → State → Result States Refusal
 fill_states from to cell s =
     let first = edited s (edits.SetCell from cell) in

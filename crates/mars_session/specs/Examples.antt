@@ -1,4 +1,4 @@
--- Worked examples, as theorems: the check computes what the definitions give. Here are the words that they are told in.
+-- Examples, as theorems: the check computes what the definitions return. This file has the abbreviations that the examples use.
 pub mod Histories
 pub mod Commands
 pub mod Forgetting
@@ -17,18 +17,18 @@ use Rattle.mars_session.specs.History.{beginning}
 use Rattle.mars_session.specs.Retention.{never}
 use Rattle.mars_session.specs.Script.{script}
 
--- a lone warrior that copies its cell to the next one, over and over
+-- A battle of a single imp, which copies itself to the next cell in each turn.
 abbrev pub imp : State
 imp = lone of_eight (eight (cell_of Mov I Direct 0 Direct 1 ∷ [])) (0 ∷ [])
 
--- so many turns of it were made, and it stands at a place of the history, whose last place has this number
+-- The imp has executed `turns` turns, and the session is at place `position` of a history whose last place is `last`.
 abbrev pub stands : ℕ → ℕ → ℕ → Result Standing Refusal
 stands turns position last = Ok (record { turns = turns; cycle = turns; next = 0; alive = 1; position = position; last = last })
 
--- the replies to its calls where all places are kept, at most so many after the first
+-- The replies to calls over the imp if all places are kept, at most `limit` of them after the first.
 abbrev pub IsToldWithin : ℕ → List Call → List (Result Standing Refusal) → Type 0
 IsToldWithin limit calls replies = (script never limit calls [] (beginning imp)).replies ≡ replies
 
--- the replies to its calls where so many places are kept beside the last one
+-- The replies to calls over the imp if `k` places are kept beside the last one.
 abbrev pub IsToldKeeping : ℕ → List Call → List (Result Standing Refusal) → Type 0
 IsToldKeeping k calls replies = (script (record { most = Some k; forgotten = false }) 0 calls [] (beginning imp)).replies ≡ replies

@@ -1,104 +1,112 @@
--- A history of whole states with marks, and what is done to it.
+-- A history of whole states with marks, and the operations on it.
 use Rattle.std.specs.Prelude.{ℕ, Bool, true, false, ◌+◌, ◌==◌, List, [], ◌∷◌, ◌++◌, length, reverse, Option, Some, None, if◌then◌else◌}
 use Rattle.mars_core.specs.State.{State}
 
--- a state that was reached, and whether undo and redo stop there
+-- A place of a history: a state that was reached, and whether undo and redo stop there.
 pub record Place : Type 0 where
   pub state : State
   pub mark : Bool
 
--- Places in order, one of them the present one: those before it, the nearest first, and those after it, in order. Laws say of `places`, the whole list, what
--- is defined here by steps from the present place: commands_append, undo_finds_nearest, redo_finds_nearest, goto_finds_first, moves_keep_places.
+-- Places in order, one of which is the present one. `before` has the places before it, the nearest first; `after` has those
+-- after it, in order. The definitions below step from the present place. The laws state what they do in terms of `places`, the
+-- whole list: commands_append, undo_finds_nearest, redo_finds_nearest, goto_finds_first, moves_keep_places.
 pub record History : Type 0 where
   pub before : List Place
   pub present : Place
   pub after : List Place
 
--- one place, which is marked
+-- The history of one place, which is marked.
 abbrev pub beginning : State → History
 beginning s = record { before = []; present = record { state = s; mark = true }; after = [] }
 
--- all places in order
+-- All places in order.
 abbrev pub places : History → List Place
 places h = reverse h.before ++ h.present ∷ h.after
 
--- the present place's number, counted from 0
+-- The number of the present place, counted from 0.
 abbrev pub position_of : History → ℕ
 position_of h = length h.before
 
--- how many places follow
+-- The number of places after the present one.
 abbrev pub following : History → ℕ
 following h = length h.after
 
--- the last place's number
+-- The number of the last place, counted from 0.
 abbrev pub last_of : History → ℕ
 last_of h = length h.before + length h.after
 
--- the present place is marked
+-- Marks the present place.
 abbrev pub marked : History → History
 marked h = record h { present = record { state = h.present.state; mark = true } }
 
--- all that follows is dropped
+-- Drops all places after the present one.
 abbrev pub cut : History → History
 cut h = record h { after = [] }
 
--- a further place, unmarked, which is the present one from then on
+-- Appends an unmarked place, which becomes the present one.
 abbrev pub append : History → State → History
 append h s = record { before = h.present ∷ h.before; present = record { state = s; mark = false }; after = [] }
 
+-- Appends unmarked places one by one; the last one becomes the present one.
 abbrev pub append_all : History → List State → History
 append_all h [] = h
 append_all h (s ∷ ss) = append_all (append h s) ss
 
--- an accepted command: the present place is marked, what follows is dropped, the states are appended, the last is marked
+-- The history after an accepted command: the present place is marked, the places after it are dropped, the states are appended,
+-- and the last one is marked.
 abbrev pub after_command : History → State → List State → History
 after_command h s ss = marked (append_all (append (cut (marked h)) s) ss)
 
--- one place back, where there is one
+-- One place back, if there is one.
 abbrev pub step_back : List Place → Place → List Place → History
 step_back [] p after = record { before = []; present = p; after = after }
 step_back (b ∷ before) p after = record { before = before; present = b; after = p ∷ after }
 
+-- One place back, if there is one.
 abbrev pub back : History → History
 back h = step_back h.before h.present h.after
 
--- one place on, where there is one
+-- One place forward, if there is one.
 abbrev pub step_forward : List Place → Place → List Place → History
 step_forward before p [] = record { before = before; present = p; after = [] }
 step_forward before p (a ∷ after) = record { before = p ∷ before; present = a; after = after }
 
+-- One place forward, if there is one.
 abbrev pub forward : History → History
 forward h = step_forward h.before h.present h.after
 
--- back from p to the nearest marked place
+-- Back from `p` to the nearest marked place.
 abbrev pub marked_before : List Place → Place → List Place → Option History
 marked_before [] p after = None
 marked_before (b ∷ before) p after =
     if b.mark then Some (record { before = before; present = b; after = p ∷ after })
     else marked_before before b (p ∷ after)
 
+-- Back from the present place to the nearest marked place before it, or None if there is none.
 abbrev pub undo : History → Option History
 undo h = marked_before h.before h.present h.after
 
--- on from p to the nearest marked place
+-- Forward from `p` to the nearest marked place.
 abbrev pub marked_after : List Place → Place → List Place → Option History
 marked_after before p [] = None
 marked_after before p (a ∷ after) =
     if a.mark then Some (record { before = p ∷ before; present = a; after = after })
     else marked_after (p ∷ before) a after
 
+-- Forward from the present place to the nearest marked place after it, or None if there is none.
 abbrev pub redo : History → Option History
 redo h = marked_after h.before h.present h.after
 
--- back to the first place
+-- Back to the first place.
 abbrev pub rewound_from : List Place → Place → List Place → History
 rewound_from [] p after = record { before = []; present = p; after = after }
 rewound_from (b ∷ before) p after = rewound_from before b (p ∷ after)
 
+-- The same places, with the first one as the present one.
 abbrev pub rewound : History → History
 rewound h = rewound_from h.before h.present h.after
 
--- on from p, itself included, to the first place after so many turns
+-- Forward from `p` to the first place with `t` turns; `p` itself is included.
 abbrev pub first_at_turn_from : ℕ → List Place → Place → List Place → Option History
 first_at_turn_from t before p [] =
     if p.state.turns == t then Some (record { before = before; present = p; after = [] }) else None
@@ -106,22 +114,23 @@ first_at_turn_from t before p (a ∷ after) =
     if p.state.turns == t then Some (record { before = before; present = p; after = a ∷ after })
     else first_at_turn_from t (p ∷ before) a after
 
--- the first place after so many turns, from the present one on
+-- Forward from the present place to the first place with `t` turns; the present place is included.
 abbrev pub first_at_turn : ℕ → History → Option History
 first_at_turn t h = first_at_turn_from t h.before h.present h.after
 
--- the first place after so many turns
+-- The first place of the whole history with `t` turns.
 abbrev pub goto : ℕ → History → Option History
 goto t h = first_at_turn t (rewound h)
 
--- the last place, from p on
+-- The last place, from `p` on.
 abbrev pub last_place : Place → List Place → Place
 last_place p [] = p
 last_place p (a ∷ after) = last_place a after
 
--- the turns of the first and of the last place
+-- The number of turns of the first place.
 abbrev pub first_turns : History → ℕ
 first_turns h = (rewound h).present.state.turns
 
+-- The number of turns of the last place.
 abbrev pub last_turns : History → ℕ
 last_turns h = (last_place h.present h.after).state.turns

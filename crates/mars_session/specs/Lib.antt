@@ -1,4 +1,5 @@
--- What a reader of the contracts has to believe, in this order; Laws follow from it, and Examples has worked examples of it.
+-- The definitions that a reader of the contracts must trust, in this order. `Laws` follows from them, and `Examples` has
+-- examples.
 pub mod Limits
 pub mod History
 pub mod Retention

@@ -1,6 +1,6 @@
 -- The limits of a history.
 use Rattle.std.specs.Prelude.{ℕ}
 
--- the most places that a tape which forgets keeps beside the last one
+-- The maximum number of places beside the last one that a tape which evicts may keep.
 abbrev pub longest_history : ℕ
 longest_history = 1000000

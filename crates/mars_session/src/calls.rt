@@ -1,62 +1,62 @@
-//! What a session is asked and what it answers.
+//! The calls of a session, and its replies.
 
 use mars_cell::Cell;
 use thiserror::Error;
 
-/// A command or a move.
+/// A call: a command or a move.
 #[derive(Clone, Copy, Debug, PartialEq, Eq)]
 pub enum Call {
-    /// One turn.
+    /// Executes one turn.
     Step,
-    /// So many turns, or as many as there are.
+    /// Executes this number of turns, or as many as are left.
     Run(u64),
-    /// Turns up to a cycle, or as many as there are.
+    /// Executes turns until the battle is in this cycle, or as many as are left.
     Until(u64),
-    /// The cell at an address is set.
+    /// Sets the cell at an address.
     SetCell(u64, Cell),
-    /// The cells from one address to another, both included, are set.
+    /// Sets the cells from the first address to the second, both included.
     Fill(u64, u64, Cell),
-    /// A process of a warrior is moved to an address: warrior, place in its queue, address.
+    /// Moves a process of a warrior: warrior, index of the process in its queue, new address.
     MoveProcess(u64, u64, u64),
-    /// A process of a warrior is ended: warrior, place in its queue.
+    /// Kills a process of a warrior: warrior, index of the process in its queue.
     Kill(u64, u64),
-    /// A warrior gets a further process at an address: warrior, address.
+    /// Adds a process to a warrior: warrior, address.
     Spawn(u64, u64),
-    /// To the nearest marked place before.
+    /// Goes to the nearest marked place before the present one.
     Undo,
-    /// To the nearest marked place after.
+    /// Goes to the nearest marked place after the present one.
     Redo,
-    /// To the first place after so many turns.
+    /// Goes to the first place with this number of turns.
     Goto(u64),
 }
 
-/// Where a session stands.
+/// The state of a session, as the reply to an accepted call.
 #[derive(Clone, Copy, Debug, PartialEq, Eq)]
 pub struct Standing {
-    /// How many turns were made.
+    /// Number of turns executed.
     pub turns: u64,
-    /// How many cycles are complete.
+    /// Number of complete cycles.
     pub cycle: u64,
-    /// The warrior whose turn it is.
+    /// Warrior whose turn is next.
     pub next: u64,
-    /// How many warriors live.
+    /// Number of living warriors.
     pub alive: u64,
-    /// The present place's number in the history, counted from 0.
+    /// Number of the present place in the history, counted from 0.
     pub position: u64,
-    /// The last place's number.
+    /// Number of the last place.
     pub last: u64,
 }
 
-/// Why a call was refused: the first that applies. It is displayed as its number, its name and its values.
+/// The first reason for which a call is refused. It is displayed as its number, its name and its values.
 #[derive(Clone, Copy, Debug, PartialEq, Eq, Error)]
 pub enum Refusal {
-    /// No turn, or more turns or cells than one command may have.
+    /// No turn is requested, or more turns or cells than one command may have.
     #[error("1 Count")]
     Count,
-    /// An address outside the core, or a fill whose first address is above its last.
+    /// An address is outside the core, or a fill has a first address above its last.
     #[error("2 Address")]
     Address,
-    /// A number of the cell isn't an address of the core.
+    /// A number of the cell is outside the core.
     #[error("3 FieldOutside")]
     FieldOutside,
     /// There is no such warrior.
@@ -65,37 +65,37 @@ pub enum Refusal {
     /// The warrior has no such process.
     #[error("5 NoSuchProcess")]
     NoSuchProcess,
-    /// A dead warrior gets no process.
+    /// The warrior is dead, so it gets no process.
     #[error("6 WarriorDead")]
     WarriorDead,
     /// The warrior has as many processes as it may have.
     #[error("7 QueueFull")]
     QueueFull,
-    /// The battle is over, and makes no turn.
+    /// The battle is over, so no turn is executed.
     #[error("8 Over")]
     Over,
-    /// The cycle has begun already: this is the present one.
+    /// The cycle is the present one or has passed; the value is the present cycle.
     #[error("9 CyclePassed {0}")]
     CyclePassed(u64),
-    /// No marked place lies before, and none was ever forgotten.
+    /// There is no marked place before the present one, and no place was ever evicted.
     #[error("10 NothingToUndo")]
     NothingToUndo,
-    /// No marked place lies after.
+    /// There is no marked place after the present one.
     #[error("11 NothingToRedo")]
     NothingToRedo,
-    /// No place has so many turns: those of the first and of the last place.
+    /// No place has that number of turns; the values are the turns of the first and of the last place.
     #[error("12 NotInHistory {0} {1}")]
     NotInHistory(u64, u64),
-    /// The history's limit leaves room for this many places alone.
+    /// The limit of the history leaves room for only this number of places.
     #[error("13 JournalFull {0}")]
     JournalFull(u64),
-    /// Memory for the command's places was refused.
+    /// Memory for the places of the command cannot be allocated.
     #[error("14 OutOfMemory")]
     OutOfMemory,
-    /// No marked place lies before, since the oldest ones were forgotten.
+    /// There is no marked place before the present one, and a place was evicted earlier.
     #[error("15 Forgotten")]
     Forgotten,
 }
 
-/// The answer to a call.
+/// The reply to a call.
 pub type Reply = Result<Standing, Refusal>;

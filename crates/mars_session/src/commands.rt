@@ -1,4 +1,4 @@
-//! The commands, over any tape.
+//! The commands, generic over the tape.
 ghost use Rattle.std.specs.Prelude.{◌≡◌, ◌+◌, ◌≤◌, ◌<◌, [], Some, None, false, IfErr, OnOk, OnErr, MatchOption, ◌*◌, ◌-◌};
 ghost use Rattle.mars_session.specs.History.{marked, cut, after_command};
 ghost use Rattle.mars_session.specs.Commands.{command_limit, turns_until, stops_at, until_bound, cells_between, fills, refusal_of, edit_states};
@@ -13,10 +13,10 @@ use crate::tapes::Tape;
 use mars_cell::Cell;
 use mars_core::{Battle, Edit, EditFault};
 
-/// The most turns or cells of one command.
+/// Maximum number of turns or cells of one command.
 pub const COMMAND_LIMIT: u64 = 1_000_000;
 
-/// Where a tape stands.
+/// Returns the standing of a tape.
 pub fn standing<T: Tape>(tape: &T) -> Standing
     ensures { result ≡ standing_of (T.history tape.now) }
 {
@@ -31,17 +31,21 @@ pub fn standing<T: Tape>(tape: &T) -> Standing
     }
 }
 
-/// Makes room for the places of a command, marks the present one and drops what follows. Want of memory is answered only
-/// where the room is below the bound.
+/// Reserves room for the places of a command, marks the present place and drops the places after it.
+///
+/// # Errors
+///
+/// - `JournalFull` if the limit leaves less room than `bound`
+/// - `OutOfMemory` if the tape has less room than `bound` and an allocation fails
 fn prepare<T: Tape>(tape: &mut T, limit: u64, bound: u64) -> Result<(), Refusal>
     requires { 1 ≤ bound }
 
-    // Whether there is room, by the definition; memory is wanting only where the tape has less.
+    // There is room as the specification says. `OutOfMemory` is possible only if the tape has less room than `bound`.
     ensures room { OnOk result (no_room (T.retention tape.old) limit bound false (T.history tape.old) ≡ None) }
     ensures refused { IfErr result (λ r. no_room (T.retention tape.old) limit bound (is_out_of_memory r) (T.history tape.old) ≡ Some r) }
     ensures memory { result ≡ Err Refusal.OutOfMemory → T.room tape.old < bound }
 
-    // The place is marked and what followed is dropped, or all is as it was.
+    // If it succeeds, the place is marked and the places after it are dropped; otherwise nothing changes.
     ensures ok { OnOk result (T.history tape.new ≡ cut (marked (T.history tape.old))) }
     ensures reserved { OnOk result (bound ≤ T.room tape.new) }
     ensures kept { T.retention tape.new ≡ T.retention tape.old }
@@ -63,7 +67,7 @@ fn prepare<T: Tape>(tape: &mut T, limit: u64, bound: u64) -> Result<(), Refusal>
     }
 }
 
-/// Whether turns stop at a battle: where it is over, or stands in this cycle.
+/// Returns whether turns stop at a battle: if it is over or, for `Some(cycle)`, is in that cycle.
 fn stops(battle: &Battle, cycle: Option<u64>) -> bool
     ensures { result ≡ stops_at cycle battle.now }
 {
@@ -73,7 +77,7 @@ fn stops(battle: &Battle, cycle: Option<u64>) -> bool
     }
 }
 
-/// Appends the turns, at most n, up to the first place where they stop.
+/// Appends at most `n` turns, up to the first place at which they stop.
 fn turn_until<T: Tape>(tape: &mut T, n: u64, cycle: Option<u64>)
     requires last { (T.history tape.old).after ≡ [] }
     requires room { n ≤ T.room tape.old }
@@ -88,7 +92,7 @@ fn turn_until<T: Tape>(tape: &mut T, n: u64, cycle: Option<u64>)
     }
 }
 
-/// Makes at least one turn and at most so many, up to the first place where they stop.
+/// Executes at least one turn and at most `count`, up to the first place at which they stop.
 fn make_turns<T: Tape>(
     tape: &mut T,
     limit: u64,
@@ -109,7 +113,7 @@ fn make_turns<T: Tape>(
     Ok(standing(tape))
 }
 
-/// One turn.
+/// Executes one turn.
 pub fn step<T: Tape>(tape: &mut T, limit: u64) -> Result<Standing, Refusal>
     ensures answer { IsAnswer (T.retention tape.old) limit Call.Step (T.history tape.old) result (T.history tape.new) (T.retention tape.new) }
     ensures memory { result ≡ Err Refusal.OutOfMemory → T.room tape.old < 1 }
@@ -120,7 +124,7 @@ pub fn step<T: Tape>(tape: &mut T, limit: u64) -> Result<Standing, Refusal>
     make_turns(tape, limit, 1, None)
 }
 
-/// So many turns, or as many as there are.
+/// Executes `n` turns, or as many as are left.
 pub fn run<T: Tape>(tape: &mut T, limit: u64, n: u64) -> Result<Standing, Refusal>
     ensures answer { IsAnswer (T.retention tape.old) limit (Call.Run n) (T.history tape.old) result (T.history tape.new) (T.retention tape.new) }
     ensures memory { result ≡ Err Refusal.OutOfMemory → T.room tape.old < n }
@@ -134,14 +138,14 @@ pub fn run<T: Tape>(tape: &mut T, limit: u64, n: u64) -> Result<Standing, Refusa
     make_turns(tape, limit, n, None)
 }
 
-/// The product, where one command may make so many turns.
+/// Returns `cycles * warriors`, or `None` if one command may not execute that many turns.
 fn few_turns(cycles: u64, warriors: u64) -> Option<u64>
     ensures { MatchOption result (command_limit < cycles * warriors) (λ n. (n ≡ cycles * warriors) × (n ≤ command_limit)) }
 {
     cycles.checked_mul(warriors).filter(|n| *n <= COMMAND_LIMIT)
 }
 
-/// Turns up to a cycle, or as many as there are.
+/// Executes turns until the battle is in the cycle, or as many as are left.
 pub fn until<T: Tape>(tape: &mut T, limit: u64, cycle: u64) -> Result<Standing, Refusal>
     ensures answer { IsAnswer (T.retention tape.old) limit (Call.Until cycle) (T.history tape.old) result (T.history tape.new)
         (T.retention tape.new) }
@@ -161,7 +165,7 @@ pub fn until<T: Tape>(tape: &mut T, limit: u64, cycle: u64) -> Result<Standing, 
     make_turns(tape, limit, n, Some(cycle))
 }
 
-/// The refusal for the fault of an edit.
+/// Converts the error of an edit to a refusal.
 fn refusal(fault: EditFault) -> Refusal
     ensures { result ≡ refusal_of fault }
 {
@@ -175,7 +179,7 @@ fn refusal(fault: EditFault) -> Refusal
     }
 }
 
-/// One edit.
+/// Makes one edit.
 pub fn edit<T: Tape>(tape: &mut T, limit: u64, edit: Edit) -> Result<Standing, Refusal>
     ensures answer { command_outcome (T.retention tape.old) limit 1 (is_poor result) (T.history tape.old)
         (edit_states edit (T.history tape.old).present.state)
@@ -191,7 +195,7 @@ pub fn edit<T: Tape>(tape: &mut T, limit: u64, edit: Edit) -> Result<Standing, R
     Ok(standing(tape))
 }
 
-/// Sets the cells after the first address up to the last, one place each.
+/// Sets the cells after `first` up to `last`, one place each.
 #[tactic(auto, using(crate::proofs::Turns::fault_below))]
 fn fill_cells<T: Tape>(tape: &mut T, first: u64, last: u64, cell: Cell)
     requires last { (T.history tape.old).after ≡ [] }
@@ -208,7 +212,7 @@ fn fill_cells<T: Tape>(tape: &mut T, first: u64, last: u64, cell: Cell)
     }
 }
 
-/// The cells from one address to another, both included, are set.
+/// Sets the cells from `from` to `to`, both included, one place each.
 #[tactic(auto, using(crate::proofs::Turns::fault_kept, crate::proofs::Turns::fault_below))]
 pub fn fill<T: Tape>(
     tape: &mut T,

@@ -1,4 +1,4 @@
-//! A tape of one battle and records.
+//! A tape of one battle and the records between its places.
 ghost use Rattle.std.proofs.Common.{refl, rules};
 ghost use Rattle.std.specs.Prelude.{◌≡◌, ◌+◌, ◌-◌, ◌<◌, ◌≤◌, None, false, true, MatchOption, MatchResult, vec_capacity, IsOk};
 ghost use Rattle.mars_session.specs.History.{beginning, places, last_of, cut, back, forward};
@@ -10,8 +10,11 @@ use mars_core::{Atom, Battle, Edit};
 use std::alloc::{AllocError, Global};
 use std::marker::Model;
 
-/// A tape that keeps the battle of the present place alone, and for each place after the first the record that leads to it,
-/// with its mark; and how many turns the first and the last place have. The first place is always marked.
+/// A tape that stores only the battle of the present place and, for each place after the first, its mark and the record that
+/// leads to it.
+///
+/// The turns of the first and the last place are stored too, so that `goto` can reject a number of turns at once. The first
+/// place is always marked.
 #[derive(Drop)]
 pub struct DeltaTape {
     battle: Battle,
@@ -34,8 +37,10 @@ impl Model for DeltaTape {
 }
 
 impl DeltaTape {
-    /// A tape at the one, marked place of a battle. It takes no memory yet, and so is never refused; it answers a `Result` as each
-    /// tape's `new` does, so that one can stand for another.
+    /// Creates a tape at the only place of a battle, which is marked.
+    ///
+    /// Does not allocate yet, so it never fails. It returns a `Result` like `new` of the other tapes, so that one tape can
+    /// replace another.
     pub fn new(alloc: Global, battle: Battle) -> Result<Self, Battle>
         ensures history { MatchResult result (λ t. t.history ≡ beginning battle) (λ b. b ≡ battle) }
         ensures never { IsOk result }
@@ -50,7 +55,7 @@ impl DeltaTape {
         })
     }
 
-    /// The record that leads from place i to place i + 1, where there is such a place.
+    /// Returns the record that leads from place `i` to place `i + 1`, or `None` if there is no such place.
     pub fn atom(&self, i: u64) -> Option<&Atom>
         ensures { MatchOption result (last_of self.now.history ≤ i)
             (λ atom. (i < last_of self.now.history) × LeadsAt (places self.now.history) i atom.now) }
@@ -62,7 +67,7 @@ impl DeltaTape {
     }
 }
 
-// What each method does, and its clauses, stand in `Tape`.
+// `Tape` documents the methods and has their contracts.
 impl Tape for DeltaTape {
     const FORGETS: bool = false;
 

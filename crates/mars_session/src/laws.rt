@@ -1,50 +1,52 @@
-//! Laws of the history, over the definitions alone.
+//! Laws of the history: theorems about the definitions only.
 ghost use Rattle.mars_session.specs.Laws.{CallsAreScripts, UndosGiveBack, RedosGiveAgain, RefusalsChangeNothing, NeverFull, CommandsAreUndone, FewCommandsAreUndone, RedoAfterUndo, MovesKeepPlaces, UndoFindsNearest, RedoFindsNearest, GotoFindsFirst, CommandsAppend, BeginningIsTape, CallsKeepTapes, ScriptsKeepTapes, ScriptsForgetTapes, GotoBetween, TurnsAndCyclesRise, UntilArrives, CallsKeepLimit, PlacesAreValid};
 
-/// Calls that are answered one after another leave what the definition of a script says, and have its replies.
+/// If calls are executed one after another, the replies and the final history are those of the definition `script`.
 pub fn calls_are_scripts()
     ensures { CallsAreScripts }
 {}
 
-/// After accepted commands as many undos are accepted, and give back the state and the position.
+/// If all places are kept, the same number of undos is accepted after accepted commands, and restores the state and the
+/// position.
 pub fn undos_give_back()
     ensures { UndosGiveBack }
 {}
 
-/// As many redos after those undos are accepted, and give the very history from before them.
+/// If all places are kept, the same number of redos is accepted after those undos, and restores the history after the commands
+/// exactly.
 pub fn redos_give_again()
     ensures { RedosGiveAgain }
 {}
 
-/// A refused call, want of memory included, changes nothing.
+/// A refused call changes nothing, also if an allocation failed.
 pub fn refusals_change_nothing()
     ensures { RefusalsChangeNothing }
 {}
 
-/// Where places are forgotten, no call is refused for want of room or of memory.
+/// If the tape evicts places, no call is refused because of the limit or of memory.
 pub fn never_full()
     ensures { NeverFull }
 {}
 
-/// After any commands, refused ones among them, as many calls of `Undo` as commands were accepted are all accepted, and give
-/// back the state and the position; as many calls of `Redo` after them are all accepted, and give the very history from
-/// after the commands.
+/// If all places are kept: after any commands, some of which may be refused, as many calls of `Undo` as commands were accepted
+/// are all accepted, and restore the state and the position. As many calls of `Redo` after them are all accepted, and restore
+/// the history after the commands exactly.
 pub fn commands_are_undone()
     ensures { CommandsAreUndone }
 {}
 
-/// Where k places are kept beside the last one, so it is of commands that append at most k places together; the position may
-/// be another one.
+/// If `k` places are kept beside the last one, commands that append at most `k` places together can be undone and redone in the
+/// same way. The position may be another one, because places may be evicted.
 pub fn few_commands_are_undone()
     ensures { FewCommandsAreUndone }
 {}
 
-/// From a marked place, redo after an accepted undo gives back the history.
+/// From a marked place, redo after an accepted undo restores the history.
 pub fn redo_after_undo()
     ensures { RedoAfterUndo }
 {}
 
-/// A move leads to the same places.
+/// A move leads to a history with the same places.
 pub fn moves_keep_places()
     ensures { MovesKeepPlaces }
 {}
@@ -59,53 +61,56 @@ pub fn redo_finds_nearest()
     ensures { RedoFindsNearest }
 {}
 
-/// Goto leads to the first place after so many turns.
+/// Goto leads to the first place with the given number of turns.
 pub fn goto_finds_first()
     ensures { GotoFindsFirst }
 {}
 
-/// An accepted command keeps the places before the present one, marks that, and appends its own.
+/// An accepted command keeps the places before the present one, marks the present one, and appends its own places.
 pub fn commands_append()
     ensures { CommandsAppend }
 {}
 
-/// A valid battle alone makes a tape, however few places are kept: one place, which is marked.
+/// The history of only one place, which is marked and whose battle is valid, is a tape, for each number of places that may be
+/// kept.
 pub fn beginning_is_tape()
     ensures { BeginningIsTape }
 {}
 
-/// Every call keeps a tape: each place is a turn or an edit of the one before, and the first and the last are marked.
+/// If all places are kept, every call keeps a tape: each place is a turn or an edit of the one before it, and the first and the
+/// last are marked.
 pub fn calls_keep_tapes()
     ensures { CallsKeepTapes }
 {}
 
-/// Every list of calls keeps a tape: each place is a turn or an edit of the one before, and the first and the last are marked.
+/// If all places are kept, every list of calls keeps a tape: each place is a turn or an edit of the one before it, and the
+/// first and the last are marked.
 pub fn scripts_keep_tapes()
     ensures { ScriptsKeepTapes }
 {}
 
-/// Where k places are kept beside the last one, every list of calls keeps a tape of at most so many: each place is a turn or
-/// an edit of the one before, and the last is marked.
+/// If `k` places are kept beside the last one, every list of calls keeps a tape of at most that many: each place is a turn or
+/// an edit of the one before it, and the last is marked.
 pub fn scripts_forget_tapes()
     ensures { ScriptsForgetTapes }
 {}
 
-/// Turns and cycles never fall along a tape, and rise by at most one a place.
+/// The numbers of turns and of cycles never fall along a tape, and rise by at most one from place to place.
 pub fn turns_and_cycles_rise()
     ensures { TurnsAndCyclesRise }
 {}
 
-/// So goto finds a place just where the turns lie between those of the first and of the last place.
+/// Goto finds a place exactly if the number of turns is between those of the first and of the last place.
 pub fn goto_between()
     ensures { GotoBetween }
 {}
 
-/// Turns up to a cycle end in it, or where the battle is over.
+/// After turns up to a cycle, the battle is in that cycle or is over.
 pub fn until_arrives()
     ensures { UntilArrives }
 {}
 
-/// Every call keeps a tape within its limit: no command has more places than its bound.
+/// If all places are kept, every call keeps a tape within its limit, because no command appends more places than its bound.
 pub fn calls_keep_limit()
     ensures { CallsKeepLimit }
 {}

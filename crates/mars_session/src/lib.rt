@@ -1,18 +1,27 @@
-//! A debugger's session: commands over a battle that can be undone and done again.
+//! A debugger's session: commands on a battle that can be undone and redone.
 //!
-//! A session stands over a tape of all places that its battle has been at. A command appends
-//! a place for each turn or edit, and drops what followed; undo and redo go to the nearest
-//! marked place, and the ends of commands are marked, as is each place that a command began
-//! at; goto goes to the first place after so many turns. A refused call changes nothing.
+//! A [`Session`] has a tape of all places that its battle has reached; one of them is the present place. A command appends a
+//! place for each turn or edit, and drops the places after the present one. The place before a command and its last place are
+//! marked; undo and redo go to the nearest marked place. Goto goes to the first place with a given number of turns. A refused
+//! call changes nothing.
 //!
-//! The layer above may use: each call of [`Session`] is one step of the definition `outcome`
-//! (`specs/Script.antt`) over a history of whole states, whatever the tape; `apply_all` is a
-//! list of such steps; the laws of [`laws`] on that definition; and each tape keeps a history
-//! as [`Tape`] says. [`WholeTape`] keeps a battle for each place, [`DeltaTape`] one battle and
-//! the records between places, each of which leads from its place to the next. [`RingTape`]
-//! keeps the last records alone, and forgets the places before them. Want of memory is answered
-//! by commands alone, before any change, and only where more places are wanted than the tape
-//! has room for, which is never less than follow the present one; never where it forgets.
+//! # Tapes
+//!
+//! - [`WholeTape`] stores a copy of the battle for each place
+//! - [`DeltaTape`] stores one battle and the records between places, each of which leads from its place to the next
+//! - [`RingTape`] stores one battle and only the last records; it evicts the places before them
+//!
+//! # Guarantees
+//!
+//! All of these are proved.
+//!
+//! - Each call of [`Session`] is one step of the definition `outcome` (`specs/Script.antt`) on a history of whole states,
+//!   whatever the tape is. `apply_all` is a list of such steps.
+//! - The laws in [`laws`] hold for that definition.
+//! - Each tape is a history as [`Tape`] says.
+//! - Only commands run out of memory, and only before any change and if they may need more places than the tape has room for.
+//!   There is always room for as many places as follow the present one. A command on a tape that evicts never runs out of
+//!   memory.
 #![tactic(auto)]
 
 mod calls;

@@ -1,4 +1,4 @@
-//! The moves to places that are in the history, over any tape.
+//! The moves to places in the history, generic over the tape.
 ghost use Rattle.std.specs.Prelude.{◌≡◌, ◌≢◌, Err, ◌<◌, ◌≤◌, true, false, Some, IsSome, is_some};
 ghost use Rattle.mars_session.specs.History.{position_of, last_of, rewound, undo, redo, goto, first_at_turn, first_turns as turns_of_first, last_turns};
 ghost use Rattle.mars_session.specs.Script.{move_outcome, no_undo};
@@ -7,7 +7,7 @@ use crate::calls::{Refusal, Standing};
 use crate::commands::standing;
 use crate::tapes::Tape;
 
-/// Goes back to the place of this number.
+/// Goes back to the place with number `position`.
 fn go_back<T: Tape>(tape: &mut T, position: u64)
     requires { position ≤ position_of (T.history tape.old) }
     ensures places { rewound (T.history tape.new) ≡ rewound (T.history tape.old) }
@@ -19,7 +19,7 @@ fn go_back<T: Tape>(tape: &mut T, position: u64)
     }
 }
 
-/// Goes on to the place of this number.
+/// Goes forward to the place with number `position`.
 fn go_on<T: Tape>(tape: &mut T, position: u64)
     requires after { position_of (T.history tape.old) ≤ position }
     requires inside { position ≤ last_of (T.history tape.old) }
@@ -32,7 +32,7 @@ fn go_on<T: Tape>(tape: &mut T, position: u64)
     }
 }
 
-/// Why there is no marked place before.
+/// Returns the refusal of an undo that finds no marked place.
 fn no_marked_place<T: Tape>(tape: &T) -> Refusal
     ensures why { result ≡ no_undo (T.retention tape.now) }
     ensures never { result ≢ Refusal.OutOfMemory }
@@ -44,7 +44,7 @@ fn no_marked_place<T: Tape>(tape: &T) -> Refusal
     }
 }
 
-/// To the nearest marked place before.
+/// Goes back to the nearest marked place.
 pub fn undo<T: Tape>(tape: &mut T) -> Result<Standing, Refusal>
     ensures answer { move_outcome (T.retention tape.old) (T.history tape.old) (no_undo (T.retention tape.old)) (undo (T.history tape.old))
         ≡ record { history = T.history tape.new; retention = T.retention tape.new; reply = result } }
@@ -61,7 +61,7 @@ pub fn undo<T: Tape>(tape: &mut T) -> Result<Standing, Refusal>
     Err(no_marked_place(tape))
 }
 
-/// To the nearest marked place after.
+/// Goes forward to the nearest marked place.
 pub fn redo<T: Tape>(tape: &mut T) -> Result<Standing, Refusal>
     ensures answer { move_outcome (T.retention tape.old) (T.history tape.old) Refusal.NothingToRedo (redo (T.history tape.old))
         ≡ record { history = T.history tape.new; retention = T.retention tape.new; reply = result } }
@@ -78,15 +78,17 @@ pub fn redo<T: Tape>(tape: &mut T) -> Result<Standing, Refusal>
     Err(Refusal::NothingToRedo)
 }
 
-/// How many turns the present place has.
+/// Returns the number of turns of the present place.
 fn turns_now<T: Tape>(tape: &T) -> u64
     ensures { result ≡ (T.history tape.now).present.state.turns }
 {
     tape.now().turns() as u64
 }
 
-/// Whether the first place after so many turns may lie before the present one: not where that is the first place, or has
-/// fewer turns, since turns never fall.
+/// Returns whether the target of `goto` may be before the present place.
+///
+/// It can't be if the present place is the first one or has fewer turns than the target, because the number of turns never
+/// decreases along a history.
 fn may_lie_before<T: Tape>(tape: &T, turns: u64) -> bool
     ensures back { result ≡ true → 0 < position_of (T.history tape.now) }
     ensures here { result ≡ false → goto turns (T.history tape.now) ≡ first_at_turn turns (T.history tape.now) }
@@ -94,7 +96,7 @@ fn may_lie_before<T: Tape>(tape: &T, turns: u64) -> bool
     tape.position() > 0 && turns_now(tape) >= turns
 }
 
-/// Goes back until the first place after so many turns doesn't lie before.
+/// Goes back until the target of `goto` can't be before the present place.
 fn go_before<T: Tape>(tape: &mut T, turns: u64)
     ensures places { rewound (T.history tape.new) ≡ rewound (T.history tape.old) }
     ensures sought { first_at_turn turns (T.history tape.new) ≡ goto turns (T.history tape.old) }
@@ -105,7 +107,7 @@ fn go_before<T: Tape>(tape: &mut T, turns: u64)
     }
 }
 
-/// Goes on to the first place after so many turns, the present one included. There must be one.
+/// Goes forward to the first place with this number of turns, which may be the present one. There must be one.
 fn find_on<T: Tape>(tape: &mut T, turns: u64)
     requires { IsSome (first_at_turn turns (T.history tape.old)) }
     ensures found { first_at_turn turns (T.history tape.old) ≡ Some (T.history tape.new) }
@@ -116,8 +118,10 @@ fn find_on<T: Tape>(tape: &mut T, turns: u64)
     }
 }
 
-/// Whether there is a place after so many turns: where they lie between those of both ends, since turns rise by at most one a
-/// place.
+/// Returns whether a place has this number of turns.
+///
+/// The turns rise by at most one from place to place, so there is one for each number between those of the first and of the
+/// last place.
 #[tactic(auto, using(crate::proofs::Between::met_past))]
 fn is_met<T: Tape>(tape: &T, turns: u64) -> bool
     ensures { result ≡ is_some (goto turns (T.history tape.now)) }
@@ -125,7 +129,7 @@ fn is_met<T: Tape>(tape: &T, turns: u64) -> bool
     turns <= tape.last_turns() && tape.first_turns() <= turns
 }
 
-/// To the first place after so many turns: back as far as it may lie, and then on.
+/// Goes to the first place with this number of turns: back as far as it may be, and then forward.
 pub fn goto<T: Tape>(tape: &mut T, turns: u64) -> Result<Standing, Refusal>
     ensures answer { move_outcome (T.retention tape.old) (T.history tape.old)
         (Refusal.NotInHistory (turns_of_first (T.history tape.old)) (last_turns (T.history tape.old)))

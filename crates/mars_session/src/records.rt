@@ -1,4 +1,4 @@
-//! The records between the places of a tape that forgets.
+//! The records between the places of a tape that evicts.
 ghost use Rattle.std.specs.Prelude.{◌≡◌, ◌+◌, ◌-◌, ◌<◌, ◌≤◌, ◌||◌, ◌++◌, [], ◌∷◌, IfOk, length, slice_set, nat_lt, true, false, if◌then◌else◌};
 ghost use Rattle.circular_buffer.specs.Buffer.{buffer, keep_last};
 ghost use Rattle.mars_core.specs.State.{is_over_of};
@@ -12,26 +12,26 @@ use circular_buffer::HeapCircularBuffer;
 use mars_core::{Atom, Battle, turns_of};
 use std::alloc::{AllocError, Global};
 
-/// The records between at most so many places and one more, each with the mark of the place that it leads to. Room for all of
-/// them is reserved.
+/// The records between a limited number of places and the last one, each with the mark of the place that it leads to. The
+/// capacity for all of them is allocated at the start.
 #[derive(Drop)]
 pub struct Records {
-    /// The records, the oldest first.
+    /// Records, the oldest first.
     pub ring: HeapCircularBuffer<(Atom, bool)>,
-    /// The present place's number.
+    /// Number of the present place.
     pub at: usize,
     /// Whether the first place is marked.
     pub first_mark: bool,
-    /// Whether a place was ever forgotten.
+    /// Whether a place was ever evicted.
     pub forgotten: bool,
-    /// How many turns the first place has.
+    /// Number of turns of the first place.
     pub first_turns: u32,
-    /// How many turns the last place has.
+    /// Number of turns of the last place.
     pub last_turns: u32,
 }
 
 impl Records {
-    /// No record, and room for so many, after a first place that is marked and has so many turns.
+    /// Returns an empty list with capacity for `most` records, after a first place that is marked and has this number of turns.
     pub fn with_room(alloc: Global, most: usize, turns: u32) -> Result<Records, AllocError>
         ensures { IfOk result (λ r. r ≡ record
             { ring = buffer [] most; at = 0; first_mark = true; forgotten = false; first_turns = turns; last_turns = turns }) }
@@ -46,7 +46,7 @@ impl Records {
         })
     }
 
-    /// Whether the present place is marked.
+    /// Returns whether the present place is marked.
     pub fn is_marked(&self) -> bool
         requires { self.now.at ≤ length self.now.ring.items }
         ensures { result ≡ mark_at self.now.first_mark self.now.ring.items self.now.at }
@@ -82,7 +82,7 @@ impl Records {
         }
     }
 
-    /// The record that leads to the present place.
+    /// Returns the record that leads to the present place.
     pub fn last(&self) -> &Atom
         requires before { 0 < self.now.at }
         requires inside { self.now.at ≤ length self.now.ring.items }
@@ -94,7 +94,7 @@ impl Records {
         }
     }
 
-    /// The record that leads on from the present place.
+    /// Returns the record that leads from the present place to the next one.
     pub fn next(&self) -> &Atom
         requires { self.now.at < length self.now.ring.items }
         ensures { result.now ≡ (entry_at self.now.ring.items self.now.at).0 }
@@ -105,8 +105,8 @@ impl Records {
         }
     }
 
-    /// Appends a record to the last place, which leads to a present one of so many turns from then on. Where there is no room for
-    /// it, the first place is forgotten.
+    /// Appends a record after the last place; it leads to a new present place with this number of turns. If the list is full,
+    /// evicts the first place.
     #[inline(always)]
     pub fn push(&mut self, atom: Atom, turns: u32)
         requires last { self.old.at ≡ length self.old.ring.items }
@@ -115,7 +115,8 @@ impl Records {
         requires within { length self.old.ring.items ≤ self.old.ring.capacity }
         requires turns { self.old.first_turns + spec_turns_of (entry_at self.old.ring.items 0).0.work ≤ turns }
 
-        // The oldest record falls out where the ring is full: then the place's number stays, and the first place is the next one.
+        // If the ring is full, it evicts the oldest record: then the number of the present place stays, and the second place
+        // becomes the first.
         ensures ring { self.new.ring ≡ buffer
             (keep_last self.old.ring.capacity (self.old.ring.items ++ (atom, false) ∷ [])) self.old.ring.capacity }
         ensures at { self.new.at ≡ (if nat_lt self.old.at self.old.ring.capacity then self.old.at + 1 else self.old.at) }
@@ -137,7 +138,8 @@ impl Records {
         }
     }
 
-    /// Appends the turn of a battle to its last place. The record is made where it stays.
+    /// Executes a turn of a battle and appends its record after the last place. The record is built where it is stored, without
+    /// a copy.
     #[inline(always)]
     pub fn push_turn(&mut self, battle: &mut Battle)
         requires last { self.old.at ≡ length self.old.ring.items }
@@ -149,7 +151,7 @@ impl Records {
         ensures battle { battle.new ≡ turn_of battle.old }
         ensures leads { Leads battle.old (turn_record battle.old) battle.new }
 
-        // As `push` does.
+        // As for `push`.
         ensures ring { self.new.ring ≡ buffer
             (keep_last self.old.ring.capacity (self.old.ring.items ++ (turn_record battle.old, false) ∷ [])) self.old.ring.capacity }
         ensures at { self.new.at ≡ (if nat_lt self.old.at self.old.ring.capacity then self.old.at + 1 else self.old.at) }

@@ -1,4 +1,4 @@
-//! A tape that forgets.
+//! A tape that evicts the oldest places.
 ghost use Rattle.std.proofs.Common.{refl, rules};
 ghost use Rattle.std.specs.Prelude.{◌≡◌, ◌+◌, ◌-◌, ◌<◌, ◌≤◌, ◌^◌, Some, false, true, MatchResult};
 ghost use Rattle.mars_session.specs.Limits.{longest_history};
@@ -10,8 +10,9 @@ use mars_core::{Battle, Edit};
 use std::alloc::{AllocError, Global};
 use std::marker::Model;
 
-/// A tape that keeps the battle of the present place, and the records between the last places, as many as it was made for.
-/// All its memory is taken when it is made.
+/// A tape that stores the battle of the present place and the records between the last places, up to a fixed number.
+///
+/// All its memory is allocated when it is created.
 #[derive(Drop)]
 pub struct RingTape {
     battle: Battle,
@@ -30,8 +31,12 @@ impl Model for RingTape {
 }
 
 impl RingTape {
-    /// A tape at the one, marked place of a battle, that keeps so many places beside the last one, 1 to 1,000,000. Where memory
-    /// is refused, the battle comes back.
+    /// Creates a tape at the only place of a battle, which is marked. It keeps `most` places beside the last one, 1 to
+    /// 1,000,000.
+    ///
+    /// # Errors
+    ///
+    /// Returns the battle if an allocation fails.
     pub fn new(alloc: Global, battle: Battle, most: usize) -> Result<Self, Battle>
         requires some { 1 ≤ most }
         requires few { most ≤ longest_history }
@@ -44,7 +49,7 @@ impl RingTape {
     }
 }
 
-// What each method does, and its clauses, stand in `Tape`.
+// `Tape` documents the methods and has their contracts.
 impl Tape for RingTape {
     const FORGETS: bool = true;
 

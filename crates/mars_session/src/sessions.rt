@@ -12,10 +12,12 @@ use mars_core::{Battle, Edit};
 use std::alloc::AllocError;
 use std::marker::Model;
 
-/// A session: a tape, and the most places after its first. Each call answers where the session stands then, or the first of
-/// its refusals that applies; a refused call changes nothing. Commands are refused last by `JournalFull`, where their places
-/// would pass the limit, and by `OutOfMemory`, where the tape has less room than they may need and is refused memory; over a
-/// tape that forgets by neither, and the limit isn't looked at. Moves take no memory. Numbers may be any of 64 bits.
+/// A session: a tape, and the maximum number of places after its first one.
+///
+/// Each call returns the standing after it, or the first refusal that applies; a refused call changes nothing. The last
+/// refusals of a command are `JournalFull`, if its places may exceed the limit, and then `OutOfMemory`, if the tape has less
+/// room than they may need and an allocation fails. A tape that evicts never causes these two, and ignores the limit. Moves do
+/// not allocate. Numbers are 64-bit and are checked before they are narrowed.
 #[derive(Drop)]
 pub struct Session<T: Tape> {
     tape: T,
@@ -34,7 +36,8 @@ impl<T: Tape> Model for Session<T> {
 }
 
 impl<T: Tape> Session<T> {
-    /// A session over a tape, with the most places that may stand after the first one, where the tape keeps all of them.
+    /// Creates a session over a tape. `limit` is the maximum number of places after the first one; a tape that evicts ignores
+    /// it.
     pub fn new(tape: T, limit: u64) -> Self
         ensures state { result.state ≡ record { history = T.history tape; limit = limit; retention = T.retention tape } }
         ensures room { result.room ≡ T.room tape }
@@ -42,7 +45,7 @@ impl<T: Tape> Session<T> {
         Session { tape, limit }
     }
 
-    /// The tape of all places: what a tape alone can tell, as [`crate::DeltaTape::atom`], is asked of it.
+    /// Returns the tape, for what only a tape provides, such as [`crate::DeltaTape::atom`].
     pub fn tape(&self) -> &T
         ensures history { T.history result.now ≡ self.now.state.history }
         ensures retention { T.retention result.now ≡ self.now.state.retention }
@@ -51,7 +54,7 @@ impl<T: Tape> Session<T> {
         &self.tape
     }
 
-    /// Gives the tape back, at the place where the session stands.
+    /// Returns the tape, at the present place of the session.
     pub fn into_tape(self) -> T
         ensures history { T.history result ≡ self.state.history }
         ensures retention { T.retention result ≡ self.state.retention }
@@ -60,59 +63,81 @@ impl<T: Tape> Session<T> {
         self.tape
     }
 
-    /// The battle of the present place.
+    /// Returns the battle of the present place.
     pub fn battle(&self) -> &Battle
         ensures { result.now ≡ self.now.state.history.present.state }
     {
         self.tape.now()
     }
 
-    /// Where the session stands.
+    /// Returns the standing of the session.
     pub fn standing(&self) -> Standing
         ensures { result ≡ standing_of self.now.state.history }
     {
         commands::standing(&self.tape)
     }
 
-    /// Makes one turn. Refused where the battle is `Over`.
+    /// Executes one turn.
+    ///
+    /// # Errors
+    ///
+    /// `Over` if the battle is over.
     pub fn step(&mut self) -> Result<Standing, Refusal>
         ensures { Answers self.old Call.Step result self.new }
     {
         self.call(Call::Step)
     }
 
-    /// Makes so many turns, 1 to 1,000,000 (else `Count`), or as many as there are. Refused where the battle is `Over`.
+    /// Executes `n` turns, 1 to 1,000,000, or as many as are left.
+    ///
+    /// # Errors
+    ///
+    /// `Count` if `n` is out of range; `Over` if the battle is over.
     pub fn run(&mut self, n: u64) -> Result<Standing, Refusal>
         ensures { Answers self.old (Call.Run n) result self.new }
     {
         self.call(Call::Run(n))
     }
 
-    /// Makes turns up to a cycle, or as many as there are. Refused by `Count` where the cycles to go times all warriors are over
-    /// 1,000,000, where the battle is `Over`, and by `CyclePassed` where the cycle has begun.
+    /// Executes turns until the battle is in this cycle, or as many as are left.
+    ///
+    /// # Errors
+    ///
+    /// `Count` if the remaining cycles times the number of all warriors exceed 1,000,000; `Over` if the battle is over;
+    /// `CyclePassed` if the cycle is not after the present one.
     pub fn until(&mut self, cycle: u64) -> Result<Standing, Refusal>
         ensures { Answers self.old (Call.Until cycle) result self.new }
     {
         self.call(Call::Until(cycle))
     }
 
-    /// Sets the cell at an address. Refused by `Address` and by `FieldOutside`.
+    /// Sets the cell at an address.
+    ///
+    /// # Errors
+    ///
+    /// `Address`, `FieldOutside`.
     pub fn set_cell(&mut self, address: u64, cell: Cell) -> Result<Standing, Refusal>
         ensures { Answers self.old (Call.SetCell address cell) result self.new }
     {
         self.call(Call::SetCell(address, cell))
     }
 
-    /// Sets the cells from one address to another, both included, one place each. Refused by `Count` over 1,000,000 cells, by
-    /// `Address`, also where the first is above the last, and by `FieldOutside`.
+    /// Sets the cells from one address to another, both included, one place each.
+    ///
+    /// # Errors
+    ///
+    /// `Count` for more than 1,000,000 cells; `Address`, also if the first address is above the last; `FieldOutside`.
     pub fn fill(&mut self, from: u64, to: u64, cell: Cell) -> Result<Standing, Refusal>
         ensures { Answers self.old (Call.Fill from to cell) result self.new }
     {
         self.call(Call::Fill(from, to, cell))
     }
 
-    /// Moves a process of a warrior, by its place in the queue (0 is the front), to an address. Refused by `Address`,
-    /// `NoSuchWarrior` and `NoSuchProcess`.
+    /// Moves a process of a warrior to an address. `place` is its index in the queue, 0 at the front.
+    ///
+    /// # Errors
+    ///
+    /// `Address`, `NoSuchWarrior`, `NoSuchProcess`.
     pub fn move_process(
         &mut self,
         warrior: u64,
@@ -124,44 +149,62 @@ impl<T: Tape> Session<T> {
         self.call(Call::MoveProcess(warrior, place, address))
     }
 
-    /// Ends a process of a warrior, by its place in the queue (0 is the front). Refused by `NoSuchWarrior` and `NoSuchProcess`.
+    /// Kills a process of a warrior. `place` is its index in the queue, 0 at the front.
+    ///
+    /// # Errors
+    ///
+    /// `NoSuchWarrior`, `NoSuchProcess`.
     pub fn kill(&mut self, warrior: u64, place: u64) -> Result<Standing, Refusal>
         ensures { Answers self.old (Call.Kill warrior place) result self.new }
     {
         self.call(Call::Kill(warrior, place))
     }
 
-    /// Gives a warrior a further process at an address. Refused by `Address`, `NoSuchWarrior`, `WarriorDead` and `QueueFull`.
+    /// Adds a process to a warrior.
+    ///
+    /// # Errors
+    ///
+    /// `Address`, `NoSuchWarrior`, `WarriorDead`, `QueueFull`.
     pub fn spawn(&mut self, warrior: u64, address: u64) -> Result<Standing, Refusal>
         ensures { Answers self.old (Call.Spawn warrior address) result self.new }
     {
         self.call(Call::Spawn(warrior, address))
     }
 
-    /// Goes to the nearest marked place before. Where there is none, it answers `Forgotten` if a place was ever forgotten, else
-    /// `NothingToUndo`.
+    /// Goes back to the nearest marked place.
+    ///
+    /// # Errors
+    ///
+    /// If there is none, `Forgotten` if a place was ever evicted, otherwise `NothingToUndo`.
     pub fn undo(&mut self) -> Result<Standing, Refusal>
         ensures { Answers self.old Call.Undo result self.new }
     {
         self.call(Call::Undo)
     }
 
-    /// Goes to the nearest marked place after, or answers `NothingToRedo`.
+    /// Goes forward to the nearest marked place.
+    ///
+    /// # Errors
+    ///
+    /// `NothingToRedo` if there is none.
     pub fn redo(&mut self) -> Result<Standing, Refusal>
         ensures { Answers self.old Call.Redo result self.new }
     {
         self.call(Call::Redo)
     }
 
-    /// Goes to the first place after so many turns, over no more places than lie on the way and one; or answers `NotInHistory`
-    /// with the turns of the first and of the last place, and goes nowhere.
+    /// Goes to the first place with this number of turns. Passes at most one place beyond those on the way.
+    ///
+    /// # Errors
+    ///
+    /// `NotInHistory` with the turns of the first and of the last place if there is none; it passes no place then.
     pub fn goto(&mut self, turns: u64) -> Result<Standing, Refusal>
         ensures { Answers self.old (Call.Goto turns) result self.new }
     {
         self.call(Call::Goto(turns))
     }
 
-    /// Makes any call.
+    /// Executes a call.
     pub fn call(&mut self, call: Call) -> Result<Standing, Refusal>
         ensures { Answers self.old call result self.new }
     {
@@ -198,9 +241,14 @@ impl<T: Tape> Session<T> {
         }
     }
 
-    /// Makes each call in order and appends its reply. Room for all replies is made first, and it fails only where that is
-    /// wanting and refused; nothing is done then. The first call finds memory wanting only where the tape has less room than that
-    /// call may need; how much room a call leaves isn't said.
+    /// Executes calls in order and appends a reply for each to `out`.
+    ///
+    /// If a call itself runs out of memory, its reply is [`Refusal::OutOfMemory`] and the next call is executed. The first call
+    /// runs out of memory only if the tape has less room than it may need; for later calls nothing is promised.
+    ///
+    /// # Errors
+    ///
+    /// Returns an error and executes nothing if there is no memory for all replies.
     pub fn apply_all(&mut self, calls: &[Call], out: &mut Vec<Reply>) -> Result<(), AllocError>
         ensures ok { OnOk result ((replies : List (Result Standing Refusal)) × (out.new.items ≡ out.old.items ++ replies)
             × EachAnswers self.old calls.now replies self.new) }

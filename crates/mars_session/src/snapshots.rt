@@ -1,12 +1,12 @@
-//! A copy of a battle that a tape keeps.
+//! The copy of a battle that a tape stores for a place.
 
 use mars_core::Battle;
 
 /// A copy of a battle, for one place.
 #[derive(Drop)]
 pub struct Snapshot {
-    /// The copy.
+    /// Copy of the battle.
     pub battle: Battle,
-    /// Whether its place is marked.
+    /// Whether the place is marked.
     pub mark: bool,
 }

@@ -1,4 +1,4 @@
-//! What a session asks of whatever keeps its history.
+//! The interface between a session and the storage of its history.
 ghost use Rattle.std.specs.Prelude.{◌≡◌, ℕ, ◌+◌, ◌^◌, ◌≤◌, Bool, [], None, is_some, true, false, OnOk, OnErr, IsOk};
 ghost use Rattle.mars_core.specs.State.{is_over_of};
 ghost use Rattle.mars_core.specs.Turn.{turn_of};
@@ -10,10 +10,11 @@ ghost use Rattle.mars_session.specs.Tapes.{TurnsRise};
 use mars_core::{Battle, Edit};
 use std::alloc::AllocError;
 
-/// A tape of the places that a battle has been at, one of them the present one. Each place may be marked. A tape that
-/// forgets keeps the last places alone, and takes any number more without memory.
+/// A tape: the places that a battle has reached, one of which is the present one. Each place may be marked.
+///
+/// A tape that evicts keeps only the last places, and appends any number of places without allocating.
 pub trait Tape {
-    /// Whether the oldest places may be forgotten.
+    /// Whether the oldest places may be evicted.
     const FORGETS: bool;
 
     ghost FORGETS: { Bool };
@@ -21,41 +22,43 @@ pub trait Tape {
     /// The places, and which of them is the present one.
     ghost history: { Self → History };
 
-    /// How many places may be appended once what follows is dropped.
+    /// Number of places that may be appended without allocating, once the places after the present one are dropped.
     ghost room: { Self → ℕ };
 
-    /// How many places are kept, and whether one was ever forgotten.
+    /// How many places are kept, and whether one was ever evicted.
     ghost retention: { Self → Retention };
 
-    /// The battle of the present place.
+    /// Returns the battle of the present place.
     fn now(&self) -> &Battle
         ensures { result.now ≡ (history self.now).present.state };
 
-    /// The present place's number, counted from 0. The room is never less than the number of places that follow, and no place
-    /// has fewer turns than the one before.
+    /// Returns the number of the present place, counted from 0.
+    ///
+    /// The room is never less than the number of places after the present one, and no place has fewer turns than the one before
+    /// it.
     fn position(&self) -> u64
         ensures value { result ≡ position_of (history self.now) }
         ensures covers { following (history self.now) ≤ room self.now }
         ensures rises { TurnsRise (history self.now) };
 
-    /// How many places there are.
+    /// Returns the number of places.
     fn len(&self) -> u64
         ensures { result ≡ last_of (history self.now) + 1 };
 
-    /// How many turns the first place has.
+    /// Returns the number of turns of the first place.
     fn first_turns(&self) -> u64
         ensures { result ≡ first_turns (history self.now) };
 
-    /// How many turns the last place has. Each place has as many as the one before, or one more.
+    /// Returns the number of turns of the last place. Each place has as many turns as the one before it, or one more.
     fn last_turns(&self) -> u64
         ensures value { result ≡ last_turns (history self.now) }
         ensures rises { TurnsRise (history self.now) };
 
-    /// Whether the present place is marked.
+    /// Returns whether the present place is marked.
     fn is_marked(&self) -> bool
         ensures { result ≡ (history self.now).present.mark };
 
-    /// Whether a place was ever forgotten.
+    /// Returns whether a place was ever evicted.
     fn forgotten(&self) -> bool
         ensures { result ≡ (retention self.now).forgotten };
 
@@ -65,8 +68,13 @@ pub trait Tape {
         ensures places { history self.new ≡ marked (history self.old) }
         ensures room { room self.old ≤ room self.new };
 
-    /// Makes room for so many places after the present one. It fails only where there is less room, and memory for the
-    /// rest is refused; the room then stays as it is. A command over places that are there already so takes no memory.
+    /// Ensures room for `n` places after the present one.
+    ///
+    /// Does not allocate if there is room already, so that a command that overwrites existing places never runs out of memory.
+    ///
+    /// # Errors
+    ///
+    /// Returns an error if the allocation fails; the room is unchanged then.
     fn reserve(&mut self, n: u64) -> Result<(), AllocError>
         ensures retention { retention self.new ≡ retention self.old }
         ensures places { history self.new ≡ history self.old }
@@ -80,7 +88,7 @@ pub trait Tape {
         ensures places { history self.new ≡ cut (history self.old) }
         ensures room { room self.old ≤ room self.new };
 
-    /// Appends the present place's turn, and goes there. The first place may be forgotten.
+    /// Appends the state after a turn, as the new present place. May evict the first place.
     fn turn(&mut self)
         requires last { (history self.old).after ≡ [] }
         requires room { 1 ≤ room self.old }
@@ -90,7 +98,7 @@ pub trait Tape {
         ensures retention { retention self.new ≡ retention_after (retention self.old) (append (history self.old) (turn_of (history self.old).present.state)) }
         ensures room { room self.old ≤ room self.new + 1 };
 
-    /// Appends what an edit makes of the present place, and goes there. The first place may be forgotten.
+    /// Appends the state after an edit, as the new present place. May evict the first place.
     fn edit(&mut self, edit: Edit)
         requires last { (history self.old).after ≡ [] }
         requires room { 1 ≤ room self.old }
@@ -101,19 +109,19 @@ pub trait Tape {
             (append (history self.old) (edited (history self.old).present.state edit)) }
         ensures room { room self.old ≤ room self.new + 1 };
 
-    /// Goes one place back, where there is one.
+    /// Goes one place back, if there is one.
     fn back(&mut self)
         ensures places { history self.new ≡ back (history self.old) }
         ensures retention { retention self.new ≡ retention self.old };
 
-    /// Goes one place on, where there is one.
+    /// Goes one place forward, if there is one.
     fn forward(&mut self)
         ensures places { history self.new ≡ forward (history self.old) }
         ensures retention { retention self.new ≡ retention self.old };
 
-    // just a tape that forgets keeps so many places alone
+    // A tape evicts exactly if its number of places is limited.
     ghost forgets: { (t : Self) → FORGETS ≡ is_some (retention t).most };
 
-    // it has room for any number of places
+    // A tape that evicts has room for any number of places.
     ghost takes_all: { (t : Self) → FORGETS ≡ true → 2 ^ 64 ≤ room t };
 }

@@ -1,4 +1,4 @@
-//! A tape of whole copies.
+//! A tape of whole copies of the battle.
 ghost use Rattle.std.proofs.Common.{refl, rules};
 ghost use Rattle.std.specs.Prelude.{◌≡◌, ◌+◌, ◌-◌, ◌<◌, ◌≤◌, None, false, true, OnOk, OnErr, IsOk, MatchResult, length, slice_set, vec_len};
 ghost use Rattle.mars_core.specs.State.{is_over_of};
@@ -15,7 +15,8 @@ use mars_core::{Battle, Edit};
 use std::alloc::{AllocError, Global};
 use std::marker::Model;
 
-/// A tape that keeps a copy of each place's battle, and copies to spare. It is the plainest tape; tests hold the others beside it.
+/// A tape that stores a copy of the battle for each place, and spare copies. It is the simplest tape; tests compare the others
+/// with it.
 #[derive(Drop)]
 pub struct WholeTape {
     alloc: Global,
@@ -36,7 +37,7 @@ impl Model for WholeTape {
     ghost invariant = { λ t. IsWhole t.copies.items t.at t.len };
 }
 
-/// Copies the present battle over the next copy.
+/// Copies the present battle to the next copy.
 fn copy_on(copies: &mut [Snapshot], at: usize)
     requires next { at + 1 < length copies.old }
     requires shapes { SameShape (snapshot_at copies.old at).battle (snapshot_at copies.old (at + 1)).battle }
@@ -49,7 +50,7 @@ fn copy_on(copies: &mut [Snapshot], at: usize)
     to.mark = false;
 }
 
-/// Makes the next copy that of the present battle's turn.
+/// Makes the next copy the present battle after a turn.
 fn turn_on(copies: &mut Vec<Snapshot>, at: usize)
     requires next { at + 1 < vec_len copies.old }
     requires shapes { SameShape (snapshot_at copies.old.items at).battle (snapshot_at copies.old.items (at + 1)).battle }
@@ -62,7 +63,7 @@ fn turn_on(copies: &mut Vec<Snapshot>, at: usize)
     let _ = snapshot.battle.turn();
 }
 
-/// Makes the next copy what an edit makes of the present battle.
+/// Makes the next copy the present battle after an edit.
 fn edit_on(copies: &mut Vec<Snapshot>, at: usize, edit: Edit)
     requires next { at + 1 < vec_len copies.old }
     requires shapes { SameShape (snapshot_at copies.old.items at).battle (snapshot_at copies.old.items (at + 1)).battle }
@@ -75,7 +76,7 @@ fn edit_on(copies: &mut Vec<Snapshot>, at: usize, edit: Edit)
     let _ = snapshot.battle.edit(edit);
 }
 
-/// Adds copies of the present battle, up to so many after it.
+/// Appends copies of the present battle until at least `n` follow it.
 fn add_copies(
     alloc: Global,
     copies: &mut Vec<Snapshot>,
@@ -97,7 +98,7 @@ fn add_copies(
     Ok(())
 }
 
-/// Adds unmarked copies of the place `at` until `n` follow it. Where memory is refused, those that were added are given back.
+/// Appends unmarked copies of the place `at` until at least `n` follow it. Drops the new copies again if an allocation fails.
 fn grow(alloc: Global, copies: &mut Vec<Snapshot>, at: usize, n: u64) -> Result<(), AllocError>
     requires { at < vec_len copies.old }
     ensures grown { IsGrown copies.old.items copies.new.items at }
@@ -114,7 +115,11 @@ fn grow(alloc: Global, copies: &mut Vec<Snapshot>, at: usize, n: u64) -> Result<
 }
 
 impl WholeTape {
-    /// A tape at the one, marked place of a battle; where memory is refused, the battle comes back.
+    /// Creates a tape at the only place of a battle, which is marked.
+    ///
+    /// # Errors
+    ///
+    /// Returns the battle if an allocation fails.
     pub fn new(alloc: Global, battle: Battle) -> Result<Self, Battle>
         ensures { MatchResult result (λ t. t.history ≡ beginning battle) (λ b. b ≡ battle) }
     {
@@ -134,7 +139,7 @@ impl WholeTape {
     }
 }
 
-// What each method does, and its clauses, stand in `Tape`.
+// `Tape` documents the methods and has their contracts.
 impl Tape for WholeTape {
     const FORGETS: bool = false;
 
@@ -188,7 +193,7 @@ impl Tape for WholeTape {
     }
 
     fn cut(&mut self) {
-        self.len = self.at + 1; // the copies past it stay, to spare
+        self.len = self.at + 1; // The copies after the last place stay as spare copies.
     }
 
     fn turn(&mut self) {

@@ -1,4 +1,4 @@
-//! The worked cases of `mars_session`, by its calls.
+//! Tests of `mars_session` by its public calls.
 #![tactic(auto)]
 
 #[cfg(test)]

@@ -1,7 +1,7 @@
-//! The worked cases, over each kind of tape, each call by itself and as one list of calls.
+//! Tests of sessions over each kind of tape. Each list of calls is executed call by call, and again as one list.
 ghost use Rattle.std.specs.Prelude.{◌≡◌, false};
 
-/// Where a session stands. A table of constants takes no function.
+/// The reply with these numbers. This is a macro because tables of constants can't call functions.
 macro_rules! at {
     ($turns:expr, $cycle:expr, $next:expr, $alive:expr, $position:expr, $last:expr) => {
         Ok(Standing {
@@ -15,7 +15,7 @@ macro_rules! at {
     };
 }
 
-/// The imp, which ends a cycle with each turn.
+/// The reply of a battle of one imp, where each turn completes a cycle.
 macro_rules! imp_at {
     ($turns:expr, $position:expr, $last:expr) => {
         at!($turns, $turns, 0, 1, $position, $last)
@@ -52,7 +52,7 @@ use std::alloc::Global;
 use std::process::Abort;
 use std::test::Fail;
 
-/// What a cell is that no warrior was loaded to.
+/// The cell of an empty core.
 const BLANK: Cell = direct!(Op::Dat, Modifier::F, 0, 0);
 
 const IDLE: Cell = direct!(Op::Nop, Modifier::F, 0, 0);
@@ -68,7 +68,7 @@ fn warrior_of(alloc: Global, from: &[Cell]) -> Result<Warrior, Fail> {
     Ok(warrior)
 }
 
-/// A tape that starts at a battle.
+/// A tape that can start at a battle.
 trait Start: Tape {
     fn start(alloc: Global, battle: Battle) -> Result<Self, Fail>;
 }
@@ -87,7 +87,7 @@ impl Start for DeltaTape {
     }
 }
 
-/// It keeps 100 places beside the last one.
+/// Keeps 100 places beside the last one.
 impl Start for RingTape {
     fn start(alloc: Global, battle: Battle) -> Result<Self, Fail> {
         let tape = RingTape::new(alloc, battle, 100).ok().ok_or("tape")?;
@@ -95,7 +95,7 @@ impl Start for RingTape {
     }
 }
 
-/// A core of so many cells, for warriors of so many.
+/// Parameters with this core size, process limit and maximum length.
 fn params_of(core_size: u32, processes: u32, longest: u32) -> Result<Params, Fail> {
     let params = Params::new(
         core_size, processes, 80000, core_size, core_size, longest, longest,
@@ -131,7 +131,7 @@ fn one_cell(alloc: Global, cell: Cell) -> Result<Warrior, Fail> {
     warrior_of(alloc, &[cell])
 }
 
-/// A warrior of these cells, alone.
+/// A battle of one warrior with these cells.
 fn lone_battle(alloc: Global, processes: u32, cells: &[Cell]) -> Result<Battle, Fail> {
     let warriors = vec![in alloc; warrior_of(alloc, cells)?]?;
     battle_of(alloc, processes, &warriors, &[0])
@@ -141,7 +141,7 @@ fn lone_tape<T: Start>(alloc: Global, processes: u32, cells: &[Cell]) -> Result<
     T::start(alloc, lone_battle(alloc, processes, cells)?)
 }
 
-/// One warrior that copies itself to the next cell, over and over.
+/// A battle of one imp.
 fn imp_battle(alloc: Global) -> Result<Battle, Fail> {
     lone_battle(alloc, 8, &[COPIER])
 }
@@ -154,7 +154,7 @@ fn imp<T: Start>(alloc: Global, limit: u64) -> Result<Session<T>, Fail> {
     Ok(Session::new(imp_tape(alloc)?, limit))
 }
 
-/// Warriors that stand where they are.
+/// A session of warriors that execute JMP.B $0, $0 at these addresses.
 fn stayers<T: Start>(alloc: Global, processes: u32, starts: &[u32]) -> Result<Session<T>, Fail> {
     let mut warriors = Vec::new(alloc);
     for _start in starts {
@@ -168,12 +168,12 @@ fn check_reply(rt: &impl Abort, made: Reply, reply: Reply) {
     assert_eq!(rt; made, reply);
 }
 
-/// A call gives its reply.
+/// Checks that a call has this reply.
 fn check_call<T: Tape>(rt: &impl Abort, session: &mut Session<T>, call: Call, reply: Reply) {
     assert_eq!(rt; session.call(call), reply, "{call:?}");
 }
 
-/// Each call by itself gives its reply.
+/// Checks that each call, executed by itself, has its reply.
 fn check_each<T: Tape>(rt: &impl Abort, session: &mut Session<T>, calls: &[(Call, Reply)]) {
     for (call, reply) in calls {
         check_call(rt, session, *call, *reply);
@@ -184,14 +184,14 @@ fn check_standing<T: Tape>(rt: &impl Abort, session: &Session<T>, reply: Reply) 
     check_reply(rt, Ok(session.standing()), reply);
 }
 
-/// A call with its reply, or what the battle holds: a cell, or the first warrior's queue.
+/// A step of a script: a call with its reply, or a check of a cell or of the first warrior's queue.
 enum Check {
     Gives(Call, Reply),
     Cell(u32, Cell),
     Queue(&'static [u32]),
 }
 
-/// The checks hold, one after the other.
+/// Executes the steps of a script in order.
 fn check_script<T: Tape>(rt: &impl Abort, session: &mut Session<T>, script: &[Check]) {
     for check in script {
         match check {
@@ -202,7 +202,7 @@ fn check_script<T: Tape>(rt: &impl Abort, session: &mut Session<T>, script: &[Ch
     }
 }
 
-/// The replies to calls stand after a refusal.
+/// Checks the replies to calls that were appended after a refusal.
 fn check_replies(rt: &impl Abort, out: &[Reply], calls: &[(Call, Reply)]) {
     assert_eq!(rt; out.len(), calls.len() + 1);
     check_reply(rt, out[0], Err(Refusal::Count));
@@ -211,7 +211,7 @@ fn check_replies(rt: &impl Abort, out: &[Reply], calls: &[(Call, Reply)]) {
     }
 }
 
-/// The calls give their replies in one go, which stand after what was there.
+/// Checks that the calls, executed as one list, have their replies, which are appended after those that were there.
 fn check_list<T: Tape>(
     rt: &impl Abort,
     alloc: Global,
@@ -229,7 +229,7 @@ fn check_list<T: Tape>(
     Ok(())
 }
 
-/// The calls give these replies, one by one over the first session and in one go over the second.
+/// Checks that the calls have these replies, one by one over the first session and as one list over the second.
 fn gives<T: Tape + Drop>(
     rt: &impl Abort,
     alloc: Global,
@@ -241,7 +241,7 @@ fn gives<T: Tape + Drop>(
     check_list(rt, alloc, &mut all, calls)
 }
 
-/// The calls give these replies to the imp, over each kind of tape that keeps all places.
+/// Checks the replies of the imp over each kind of tape that keeps all places.
 fn limited_imp_gives(
     rt: &impl Abort,
     alloc: Global,
@@ -252,13 +252,13 @@ fn limited_imp_gives(
     gives::<DeltaTape>(rt, alloc, imp(alloc, limit)?, imp(alloc, limit)?, calls)
 }
 
-/// The calls give these replies to the imp, over each kind of tape; where places are forgotten the limit doesn't matter.
+/// Checks the replies of the imp over each kind of tape. A tape that evicts ignores the limit.
 fn imp_gives(rt: &impl Abort, alloc: Global, calls: &[(Call, Reply)]) -> Result<(), Fail> {
     limited_imp_gives(rt, alloc, 100, calls)?;
     gives::<RingTape>(rt, alloc, imp(alloc, 0)?, imp(alloc, 0)?, calls)
 }
 
-/// The calls give these replies to three warriors that stand where they are, over each kind of tape.
+/// Checks the replies of three warriors that execute JMP.B $0, $0, over each kind of tape.
 fn stayers_give(rt: &impl Abort, alloc: Global, calls: &[(Call, Reply)]) -> Result<(), Fail> {
     let starts = [0, 2, 4];
     gives::<WholeTape>(
@@ -288,7 +288,7 @@ fn check_process<T: Tape>(rt: &impl Abort, session: &Session<T>, place: usize, a
     assert_eq!(rt; session.battle().process(0, place), Some(address));
 }
 
-/// The first warrior's queue holds these addresses, the front first.
+/// Checks that the first warrior's queue has these addresses, the front first.
 fn check_queue<T: Tape>(rt: &impl Abort, session: &Session<T>, queue: &[u32]) {
     assert_eq!(rt; session.battle().queue_len(0), queue.len());
     for (place, address) in queue.iter().enumerate() {
@@ -308,7 +308,7 @@ fn check_same_counters(rt: &impl Abort, one: &Battle, other: &Battle) {
     assert_eq!(rt; one.is_over(), other.is_over());
 }
 
-/// Two battles of one warrior have the same cells, the same queue and the same counters, and are over or not alike.
+/// Checks that two battles of one warrior have the same cells, queue and counters, and are both over or both not.
 fn check_same(rt: &impl Abort, one: &Battle, other: &Battle) {
     for address in 0..8 {
         assert_eq!(rt; one.cell(address), other.cell(address));
@@ -320,7 +320,7 @@ fn check_same(rt: &impl Abort, one: &Battle, other: &Battle) {
     check_same_counters(rt, one, other);
 }
 
-/// The imp, over a tape that is refused memory after so many growths.
+/// A session of the imp over a tape whose allocations fail after `growths` of them.
 fn poor_imp<T: Start>(alloc: Global, growths: u64) -> Result<Session<PoorTape<T>>, Fail>
     requires { T.FORGETS ≡ false }
 {

@@ -7,12 +7,12 @@ use Rattle.redcode_asm.specs.declared.fault.AsmProblem.TheVariants.{Operand}
 use Rattle.redcode_text.specs.declared.token.Token.{Token}
 use Rattle.redcode_asm.specs.Assembly.{Operands, full_operands, given_operands, is_comma, operands_of, parts_at_commas}
 
--- tokens before the first part
+-- Parts of tokens, with `ts` put before the first part.
 abbrev pub prepend : List Token → List (List Token) → List (List Token)
 prepend ts [] = ts ∷ []
 prepend ts (p ∷ ps) = (ts ++ p) ∷ ps
 
--- the parts from a token on
+-- The parts from the token `t` on, where `b` says whether it is a comma and `ps` are the parts after it.
 abbrev parts_by : Bool → Token → List (List Token) → List (List Token)
 parts_by b t ps = elim b [ true ↦ [] ∷ ps | false ↦ onto_first t ps ]
 
@@ -25,7 +25,7 @@ pub parts-whole : (ts : List Token) → parts_at_commas ts ≡ prepend [] (parts
 parts-whole [] = refl
 parts-whole (t ∷ ts) = whole-by (is_comma t.kind) t (parts_at_commas ts)
 
--- ---- operands
+-- ---- Operands
 
 abbrev refused : Result Operands AsmProblem
 refused = Err Operand
@@ -54,6 +54,6 @@ three-or-more : (o : Op) (x y : List Token) (ps : List (List Token)) → ps ≡ 
 three-or-more o x y [] whole = cc
 three-or-more o x y (p ∷ ps) whole = three-by (list_any (λ q. length q == 0) (x ∷ y ∷ p ∷ ps)) o x y p ps
 
--- a second comma
+-- A second comma means a third operand, which is an error.
 pub third-operand : (o : Op) (a b rest : List Token) (c : List Token) → parts_at_commas rest ≡ b ∷ parts_at_commas c → full_operands o (a ∷ parts_at_commas rest) ≡ Err Operand
 third-operand o a b rest c second = ap (λ ps. full_operands o (a ∷ ps)) second ∙ three-or-more o a b (parts_at_commas c) (parts-whole c)

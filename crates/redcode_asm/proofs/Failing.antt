@@ -1,11 +1,11 @@
--- What fails at first fails as a whole.
+-- If the first step fails, the whole fails.
 use Rattle.std.proofs.Common.{◌≡◌, Result, Ok, Err, ap}
 use Rattle.redcode_text.specs.Results.{◌>>=◌}
 use Rattle.redcode_asm.specs.declared.fault.AsmProblem.{AsmProblem}
 use Rattle.redcode_asm.specs.declared.fault.AsmProblem.TheVariants.{Text, Operation, Operand, Expression, AssertFailed, BadOrigin, Empty, TooLong, OutOfMemory}
 use Rattle.redcode_asm.specs.Code.Problems.{Fails, Gives}
 
--- a problem that is the defined one
+-- If the code fails with the defined error, `Fails` holds.
 pub fails-same : {A : Type 0} (p : AsmProblem) (defined : Result A AsmProblem) → defined ≡ Err p → Fails p defined
 fails-same (Text x) defined h = h
 fails-same Operation defined h = h
@@ -17,7 +17,7 @@ fails-same Empty defined h = h
 fails-same TooLong defined h = h
 fails-same OutOfMemory defined h = tt
 
--- a result that is the defined one
+-- If the code returns the defined result, `Gives` holds.
 pub gives-same : {A : Type 0} (r : Result A AsmProblem) (defined : Result A AsmProblem) → defined ≡ r → Gives (λ x. x) r defined
 gives-same (Ok x) defined h = h
 gives-same (Err p) defined h = fails-same p defined h

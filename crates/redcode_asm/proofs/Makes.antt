@@ -1,5 +1,5 @@
--- Steps one after another, and the lines that are left.
--- An equation for each step, over plain variables; the premises close by `search rules`.
+-- Definitions of several steps, as equations between plain variables, one premise for each step. The premises are proved by
+-- `search rules`.
 use Rattle.std.proofs.Common.{◌≡◌, ◌∙◌, ℕ, ◌==◌, false, List, [], ◌∷◌, length, Option, Result, Ok, sym, refl}
 use Rattle.std.proofs.lemmas.Bool.{eqb-false}
 use Rattle.mars_cell.specs.declared.instruction.Cell.{Cell}
@@ -12,7 +12,7 @@ use Rattle.redcode_asm.specs.declared.fault.AsmProblem.{AsmProblem}
 use Rattle.redcode_asm.specs.Assembly.{Placed, cell_from, cell_of, name_value, opcode_of, replaced, split_modifier, end_operand, end_start, org_start, start_at}
 use Rattle.redcode_asm.proofs.Failing.{bind-ok}
 
--- the cell of an instruction, step by step
+-- The cell of an instruction, step by step.
 pub cell-made : (ps : Predefined) (m : ℕ) (source : ProgramValue) (p : Placed) (o : Op) (rest : Option Modifier × List Token) (ts : List Token) (r : Result Cell AsmProblem)
     → opcode_of source.names p.line.operation ≡ Ok o → split_modifier source.names p.line.rest ≡ Ok rest → replaced source rest.1 ≡ Ok ts
     → r ≡ cell_from m (name_value ps source p.index p.index) o rest.0 ts → cell_of ps m source p ≡ r

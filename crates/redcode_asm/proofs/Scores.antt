@@ -1,4 +1,4 @@
--- A formula has no faults but those of its values.
+-- Evaluating a formula has no errors except those of its values.
 use Rattle.std.proofs.Common.{◌≡◌, ◌∙◌, ℕ, ◌<◌, List, [], ◌∷◌, ◌++◌, length, Bool, true, false, ◌&&◌, ◌||◌, if◌then◌else◌, ℤ, Option, Some, None, is_some, Result, Ok, Err, ap, sym, subst, refl, arith, IfErr}
 use Rattle.std.specs.Prelude.{pos, negsuc, ◌^◌, nat_lt, neg_ℤ, ◌+ℤ◌, ◌-ℤ◌, ◌*ℤ◌, int_div, int_rem, codes}
 use Rattle.std.specs.Ordering.{int_eq}
@@ -22,7 +22,7 @@ use Rattle.redcode_text.proofs.CallerLemmas.{spelling, is_prefix, IsLevelled, ra
 use Rattle.redcode_asm.specs.Formula.{checked_formula, may_occur, scanned_formula, score_of, variable_value}
 use Rattle.redcode_asm.specs.Laws.{IsValueFault, ScoresHaveValues}
 
--- a value, or a fault that values have
+-- A result is a value, or an error that depends on values.
 abbrev HasValue : Result ℤ ExprFault → Type 0
 HasValue r = IfErr r IsValueFault
 
@@ -65,7 +65,7 @@ binary-value Percent a b h =
     divided-by (int_eq b (pos 0)) (in_range (int_div a b) >>= λ _. Ok (int_rem a b)) (bind-value (in_range (int_div a b)) (λ _. Ok (int_rem a b)) (range-value (int_div a b)) (λ _. tt))
 binary-value _ a b h = absurd (omega (arith, h))
 
--- whether a token, if it is a name, stands for something
+-- A token is no name, or a name with a value.
 abbrev stands : (ℕ → Option ℤ) → TokenKind → Bool
 stands names (Name n) = is_some (names n)
 stands names _ = true
@@ -99,7 +99,7 @@ tokens-value names xs h all =
     subst HasValue (sym (ap (λ r. r >>= λ _. value names (tree_within (length xs) 5 xs)) h ∙ ap (value names) tree_is))
     (tree-value names t.tree t.levelled (subst (λ l. list_all (stands names) l ≡ true) (sym t.spelled) all))
 
--- W and S stand for something
+-- W and S have values.
 variable-by : (a b : Bool) (w s : ℤ) → (a || b) ≡ true → is_some (if a then Some w else if b then Some s else None) ≡ true
 variable-by true b w s h = refl
 variable-by false true w s h = refl
@@ -130,7 +130,7 @@ read f = Ok f
 ok-same : (g f : Scanned) → read g ≡ read f → g ≡ f
 ok-same g f h = ap (got g) h
 
--- what was checked of a formula
+-- A checked formula has the shape of an expression.
 shape-checked : (r : Result (Unit {0}) ExprFault) (b : Bool) (f : Scanned) → (r >>= λ _. if b then Ok f else Err Unknown) ≡ Ok f → r ≡ Ok tt
 shape-checked (Ok tt) b f h = refl
 shape-checked (Err e) b f h = cc
@@ -148,7 +148,7 @@ checked-value f w s h =
     tokens-value (λ n. variable_value w s (name_at f.names n)) (kinds f.tokens) (shape-checked (shape start (kinds f.tokens)) (list_all (may_occur f.names) (kinds f.tokens)) f h)
     (kinds-stand f w s (kinds f.tokens) (names-checked (shape start (kinds f.tokens)) (list_all (may_occur f.names) (kinds f.tokens)) f h))
 
--- a formula is what was checked
+-- A checked formula is the one that was given.
 same-by : (b : Bool) (g f : Scanned) → (if b then Ok g else Err Unknown) ≡ Ok f → g ≡ f
 same-by true g f h = ok-same g f h
 same-by false g f h = cc

@@ -10,7 +10,7 @@ use Rattle.redcode_asm.specs.Assembly.{Placed, index_after, placed_from}
 use Rattle.redcode_asm.specs.SourceLines.{instruction_text, labels_at, labels_text, program_lines}
 use Rattle.redcode_asm.specs.Code.Lines.{lines_behind}
 
--- the labels of a line that stands at this index, as those of another
+-- The labels of a line, if `here` says that it has the index in question.
 abbrev labels_if : Bool → List ℕ → List ℕ
 labels_if here labels = if here then labels else []
 
@@ -30,14 +30,14 @@ further : (b : Bool) (index i : ℕ) → i < index → i < (elim b [ true ↦ in
 further true index i less = omega arith
 further false index i less = less
 
--- lines behind an instruction have none of its labels
+-- Lines after the next instruction have no labels of the index `i`.
 none_behind : (names : List (List ℕ)) (index i : ℕ) (ls : List Line) → i < index → labels_at (placed_from names index ls) i ≡ []
 none_behind names index i [] less = refl
 none_behind names index i (l ∷ ls) less =
     let rest = none_behind names (index_after names index l) i ls (further (is_instruction names l.operation l.rest) index i less) in
     rw (ahead index i l.labels less) rest
 
--- no line up to here has a label of a later index
+-- No line in `before` has a label of an index above `index`.
 abbrev IsUpTo : List Placed → ℕ → Type 0
 IsUpTo before index = (j : ℕ) → index < j → labels_at before j ≡ []
 
@@ -51,14 +51,14 @@ up_to_more before index l none = λ j less.
 up_to_next : (before : List Placed) (index : ℕ) (l : Line) → IsUpTo before index → IsUpTo (before ++ one index l ∷ []) (index + 1)
 up_to_next before index l none = λ j less. up_to_more before index l none j (omega arith)
 
--- the labels of an index up to a line that stands at it
+-- The labels of an index, if the last line has that index, end with the labels of that line.
 labels_up_to : (before : List Placed) (index : ℕ) (l : Line) → labels_at (before ++ one index l ∷ []) index ≡ labels_at before index ++ l.labels
 labels_up_to before index l = rw (labels_of_both before (one index l ∷ []) index, here index l.labels, append-nil l.labels) refl
 
 text_of_both : (names : List (List ℕ)) (first more : List ℕ) → labels_text names (first ++ more) ≡ labels_text names first ++ labels_text names more
 text_of_both names first more = flat_map-append (λ label. 32 ∷ name_at names label) first more
 
--- the instructions of some lines, with the labels among all
+-- The text of the instructions among `ps`, with their labels among `all`.
 abbrev texts : List (List ℕ) → List Placed → List Placed → List ℕ
 texts names all ps = flat_map (λ p. instruction_text names p (labels_at all p.index)) (filter (λ p. is_instruction names p.line.operation p.line.rest) ps)
 
@@ -66,11 +66,11 @@ abbrev Waits : List (List ℕ) → List Line → Type 0
 Waits names ls = (before : List Placed) (index : ℕ) → IsUpTo before index
     → texts names (before ++ placed_from names index ls) (placed_from names index ls) ≡ lines_behind names (labels_text names (labels_at before index)) ls
 
--- the labels that wait at a line, and its own
+-- The text of the labels that wait at a line and of its own labels.
 abbrev own_text : List (List ℕ) → List Placed → ℕ → Line → List ℕ
 own_text names before index l = labels_text names (labels_at before index) ++ labels_text names l.labels
 
--- what is behind a line, by whether it is an instruction
+-- The lines after the line `l`, by whether `l` is an instruction.
 abbrev rest_by : Bool → List (List ℕ) → ℕ → List Line → List Placed
 rest_by b names index ls = placed_from names (elim b as (λ _. ℕ) [ true ↦ index + 1 | false ↦ index ]) ls
 
@@ -115,6 +115,6 @@ waits : (names : List (List ℕ)) (ls : List Line) → Waits names ls
 waits names [] before index none = refl
 waits names (l ∷ ls) before index none = waits_by (is_instruction names l.operation l.rest) names l ls (waits names ls) before index none
 
--- the text of a program's lines, as the code makes it
+-- The text of a program's lines is the one that the code builds.
 pub lines_are : (source : ProgramValue) → program_lines source ≡ lines_behind source.names [] source.lines
 lines_are source = waits source.names source.lines [] 0 (λ j less. refl)

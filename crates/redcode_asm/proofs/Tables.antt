@@ -1,6 +1,6 @@
--- A label in the table is the label among the lines.
--- A `Source` holds the program and a table, and a ghost field says that the table is that of the program: so what names stand for is the definition
--- itself, and one lemma on looking up is enough.
+-- Looking up a label in the table finds the label of the program's lines. A `Source` holds a program and a table, and its
+-- ghost field says that the table is that of the program. So the value of a name is given by its definition, and one lemma
+-- on look-ups is enough.
 use Rattle.std.proofs.Common.{◌≡◌, ◌∙◌, ℕ, List, [], ◌∷◌, ◌++◌, ap, Option, None, Some, Bool, true, false, ◌||◌, cond, nat_eq, ◌==◌, is_some, refl, subst, arith}
 use Rattle.std.proofs.lemmas.Bool.{eqb-true}
 use Rattle.std.specs.List.{list_any}
@@ -8,16 +8,16 @@ use Rattle.std.specs.Map.{lookup}
 use Rattle.redcode_asm.specs.Assembly.{Placed, label_among}
 use Rattle.redcode_asm.specs.Code.Labels.{Table, table_with, with_label, with_labels}
 
--- a label that isn't there comes behind the others
+-- A label that isn't in the table is appended.
 pub with-new : (index : ℕ) (table : Table) (n : ℕ) → lookup (nat_eq n) table ≡ None → with_label index table n ≡ table ++ (n, index) ∷ []
 with-new index table n none = ap (λ r. elim (is_some r) as (λ _. Table) [ true ↦ table | false ↦ table ++ (n, index) ∷ [] ]) none
 
--- the first of two answers that is one
+-- The first of two results, if there is one, or else the second.
 abbrev pub first_of : Option ℕ → Option ℕ → Option ℕ
 first_of (Some i) other = Some i
 first_of None other = other
 
--- a label that stands at this index, if it is among some labels
+-- The index of the label `n`, if `n` is among the labels `ns` of a line at `index`.
 abbrev pub at_index : ℕ → ℕ → List ℕ → Option ℕ
 at_index index n ns = elim (list_any (λ m. m == n) ns) [ true ↦ Some index | false ↦ None ]
 
@@ -29,7 +29,7 @@ first-assoc : (x y z : Option ℕ) → first_of (first_of x y) z ≡ first_of x 
 first-assoc None y z = refl
 first-assoc (Some i) y z = refl
 
--- an answer where a test holds
+-- The index, if the test `b` is true.
 abbrev where_true : Bool → ℕ → Option ℕ
 where_true b index = elim b [ true ↦ Some index | false ↦ None ]
 
@@ -75,7 +75,7 @@ among-by : (b : Bool) (index : ℕ) (x : Option ℕ) → first_of (where_true b 
 among-by true index x = refl
 among-by false index x = refl
 
--- what the table gives of a label
+-- A look-up in the table finds the first label among those of the old table and of the lines.
 pub lookup-table : (table : Table) (n : ℕ) (ps : List Placed) → lookup (nat_eq n) (table_with table ps) ≡ first_of (lookup (nat_eq n) table) (label_among ps n)
 lookup-table table n [] = first-none (lookup (nat_eq n) table)
 lookup-table table n (p ∷ ps) =

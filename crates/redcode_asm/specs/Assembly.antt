@@ -1,4 +1,5 @@
--- What a source is assembled to.
+-- The assembler: the warrior that a source is assembled to. In this file, `ps` is the list of predefined names with their
+-- values, `source` the program that was read, `names` its table of names, and `m` the core size.
 use Rattle.std.specs.Prelude.{ℕ, zero, ◌+◌, List, [], ◌∷◌, length, drop, filter, Bool, true, false, ◌==◌, ℤ, pos, negsuc, ◌-ℤ◌, Option, Some, None, unwrap_or, option_map, Result, Ok, Err, if◌then◌else◌, nat_lt, codes}
 use Rattle.std.specs.List.{list_any, onto_first, last_or}
 use Rattle.mars_cell.specs.declared.instruction.Cell.{Cell}
@@ -39,20 +40,20 @@ abbrev pub at_line : {A : Type 0} → ℕ → Result A AsmProblem → Result A A
 at_line line (Ok x) = Ok x
 at_line line (Err e) = Err (record { line = line; problem = e })
 
--- ---- names
+-- ---- Names
 
--- the predefined names, for a number of rounds and of warriors
+-- The predefined names and their values, for the parameters `p` and the values of ROUNDS and WARRIORS.
 abbrev pub predefined : Parameters → ℕ → ℕ → Predefined
 predefined p rounds warriors =
     (codes "CORESIZE", pos p.core_size) ∷ (codes "MAXPROCESSES", pos p.processes) ∷ (codes "MAXCYCLES", pos p.cycles) ∷ (codes "MAXLENGTH", pos p.max_length)
     ∷ (codes "MINDISTANCE", pos p.distance) ∷ (codes "ROUNDS", pos rounds) ∷ (codes "WARRIORS", pos warriors) ∷ (codes "VERSION", pos 80) ∷ []
 
--- a line, and the number of instructions before it
+-- A line with its index: the number of instructions before it.
 pub record Placed : Type 0 where
   pub index : ℕ
   pub line : Line
 
--- the number of instructions up to behind a line
+-- The index of the line that follows `l`, if `index` is the index of `l`.
 abbrev pub index_after : List (List ℕ) → ℕ → Line → ℕ
 index_after names index l = elim (is_instruction names l.operation l.rest) [ true ↦ index + 1 | false ↦ index ]
 
@@ -66,7 +67,7 @@ placed source = placed_from source.names 0 source.lines
 abbrev pub instructions : ProgramValue → List Placed
 instructions source = filter (λ p. is_instruction source.names p.line.operation p.line.rest) (placed source)
 
--- the index of the line on which a label stands
+-- The index of the first line that has the label `n`.
 abbrev pub label_among : List Placed → ℕ → Option ℕ
 label_among [] n = None
 label_among (p ∷ ps) n = elim (list_any (λ m. m == n) p.line.labels) [ true ↦ Some p.index | false ↦ label_among ps n ]
@@ -75,11 +76,12 @@ abbrev pub value_or : Option ℤ → Option ℤ → Option ℤ
 value_or (Some v) other = Some v
 value_or None other = other
 
--- what a name stands for behind so many instructions, where it is no label
+-- The value of the name `n` on a line with `index` instructions before it, if `n` is not a label.
 abbrev pub known_value : Predefined → ProgramValue → ℕ → ℕ → Option ℤ
 known_value ps source index n = predefined_value (with_current_line ps index) (name_at source.names n)
 
--- labels are counted from an index on
+-- The value of the name `n` on a line with `index` instructions before it. The value of a label is its distance from the
+-- instruction `origin`.
 abbrev pub name_value : Predefined → ProgramValue → ℕ → ℕ → ℕ → Option ℤ
 name_value ps source origin index n = value_or (option_map (λ i. pos i -ℤ pos origin) (label_among (placed source) n)) (known_value ps source index n)
 
@@ -94,11 +96,12 @@ abbrev pub texted : {A : Type 0} → Result A TextProblem → Result A AsmProble
 texted (Ok x) = Ok x
 texted (Err e) = Err (Text e)
 
--- tokens with the EQU names replaced; a fault has the line of the use
+-- The tokens `ts` with each EQU name replaced by its definition. The error has no line yet: it gets the line on which the
+-- names are used.
 abbrev pub replaced : ProgramValue → List Token → Result (List Token) AsmProblem
 replaced source ts = texted (without_line (substitution source.equates ts))
 
--- ---- an instruction
+-- ---- Instructions
 
 abbrev pub mode_sign : Sign → Option Mode
 mode_sign sign.Hash = Some mode.Immediate
@@ -115,7 +118,7 @@ abbrev pub mode_of : TokenKind → Option Mode
 mode_of (token.Sign s) = mode_sign s
 mode_of _ = None
 
--- the mode of an operand, `$` where none stands there, and its expression
+-- The mode of an operand, `$` if none is written, and the tokens of its expression.
 abbrev pub split_mode : List Token → Mode × List Token
 split_mode [] = (mode.Direct, [])
 split_mode (t ∷ ts) = elim (mode_of t.kind) [ Some m ↦ (m, ts) | None ↦ (mode.Direct, t ∷ ts) ]
@@ -128,18 +131,18 @@ abbrev pub parts_at_commas : List Token → List (List Token)
 parts_at_commas [] = [] ∷ []
 parts_at_commas (t ∷ ts) = elim (is_comma t.kind) [ true ↦ [] ∷ parts_at_commas ts | false ↦ onto_first t (parts_at_commas ts) ]
 
--- the tokens of the A-operand and of the B-operand, where they are given
+-- The tokens of the A-operand and the B-operand, if they are written.
 pub record Operands : Type 0 where
   pub a : Option (List Token)
   pub b : Option (List Token)
 
--- an opcode without operands
+-- The operands of an instruction without operands: only DAT and NOP may have none.
 abbrev pub no_operand : Op → Result Operands AsmProblem
 no_operand op.Dat = Ok (record { a = None; b = None })
 no_operand op.Nop = Ok (record { a = None; b = None })
 no_operand o = Err Operand
 
--- an opcode with one operand
+-- The operands of an instruction with one operand: it is the B-operand of DAT, and the A-operand of any other opcode.
 abbrev pub one_operand : Op → List Token → Operands
 one_operand op.Dat x = record { a = None; b = Some x }
 one_operand o x = record { a = Some x; b = None }
@@ -150,7 +153,7 @@ operands_of o (x ∷ []) = Ok (one_operand o x)
 operands_of o (x ∷ y ∷ []) = Ok (record { a = Some x; b = Some y })
 operands_of o (x ∷ y ∷ z ∷ rest) = Err Operand
 
--- each operand has a token
+-- The operands of the opcode `o`, whose tokens were split at the commas into `parts`. No operand may be empty.
 abbrev pub full_operands : Op → List (List Token) → Result Operands AsmProblem
 full_operands o parts = if list_any (λ p. length p == 0) parts then Err Operand else operands_of o parts
 
@@ -158,7 +161,7 @@ abbrev pub given_operands : Op → List Token → Result Operands AsmProblem
 given_operands o [] = no_operand o
 given_operands o (t ∷ ts) = full_operands o (parts_at_commas (t ∷ ts))
 
--- the mode and the number of an operand in a core of m cells: `$0` where it isn't given
+-- The mode and the number of an operand in a core of `m` cells, `$0` if the operand is not written.
 abbrev pub operand_value : ℕ → (ℕ → Option ℤ) → Option (List Token) → Result (Mode × ℕ) AsmProblem
 operand_value m names None = Ok (mode.Direct, 0)
 operand_value m names (Some ts) = value_in names (split_mode ts).1 >>= λ v. Ok ((split_mode ts).0, residue m v)
@@ -179,7 +182,7 @@ abbrev pub is_dot : TokenKind → Bool
 is_dot (token.Sign sign.Dot) = true
 is_dot _ = false
 
--- `.` and a modifier, or none, and what follows
+-- The modifier with which the tokens start, if they start with a `.`, and the tokens after it.
 abbrev pub split_modifier : List (List ℕ) → List Token → Result (Option Modifier × List Token) AsmProblem
 split_modifier names [] = Ok (None, [])
 split_modifier names (t ∷ ts) = elim (is_dot t.kind) [ true ↦ modifier_first names ts | false ↦ Ok (None, t ∷ ts) ]
@@ -187,7 +190,8 @@ split_modifier names (t ∷ ts) = elim (is_dot t.kind) [ true ↦ modifier_first
 abbrev pub cell_with : Op → Option Modifier → Mode × ℕ → Mode × ℕ → Cell
 cell_with o given a b = record { op = o; modifier = unwrap_or given (default_modifier o a.0 b.0); a_mode = a.0; a = a.1; b_mode = b.0; b = b.1 }
 
--- the cell of an opcode, perhaps a modifier, and the tokens of the operands, in a core of m cells
+-- The cell with the opcode `o`, the modifier `given` if one is written, and the operands in `ts`, in a core of `m` cells.
+-- `names` has the values of the names.
 abbrev pub cell_from : ℕ → (ℕ → Option ℤ) → Op → Option Modifier → List Token → Result Cell AsmProblem
 cell_from m names o given ts =
     given_operands o ts >>= λ operands.
@@ -195,19 +199,19 @@ cell_from m names o given ts =
     operand_value m names operands.b >>= λ b.
     Ok (cell_with o given a b)
 
--- the cell of an instruction: a label counts from the instruction
+-- The cell of the instruction `p`. Labels are relative to the instruction.
 abbrev pub cell_of : Predefined → ℕ → ProgramValue → Placed → Result Cell AsmProblem
 cell_of ps m source p =
     opcode_of source.names p.line.operation >>= λ o.
     split_modifier source.names p.line.rest >>= λ rest.
     replaced source rest.1 >>= cell_from m (name_value ps source p.index p.index) o rest.0
 
--- the cells of some instructions, or the first fault
+-- The cells of the given instructions, or the error of the first one that has an error.
 abbrev pub cells_of : Predefined → ℕ → ProgramValue → List Placed → Result (List Cell) AsmFault
 cells_of ps m source [] = Ok []
 cells_of ps m source (p ∷ rest) = at_line p.line.number (cell_of ps m source p) >>= λ c. cells_of ps m source rest >>= λ cs. Ok (c ∷ cs)
 
--- ---- length, start, asserts
+-- ---- Length, start and asserts
 
 abbrev pub none_past : List Placed → Result (Unit {0}) AsmFault
 none_past [] = Ok tt
@@ -224,7 +228,8 @@ abbrev pub as_start : ℕ → ℤ → Result ℕ AsmProblem
 as_start count (pos n) = if nat_lt n count then Ok n else Err BadOrigin
 as_start count (negsuc n) = Err BadOrigin
 
--- the start that an expression on a line of ORG or END gives, where labels count from the first instruction
+-- The start, given by the expression `ts` on the ORG or END line `p`. Labels are relative to the first instruction, and
+-- there are `count` instructions.
 abbrev pub start_at : Predefined → ProgramValue → ℕ → Placed → List Token → Result ℕ AsmProblem
 start_at ps source count p ts = value_in (name_value ps source 0 p.index) ts >>= as_start count
 
@@ -241,7 +246,7 @@ end_start ps source count p = replaced source p.line.rest >>= end_operand ps sou
 abbrev pub last_where : (Line → Bool) → List Placed → Option Placed
 last_where keeps ps = last_or None (filter (λ p. keeps p.line) ps)
 
--- the last ORG counts, else the operand of END, else the start is 0
+-- The start, from the last ORG and the last END, if they exist. ORG has precedence over END. Without both the start is 0.
 abbrev pub start_by : Predefined → ProgramValue → ℕ → Option Placed → Option Placed → Result ℕ AsmFault
 start_by ps source count (Some p) end = at_line p.line.number (org_start ps source count p)
 start_by ps source count None (Some p) = at_line p.line.number (end_start ps source count p)
@@ -262,9 +267,10 @@ abbrev pub asserts_hold : Predefined → ProgramValue → List Assert → Result
 asserts_hold ps source [] = Ok tt
 asserts_hold ps source (a ∷ rest) = at_line a.number (assert_holds ps source a) >>= λ _. asserts_hold ps source rest
 
--- ---- the whole
+-- ---- The whole source
 
--- the warrior of all that was read
+-- The warrior of the program `source`. The errors of the instructions come first, then those of the length, the start and
+-- the asserts.
 abbrev pub warrior_of : Predefined → Parameters → ProgramValue → Result WarriorValue AsmFault
 warrior_of ps p source =
     cells_of ps p.core_size source (instructions source) >>= λ cells.
@@ -277,6 +283,7 @@ abbrev pub text_read : Result ProgramValue TextFault → Result ProgramValue Asm
 text_read (Ok source) = Ok source
 text_read (Err e) = Err (record { line = e.line; problem = Text e.problem })
 
--- the warrior of a source, or its first fault
+-- The warrior of a source text for the parameters `p`, or its first error. `rounds` and `warriors` are the values of ROUNDS
+-- and WARRIORS.
 unfoldable pub assembly : Parameters → ℕ → ℕ → List ℕ → Result WarriorValue AsmFault
 assembly p rounds warriors source = text_read (expansion (predefined p rounds warriors) source) >>= warrior_of (predefined p rounds warriors) p

@@ -1,4 +1,4 @@
--- Worked examples. The check computes each of them.
+-- Examples. The check computes each of them.
 pub mod Warriors
 pub mod Formulas
 pub mod LoadFiles

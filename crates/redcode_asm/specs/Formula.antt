@@ -17,12 +17,12 @@ use Rattle.redcode_text.specs.Tokens.{Scanned, scanned}
 abbrev pub is_variable : List ℕ → Bool
 is_variable name = bytes_eq name (codes "W") || bytes_eq name (codes "S")
 
--- a token of a formula isn't a name other than W and S
+-- A token may occur in a formula: it is no name, or it is W or S.
 abbrev pub may_occur : List (List ℕ) → TokenKind → Bool
 may_occur names (Name n) = is_variable (name_at names n)
 may_occur names _ = true
 
--- tokens and names that make a formula, or the fault: the shape before a name that is neither W nor S
+-- The tokens and names `f`, if they form a formula, or else the error. A bad shape is found before an unknown name.
 abbrev pub checked_formula : Scanned → Result Scanned ExprFault
 checked_formula f = shape start (kinds f.tokens) >>= λ _. if list_all (may_occur f.names) (kinds f.tokens) then Ok f else Err Unknown
 
@@ -30,18 +30,18 @@ abbrev pub scanned_formula : Result Scanned TextFault → Result Scanned ExprFau
 scanned_formula (Ok f) = checked_formula f
 scanned_formula (Err e) = Err Syntax
 
--- the formula of a text: at most 256 bytes that are tokens
+-- The formula of a text of at most 256 bytes.
 abbrev pub formula_of : List ℕ → Result Scanned ExprFault
 formula_of text = if nat_lt 256 (length text) then Err Syntax else scanned_formula (scanned text)
 
 abbrev pub variable_value : ℤ → ℤ → List ℕ → Option ℤ
 variable_value w s name = if bytes_eq name (codes "W") then Some w else if bytes_eq name (codes "S") then Some s else None
 
--- the value of a formula for so many warriors and survivors
+-- The value of the formula `f` for `w` warriors and `s` survivors.
 abbrev pub score_of : Scanned → ℤ → ℤ → Result ℤ ExprFault
 score_of f w s = value_of (λ n. variable_value w s (name_at f.names n)) (kinds f.tokens)
 
--- the result is the defined formula or the defined fault, unless memory ran out
+-- The result is the defined formula or the defined error, unless memory ran out.
 abbrev pub Checks : Result Scanned FormulaFault → Result Scanned ExprFault → Type 0
 Checks (Ok f) defined = defined ≡ Ok f
 Checks (Err (Expression e)) defined = defined ≡ Err e

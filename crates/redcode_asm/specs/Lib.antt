@@ -1,4 +1,4 @@
--- What a reader of the contracts has to believe; Examples has worked examples of it.
+-- The specification of the assembler, which is part of the trusted base, with its laws and examples.
 pub mod Formula
 pub mod Assembly
 pub mod LoadFiles

@@ -6,6 +6,6 @@ use Rattle.mars_cell.specs.Written.{load_text}
 use Rattle.redcode_asm.specs.declared.fault.AsmFault.{AsmFault}
 use Rattle.redcode_asm.specs.Assembly.{assembly}
 
--- the load file of the warrior that a source is assembled to, or the source's first fault
+-- The load file of the warrior that a source is assembled to, or the first error of the source.
 abbrev pub assembled_load : Parameters → ℕ → ℕ → List ℕ → Result (List ℕ) AsmFault
 assembled_load p rounds warriors source = assembly p rounds warriors source >>= λ w. Ok (load_text p.core_size w)

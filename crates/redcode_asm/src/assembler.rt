@@ -12,10 +12,10 @@ use mars_cell::{Params, Warrior};
 use redcode_text::{PredefinedNames, Program, expand};
 use std::alloc::Global;
 
-/// What VERSION stands for.
+/// The value of the predefined name VERSION.
 const VERSION: i64 = 80;
 
-/// The values of the predefined names.
+/// Returns the values of the predefined names. CURLINE is not one of them.
 pub fn predefined_names(params: &Params, rounds: u32, warriors: u32) -> PredefinedNames
     ensures { predefined_of result ≡ predefined params.now rounds warriors }
 {
@@ -31,7 +31,7 @@ pub fn predefined_names(params: &Params, rounds: u32, warriors: u32) -> Predefin
     }
 }
 
-/// The program of a source.
+/// Reads the program of a source: expands its FOR loops, and the EQU names that are used as operations.
 pub fn read_program(
     alloc: Global,
     source: &[u8],
@@ -45,20 +45,24 @@ pub fn read_program(
     }
 }
 
-/// Assembles a source to a warrior, for a core of these parameters; `rounds` and `warriors` are what ROUNDS and WARRIORS
-/// stand for.
+/// Assembles a source to a warrior, for a core with these parameters.
 ///
-/// The numbers of the warrior are below the core size. The first fault is answered, in this order:
-/// - Text: those of `expand`, with their lines.
-/// - Those of each instruction in turn, with its line: Operation for what is no opcode, or no modifier; Text for
-///   replacing EQU names in the operands; Operand for an operand that is missing or empty, or a third one; Expression of
-///   the first operand, then of the second. Instructions past the longest warrior are judged too.
-/// - TooLong, with the line of the first instruction past the longest warrior. Empty, with the line 0.
-/// - Those of the start, with the line of the ORG or END that gives it: Text, Expression, and BadOrigin for what is no
-///   index of an instruction. Of several ORG the last counts, and END counts only where there is no ORG.
-/// - Those of each assert in turn, with its line: Text, Expression, and AssertFailed where the value is 0.
+/// `rounds` and `warriors` are the values of the predefined names ROUNDS and WARRIORS. All numbers of the warrior are below
+/// the core size.
 ///
-/// OutOfMemory, with the line 0, comes only where a growth was refused, in place of what would have come later.
+/// # Errors
+///
+/// Returns the first error, with its line, in this order:
+/// - `Text`, for each error of `expand`.
+/// - The errors of each instruction in turn: `Operation` for an unknown opcode or modifier, `Text` if the EQU names in the
+///   operands can't be replaced, `Operand` for an operand that is missing or empty or a third one, `Expression` for the
+///   A-operand, then for the B-operand. Instructions beyond the maximum length are checked too.
+/// - `TooLong`, with the line of the first instruction beyond the maximum length, then `Empty`, with the line 0.
+/// - The errors of the start, with the line of the ORG or END that gives it: `Text`, `Expression`, then `BadOrigin` if the
+///   value isn't the index of an instruction. The last ORG counts, and END counts only without ORG.
+/// - The errors of each assert in turn: `Text`, `Expression`, then `AssertFailed` if the value is 0.
+///
+/// `OutOfMemory`, with the line 0, replaces any error that would have been found after the allocation that failed.
 #[tactic(auto, unfolding(crate::specs::Assembly::assembly))]
 pub fn assemble(
     alloc: Global,
@@ -73,7 +77,7 @@ pub fn assemble(
     let predefined = predefined_names(params, rounds, warriors);
     let program = read_program(alloc, source, &predefined)?;
     let warrior = program_warrior(alloc, &program, &predefined, params);
-    // By a call, since the drop of each of its fields in this body is dear to prove.
+    // Dropped by a call, because dropping each of its fields in this body is expensive to prove.
     drop(program);
     warrior
 }

@@ -10,7 +10,7 @@ use crate::sources::Source;
 use redcode_text::{Assert, eval};
 use std::alloc::Global;
 
-/// Judges the value of an assert, which holds where that isn't 0.
+/// Checks the value of an assert, which holds if the value isn't 0.
 fn judge_value(value: i64) -> Result<(), AsmProblem>
     ensures { result ≡ holds value }
 {
@@ -22,7 +22,7 @@ fn judge_value(value: i64) -> Result<(), AsmProblem>
 }
 
 impl<'a> Source<'a> {
-    /// Judges an assert.
+    /// Checks one assert.
     fn check_assert(&self, alloc: Global, assert: &Assert) -> Result<(), AsmProblem>
         ensures { Gives (λ done. done) result
             (assert_holds (predefined_of self.now.predefined.now) self.now.program.now (assert_of assert.now)) }
@@ -34,7 +34,7 @@ impl<'a> Source<'a> {
         }
     }
 
-    /// The same, with the line of a fault.
+    /// Checks one assert, and adds its line to an error.
     fn check_assert_at(&self, alloc: Global, assert: &Assert) -> Result<(), AsmFault>
         ensures { let a = assert_of assert.now in Answers (λ done. done) result
             (at_line a.number (assert_holds (predefined_of self.now.predefined.now) self.now.program.now a)) }
@@ -45,7 +45,7 @@ impl<'a> Source<'a> {
         }
     }
 
-    /// Whether asserts hold, in their order.
+    /// Checks asserts in order.
     fn check_each(&self, alloc: Global, asserts: &[Assert]) -> Result<(), AsmFault>
         ensures { Answers (λ done. done) result
             (asserts_hold (predefined_of self.now.predefined.now) self.now.program.now (map assert_of asserts.now)) }
@@ -56,7 +56,7 @@ impl<'a> Source<'a> {
         Ok(())
     }
 
-    /// Whether all asserts hold, in their order.
+    /// Checks all asserts of the source in order.
     pub fn check_asserts(&self, alloc: Global) -> Result<(), AsmFault>
         ensures { Answers (λ done. done) result
             (asserts_hold (predefined_of self.now.predefined.now) self.now.program.now self.now.program.now.asserts) }

@@ -18,14 +18,14 @@ use redcode_text::{Line, is_instruction};
 use std::alloc::Global;
 
 impl<'a> Source<'a> {
-    /// Whether a line is an instruction.
+    /// Returns whether a line is an instruction.
     fn is_instruction(&self, line: &Line) -> bool
         ensures { let l = line_of line.now in result ≡ is_instruction self.now.program.now.names l.operation l.rest }
     {
         is_instruction(self.program.names(), line.operation, &line.rest)
     }
 
-    /// The cell of an instruction.
+    /// Assembles one instruction to its cell.
     fn cell_of(&self, alloc: Global, core_size: u32, place: Place<'_>) -> Result<Cell, AsmProblem>
         requires { 0 < core_size }
         ensures value { Gives (λ cell. cell) result
@@ -40,7 +40,7 @@ impl<'a> Source<'a> {
         make_cell(op, modifier, &operands, &line_names, core_size)
     }
 
-    /// The same, with the line of a fault.
+    /// Assembles one instruction to its cell, and adds its line to an error.
     fn cell_at(&self, alloc: Global, core_size: u32, place: Place<'_>) -> Result<Cell, AsmFault>
         requires { 0 < core_size }
         ensures value { let placed = placed_of place.entry in Answers (λ cell. cell) result
@@ -53,7 +53,7 @@ impl<'a> Source<'a> {
         }
     }
 
-    /// The cells of the instructions among lines, or the first fault.
+    /// Returns the cells of the instructions among `lines`, or the first error.
     fn cells_among(
         &self,
         alloc: Global,
@@ -81,7 +81,7 @@ impl<'a> Source<'a> {
         Ok(cells)
     }
 
-    /// The cells of all instructions, or the first fault.
+    /// Returns the cells of all instructions, or the first error.
     pub fn cells(&self, alloc: Global, core_size: u32) -> Result<Vec<Cell>, AsmFault>
         requires { 0 < core_size }
         ensures value { Answers (λ cells. cells.items) result

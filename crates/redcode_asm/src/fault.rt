@@ -1,23 +1,23 @@
-//! What is wrong with a source or a formula.
+//! The errors of sources and of score formulas.
 ghost use Rattle.std.specs.Prelude.{◌≡◌};
 ghost use Rattle.redcode_asm.specs.Code.Problems.{fault_line, problem_of_text};
 
 use redcode_text::{ExprFault, TextFault, TextProblem};
 use thiserror::Error;
 
-/// What is wrong with a line of a source. It is displayed as its number and name, and a fault inside it after it.
+/// An error in a line of a source. It is displayed as its number and name, followed by the error inside it.
 #[derive(Clone, Copy, Debug, PartialEq, Eq, Error)]
 pub enum AsmProblem {
     /// The text can't be read.
     #[error("1 Text {0}")]
     Text(TextProblem),
-    /// There is no such opcode or modifier.
+    /// Unknown opcode or modifier.
     #[error("2 Operation")]
     Operation,
-    /// An operand is missing or empty, or there are more than two.
+    /// A missing or empty operand, or a third one.
     #[error("3 Operand")]
     Operand,
-    /// An expression has no value.
+    /// An expression without a value.
     #[error("4 Expression {0}")]
     Expression(ExprFault),
     /// The value of an assert is 0.
@@ -26,28 +26,28 @@ pub enum AsmProblem {
     /// The start isn't the index of an instruction.
     #[error("6 BadOrigin")]
     BadOrigin,
-    /// There is no instruction.
+    /// The source has no instruction.
     #[error("7 Empty")]
     Empty,
-    /// There are more instructions than the longest warrior may have.
+    /// The source has more instructions than the maximum length allows.
     #[error("8 TooLong")]
     TooLong,
-    /// A growth was refused.
+    /// An allocation failed.
     #[error("9 OutOfMemory")]
     OutOfMemory,
 }
 
-/// What is wrong with a source, and where. It is displayed as its problem, without the line.
+/// An error in a source, with its line. It is displayed without the line.
 #[derive(Clone, Copy, Debug, PartialEq, Eq, Error)]
 #[error("{problem}")]
 pub struct AsmFault {
-    /// The number of the line, from 1; 0 for a source without an instruction and for want of memory.
+    /// The line number, from 1; 0 if the source has no instruction or memory ran out.
     pub line: usize,
     pub problem: AsmProblem,
 }
 
 impl AsmProblem {
-    /// The problem of a line; want of memory has none.
+    /// Adds a line number to an error; `OutOfMemory` gets the line 0.
     pub(crate) fn at_line(self, line: usize) -> AsmFault
         ensures problem { result.problem ≡ self }
         ensures line { result.line ≡ fault_line line self }
@@ -64,7 +64,7 @@ impl AsmProblem {
         }
     }
 
-    /// The problem of a text; want of memory there is want of memory here.
+    /// Converts an error of the text, `OutOfMemory` to `OutOfMemory`.
     pub(crate) fn of_text(problem: TextProblem) -> AsmProblem
         ensures { result ≡ problem_of_text problem }
     {
@@ -76,7 +76,7 @@ impl AsmProblem {
 }
 
 impl AsmFault {
-    /// The fault of a text.
+    /// Converts an error of the text, with its line.
     pub(crate) fn of_text(fault: TextFault) -> AsmFault
         ensures problem { result.problem ≡ problem_of_text fault.problem }
         ensures line { result.line ≡ fault.line }
@@ -87,7 +87,7 @@ impl AsmFault {
         }
     }
 
-    /// Want of memory.
+    /// Returns the error for a failed allocation.
     pub(crate) fn out_of_memory() -> AsmFault
         ensures problem { result.problem ≡ AsmProblem.OutOfMemory }
         ensures line { result.line ≡ 0 }
@@ -99,13 +99,13 @@ impl AsmFault {
     }
 }
 
-/// Why a text is no formula. It is displayed as its number and name, and the fault of the expression after it.
+/// The reason why a text isn't a formula. It is displayed as its number and name, followed by the error of the expression.
 #[derive(Clone, Copy, Debug, PartialEq, Eq, Error)]
 pub enum FormulaFault {
-    /// The text is no expression in W and S.
+    /// The text isn't an expression in W and S.
     #[error("1 Expression {0}")]
     Expression(ExprFault),
-    /// A growth was refused.
+    /// An allocation failed.
     #[error("2 OutOfMemory")]
     OutOfMemory,
 }

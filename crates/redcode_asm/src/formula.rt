@@ -13,10 +13,10 @@ use redcode_text::{
 use std::alloc::Global;
 use std::marker::Model;
 
-/// How many bytes a formula may have.
+/// The maximum number of bytes of a formula.
 const LONGEST: usize = 256;
 
-/// An expression in W, the number of warriors, and S, the number of survivors.
+/// A score formula: an expression in W, the number of warriors, and S, the number of survivors.
 #[derive(Drop)]
 pub struct Formula {
     line: LineTokens,
@@ -35,7 +35,7 @@ impl Model for Formula {
     ghost invariant = { λ f. checked_formula (scan_of f.line.tokens f.line.names) ≡ Ok (scan_of f.line.tokens f.line.names) };
 }
 
-/// What W and S stand for.
+/// The values of W and S.
 #[derive(Clone, Copy)]
 struct Variables<'a> {
     names: &'a NameTable,
@@ -64,7 +64,7 @@ fn is_variable(name: &[u8]) -> bool
     name == b"W".as_slice() || name == b"S".as_slice()
 }
 
-/// Whether a token isn't a name other than W and S.
+/// Returns whether a token may occur in a formula: the only names allowed are W and S.
 fn may_occur(names: &NameTable, kind: TokenKind) -> bool
     ensures { result ≡ may_occur names.now kind }
 {
@@ -74,7 +74,7 @@ fn may_occur(names: &NameTable, kind: TokenKind) -> bool
     }
 }
 
-/// Whether each name among tokens is W or S.
+/// Returns whether each name among the tokens is W or S.
 fn are_variables(names: &NameTable, tokens: &[Token]) -> bool
     ensures { result ≡ list_all (may_occur names.now) (kinds tokens.now) }
 {
@@ -86,7 +86,7 @@ fn are_variables(names: &NameTable, tokens: &[Token]) -> bool
     true
 }
 
-/// Whether tokens are an expression in W and S, or the first fault: the shape before a name that is neither.
+/// Checks that tokens are an expression in W and S. A bad shape is found before an unknown name.
 fn check_formula(line: &LineTokens) -> Result<(), ExprFault>
     ensures { let f = scan_of line.now.tokens line.now.names in
         MatchResult result (λ _. checked_formula f ≡ Ok f) (λ fault. checked_formula f ≡ Err fault) }
@@ -99,8 +99,14 @@ fn check_formula(line: &LineTokens) -> Result<(), ExprFault>
 }
 
 impl Formula {
-    /// The formula of a text of at most 256 bytes, or its first fault: a text that is too long, or isn't tokens alone, is
-    /// no expression (Syntax); then comes the fault of the shape, then a name other than W and S (Unknown).
+    /// Reads a formula of at most 256 bytes.
+    ///
+    /// # Errors
+    ///
+    /// - `Syntax` if the text is too long or has a byte that belongs to no token
+    /// - `Syntax` or `Depth` if the tokens don't have the shape of an expression
+    /// - `Unknown` if there is a name other than W and S
+    /// - `OutOfMemory` if an allocation fails
     pub fn new(alloc: Global, text: &[u8]) -> Result<Formula, FormulaFault>
         ensures { Checks result (formula_of text.now) }
     {
@@ -122,7 +128,11 @@ impl Formula {
         }
     }
 
-    /// The value for so many warriors and survivors, or DivideByZero or Range, and no other fault. It takes no memory.
+    /// Returns the value for the given numbers of warriors and survivors. Does not allocate.
+    ///
+    /// # Errors
+    ///
+    /// `DivideByZero` or `Range`; no other error is possible.
     pub fn score(&self, warriors: i64, survivors: i64) -> Result<i64, ExprFault>
         ensures value { result ≡ score_of self.now warriors survivors }
         ensures few { IfErr result IsValueFault }

@@ -1,4 +1,4 @@
-//! One instruction.
+//! The parts of one instruction.
 ghost use Rattle.std.specs.Prelude.{◌≡◌, ◌<◌, Ok, Err, IfOk, MatchResult};
 ghost use Rattle.mars_cell.specs.Cells.{FitsCore};
 ghost use Rattle.redcode_asm.specs.Assembly.{cell_from, cell_with, modifier_in, opcode_of, split_modifier};
@@ -8,7 +8,7 @@ use crate::operands::{operand_value, split_operands};
 use mars_cell::{Cell, Mode, Modifier, Op, default_modifier, read_modifier, read_op};
 use redcode_text::{Env, NameTable, Sign, Token, TokenKind};
 
-/// The opcode of an operation, by its index among the names.
+/// Returns the opcode that an operation names. `operation` is an index into `names`.
 pub fn read_opcode(names: &NameTable, operation: Option<usize>) -> Result<Op, AsmProblem>
     ensures { result ≡ opcode_of names.now operation }
 {
@@ -18,7 +18,7 @@ pub fn read_opcode(names: &NameTable, operation: Option<usize>) -> Result<Op, As
     read_op(names.name(index)).ok_or(AsmProblem::Operation)
 }
 
-/// The modifier behind the `.`.
+/// Returns the modifier that the token after `.` names.
 fn modifier_of(names: &NameTable, kind: TokenKind) -> Result<Modifier, AsmProblem>
     ensures { result ≡ modifier_in names.now kind }
 {
@@ -28,7 +28,7 @@ fn modifier_of(names: &NameTable, kind: TokenKind) -> Result<Modifier, AsmProble
     read_modifier(names.name(index)).ok_or(AsmProblem::Operation)
 }
 
-/// The modifier that stands first behind an opcode, or none, and what follows.
+/// Splits off the modifier at the start of the tokens after an opcode, if they start with `.`.
 pub fn take_modifier<'a>(
     names: &NameTable,
     rest: &'a [Token],
@@ -49,7 +49,7 @@ pub fn take_modifier<'a>(
     Ok((Some(modifier), operands))
 }
 
-/// The cell of an opcode, perhaps a modifier, and the modes and numbers of its operands.
+/// Builds a cell from the opcode, the modifier if one is written, and the modes and numbers of the operands.
 fn whole_cell(op: Op, modifier: Option<Modifier>, a: (Mode, u32), b: (Mode, u32)) -> Cell
     ensures { result ≡ cell_with op modifier a b }
 {
@@ -69,7 +69,7 @@ fn whole_cell(op: Op, modifier: Option<Modifier>, a: (Mode, u32), b: (Mode, u32)
     }
 }
 
-/// The cell of an opcode, perhaps a modifier, and the tokens of its operands.
+/// Assembles a cell from the opcode, the modifier if one is written, and the tokens of the operands.
 pub fn make_cell<E: Env>(
     op: Op,
     modifier: Option<Modifier>,

@@ -1,11 +1,13 @@
 //! The assembler, and score formulas.
 //!
-//! The layers above may use: `assemble` gives the warrior of a source, with numbers below the core size, or its first
-//! fault with its line, exactly as `specs/Assembly` defines them, or want of memory, which has the line 0;
-//! `assemble_load` gives the load file of that warrior, and `source_lines` where its instructions stand in the source, with
-//! their labels (`specs/SourceLines`), or the same fault. `Formula::new` gives the formula of a text, or its first fault, and
-//! `Formula::score` its value for so many warriors and survivors, exactly as `specs/Formula` defines them; a score takes no
-//! memory, and is refused for its values alone (`laws`).
+//! The crates above this one may use:
+//! - `assemble` returns the warrior of a source, with all numbers below the core size, or its first error, with its line,
+//!   as `specs/Assembly` defines them. If memory runs out, the line is 0.
+//! - `assemble_load` returns the load file of that warrior, and `source_lines` the line and the labels of each of its
+//!   instructions (`specs/SourceLines`). Both have the same errors as `assemble`.
+//! - `Formula::new` returns the formula of a text, or its first error, and `Formula::score` its value for given numbers of
+//!   warriors and survivors, as `specs/Formula` defines them. `score` doesn't allocate, and its errors depend only on the
+//!   values (`laws`).
 #![tactic(auto)]
 
 mod assembler;

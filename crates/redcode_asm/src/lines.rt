@@ -1,4 +1,4 @@
-//! Where the instructions of a source stand in it.
+//! The line of each instruction in the source.
 ghost use Rattle.std.specs.Prelude.{◌≡◌, ◌++◌, IfOk, OnOk, decimal, map};
 ghost use Rattle.mars_cell.specs.Written.{with_newline};
 ghost use Rattle.redcode_text.specs.Views.{line_of, predefined_of};
@@ -13,9 +13,9 @@ use mars_cell::{Line as NumberLine, Params, push_number};
 use redcode_text::{Line, NameTable, PredefinedNames, Program, is_instruction};
 use std::alloc::{AllocError, Global};
 
-// An error of each of these leaves the text as it was, or with a beginning of what was to come.
+// If one of these functions runs out of memory, `text` is unchanged or has a part of the new text at its end.
 
-/// Adds labels to a text, each behind a blank.
+/// Appends the names of labels to a text, with a space before each.
 fn push_labels(names: &NameTable, labels: &[usize], text: &mut Vec<u8>) -> Result<(), AllocError>
     ensures { OnOk result (text.new.items ≡ text.old.items ++ labels_text names.now labels.now) }
 {
@@ -26,7 +26,7 @@ fn push_labels(names: &NameTable, labels: &[usize], text: &mut Vec<u8>) -> Resul
     Ok(())
 }
 
-/// Adds the line of an instruction to a text: the number of its line in the source, and its labels.
+/// Appends the line of an instruction to a text: its line number in the source, and its labels.
 fn push_instruction(number: usize, labels: &[u8], text: &mut Vec<u8>) -> Result<(), AllocError>
     ensures { OnOk result (text.new.items ≡ text.old.items ++ with_newline (decimal number ++ labels.now)) }
 {
@@ -38,7 +38,8 @@ fn push_instruction(number: usize, labels: &[u8], text: &mut Vec<u8>) -> Result<
     Ok(())
 }
 
-/// Adds the lines of the instructions among lines to a text. `labels` has the labels that wait for an instruction.
+/// Appends the lines of the instructions among `lines` to a text. `labels` is the text of the labels that wait for an
+/// instruction.
 fn push_lines(
     names: &NameTable,
     lines: &[Line],
@@ -57,7 +58,7 @@ fn push_lines(
     Ok(())
 }
 
-/// The lines of a program's instructions.
+/// Returns the text with a line for each instruction of a program.
 fn lines_of(alloc: Global, program: &Program) -> Result<Vec<u8>, AllocError>
     ensures { IfOk result (λ text. text.items ≡ program_lines program.now) }
 {
@@ -66,7 +67,7 @@ fn lines_of(alloc: Global, program: &Program) -> Result<Vec<u8>, AllocError>
     Ok(text)
 }
 
-/// The lines of the instructions of a program that is assembled, or its first fault.
+/// Returns the text with a line for each instruction of a program, or the first error of the program.
 fn assembled_lines(
     alloc: Global,
     program: &Program,
@@ -85,12 +86,16 @@ fn assembled_lines(
     }
 }
 
-/// Where the instructions of a source stand in it: a text of a line for each instruction of its warrior, in order.
+/// Returns a text with a line for each instruction of a source's warrior, in order.
 ///
-/// It has the number of the instruction's line, from 1, in decimal, then each of its labels behind one blank, then LF. Joins and
-/// counters in labels are done. A line of a loop comes once for each round, and for each line of an EQU name that is an operation
-/// there is the line of the use. A label on a line that is no instruction belongs to the next instruction; behind the last one it
-/// is left out. The faults are those of `assemble`, which takes the same arguments.
+/// A line has the number of the instruction's line in the source, from 1, in decimal, then the instruction's labels, each
+/// after one space, then LF. `&` joins and loop counters in labels are expanded. A line in a FOR loop is listed once per
+/// iteration. If an EQU name is used as an operation, each line of its definition is listed with the line number of the
+/// use. A label on a line without an instruction belongs to the next instruction; after the last instruction it is omitted.
+///
+/// # Errors
+///
+/// Returns the errors of `assemble`, which takes the same arguments.
 pub fn source_lines(
     alloc: Global,
     source: &[u8],
@@ -103,7 +108,7 @@ pub fn source_lines(
     let predefined = predefined_names(params, rounds, warriors);
     let program = read_program(alloc, source, &predefined)?;
     let text = assembled_lines(alloc, &program, &predefined, params);
-    // By a call, since the drop of each of its fields in this body is dear to prove.
+    // Dropped by a call, because dropping each of its fields in this body is expensive to prove.
     drop(program);
     text
 }

@@ -7,10 +7,13 @@ use crate::fault::AsmFault;
 use mars_cell::{Params, write_load};
 use std::alloc::Global;
 
-/// Assembles a source to the load file of its warrior, for a core of these parameters.
+/// Assembles a source, for a core with these parameters, and returns the load file of its warrior.
 ///
-/// The faults are those of `assemble`, which takes the same arguments; what was written is read back by
-/// `mars_cell::read_load` as the very warrior.
+/// `mars_cell::read_load` reads it back as the same warrior.
+///
+/// # Errors
+///
+/// Returns the errors of `assemble`, which takes the same arguments.
 pub fn assemble_load(
     alloc: Global,
     source: &[u8],

@@ -32,7 +32,7 @@ fn mode_of(kind: TokenKind) -> Option<Mode>
     }
 }
 
-/// The mode of an operand, `$` where none stands there, and its expression.
+/// Splits an operand into its mode, `$` if none is written, and the tokens of its expression.
 pub fn split_mode(tokens: &[Token]) -> (Mode, &[Token])
     ensures { let r = result in (r.0, r.1.now) ≡ split_mode tokens.now }
 {
@@ -54,7 +54,7 @@ fn is_comma(token: Token) -> bool
     }
 }
 
-/// What stands before the first comma, and what behind it.
+/// Splits tokens at the first comma, if there is one.
 fn split_comma(tokens: &[Token]) -> Option<(&[Token], &[Token])>
     ensures { MatchOption result (parts_at_commas tokens.now ≡ tokens.now ∷ [])
         (λ p. parts_at_commas tokens.now ≡ p.0.now ∷ parts_at_commas p.1.now) }
@@ -67,14 +67,15 @@ fn split_comma(tokens: &[Token]) -> Option<(&[Token], &[Token])>
     None
 }
 
-/// The tokens of the A-operand and of the B-operand, where they are given.
+/// The tokens of the A-operand and the B-operand, if they are written.
 #[derive(Clone, Copy)]
 pub struct Operands<'a> {
     pub a: Option<&'a [Token]>,
     pub b: Option<&'a [Token]>,
 }
 
-/// The operands that stand behind an opcode: one alone is the B-operand of DAT, and else the A-operand.
+/// Splits the tokens after an opcode into operands. A single operand is the B-operand of DAT, and the A-operand of any
+/// other opcode.
 pub fn split_operands(op: Op, tokens: &[Token]) -> Result<Operands<'_>, AsmProblem>
     ensures { let defined = given_operands op tokens.now in
         MatchResult result (λ given. defined ≡ Ok (operands_in given)) (λ problem. defined ≡ Err problem) }
@@ -109,7 +110,7 @@ pub fn split_operands(op: Op, tokens: &[Token]) -> Result<Operands<'_>, AsmProbl
     }
 }
 
-/// The mode and the number of an operand: `$0` where it isn't given.
+/// Returns the mode and the number of an operand, `$0` if it isn't written.
 pub fn operand_value<E: Env>(
     tokens: Option<&[Token]>,
     names: &E,

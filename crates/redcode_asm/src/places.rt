@@ -1,4 +1,4 @@
-//! Lines, and how many instructions stand before them; labels, which stand for as many.
+//! Lines with their indices, and the table of labels.
 ghost use Rattle.std.specs.Prelude.{◌≡◌, ◌+◌, ◌<◌, ◌≤◌, length, map, option_map, drop, filter, [], nat_eq, IfOk, OnOk};
 ghost use Rattle.redcode_text.specs.Equates.{limit};
 ghost use Rattle.redcode_text.specs.Views.{line_of};
@@ -21,7 +21,7 @@ pub struct Place<'a> {
     pub line: &'a Line,
 }
 
-/// The number of instructions up to and with this line, where `index` stand before it.
+/// Returns the number of instructions up to and including this line, if `index` instructions precede it.
 pub fn index_after(names: &NameTable, index: u32, line: &Line) -> u32
     requires { index < limit }
     ensures value { result ≡ index_after names.now index (line_of line.now) }
@@ -34,7 +34,7 @@ pub fn index_after(names: &NameTable, index: u32, line: &Line) -> u32
     }
 }
 
-/// The last line whose operation is this word, in either case.
+/// Returns the last line whose operation is `word`, in either case.
 pub fn last_line<'a>(names: &NameTable, lines: &'a [Line], word: &[u8]) -> Option<Place<'a>>
     requires { length lines.now ≤ limit }
     ensures { option_map placed_of result
@@ -51,7 +51,7 @@ pub fn last_line<'a>(names: &NameTable, lines: &'a [Line], word: &[u8]) -> Optio
     found
 }
 
-/// TooLong at the first instruction past the longest warrior, if there is one.
+/// Returns `TooLong` with the line of the first instruction beyond the maximum length, if there is one.
 pub fn check_length(names: &NameTable, lines: &[Line], longest: u32) -> Result<(), AsmFault>
     requires { length lines.now ≤ limit }
     ensures { result ≡ none_past (drop longest
@@ -87,7 +87,7 @@ impl Model for Labels {
 }
 
 impl Labels {
-    /// One label more, unless it is there.
+    /// Adds a label, unless it is in the table already.
     fn add(&mut self, label: usize, index: u32) -> Result<(), AllocError>
         ensures { OnOk result (self.new ≡ with_label index self.old label) }
     {
@@ -97,7 +97,7 @@ impl Labels {
         Ok(())
     }
 
-    /// The labels of a line.
+    /// Adds the labels of a line.
     fn add_each(&mut self, labels: &[usize], index: u32) -> Result<(), AllocError>
         ensures { OnOk result (self.new ≡ with_labels index self.old labels.now) }
     {
@@ -107,7 +107,7 @@ impl Labels {
         Ok(())
     }
 
-    /// The labels of lines.
+    /// Builds the table of the labels of `lines`.
     pub fn of_lines(alloc: Global, names: &NameTable, lines: &[Line]) -> Result<Labels, AllocError>
         requires { length lines.now ≤ limit }
         ensures { IfOk result (λ table. table ≡ table_with [] (placed_from names.now 0 (map line_of lines.now))) }
@@ -123,7 +123,7 @@ impl Labels {
         Ok(labels)
     }
 
-    /// The number of instructions before the line of a label.
+    /// Returns the number of instructions before the line of a label.
     pub fn index_of(&self, label: usize) -> Option<u32>
         ensures { result ≡ lookup (nat_eq label) self.now }
     {

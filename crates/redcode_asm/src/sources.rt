@@ -1,4 +1,4 @@
-//! A source, and what its names stand for.
+//! A source, and the values of its names.
 ghost use Rattle.std.specs.Prelude.{◌≡◌, [], pos, ◌-ℤ◌, option_map};
 ghost use Rattle.redcode_text.specs.Views.{predefined_of};
 ghost use Rattle.redcode_text.specs.Lines.{is_spelled, name_at, predefined_value, with_current_line};
@@ -12,7 +12,7 @@ use crate::places::{Labels, Place, last_line};
 use redcode_text::{Env, NameTable, PredefinedNames, Program, Token};
 use std::alloc::Global;
 
-/// A program with its labels, and the predefined names.
+/// A program with its labels and the predefined names.
 #[derive(Clone, Copy)]
 pub struct Source<'a> {
     pub program: &'a Program,
@@ -21,7 +21,7 @@ pub struct Source<'a> {
     ghost table: { labels.now ≡ table_with [] (placed program.now) },
 }
 
-/// What the name of an index stands for behind so many instructions, where it is no label.
+/// Returns the value of the name with this index, if it isn't a label. `current_line` is the value of CURLINE.
 fn known_value(
     predefined: &PredefinedNames,
     names: &NameTable,
@@ -33,7 +33,8 @@ fn known_value(
     predefined.value_at(current_line, names.name(name))
 }
 
-/// What names stand for in an instruction, an ORG or an END behind so many instructions: labels count from an index on.
+/// The values of names on an instruction, ORG or END line: `index` instructions precede it, and labels are relative to
+/// `origin`.
 #[derive(Clone, Copy)]
 pub struct LineNames<'a> {
     pub source: Source<'a>,
@@ -41,7 +42,7 @@ pub struct LineNames<'a> {
     pub index: u32,
 }
 
-/// How far an index lies behind another; it is negative where it lies before it.
+/// Returns `index - origin`, which may be negative.
 fn distance(index: u32, origin: u32) -> i64
     ensures { result ≡ pos index -ℤ pos origin }
 {
@@ -67,7 +68,7 @@ impl<'a> Env for LineNames<'a> {
     }
 }
 
-/// What names stand for in an assert behind so many instructions, where labels stand for nothing.
+/// The values of names in an assert that `index` instructions precede. Labels have no value there.
 #[derive(Clone, Copy)]
 pub struct AssertNames<'a> {
     pub source: Source<'a>,
@@ -91,7 +92,7 @@ impl<'a> Env for AssertNames<'a> {
 }
 
 impl<'a> Source<'a> {
-    /// Tokens with the EQU names replaced.
+    /// Replaces the EQU names among tokens.
     pub fn replace(&self, alloc: Global, tokens: &[Token]) -> Result<Vec<Token>, AsmProblem>
         ensures { Gives (λ made. made.items) result (replaced self.now.program.now tokens.now) }
     {
@@ -101,7 +102,7 @@ impl<'a> Source<'a> {
         }
     }
 
-    /// What names stand for in the instruction of an index: a label is a distance from it.
+    /// Returns the values of names in the instruction number `index`: a label is the distance from that instruction.
     pub fn instruction_names(&self, index: u32) -> LineNames<'a>
         ensures { result ≡ record { source = self.now; origin = index; index = index } }
     {
@@ -112,7 +113,7 @@ impl<'a> Source<'a> {
         }
     }
 
-    /// What names stand for in an assert behind so many instructions.
+    /// Returns the values of names in an assert that `index` instructions precede.
     pub fn assert_names(&self, index: u32) -> AssertNames<'a>
         ensures { result ≡ record { source = self.now; index = index } }
     {
@@ -122,7 +123,8 @@ impl<'a> Source<'a> {
         }
     }
 
-    /// What names stand for in an ORG or an END behind so many instructions: a label is the index of its instruction.
+    /// Returns the values of names in an ORG or END that `index` instructions precede: a label is the index of its
+    /// instruction.
     pub fn start_names(&self, index: u32) -> LineNames<'a>
         ensures { result ≡ record { source = self.now; origin = 0; index = index } }
     {
@@ -133,7 +135,7 @@ impl<'a> Source<'a> {
         }
     }
 
-    /// The last line whose operation is this word, in either case.
+    /// Returns the last line whose operation is `word`, in either case.
     pub fn last_line(&self, word: &[u8]) -> Option<Place<'a>>
         ensures { option_map placed_of result
             ≡ last_where (λ l. is_spelled self.now.program.now.names word.now l.operation) (placed self.now.program.now) }

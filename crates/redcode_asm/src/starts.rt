@@ -12,7 +12,7 @@ use crate::sources::Source;
 use redcode_text::{Token, eval};
 use std::alloc::Global;
 
-/// A start is the index of one of so many instructions.
+/// Converts the value of an expression to a start, which is below `count`, the number of instructions.
 fn as_start(value: i64, count: u32) -> Result<u32, AsmProblem>
     ensures value { result ≡ as_start count value }
     ensures below { IfOk result (λ start. start < count) }
@@ -25,7 +25,7 @@ fn as_start(value: i64, count: u32) -> Result<u32, AsmProblem>
 }
 
 impl<'a> Source<'a> {
-    /// The start that an expression gives, where there are so many instructions.
+    /// Evaluates the expression of an ORG or END to a start below `count`, the number of instructions.
     fn start_at(&self, count: u32, place: Place<'_>, tokens: &[Token]) -> Result<u32, AsmProblem>
         ensures value { result ≡ start_at (predefined_of self.now.predefined.now) self.now.program.now count
             (placed_of place.entry) tokens.now }
@@ -38,7 +38,7 @@ impl<'a> Source<'a> {
         }
     }
 
-    /// The start of an ORG.
+    /// Returns the start that an ORG sets.
     fn org_start(&self, alloc: Global, count: u32, place: Place<'_>) -> Result<u32, AsmProblem>
         ensures value { Gives (λ start. start) result
             (org_start (predefined_of self.now.predefined.now) self.now.program.now count (placed_of place.entry)) }
@@ -48,7 +48,7 @@ impl<'a> Source<'a> {
         self.start_at(count, place, &tokens)
     }
 
-    /// The start of an END, which is 0 without an operand.
+    /// Returns the start that an END sets: 0 if it has no operand.
     fn end_start(&self, alloc: Global, count: u32, place: Place<'_>) -> Result<u32, AsmProblem>
         ensures value { Gives (λ start. start) result
             (end_start (predefined_of self.now.predefined.now) self.now.program.now count (placed_of place.entry)) }
@@ -61,7 +61,7 @@ impl<'a> Source<'a> {
         self.start_at(count, place, &tokens)
     }
 
-    /// The start of an ORG, with the line of a fault.
+    /// Returns the start that an ORG sets, and adds its line to an error.
     fn org_start_at(&self, alloc: Global, count: u32, place: Place<'_>) -> Result<u32, AsmFault>
         ensures below { IfOk result (λ start. start < count) }
         ensures value { let placed = placed_of place.entry in Answers (λ start. start) result
@@ -73,7 +73,7 @@ impl<'a> Source<'a> {
         }
     }
 
-    /// The start of an END, with the line of a fault.
+    /// Returns the start that an END sets, and adds its line to an error.
     fn end_start_at(&self, alloc: Global, count: u32, place: Place<'_>) -> Result<u32, AsmFault>
         ensures below { 0 < count → IfOk result (λ start. start < count) }
         ensures value { let placed = placed_of place.entry in Answers (λ start. start) result
@@ -85,7 +85,7 @@ impl<'a> Source<'a> {
         }
     }
 
-    /// The start of this ORG, or else of this END, or else 0.
+    /// Returns the start that `org` sets, or else `end`, or else 0.
     fn start_by(
         &self,
         alloc: Global,
@@ -104,7 +104,7 @@ impl<'a> Source<'a> {
         }
     }
 
-    /// The start of the last ORG, or else of END, or else 0, where there are so many instructions.
+    /// Returns the start that the last ORG sets, or else END, or else 0. `count` is the number of instructions.
     pub fn start(&self, alloc: Global, count: u32) -> Result<u32, AsmFault>
         ensures value { Answers (λ start. start) result (start_of (predefined_of self.now.predefined.now) self.now.program.now count) }
         ensures below { 0 < count → IfOk result (λ start. start < count) }

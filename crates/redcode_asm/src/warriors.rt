@@ -13,7 +13,7 @@ use mars_cell::{Cell, Params, Warrior};
 use redcode_text::{PredefinedNames, Program};
 use std::alloc::Global;
 
-/// The warrior of these cells, with the name and the author of a program.
+/// Builds the warrior with these cells, and with the name and the author of a program.
 fn named_warrior(
     alloc: Global,
     program: &Program,
@@ -36,7 +36,9 @@ fn named_warrior(
 }
 
 impl<'a> Source<'a> {
-    /// TooLong or Empty, where there are too many instructions or none. `count` is how many there are.
+    /// Checks that there are instructions and not more than `longest`: returns `TooLong` or `Empty` if not.
+    ///
+    /// `count` is the number of instructions.
     fn check_count(&self, count: usize, longest: u32) -> Result<(), AsmFault>
         requires { count ≡ length (instructions self.now.program.now) }
         ensures { result ≡ length_checked longest (instructions self.now.program.now) }
@@ -51,7 +53,7 @@ impl<'a> Source<'a> {
         Ok(())
     }
 
-    /// The warrior of the source, or its first fault.
+    /// Returns the warrior of the source, or its first error.
     fn warrior(&self, alloc: Global, params: &Params) -> Result<Warrior, AsmFault>
         ensures value { Answers (λ warrior. warrior) result
             (warrior_of (predefined_of self.now.predefined.now) params.now self.now.program.now) }
@@ -65,7 +67,7 @@ impl<'a> Source<'a> {
     }
 }
 
-/// The warrior of a program, or its first fault.
+/// Returns the warrior of a program, or its first error.
 pub fn program_warrior<'p>(
     alloc: Global,
     program: &'p Program,
@@ -84,7 +86,7 @@ pub fn program_warrior<'p>(
         predefined,
     };
     let warrior = source.warrior(alloc, params);
-    // by a call, since its drop in this body is dear to prove
+    // Dropped by a call, because dropping it in this body is expensive to prove.
     drop(labels);
     warrior
 }

@@ -1,4 +1,4 @@
-//! Sources and their warriors or faults: values that players know, limits at their values and one past them.
+//! Sources and their warriors or errors: known values, and limits at their value and one beyond.
 
 use mars_cell::{Params, Warrior};
 use redcode_asm::{AsmFault, AsmProblem, assemble, assemble_load};
@@ -11,7 +11,7 @@ mod faults;
 mod limits;
 mod memory;
 
-/// The parameters of a core of this size, with warriors as long as it.
+/// The parameters of a core of this size, in which a warrior may fill the core.
 fn core_of(core_size: u32) -> Result<Params, Fail> {
     let params = Params::new(
         core_size, 8000, 80_000, core_size, core_size, core_size, core_size,
@@ -21,7 +21,7 @@ fn core_of(core_size: u32) -> Result<Params, Fail> {
     Ok(params)
 }
 
-/// The parameters of a core of 8000 cells, with warriors of at most 4.
+/// The parameters of a core of 8000 cells, with warriors of at most 4 instructions.
 fn short_warriors() -> Result<Params, Fail> {
     let params = Params::new(8000, 8000, 80_000, 8000, 8000, 4, 4)
         .ok()
@@ -29,7 +29,7 @@ fn short_warriors() -> Result<Params, Fail> {
     Ok(params)
 }
 
-/// The load file of the warrior of a source that names neither it nor its author, without the lines of its head.
+/// The load file of the warrior of a source that gives no name and author, without the lines of its header.
 fn listing(alloc: Global, params: &Params, source: &[u8]) -> Result<String, Fail> {
     let file = assemble_load(alloc, source, params, 2, 3)?;
     let text = str::from_utf8(&file).ok().ok_or("text")?;
@@ -43,10 +43,10 @@ fn fault_of(alloc: Global, params: &Params, source: &[u8]) -> Option<AsmFault> {
     assemble(alloc, source, params, 2, 3).err()
 }
 
-/// A source with the line of its fault and the problem.
+/// A source, the line of its error, and the error.
 type Faulty = (&'static str, usize, AsmProblem);
 
-/// Each of these sources has its fault.
+/// Checks that each source has its error.
 fn check_faults(rt: &impl Abort, alloc: Global, params: &Params, rows: &[Faulty]) {
     for (source, line, problem) in rows {
         let expected = AsmFault {
@@ -57,7 +57,7 @@ fn check_faults(rt: &impl Abort, alloc: Global, params: &Params, rows: &[Faulty]
     }
 }
 
-/// The listing of a source is this text.
+/// Checks that the listing of a source is this text.
 fn check_listing(
     rt: &impl Abort,
     alloc: Global,
@@ -71,10 +71,10 @@ fn check_listing(
     Ok(())
 }
 
-/// Prose that is never read, two rounds of a loop, and a line that names what they made.
+/// Prose that is never read, a loop of two iterations, and a line that uses the labels that the loop made.
 const LOOPS: &[u8] = b"FOR 0\nthis is prose\nROF\ni FOR 2\nx&i DAT i, 0\nROF\nDAT x02, x01\n";
 
-/// An EQU name of two lines in place of an operation.
+/// An EQU name with a definition of two lines, used as an operation.
 const COPIES: &[u8] =
     b"step EQU 4\ncopy EQU MOV.I target, step\n     EQU ADD.AB #step, target\ntarget DAT 0, 0\ncopy\nEND target\n";
 
@@ -170,5 +170,5 @@ fn one_cell(rt: HostRuntime) -> Result<(), Fail> {
     )
 }
 
-/// The beginnings of a source: from each of these lengths on, up to the next one, they have this fault, or none.
+/// The errors of the prefixes of a source: each applies from its length on, up to the next length. `None` is no error.
 type Beginnings = &'static [(usize, Option<AsmFault>)];

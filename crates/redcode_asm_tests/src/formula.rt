@@ -1,4 +1,4 @@
-//! Formulas: the values that players know, and the faults.
+//! Formulas: known values, and errors.
 
 use redcode_asm::{Formula, FormulaFault};
 use redcode_text::ExprFault;
@@ -14,7 +14,7 @@ fn fault_of(alloc: Global, text: &[u8]) -> Option<FormulaFault> {
     Formula::new(alloc, text).err()
 }
 
-/// The points of a formula.
+/// The points that a formula gives.
 fn score(
     alloc: Global,
     text: &str,
@@ -27,7 +27,7 @@ fn score(
     Ok(score)
 }
 
-/// Formulas with so many warriors and survivors, and the points.
+/// Formulas, numbers of warriors and survivors, and the points.
 const SCORES: [(&str, i64, i64, Result<i64, ExprFault>); 7] = [
     ("(W*W-1)/S", 2, 1, Ok(3)),
     ("(W*W-1)/S", 2, 2, Ok(1)),
@@ -70,7 +70,7 @@ fn texts_that_are_no_formulas(rt: HostRuntime) {
     }
 }
 
-/// The fault of a formula with so many blanks behind it.
+/// The error of a formula with `count` spaces after it.
 fn fault_before_blanks(alloc: Global, count: u32) -> Result<Option<FormulaFault>, Fail> {
     let mut text = Vec::from_slice(alloc, b"W")?;
     for _ in 0..count {

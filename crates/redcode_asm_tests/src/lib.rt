@@ -1,4 +1,4 @@
-//! The worked cases of `redcode_asm`, by its calls.
+//! Test cases of `redcode_asm`, through its public calls.
 #![tactic(auto)]
 
 #[cfg(test)]

@@ -1,4 +1,4 @@
-//! Where the instructions of a source stand in it.
+//! The line of each instruction in a source.
 
 use mars_cell::Params;
 use redcode_asm::{AsmFault, AsmProblem, source_lines};
@@ -13,17 +13,17 @@ fn params() -> Result<Params, Fail> {
 }
 
 const SOURCES: [(&[u8], &[u8]); 5] = [
-    // Loops with a counter, one within the other, with joins.
+    // Nested loops with counters and joins.
     (
         b"FOR 0\nprose\nROF\ni FOR 2\nx&i DAT i\nj FOR 1\ny&i&j DAT x02\nROF\nROF",
         b"5 x01\n7 y0101\n5 x02\n7 y0201\n",
     ),
-    // An EQU name of several lines, of which one has a label.
+    // An EQU name with a definition of several lines, one of which has a label.
     (
         b"copy EQU MOV 0, 1\n EQU b ADD #4, a\n EQU\na DAT 0\nfirst copy\nNOP",
         b"4 a\n5 first\n5 b\n6\n",
     ),
-    // Labels on lines of their own and of an ORG, and behind the last instruction.
+    // Labels on lines of their own, of an ORG, and after the last instruction.
     (
         b";redcode\na\n\nb: Caps:\ngo ORG d\nd_1: NOP\nd NOP\nlast\nend_of_it END go",
         b"6 a b Caps go d_1\n7 d\n",
@@ -74,7 +74,8 @@ fn faults_of_sources(rt: HostRuntime) -> Result<(), Fail> {
     Ok(())
 }
 
-/// The lines of a source, by a second try where memory is wanting: `checks/memory` refuses each request in turn.
+/// Returns the lines of a source, and tries again if memory runs out: `checks/memory` lets each allocation fail in
+/// turn.
 #[test]
 fn lines_are_made(rt: HostRuntime) -> Result<(), Fail> {
     let params = params()?;

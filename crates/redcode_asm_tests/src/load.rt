@@ -3,7 +3,7 @@ use redcode_asm::{AsmFault, AsmProblem, assemble, assemble_load};
 use std::alloc::Global;
 use std::test::Fail;
 
-/// A name and an author, EQU, a label and a start.
+/// A source with a name and an author, EQU, a label and a start.
 const SOURCE: &[u8] =
     b";redcode-94\n;name  Dwarf; 1 \n;author A. K. Dewdney\nstep EQU 4\nORG go\nbomb DAT 0, 0\ngo ADD #step, bomb\nMOV bomb, @bomb\nJMP go\n";
 
@@ -14,7 +14,7 @@ fn of_core(core_size: u32) -> Result<Params, Fail> {
     Ok(params)
 }
 
-/// Whether the load file of a source, for so many warriors and rounds, is this one.
+/// Whether this is the load file of a source, for the given numbers of warriors and rounds.
 fn is_file_of(
     alloc: Global,
     source: &[u8],
@@ -39,7 +39,7 @@ fn load_files_of_sources(rt: HostRuntime) -> Result<(), Fail> {
     Ok(())
 }
 
-/// The warrior of the load file of the source.
+/// The warrior that is read from the load file of the source.
 fn read_back(alloc: Global, params: &Params) -> Result<Warrior, Fail> {
     let file = assemble_load(alloc, SOURCE, params, 1, 1)?;
     let warrior = read_load(alloc, &file, params);

@@ -1,4 +1,4 @@
--- The names among tokens that were read are among the names.
+-- The names of the tokens that were read are in the table of names.
 use Rattle.std.proofs.Common.{◌≡◌, ◌∙◌, drop, ℕ, zero, suc, ◌+◌, ◌-◌, ◌^◌, ◌≤◌, ◌<◌, pos, nat_lt, Bool, true, false, cond, not, List, [], ◌∷◌, ◌++◌, length, take, Option, Some, None, Result, Ok, Err, refl, ap, subst, arith}
 use Rattle.std.specs.Prelude.{⊤}
 use Rattle.std.specs.Char.{is_ascii, is_ascii_digit}
@@ -23,7 +23,7 @@ use Rattle.redcode_text.specs.Tokens.{Found, OpenLoop, Scanned, begins_name, beg
 use Rattle.redcode_text.proofs.Named.{IsBelow}
 use Rattle.redcode_text.proofs.NamesMore.{with-front, with-inside}
 
--- what holds of a value, if there is one
+-- A property of a result's value, if there is a value.
 abbrev pub Holds : {A : Type 0} → (A → Type 0) → Result A TextProblem → Type 0
 Holds P (Ok a) = P a
 Holds P (Err e) = ⊤
@@ -32,7 +32,7 @@ holds-then : {A B : Type 0} (P : A → Type 0) (Q : B → Type 0) (r : Result A 
 holds-then P Q (Ok a) f h on = on a h
 holds-then P Q (Err e) f h on = tt
 
--- ---- tokens
+-- ---- Tokens
 
 abbrev pub TokensBelow : ℕ → List Token → Type 0
 TokensBelow n [] = ⊤
@@ -59,7 +59,7 @@ below-before n at (t ∷ ts) h = go (nat_lt t.from at) (below-before n at ts h.1
     go true rest = (h.0, rest)
     go false rest = rest
 
--- ---- a token
+-- ---- A token
 
 pub record IsFoundBelow (names : List (List ℕ)) (f : Found) : Type 0 where
   pub more : length names ≤ length f.names
@@ -107,7 +107,7 @@ token-below loops names bs = go (not (list_all is_ascii (take 1 bs))) (begins_wo
     go false true = word (take (word_len bs) bs) (joined loops (take (word_len bs) bs))
     go false false = sign-below names (look_up two_byte_signs (take 2 bs)) (look_up one_byte_signs (take 1 bs))
 
--- ---- one token after another
+-- ---- One token after another
 
 abbrev pub IsScannedBelow : Scanned → Type 0
 IsScannedBelow s = TokensBelow (length s.names) s.tokens
@@ -150,7 +150,7 @@ row-below row at st =
     (scan-below st.loops row.number (limit - st.tokens_read) (before_comment (drop at row.bytes)) (row.at + at) 0 (record { tokens = []; names = st.names }) tt)
     (λ s h. h)
 
--- ---- the name in front
+-- ---- The name before FOR or EQU
 
 abbrev KindsBelow : ℕ → List TokenKind → Type 0
 KindsBelow n [] = ⊤

@@ -1,4 +1,4 @@
--- What the crates above may cite: that names and authors are printed text, and how trees of expressions are spelled.
+-- Lemmas for the crates above: names and authors are printable, and how trees of expressions are spelled.
 pub use Rattle.redcode_text.proofs.ForLaws.PrintedNames.{program-printed}
 pub use Rattle.redcode_text.specs.Trees.{spelling, is_prefix, IsLevelled}
 pub use Rattle.redcode_text.proofs.Trees.{rank-≤5}

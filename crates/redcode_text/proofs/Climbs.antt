@@ -1,4 +1,4 @@
--- The climbing reader gives a spelled tree its value.
+-- The evaluation with a stack gives a spelled tree its value.
 use Rattle.std.proofs.Common.{◌≡◌, ℕ, ◌<◌, ◌≤◌, List, ◌∷◌, [], ◌++◌, true, arith, Result, Ok, Err, refl, ap, sym, ◌∙◌, append_assoc, Option, cond, ℤ}
 use Rattle.redcode_text.specs.Results.{◌>>=◌}
 use Rattle.redcode_text.specs.declared.token.TokenKind.{TokenKind}
@@ -58,7 +58,7 @@ prefix-moves st OpenParen h = cc
 prefix-moves st Plus h = refl
 prefix-moves st _ h = refl
 
--- an operator reaches as far as its own level, and waits with the value before it
+-- A binary operator applies the waiting operators of its own level and tighter ones.
 pub operator-reach : (s : Sign) → 0 < precedence s → reach s ≡ precedence s
 operator-reach CloseParen h = absurd (omega arith)
 operator-reach Plus h = refl
@@ -80,7 +80,7 @@ reduced-tighter k u v s stack h = ap (λ b. cond b (binary s u v >>= λ w. reduc
 operand-run : (names : ℕ → Option ℤ) (v : ℤ) (stack : List Waiting) (signs rest : List TokenKind) (n : ℤ) → (operand (wants v stack signs) n >>= λ next. run names next rest) ≡ (signed signs n >>= λ w. run names (has w stack) rest)
 operand-run names v stack signs rest n = assoc (signed signs n) (λ w. Ok (has w stack)) (λ next. run names next rest)
 
--- what waits is applied before what follows
+-- A waiting operator is applied before what follows, if what follows binds no tighter.
 pub pops : (names : ℕ → Option ℤ) (a b : ℤ) (s : Sign) (stack : List Waiting) (rest : List TokenKind) → Follows (precedence s) rest → run names (has b (Left a s ∷ stack)) rest ≡ (binary s a b >>= λ w. run names (has w stack) rest)
 pops names a b s stack [] h =
     ap (λ r. r >>= λ r. Ok r.0) (reduced-tighter 5 a b s stack (precedence-≤5 s)) ∙ assoc (binary s a b) (λ w. reduced 5 stack w) (λ r. Ok r.0)
@@ -91,7 +91,7 @@ pops names a b s stack (token.Sign x ∷ xs) h =
 pops names a b s stack (Number n ∷ xs) h = absurd h
 pops names a b s stack (Name n ∷ xs) h = absurd h
 
--- an operator after an operand waits for its right side
+-- An operator after an operand waits for its right operand.
 pub waits : (names : ℕ → Option ℤ) (a : ℤ) (s : Sign) (stack : List Waiting) (rest : List TokenKind) → 0 < precedence s → IsLooser (precedence s) stack → run names (has a stack) (token.Sign s ∷ rest) ≡ run names (wants a (Left a s ∷ stack) []) rest
 waits names a s stack rest pos h =
     ap (λ k. (reduced k stack a >>= λ r. placed s r.0 r.1) >>= λ next. run names next rest) (operator-reach s pos)

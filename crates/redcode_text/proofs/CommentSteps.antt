@@ -8,11 +8,11 @@ use Rattle.redcode_text.specs.Code.Comments.{Said, assert_at, assert_or_nothing,
 use Rattle.redcode_text.specs.Lines.{Reading, assert_line, comment_line, directive_value, unless_empty}
 use Rattle.redcode_text.specs.Source.{SourceRow, blank_len, directive_text, directive_text_at, ends_word, has_directive_word, without_blanks}
 
--- a comment line that is neither `;name` nor `;author`
+-- The effect of a comment line that is neither `;name` nor `;author`.
 abbrev no_author : SourceRow → Reading → Result Reading TextProblem
 no_author row st = elim (has_directive_word (codes "assert") row.bytes) [ true ↦ assert_line row st | false ↦ Ok st ]
 
--- a comment line that isn't `;name`
+-- The effect of a comment line that isn't `;name`.
 abbrev no_name : SourceRow → Reading → Result Reading TextProblem
 no_name row st =
     elim (has_directive_word (codes "author") row.bytes) [
@@ -20,7 +20,7 @@ no_name row st =
       | false ↦ no_author row st
     ]
 
--- whether a line is a directive whose text begins there
+-- The line is a directive whose text starts at `at`.
 abbrev begins : List ℕ → List ℕ → ℕ → Bool
 begins word bytes at = starts_with nat_eq (str_to_ascii_lowercase (without_blanks bytes)) (59 ∷ word) && ends_word (drop at bytes)
 
@@ -46,7 +46,7 @@ module _ (row : SourceRow) (st : Reading) where
   by-name at true other e = refl
   by-name at false other e = e
 
-  -- what a comment line adds, by what it says
+  -- The effect of a comment line is given by its meaning.
   pub comment-said : comment_line row st ≡ said_line (said row.bytes) row st
   comment-said =
       let name_place : directive_text_at (codes "name") row.bytes ≡ blank_len row.bytes + 5 = omega arith in
@@ -58,6 +58,6 @@ module _ (row : SourceRow) (st : Reading) where
       ap (λ m. author_else m (begins (codes "author") row.bytes m)) author_place ∙ by-author (blank_len row.bytes + 7) (begins (codes "author") row.bytes (blank_len row.bytes + 7)) _ assert_said in
       ap (λ m. name_else m (begins (codes "name") row.bytes m)) name_place ∙ by-name (blank_len row.bytes + 5) (begins (codes "name") row.bytes (blank_len row.bytes + 5)) _ author_is
 
--- the same with what is kept of it
+-- The effect of a comment line is given by the meaning that the code found.
 pub as-said : (what : Said) (row : SourceRow) (st : Reading) → what ≡ said row.bytes → comment_line row st ≡ said_line what row st
 as-said what row st e = comment-said row st ∙ ap (λ s. said_line s row st) (sym e)

@@ -1,4 +1,4 @@
--- A count, from what its tokens stand for.
+-- A count, computed from the values of the names in its tokens.
 use Rattle.std.proofs.Common.{◌≡◌, ℕ, List, Bool, true, false, Result, Ok, Err, ap, sym, ◌∙◌}
 use Rattle.redcode_text.specs.Results.{◌>>=◌}
 use Rattle.redcode_text.specs.declared.fault.TextProblem.{TextProblem}

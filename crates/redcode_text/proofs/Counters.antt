@@ -1,4 +1,4 @@
--- Counters by their indices among the names.
+-- Counters, as indices into the names.
 use Rattle.std.proofs.Common.{◌≡◌, ◌∙◌, ℕ, ◌-◌, ◌<◌, suc, List, [], ◌∷◌, length, map, reverse, Option, Some, None, option_map, refl, ap, subst, sym, arith}
 use Rattle.std.proofs.lemmas.List.{get_or-reverse, length-reverse}
 use Rattle.redcode_text.specs.Code.Counters.{AreThere, IsThere, open_loop, open_loops}
@@ -7,7 +7,7 @@ use Rattle.redcode_text.specs.Lines.{name_at}
 use Rattle.redcode_text.specs.Tokens.{with_name}
 use Rattle.redcode_text.proofs.NamesMore.{at-append, with-front}
 
--- ---- names that grow
+-- ---- More names
 
 module _ (names : List (List ℕ)) (name : List ℕ) where
   counter-kept : (o : Option ℕ) → IsThere names o → option_map (name_at (with_name names name)) o ≡ option_map (name_at names) o
@@ -20,7 +20,7 @@ module _ (names : List (List ℕ)) (name : List ℕ) where
   each-kept (l ∷ ls) there =
       λ i. record { counter = counter-kept l.counter (there 0 l (omega arith)) i; round = l.round } ∷ each-kept ls (λ k d less. there (suc k) d (omega (arith, less))) i
 
--- the same the other way round
+-- Reversing the list of loops keeps their counters among the names.
 there-reversed : (names : List (List ℕ)) (ls : List code.OpenLoop) → AreThere names ls → AreThere names (reverse ls)
 there-reversed names ls there k d less =
     let inside : k < length ls = omega (arith, less, length-reverse ls) in

@@ -1,4 +1,4 @@
--- An EQU name is found among the entries of the map that keeps them.
+-- An EQU name is found among the entries of the map in which it is stored.
 use Rattle.std.proofs.Common.{◌≡◌, ◌∙◌, sym, ℕ, List, [], ◌∷◌, ◌++◌, ap, Option, None, Some, option_map, map, Bool, true, false, cond, nat_eq, refl}
 use Rattle.std.specs.Map.{lookup}
 use Rattle.indexmap.specs.IndexMap.{insert_entry}
@@ -25,12 +25,12 @@ module _ {T : Type 0} (f : T → List (List Token)) where
   inserted true k v e es more none rest = cc
   inserted false k v e es more none rest = ap (λ l. record { name = e.0; lines = f e.1 } ∷ l) (rest none)
 
-  -- a new name comes behind the others
+  -- A new name is appended.
   pub insert-equate : (k : ℕ) (v : T) (es : List (ℕ × T)) → equate_lines (equates es) k ≡ None → equates (insert_entry nat_eq es k v) ≡ equates es ++ record { name = k; lines = f v } ∷ []
   insert-equate k v [] none = refl
   insert-equate k v (e ∷ es) none = inserted (nat_eq k e.0) k v e es (insert_entry nat_eq es k v) none (insert-equate k v es)
 
--- the last EQU name takes the line
+-- A line is added to the definition of the last EQU name.
 pub with-last : (rest : List Equate) (e : Equate) (ts : List Token) → with_line (rest ++ e ∷ []) ts ≡ rest ++ record { name = e.name; lines = e.lines ++ ts ∷ [] } ∷ []
 with-last [] e ts = refl
 with-last (x ∷ []) e ts = refl
@@ -40,7 +40,7 @@ pub map-last : {A B : Type 0} (f : A → B) (xs : List A) (x : A) → map f (xs 
 map-last f [] x = refl
 map-last f (y ∷ xs) x = ap (λ l. f y ∷ l) (map-last f xs x)
 
--- the last EQU name, taken out and put back with one line more
+-- Removing the last EQU name and inserting it with one more line adds the line to its definition.
 pub put-back : {T : Type 0} (f : T → List (List Token)) (k : ℕ) (v w : T) (old rest new : List (ℕ × T)) (ts : List Token) → old ≡ rest ++ (k, v) ∷ [] → lookup (nat_eq k) rest ≡ None
     → new ≡ insert_entry nat_eq rest k w → f w ≡ f v ++ ts ∷ [] → with_line (equates f old) ts ≡ equates f new
 put-back {T} f k v w old rest new ts taken absent put more =

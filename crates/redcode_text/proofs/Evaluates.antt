@@ -1,4 +1,4 @@
--- The climbing reader gives an expression its value.
+-- The evaluation with a stack gives an expression its value.
 use Rattle.std.proofs.Common.{◌≡◌, ℕ, List, [], length, Option, ℤ, Ok, Err, ap, sym, subst, ◌∙◌, append-nil, arith}
 use Rattle.redcode_text.specs.Results.{◌>>=◌}
 use Rattle.redcode_text.specs.declared.token.TokenKind.{TokenKind}
@@ -23,7 +23,7 @@ evaluates names xs v h =
     ∙ ap (value names) (sym tree_is)
     ∙ sym (ap (λ r. r >>= λ _. value names (tree_within (length xs) 5 xs)) h)
 
--- a fault of the shape is the fault
+-- An error of the shape is the error of the expression.
 pub value_of-misshapen : (names : ℕ → Option ℤ) (xs : List TokenKind) (f : ExprFault) → shape start xs ≡ Err f → value_of names xs ≡ Err f
 unfolding value_of
 value_of-misshapen names xs f h = ap (λ r. r >>= λ _. value names (tree_within (length xs) 5 xs)) h

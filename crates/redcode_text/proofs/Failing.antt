@@ -1,4 +1,4 @@
--- What fails at first fails as a whole.
+-- If the first step fails, the whole fails.
 use Rattle.std.proofs.Common.{◌≡◌, ◌∙◌, ℕ, Result, Ok, Err, ap, refl, sym, subst}
 use Rattle.redcode_text.specs.Results.{◌>>=◌}
 use Rattle.redcode_text.specs.declared.fault.TextFault.{TextFault}
@@ -37,7 +37,7 @@ fails-itself A TooLong = refl
 fails-itself A (Expression e) = refl
 fails-itself A OutOfMemory = tt
 
--- the fault of a line
+-- An error with its line is the defined error, with the line added.
 fault-at : {A : Type 0} (n : ℕ) (p : TextProblem) (f : TextFault) (r : Result A TextProblem) → f.problem ≡ p → f.line ≡ n → r ≡ Err p → at_line n r ≡ Err f
 fault-at n p f r e l h = ap (at_line n) h ∙ (λ i. Err (record { line = sym l i; problem = sym e i }))
 
@@ -57,7 +57,7 @@ at-problem n OutOfMemory f r e l h = l
 pub fails-at : {A : Type 0} (n : ℕ) (p : TextProblem) (f : TextFault) (r : Result A TextProblem) → f.problem ≡ p → f.line ≡ fault_line n p → Fails p r → FailsAt f.problem f (at_line n r)
 fails-at n p f r e l h = subst (λ q. FailsAt q f (at_line n r)) (sym e) (at-problem n p f r e l h)
 
--- a fault seen without its line
+-- An error whose line is removed is the error of the step.
 bare-problem : {A B : Type 0} (p : TextProblem) (f : TextFault) (r : Result A TextFault) (k : A → Result B TextProblem) → f.problem ≡ p → FailsAt p f r → Fails p (without_line r >>= k)
 bare-problem NotAscii f r k e h = ap (λ r. without_line r >>= k) h ∙ ap Err e
 bare-problem BadToken f r k e h = ap (λ r. without_line r >>= k) h ∙ ap Err e

@@ -1,4 +1,4 @@
--- What laws and the crates above stand on, and no function of this crate.
+-- Lemmas for the laws and for the crates above, which no function of this crate needs.
 pub mod Alone
 pub mod BehindEnd
 pub mod PrintedNames

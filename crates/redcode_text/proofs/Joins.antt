@@ -1,4 +1,4 @@
--- The joins of a word, one further.
+-- The joins of a word, one at a time.
 use Rattle.std.proofs.Common.{◌≡◌, ℕ, suc, ◌+◌, ◌-◌, ◌<◌, List, [], ◌∷◌, ◌++◌, length, drop, take, Bool, true, false, not, ◌==◌, ◌||◌, cond, Some, None, Ok, Err, refl, ap, sym, ◌∙◌, arith, add-one, drop-drop}
 use Rattle.std.proofs.Math.Seq.{drop-cons}
 use Rattle.std.specs.List.{onto_first, prefix_len, list_any}
@@ -6,7 +6,7 @@ use Rattle.redcode_text.specs.Results.{◌>>=◌}
 use Rattle.redcode_text.specs.declared.fault.TextProblem.TheVariants.{BadToken}
 use Rattle.redcode_text.specs.Tokens.{OpenLoop, round_of, round_or_bad, round_digits, parts_at_joins, join_counters, join_parts, joined}
 
--- the names of the joins of a text that begins with one
+-- The names of the joins of a text that begins with a join.
 abbrev pub names_of : List ℕ → List (List ℕ)
 names_of [] = []
 names_of (b ∷ bs) = parts_at_joins bs
@@ -14,7 +14,7 @@ names_of (b ∷ bs) = parts_at_joins bs
 abbrev pub part_len : List ℕ → ℕ
 part_len bs = prefix_len (λ b. not (b == 38)) bs
 
--- the first part, and the names behind it
+-- The parts of a word are the first part and the names after it.
 pub parts-first : (bs : List ℕ) → parts_at_joins bs ≡ take (part_len bs) bs ∷ names_of (drop (part_len bs) bs)
 parts-first [] = refl
 parts-first (b ∷ bs) = go (b == 38) (parts-first bs)
@@ -27,7 +27,7 @@ parts-first (b ∷ bs) = go (b == 38) (parts-first bs)
         let e : 1 + part_len bs ≡ suc (part_len bs) = omega arith in
         rw e (ap (onto_first b) h)
 
--- at a join
+-- The names at a join are its name and the names after it.
 pub names-first : (bs : List ℕ) (i : ℕ) → i < length bs → names_of (drop i bs) ≡ take (part_len (drop (i + 1) bs)) (drop (i + 1) bs) ∷ names_of (drop (i + 1 + part_len (drop (i + 1) bs)) bs)
 names-first bs i h =
     ap names_of (drop-cons bs i 0 h)
@@ -35,11 +35,11 @@ names-first bs i h =
     ∙ parts-first (drop (i + 1) bs)
     ∙ ap (λ l. take (part_len (drop (i + 1) bs)) (drop (i + 1) bs) ∷ names_of l) (drop-drop (part_len (drop (i + 1) bs)) (i + 1) bs)
 
--- what a whole word joins to
+-- A word with its joins replaced, in terms of its first part and the names after it.
 pub joined-first : (loops : List OpenLoop) (bs : List ℕ) → joined loops bs ≡ join_counters loops (take (part_len bs) bs) (names_of (drop (part_len bs) bs))
 joined-first loops bs = ap (join_parts loops) (parts-first bs)
 
--- the same, with the length of the name as it was found
+-- The names at a join, with the length of the name that the code found.
 names-found : (bs : List ℕ) (i p : ℕ) → i < length bs → p ≡ part_len (drop (i + 1) bs) → names_of (drop i bs) ≡ take (i + 1 + p - (i + 1)) (drop (i + 1) bs) ∷ names_of (drop (i + 1 + p) bs)
 names-found bs i p h e =
     let q : part_len (drop (i + 1) bs) ≡ i + 1 + p - (i + 1) = omega (arith, e) in
@@ -59,7 +59,7 @@ join-bad loops front bs i p h e is =
     ap (join_counters loops front) (names-found bs i p h e)
     ∙ ap (λ o. round_or_bad o >>= λ n. join_counters loops (front ++ round_digits n) (names_of (drop (i + 1 + p) bs))) (sym is)
 
--- a word without joins
+-- A word without joins has one part.
 parts-none : (bs : List ℕ) → list_any (λ b. b == 38) bs ≡ false → parts_at_joins bs ≡ bs ∷ []
 parts-none [] e = refl
 parts-none (b ∷ bs) e = go (b == 38) (parts-none bs) e

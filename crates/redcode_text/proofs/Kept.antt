@@ -1,5 +1,5 @@
--- Lines leave the open loops as they are.
--- Contracts give values alone, so `Kept f x` says by the definition that a step leaves a part of the reading as it is.
+-- Reading lines leaves the open loops unchanged. Contracts only specify results, so `Kept f x` states in terms of the
+-- definition that a step leaves a part of the reading unchanged.
 use Rattle.std.proofs.Common.{◌≡◌, ◌∙◌, ℕ, zero, suc, ◌+◌, ◌-◌, List, [], ◌∷◌, ◌++◌, length, drop, Bool, true, false, Option, Some, None, Result, Ok, Err, refl, nat_le, nat_lt}
 use Rattle.redcode_text.specs.Results.{◌>>=◌}
 use Rattle.redcode_text.specs.declared.fault.TextProblem.{TextProblem}
@@ -13,7 +13,7 @@ use Rattle.redcode_text.specs.Source.{SourceRow, LineKind, RofLine, ForLine, Equ
 use Rattle.redcode_text.specs.Tokens.{OpenLoop, Scanned, tokens}
 use Rattle.std.specs.Prelude.{⊤, codes, ◌||◌}
 
--- what is read keeps this part of the reading
+-- The part `f` of what is read is still `x`.
 abbrev pub Kept : {X : Type 0} → (Reading → X) → X → Result Reading TextProblem → Type 0
 Kept f x (Ok a) = f a ≡ x
 Kept f x (Err e) = ⊤
@@ -30,7 +30,7 @@ kept-bind : {A X : Type 0} (f : Reading → X) (x : X) (r : Result A TextProblem
 kept-bind f x (Ok a) g h = h a
 kept-bind f x (Err e) g h = tt
 
--- the tokens of a row, and what follows
+-- Reading the tokens of a row keeps a part that doesn't depend on names and counted tokens.
 kept-row : {X : Type 0} (f : Reading → X) (st : Reading) (row : SourceRow) (at : ℕ) (g : WithTokens → Result Reading TextProblem)
     → ((names : List (List ℕ)) (n : ℕ) → f (record st { names = names; tokens_read = n }) ≡ f st) → ((r : WithTokens) → Kept f (f r.1) (g r))
     → Kept f (f st) (row_tokens row at st >>= g)

@@ -1,4 +1,4 @@
--- The code's reading, and the reading with lists of signs.
+-- The state of the code, and the state with lists of unary operators.
 use Rattle.std.proofs.Common.{◌≡◌, ℕ, suc, ◌+◌, ◌-◌, ◌<◌, ◌≤◌, List, [], ◌∷◌, ◌++◌, length, drop, take, get_or, slice_range, Bool, true, false, cond, leb, ℤ, Option, Result, Ok, Err, refl, ap, sym, ◌∙◌, arith, add-one, take-suc, length-drop, get_or-drop}
 use Rattle.std.proofs.lemmas.List.{map-append}
 use Rattle.std.proofs.Math.Seq.{drop-cons}
@@ -21,7 +21,7 @@ use Rattle.redcode_text.proofs.Reducing.{none-between}
 use Rattle.redcode_text.proofs.Standing.{stands-next, bind-ok, ok}
 use Rattle.redcode_text.specs.declared.expression.shape.ShapeState.{ShapeState}
 
--- the state that a reading stands for, or the fault
+-- The state that a result of the code represents, or the error.
 abbrev seen_next : List Token → ℕ → Result Progress ExprFault → Result State ExprFault
 seen_next ts n r = r >>= λ q. Ok (seen ts n q)
 
@@ -34,7 +34,7 @@ reduced-seen ts k (Value u s ∷ stack) v = go (leb (precedence s) k) (λ w. red
     go true ih = (λ i. binary s u v >>= λ w. ih w i) ∙ sym (assoc (binary s u v) (λ w. reduced_on k stack w) (λ p. Ok (p.0, waiting_all ts p.1)))
     go false ih = refl
 
--- a state with no signs, from the place after a token
+-- A state without unary operators, after the token `n`.
 fresh : (ts : List Token) (n : ℕ) (stack : List Pending) (v : ℤ) (after : Bool) → record { stack = waiting_all ts stack; signs = []; value = v; after = after } ≡ seen ts n (record { stack = stack; first_sign = n; value = v; after_operand = after })
 fresh ts n stack v after = ap (λ l. record { stack = waiting_all ts stack; signs = l; value = v; after = after }) (sym (none-between ts n))
 
@@ -64,7 +64,7 @@ after-seen ts n s r =
     after-by ts n (precedence s) s r (λ v stack. Ok (record { stack = Value v s ∷ stack; first_sign = n + 1; value = v; after_operand = false }))
     (λ v stack. ap (λ y. Ok y) (fresh ts (n + 1) (Value v s ∷ stack) v false))
 
--- one more token among the signs
+-- The unary operators up to the next token are those before it and that token.
 signs-more : (ts : List Token) (a n : ℕ) (d : Token) → a ≤ n → n < length ts → kinds (slice_range ts a (n + 1)) ≡ kinds (slice_range ts a n) ++ (get_or ts n d).kind ∷ []
 signs-more ts a n d le lt =
     let count : n + 1 - a ≡ suc (n - a) = omega arith in
@@ -74,7 +74,7 @@ signs-more ts a n d le lt =
     ∙ map-append (λ t. t.kind) (take (n - a) (drop a ts)) (get_or (drop a ts) (n - a) d ∷ [])
     ∙ ap (λ t. kinds (take (n - a) (drop a ts)) ++ t.kind ∷ []) (get_or-drop a ts (n - a) d ∙ ap (λ k. get_or ts k d) there)
 
--- a unary sign joins the signs
+-- A unary operator is added to those directly before it.
 sign-seen : (ts : List Token) (n : ℕ) (s : Sign) (r : Progress) (d : Token) → r.first_sign ≤ n → n < length ts → (get_or ts n d).kind ≡ token.Sign s → r.after_operand ≡ false → ok (record { stack = waiting_all ts r.stack; signs = kinds (slice_range ts r.first_sign n) ++ token.Sign s ∷ []; value = r.value; after = false }) ≡ ok (seen ts (n + 1) r)
 sign-seen ts n s r d le lt is f =
     (λ i. ok (record { stack = waiting_all ts r.stack; signs = sym (signs-more ts r.first_sign n d le lt ∙ ap (λ k. kinds (slice_range ts r.first_sign n) ++ k ∷ []) is) i; value = r.value; after = sym f i }))
@@ -99,7 +99,7 @@ bind-along : {A B : Type 0} (r : Result A ExprFault) (f g : A → Result B ExprF
 bind-along (Ok x) f g h = h x refl
 bind-along (Err e) f g h = refl
 
--- both readings give the same
+-- Both evaluations have the same result.
 pub linked : (names : ℕ → Option ℤ) (ts rest : List Token) (n : ℕ) (r : Progress) (p : ShapeState) → drop n ts ≡ rest → Stands n r p → shape p (kinds rest) ≡ Ok tt → run names (seen ts n r) (kinds rest) ≡ run_on names ts n r rest
 linked names ts [] n r p e st h =
     ap (λ y. y >>= λ x. Ok x.0) (reduced-seen ts 5 r.stack r.value)

@@ -1,4 +1,4 @@
--- A source whose items end at a ROF that closes nothing.
+-- A source whose items end at a ROF without a FOR.
 use Rattle.std.proofs.Common.{◌≡◌, ◌∙◌, ℕ, ◌<◌, List, [], ◌∷◌, length, map, Bool, true, false, Result, Ok, Err, ap, refl, subst, sym, get_or}
 use Rattle.redcode_text.specs.Results.{◌>>=◌}
 use Rattle.redcode_text.specs.declared.fault.TextFault.{TextFault}
@@ -20,7 +20,7 @@ use Rattle.redcode_text.proofs.PairSteps.{rof-at}
 abbrev lone : SourceRow → Reading → Result Reading TextFault
 lone rof st = at_line rof.number (unpaired_line RofAlone st)
 
--- a step, and what follows it up to a lone ROF
+-- A step and what follows it, up to a ROF without a FOR.
 step-lone : (r : Result Reading TextFault) (f g h : Reading → Result Reading TextFault) → ((a : Reading) → a.ended ≡ false → g a ≡ (f a >>= λ b. unless_ended b h))
     → (r >>= λ a. unless_ended a g) ≡ ((r >>= λ a. unless_ended a f) >>= λ b. unless_ended b h)
 step-lone (Err e) f g h same = refl
@@ -55,7 +55,7 @@ pub lone-ended : (ps : Predefined) (items : Items) (waiting : List (SourceRow ×
 lone-ended ps items [] st a e h ended = h
 lone-ended ps items (rof ∷ waiting) st a e h ended = flat-lone ps rof.0 items st e ∙ ap (λ r. r >>= λ a. unless_ended a (lone rof.0)) h ∙ stops a (lone rof.0) ended
 
--- the items of all rows end at a ROF
+-- If the items of all rows end at a ROF, reading them ends with its error.
 pub lone-at : (ps : Predefined) (rows : List code.SourceRow) (j : ℕ) (s : code.SourceRow) (st a : Reading) → st.ended ≡ false → flat ps (here_from rows 0) st ≡ Ok a → a.ended ≡ false → EndsAt rows 0 j → j < length rows → s ≡ get_or rows j s
     → flat ps (tree_of_rows (map row_of rows)) st ≡ at_line (row_of s).number (unpaired_line RofAlone a)
 lone-at ps rows j s st a e h going ends inside si =

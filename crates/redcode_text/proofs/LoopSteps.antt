@@ -1,4 +1,4 @@
--- The items of a source, and the rounds of a loop, one further.
+-- The items of a source, and the iterations of a loop, one at a time.
 use Rattle.std.proofs.Common.{◌≡◌, ◌∙◌, ℕ, zero, suc, ◌+◌, ◌-◌, ◌<◌, ◌≤◌, List, ◌∷◌, length, Bool, true, false, Option, Result, Ok, Err, ap, refl, subst, sym, arith, get_or}
 use Rattle.std.proofs.lemmas.List.{get_or_default}
 use Rattle.redcode_text.specs.Results.{◌>>=◌}
@@ -17,7 +17,7 @@ use Rattle.redcode_text.specs.Source.{Items, Nothing, Loop, SourceRow}
 use Rattle.redcode_text.specs.Tokens.{OpenLoop, at_line}
 use Rattle.redcode_text.proofs.Kept.{Kept, rof-ended}
 
--- ---- what fails at first fails as a whole
+-- ---- If the first step fails, the whole fails
 
 then-problem : {A B : Type 0} (p : TextProblem) (fault : TextFault) (r : Result A TextFault) (f : A → Result B TextFault) → FailsAt p fault r → FailsAt p fault (r >>= f)
 then-problem NotAscii fault r f h = ap (λ r. r >>= f) h
@@ -46,7 +46,7 @@ goes-on st f e = ap (λ (c : Bool). elim c as (λ _. Result Reading TextFault) [
 pub stops : (st : Reading) (f : Reading → Result Reading TextFault) → st.ended ≡ true → unless_ended st f ≡ Ok st
 stops st f e = ap (λ (c : Bool). elim c as (λ _. Result Reading TextFault) [ true ↦ Ok st | false ↦ f st ]) e
 
--- ---- a loop and what follows
+-- ---- A loop and what follows it
 
 after-rof : (ps : Predefined) (rof : SourceRow) (rest : Items) (a : Reading) (c : Bool) → a.ended ≡ c
     → elim c as (λ _. Result Reading TextFault) [ true ↦ Ok a | false ↦ at_line rof.number (rof_line rof a) >>= flat ps rest ]
@@ -71,7 +71,7 @@ flat-loop ps head body rof rest st = go (at_line head.number (head_line ps head 
     go (Ok h) = rounds_then (rounds (flat ps body) h.counter 1 h.count h.reading)
     go (Err p) = refl
 
--- ---- rounds
+-- ---- Iterations
 
 pub one-round : (body : Reading → Result Reading TextFault) (counter : Option (List ℕ)) (n t : ℕ) (st : Reading) → t ≤ n
     → rounds body counter t (n + 1 - t) st ≡ (body (in_round counter t st) >>= λ a. unless_ended (record a { loops = st.loops }) (rounds body counter (t + 1) (n + 1 - (t + 1))))
@@ -79,7 +79,7 @@ one-round body counter n t st h =
     let e : n + 1 - t ≡ suc (n + 1 - (t + 1)) = omega arith in
     ap (λ m. rounds body counter t m st) e
 
--- a loop without a body
+-- A loop without a body has no effect.
 pub empty-rounds : (ps : Predefined) (counter : Option (List ℕ)) (n t : ℕ) (st : Reading) → rounds (flat ps Nothing) counter t n st ≡ Ok st
 empty-rounds ps counter zero t st = refl
 empty-rounds ps counter (suc n) t st = go st.ended (empty-rounds ps counter n (t + 1) st)
@@ -88,7 +88,7 @@ empty-rounds ps counter (suc n) t st = go st.ended (empty-rounds ps counter n (t
     go true ih = refl
     go false ih = ih
 
--- one round, whose loop was opened and closed
+-- The remaining iterations are one iteration, for which the loop is opened and closed again, and those after it.
 round-once : (body : Reading → Result Reading TextFault) (counter : Option (List ℕ)) (n t : ℕ) (st : Reading) (l : List OpenLoop) (whole : Result Reading TextFault)
     → t ≤ n → rounds body counter t (n + 1 - t) st ≡ whole → l ≡ record { counter = counter; round = t } ∷ st.loops
     → whole ≡ (body (record st { loops = l }) >>= λ a. unless_ended (record a { loops = st.loops }) (rounds body counter (t + 1) (n + 1 - (t + 1))))
@@ -125,7 +125,7 @@ module _ (body : Reading → Result Reading TextFault) (counter : Option (List �
       ∙ stops (record a { loops = st.loops }) (rounds body counter (t + 1) (n + 1 - (t + 1))) e
       ∙ ap Ok (sym closed)
 
--- ---- a loop at a place
+-- ---- A loop at an index
 
 pub loop-at : (ps : Predefined) (rows : List code.SourceRow) (i j at : ℕ) (dh dr : code.SourceRow) (st : Reading) → i < length rows → j < length rows → IsFor rows i at → EndsAt rows (i + 1) j
     → flat ps (here_from rows i) st ≡ (one_loop ps (row_of (get_or rows i dh)) (here_from rows (i + 1)) (row_of (get_or rows j dr)) st >>= λ a. unless_ended a (flat ps (here_from rows (j + 1))))
@@ -134,7 +134,7 @@ loop-at ps rows i j at dh dr st hi hj is ends =
     ∙ flat-loop ps (row_of (get_or rows i dr)) (here_from rows (i + 1)) (row_of (get_or rows j dr)) (here_from rows (j + 1)) st
     ∙ ap (λ row. one_loop ps (row_of row) (here_from rows (i + 1)) (row_of (get_or rows j dr)) st >>= λ a. unless_ended a (flat ps (here_from rows (j + 1)))) (get_or_default rows i dr dh hi)
 
--- a loop whose head, rounds or ROF fail, and what follows
+-- If the header, an iteration or the ROF of a loop fails, so do the loop and what follows it.
 pub head-fails : (ps : Predefined) (head : SourceRow) (body : Items) (rof : SourceRow) (st : Reading) (f : Reading → Result Reading TextFault) (fault : TextFault) (whole : Result Reading TextFault)
     → whole ≡ (one_loop ps head body rof st >>= f) → FailsAt fault.problem fault (at_line head.number (head_line ps head st)) → FailsAt fault.problem fault whole
 head-fails ps head body rof st f fault whole is h =
@@ -172,7 +172,7 @@ pub loop-done : (ps : Predefined) (head : SourceRow) (body : Items) (rof : Sourc
 loop-done ps head body rof st h a b f whole is first t e r =
     is ∙ ap (λ r. r >>= f) (behind-rounds ps head body rof st h a first t ∙ goes-on a (λ b. at_line rof.number (rof_line rof b)) e ∙ r)
 
--- the same by the rows themselves
+-- A loop and what follows it, in terms of the rows.
 loop-of : (ps : Predefined) (rows : List code.SourceRow) (i j at : ℕ) (r s : code.SourceRow) (st : Reading) → i < length rows → j < length rows → IsFor rows i at → EndsAt rows (i + 1) j → r ≡ get_or rows i r → s ≡ get_or rows j s
     → flat ps (here_from rows i) st ≡ (one_loop ps (row_of r) (here_from rows (i + 1)) (row_of s) st >>= λ a. unless_ended a (flat ps (here_from rows (j + 1))))
 loop-of ps rows i j at r s st hi hj is ends ri si =

@@ -1,4 +1,4 @@
--- A set of names that grows, and its labels beside the lines.
+-- A set of names to which names are added, and the labels of the lines that it represents.
 use Rattle.std.proofs.Common.{not, map, ◌≡◌, ◌∙◌, ℕ, ◌+◌, ◌<◌, List, [], ◌∷◌, ◌++◌, length, take, get_or, Bool, true, false, ◌||◌, ◌==◌, cond, nat_eq, refl, ap, sym, append_assoc, arith}
 use Rattle.std.proofs.lemmas.Bool.{eqb-true}
 use Rattle.std.proofs.lemmas.List.{take_more}
@@ -13,7 +13,7 @@ use Rattle.redcode_text.specs.Code.Labels.{AreLabels, HasSame, has}
 same-either : (n m : ℕ) → (n == m) ≡ (m == n)
 same-either n m = grind arith
 
--- the set's own test
+-- The test of the set is the defined one.
 pub found : (n : ℕ) (names : List ℕ) → list_any (nat_eq n) names ≡ has names n
 found n [] = refl
 found n (m ∷ names) = (λ i. same-either n m i || found n names i)
@@ -26,7 +26,7 @@ either-true : (a : Bool) → true ≡ (a || true)
 either-true true = refl
 either-true false = refl
 
--- a name that is there already
+-- Adding a name that is in the set already changes nothing.
 there : (n k : ℕ) (names : List ℕ) → list_any (nat_eq k) names ≡ true → has names n ≡ (has names n || ((k == n) || false))
 there n k names is = go (k == n) refl
   where
@@ -41,7 +41,7 @@ inserted names k n = go (list_any (nat_eq k) names) refl
     go true e = there n k names e ∙ sym (list_any-append (λ m. m == n) names (k ∷ []))
     go false e = refl
 
--- the same names and one more on both sides
+-- Two sets with the same names still have the same names if one name is added to both.
 more : (names others : List ℕ) (k : ℕ) → HasSame names others → HasSame (names ++ k ∷ []) (others ++ k ∷ [])
 more names others k h n = list_any-append (λ m. m == n) names (k ∷ []) ∙ ap (λ b. b || has (k ∷ []) n) (h n) ∙ sym (list_any-append (λ m. m == n) others (k ∷ []))
 
@@ -59,10 +59,10 @@ any-map : {X Y : Type 0} (p : Y → Bool) (f : X → Y) (xs : List X) → list_a
 any-map p f [] = refl
 any-map p f (x ∷ xs) = ap (λ b. p (f x) || b) (any-map p f xs)
 
--- the labels of the lines as they are defined
+-- The set has the labels of the lines, as they are defined.
 pub label_known : (names : List ℕ) (lines : List line.Line) (n : ℕ) → AreLabels (λ l. l.labels.items) names lines → has names n ≡ list_any (λ l. list_any (λ m. m == n) l.labels) (map line_of lines)
 label_known names lines n known = known n ∙ any-map (λ l. list_any (λ m. m == n) l.labels) line_of lines
 
--- a line's own labels, where its set has the same
+-- A name may be a label or not, whichever set with the same labels is used.
 pub may-label : (ps : Predefined) (st : Reading) (names labels : List ℕ) (n : ℕ) → HasSame names labels → may_label ps st names n ≡ may_label ps st labels n
 may-label ps st names labels n same = ap (λ b. not (is_label st n || is_predefined ps st n || b)) (same n)

@@ -27,11 +27,11 @@ module _ {T : Type 0} (f : T → List ℕ) where
   pub insert-map : (k : T) (keys : List T) → map f (cond (list_any (λ x. bytes_eq (f k) (f x)) keys) keys (keys ++ k ∷ [])) ≡ with_name (map f keys) (f k)
   insert-map k keys = kept _ _ k keys (any-map (f k) keys)
 
-  -- a name that is there
+  -- A name that is in the table already isn't added.
   pub present : (q : List ℕ) (keys : List T) → list_any (λ x. bytes_eq q (f x)) keys ≡ true → with_name (map f keys) q ≡ map f keys
   present q keys e = ap (λ b. cond b (map f keys) (map f keys ++ q ∷ [])) (sym (any-map q keys) ∙ e)
 
--- the place that `position` answers
+-- The index that `position` returns is that of the name.
 pub position-some : {T : Type 0} (p : T → Bool) (keys : List T) (i : ℕ) → Some i ≡ position p keys → i ≡ position_or_len p keys
 position-some p keys i e = chosen _ _ e
   where

@@ -1,4 +1,4 @@
--- Programs whose indices are those of names, no name twice.
+-- Programs whose indices refer to names, and whose names are distinct.
 use Rattle.std.specs.Prelude.{◌<◌, ⊤, ℕ}
 use Rattle.redcode_text.specs.declared.token.TokenKind.{TokenKind}
 use Rattle.redcode_text.specs.declared.token.TokenKind.TheVariants.{Name}

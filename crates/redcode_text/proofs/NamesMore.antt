@@ -1,4 +1,4 @@
--- A name among names that grow.
+-- A name in a table to which names are added.
 use Rattle.std.proofs.Common.{◌≡◌, ℕ, zero, suc, ◌+◌, ◌<◌, List, [], ◌∷◌, ◌++◌, length, Bool, true, false, not, ◌||◌, cond, if◌then◌else◌, refl, ap, sym, append-nil, arith}
 use Rattle.std.proofs.lemmas.List.{length-append}
 use Rattle.std.proofs.lemmas.List.Sums.{prefix_len-le-length}
@@ -8,7 +8,7 @@ use Rattle.redcode_text.specs.Lines.{name_at}
 use Rattle.redcode_text.specs.Tokens.{name_index, with_name}
 use Rattle.redcode_text.proofs.NameSteps.{same-itself}
 
--- names that grew: those that were there, and more
+-- The table `grown` has the names of `names` at its start.
 abbrev pub IsFrontOf : List (List ℕ) → List (List ℕ) → Type 0
 IsFrontOf names grown = (more : List (List ℕ)) × (grown ≡ names ++ more)
 
@@ -58,6 +58,6 @@ with-front texts q = go (list_any (bytes_eq q) texts)
     go true = ([], sym (append-nil texts))
     go false = (q ∷ [], refl)
 
--- a name that was found or added
+-- The index of a name that was found or added is below the number of names.
 pub with-inside : (names : List (List ℕ)) (q : List ℕ) (n : ℕ) → n ≡ name_index names q → n < length (with_name names q)
 with-inside names q n e = let there = with-there names q in let at = with-index names q in omega (arith, e, there, at)

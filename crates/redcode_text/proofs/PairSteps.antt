@@ -1,4 +1,4 @@
--- The pairs of FOR and ROF, one row further.
+-- The pairs of FOR and ROF, one row at a time.
 use Rattle.std.proofs.Common.{◌≡◌, ℕ, suc, ◌+◌, ◌<◌, List, [], ◌∷◌, length, get_or, refl, ap, sym, ◌∙◌, arith, add-one}
 use Rattle.std.proofs.Math.Seq.{drop-cons}
 use Rattle.redcode_text.specs.declared.source.row.SourceRow as code
@@ -26,14 +26,14 @@ rof-at rows j d h e =
     let s = paired-drop rows j d _ h refl in
     ap (λ p. p.waiting) s ∙ rof-first (line_kind (row_of (get_or rows j d)).bytes) (row_of (get_or rows j d)) (paired_from rows (j + 1)) (ap (λ p. p.here) (sym s) ∙ e)
 
--- a head whose items end at a ROF
+-- A FOR whose items end at a ROF opens a loop.
 pub for-at : (rows : List code.SourceRow) (i j at : ℕ) (d : code.SourceRow) → i < length rows → j < length rows → ForLine at ≡ line_kind (row_of (get_or rows i d)).bytes → EndsAt rows (i + 1) j
     → paired_from rows i ≡ record { here = Loop (row_of (get_or rows i d)) (here_from rows (i + 1)) (row_of (get_or rows j d)) (here_from rows (j + 1)); waiting = (paired_from rows (j + 1)).waiting }
 for-at rows i j at d hi hj row ends =
     paired-drop rows i d (ForLine at) hi row
     ∙ ap (opened (row_of (get_or rows i d)) (here_from rows (i + 1))) (ends.waiting ∙ rof-at rows j d hj ends.at_end)
 
--- ---- where items end
+-- ---- Where items end
 
 pub ends-rof : (rows : List code.SourceRow) (i : ℕ) (d : code.SourceRow) → i < length rows → RofLine ≡ line_kind (row_of (get_or rows i d)).bytes → EndsAt rows i i
 ends-rof rows i d h row = record { from = omega arith; within = omega arith; at_end = ap (λ p. p.here) (paired-drop rows i d RofLine h row); waiting = refl }

@@ -1,4 +1,4 @@
--- The parts of a line, one token further.
+-- The parts of a line, one token at a time.
 use Rattle.std.proofs.Common.{◌≡◌, ℕ, zero, suc, ◌+◌, ◌<◌, ◌≤◌, List, [], ◌∷◌, ◌++◌, length, length-drop, drop, drop-drop, take, get_or, Bool, true, false, Option, Some, None, Result, Ok, Err, refl, ap, sym, ◌∙◌, arith}
 use Rattle.std.proofs.Math.Seq.{drop-cons}
 use Rattle.redcode_text.specs.declared.fault.TextProblem.{TextProblem}
@@ -9,7 +9,7 @@ use Rattle.redcode_text.specs.declared.token.TokenKind.TheVariants.{Number, Name
 use Rattle.redcode_text.specs.declared.token.TokenKind.TheVariants as token
 use Rattle.redcode_text.specs.Lines.{Parts, Reading, Predefined, is_operation, may_label, parts_within, split_colon}
 
--- tokens up to a place, one more, and some behind it
+-- The first `i` tokens, the next one and `p` tokens after it are the first `i + 1 + p` tokens.
 take-more : (ts : List Token) (i p : ℕ) (d : Token) → i < length ts → take i ts ++ get_or ts i d ∷ take p (drop (suc i) ts) ≡ take (i + suc p) ts
 take-more [] i p d h = absurd (omega arith)
 take-more (x ∷ xs) zero p d h = let e : suc p ≡ zero + suc p = omega arith in ap (λ n. take n (x ∷ xs)) e
@@ -64,7 +64,7 @@ module _ (ps : Predefined) (st : Reading) where
   head-other k labels before t ts (Number z) e h = ap (at_kind k labels before t ts) e
   head-other k labels before t ts (token.Sign s) e h = ap (at_kind k labels before t ts) e
 
-  -- ---- at a place
+  -- ---- At an index
 
   pub operation-at : (ts : List Token) (i k n : ℕ) (d : Token) (labels : List ℕ) → i < length ts → length (drop i ts) ≤ k → (get_or ts i d).kind ≡ Name n → is_operation st n ≡ true
       → parted k labels (take i ts) (drop i ts) ≡ found labels (take i ts) (Some n) (drop (i + 1) ts)
@@ -98,7 +98,7 @@ module _ (ps : Predefined) (st : Reading) where
       go (suc k) [] none = refl
       go (suc k) (x ∷ rest) none = absurd (omega arith)
 
-  -- a label, and the fuel that is left
+  -- A label leaves enough fuel for the tokens after it.
   pub label-at : (ts : List Token) (i k n p : ℕ) (d : Token) (labels : List ℕ) (whole : Result Parts TextProblem) → i < length ts → length (drop i ts) ≤ k → (get_or ts i d).kind ≡ Name n → is_operation st n ≡ false → may_label ps st labels n ≡ true
       → split_colon (drop (i + 1) ts) ≡ (take p (drop (i + 1) ts), drop p (drop (i + 1) ts)) → parted k labels (take i ts) (drop i ts) ≡ whole
       → (m : ℕ) × (length (drop (i + 1 + p) ts) ≤ m) × (parted m (labels ++ n ∷ []) (take (i + 1 + p) ts) (drop (i + 1 + p) ts) ≡ whole)

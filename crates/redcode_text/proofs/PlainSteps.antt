@@ -1,4 +1,4 @@
--- A line that is no EQU line is an ordinary one.
+-- A line that isn't an EQU line is an ordinary line.
 use Rattle.std.proofs.Common.{◌≡◌, ◌==◌, ℕ, ◌<◌, false, List, [], ◌∷◌, length, refl, arith}
 use Rattle.redcode_text.specs.declared.source.row.LineKind as code
 use Rattle.redcode_text.specs.declared.source.row.LineKind.TheVariants as line
@@ -15,6 +15,6 @@ plain-ordinary ps (line.For at) row (t ∷ ts) st other some = refl
 plain-ordinary ps (line.Equ at) row (t ∷ ts) st other some = absurd (other at refl)
 plain-ordinary ps line.Other row (t ∷ ts) st other some = refl
 
--- tokens that aren't empty
+-- Tokens whose number isn't 0 aren't empty.
 pub some-there : (ts : List Token) (n : ℕ) → false ≡ (n == 0) → n ≡ length ts → 0 < length ts
 some-there ts n some len = grind (arith, some, len)

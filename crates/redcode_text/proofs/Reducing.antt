@@ -1,4 +1,4 @@
--- One step of applying what waits.
+-- One step of applying the waiting operators.
 use Rattle.std.proofs.Common.{◌≡◌, ℕ, ◌≤◌, List, ◌∷◌, [], arith, ap, subst, ℤ, ◌-◌, take, drop, slice_range}
 use Rattle.redcode_text.specs.declared.token.Token.{Token}
 use Rattle.redcode_text.specs.declared.token.Sign.{Sign}
@@ -10,10 +10,10 @@ use Rattle.redcode_text.specs.Code.Climbing.{AreInside}
 pub inside-pop : (n : ℕ) (u : ℤ) (s : Sign) (old new : List Pending) → old ≡ Value u s ∷ new → AreInside n old → AreInside n new
 inside-pop n u s old new e h = let P : List Pending → Type 0 = AreInside n in subst P e h
 
--- no tokens stand between a place and itself
+-- There are no tokens between an index and itself.
 pub none-between : (ts : List Token) (n : ℕ) → kinds (slice_range ts n n) ≡ []
 none-between ts n = ap (λ k. kinds (take k (drop n ts))) (let e : n - n ≡ 0 = omega arith in e)
 
--- the signs before the latest parenthesis lie inside
+-- The unary operators before the latest parenthesis are inside.
 pub inside-open : (n a b : ℕ) (old new : List Pending) → old ≡ Open a b ∷ new → AreInside n old → (a ≤ b) × (b ≤ n)
 inside-open n a b old new e h = let P : List Pending → Type 0 = AreInside n in let k = subst P e h in (k.0, k.1)

@@ -1,4 +1,4 @@
--- Replacing one level deeper.
+-- Replacement of names, one level deeper.
 use Rattle.std.proofs.Common.{◌≡◌, ℕ, zero, suc, ◌-◌, List, Ok, refl, arith}
 use Rattle.redcode_text.specs.declared.token.Token.{Token}
 use Rattle.redcode_text.specs.Equates.{Equate, Replaced, one_line, one_more, replaced_name, replacing, each_replaced}

@@ -11,7 +11,7 @@ use Rattle.redcode_text.specs.Source.{SourceRow}
 use Rattle.redcode_text.specs.Tokens.{Scanned, scan_from, tokens}
 use Rattle.redcode_text.proofs.Failing.{fails-bind}
 
--- whether a byte begins no comment
+-- The byte doesn't start a comment.
 abbrev no_comment : ℕ → Bool
 no_comment b = not (b == 59)
 

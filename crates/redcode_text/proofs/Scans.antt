@@ -1,4 +1,4 @@
--- Tokens, one further.
+-- Tokens, one at a time.
 use Rattle.std.proofs.Common.{◌≡◌, ℕ, zero, suc, ◌+◌, ◌-◌, ◌<◌, ◌≤◌, List, [], ◌∷◌, length, drop, take, drop-drop, subst, get_or, Bool, true, false, not, ◌&&◌, cond, Some, None, Option, Result, Ok, Err, refl, ap, sym, ◌∙◌, arith, nat_lt}
 use Rattle.std.proofs.Math.Seq.{drop-cons}
 use Rattle.std.proofs.lemmas.Bool.Decides.{nat_tests}
@@ -15,7 +15,7 @@ use Rattle.redcode_text.specs.Code.Scanning.{with_names, found_alone}
 use Rattle.redcode_text.specs.Code.Scanning.{one_token}
 use Rattle.redcode_text.specs.Tokens.{OpenLoop, Found, Scanned, is_blank, begins_word, token_at, word_token, word_len, look_up, one_byte_signs, two_byte_signs, sign_found, sign_token, scan_from, with_room, with_token}
 
--- ---- signs
+-- ---- Signs
 
 abbrev renamed : List (List ℕ) → Result Found TextProblem → Result Found TextProblem
 renamed names (Ok f) = Ok (record { kind = f.kind; len = f.len; names = names })
@@ -30,7 +30,7 @@ gives-renamed : (names : List (List ℕ)) (r : Result Spelled TextProblem) → G
 gives-renamed names (Ok x) = refl
 gives-renamed names (Err e) = fails-itself Found e
 
--- a sign leaves the names
+-- Reading a sign doesn't change the names.
 sign-gives : (names : List (List ℕ)) (two one : Option Sign) (r : Result Spelled TextProblem) → found_alone r ≡ sign_found [] two one → Gives (with_names names) r (sign_found names two one)
 sign-gives names two one r e = subst (Gives (with_names names) r) (ap (renamed names) e ∙ renamed-sign names two one) (gives-renamed names r)
 
@@ -42,12 +42,12 @@ pub sign-at : (loops : List OpenLoop) (names : List (List ℕ)) (bs : List ℕ) 
 sign-at loops names [] r some a w e = absurd (omega arith)
 sign-at loops names (b ∷ bs) r some a w e = subst (Gives (with_names names) r) (token-is-sign loops names b bs a w) (sign-gives names (look_up two_byte_signs (take 2 (b ∷ bs))) (look_up one_byte_signs (take 1 (b ∷ bs))) r e)
 
--- ---- a line
+-- ---- A line
 
 abbrev pub measured : ℕ → Scanned → Result (ℕ × Scanned) TextProblem
 measured len t = Ok (len, t)
 
--- a token that is found, has room, and is followed by more
+-- Splitting off the step that reads one token, if it is found and there is room, doesn't change the result.
 one-then : {A : Type 0} (r : Result Found TextProblem) (w : Found → Result Scanned TextProblem) (rest : ℕ → Scanned → Result A TextProblem)
     → (r >>= λ f. w f >>= λ t. rest f.len t) ≡ ((r >>= λ f. w f >>= measured f.len) >>= λ q. rest q.0 q.1)
 one-then {A} (Ok f) w rest = go (w f)
@@ -58,7 +58,7 @@ one-then {A} (Ok f) w rest = go (w f)
 one-then (Err e) w rest = refl
 
 module _ (loops : List OpenLoop) (line room : ℕ) where
-  -- the rest of a token that was taken
+  -- The remaining bytes of a token are skipped.
   skip : (k at : ℕ) (bs : List ℕ) (s : Scanned) → scan_from loops line room at k bs s ≡ scan_from loops line room (at + k) 0 (drop k bs) s
   skip zero at bs s = let e : at ≡ at + 0 = omega arith in ap (λ a. scan_from loops line room a 0 bs s) e
   skip (suc k) at [] s = refl
@@ -79,7 +79,7 @@ module _ (loops : List OpenLoop) (line room : ℕ) where
         | false ↦ from_token (at + i) (get_or bs i 0 ∷ drop (suc i) bs) (drop (suc i) bs) s
       ]) e
 
-  -- a token, and what follows
+  -- The next token, and the tokens after it.
   at-token : (at i : ℕ) (bs : List ℕ) (s : Scanned) → i < length bs → is_blank (get_or bs i 0) ≡ false
       → scan_from loops line room (at + i) 0 (drop i bs) s ≡ (one_token loops line room (at + i) (drop i bs) s >>= λ q. scan_from loops line room (at + i + 1) (q.0 - 1) (drop (suc i) bs) q.1)
   at-token at i bs s h e =
@@ -109,10 +109,10 @@ room-none room line at s f h = let e : nat_lt (length s.tokens) room ≡ false =
 pub room-some : (room line at : ℕ) (s : Scanned) (f : Found) → length s.tokens < room → with_room room s line at f ≡ Ok (with_token s line at f)
 room-some room line at s f h = let e : nat_lt (length s.tokens) room ≡ true = grind (arith, nat_tests) in ap (λ b. cond b (Ok (with_token s line at f)) (Err TooLong)) e
 
--- ---- one token, from a place of a line
+-- ---- One token, from an offset of a line
 
 module _ (loops : List OpenLoop) (line room at i : ℕ) (bs : List ℕ) (s : Scanned) where
-  -- what the code looks at
+  -- The result for the bytes that the code looks at.
   abbrev looked_at : Result Found TextProblem
   looked_at = token_at loops s.names (take (length bs - i) (drop i bs))
 

@@ -1,4 +1,4 @@
--- The shape of the tokens from a place on, one token further.
+-- The shape of the tokens from an index on, one token at a time.
 use Rattle.std.proofs.Common.{◌≡◌, ℕ, ◌+◌, ◌<◌, drop, length, get_or, refl, ap, ◌∙◌, List, ◌∷◌, Ok, Err, add-one}
 use Rattle.std.proofs.Math.Seq.{drop-cons}
 use Rattle.redcode_text.specs.Results.{◌>>=◌}
@@ -7,7 +7,7 @@ use Rattle.redcode_text.specs.declared.fault.ExprFault.{ExprFault}
 use Rattle.redcode_text.specs.declared.expression.shape.ShapeState.{ShapeState}
 use Rattle.redcode_text.specs.Expression.{next_state, kinds, shape}
 
--- the token at i, and the tokens after it
+-- The kinds from the index `i` on are the kind of the token `i` and the kinds after it.
 pub kinds-drop : (ts : List Token) (i : ℕ) (d : Token) → i < length ts → kinds (drop i ts) ≡ (get_or ts i d).kind ∷ kinds (drop (i + 1) ts)
 kinds-drop ts i d h = rw (drop-cons ts i d h, add-one) refl
 

@@ -1,4 +1,4 @@
--- Tokens of the right shape spell a tree.
+-- Tokens with a valid shape spell a tree.
 use Rattle.std.proofs.Common.{◌≡◌, ℕ, ◌+◌, ◌-◌, ◌<◌, ◌≤◌, List, ◌∷◌, [], ◌++◌, Bool, true, false, arith, refl, ap, sym, subst, ◌∙◌, append_assoc, append-nil, cond, eqb, leb, ◌⊎◌, inl, inr, ⊎_elim, Result, Ok, Err}
 use Rattle.std.proofs.lemmas.Bool.{eqb-false, cases_lt}
 use borrow.Author.Tests.{eqb-true}
@@ -15,13 +15,13 @@ use Rattle.redcode_text.specs.Expression.{precedence, Tree, Numeral, Named, Pare
 use Rattle.redcode_text.specs.Trees.{spelling, rank, is_prefix, IsLevelled}
 use Rattle.redcode_text.proofs.Trees.{precedence-≤5, rank-≤5}
 
--- these tokens spell a tree
+-- The tokens spell a tree.
 pub record IsTree (xs : List TokenKind) : Type 0 where
   pub tree : Tree
   pub spelled : spelling tree ≡ xs
   pub levelled : IsLevelled tree
 
--- what stands around: a left side with its operator, or a parenthesis with the signs before it
+-- What surrounds a tree: a left operand with its operator, or a parenthesis with the unary operators before it.
 data Outer : Type 0 where
   Before : Tree → Sign → Outer
   Inside : List Sign → Outer
@@ -103,7 +103,7 @@ reduce k (Before t x ∷ c) u s w h l =
     (λ near. let r = reduce k c (Binary t x u) s.4 (s.0, s.1, l, s.2, w) near s.3 in record { outer = r.outer; tree = r.tree; same = r.same ∙ joined (spelled_by c) (spelling t) (spelling u) (token.Sign x); sound = r.sound; levelled = r.levelled; tight = r.tight; looser = r.looser; depth = r.depth })
     (cases_lt k (precedence x))
 
--- what a closing parenthesis leaves: the tree of the whole parenthesis
+-- The result of a closing parenthesis: the tree of the whole parenthesis, and what surrounds it.
 record Closed (c : List Outer) (u : Tree) : Type 0 where
   outer : List Outer
   tree : Tree
@@ -145,7 +145,7 @@ ends-ok false h = cc
 abbrev place_in : List Outer → ℕ → Bool → ShapeState
 place_in c n after = record { opened = opens c; signs = n; after_operand = after }
 
--- a sign after an operand: a closing parenthesis, or an operator
+-- A sign after an operand is a closing parenthesis or an operator.
 after-ok : (s : Sign) (c : List Outer) (n : ℕ) (xs : List TokenKind) → (after_sign (place_in c n true) s >>= λ q. shape q xs) ≡ Ok tt
     → ((s ≡ CloseParen) × (0 < opens c) × (shape (record { opened = opens c - 1; signs = 0; after_operand = true }) xs ≡ Ok tt)) ⊎ ((0 < precedence s) × (shape (place_in c 0 false) xs ≡ Ok tt))
 after-ok CloseParen c n xs h =
@@ -216,6 +216,6 @@ mutual
       (before xs (Before r.tree x ∷ r.outer) [] 0 (subst (λ k. shape (record { opened = k; signs = 0; after_operand = false }) xs ≡ Ok tt) (sym r.depth) operator.1) (operator.0, r.tight, r.levelled, r.looser, r.sound) tt))
       (after-ok x c n xs h)
 
--- tokens of the right shape spell a tree
+-- Tokens with a valid shape spell a tree.
 pub shaped : (xs : List TokenKind) → shape start xs ≡ Ok tt → IsTree xs
 shaped xs h = before xs [] [] 0 h tt tt

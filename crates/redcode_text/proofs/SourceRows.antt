@@ -1,4 +1,4 @@
--- The rows of a source lie within it.
+-- The rows of a source are inside it.
 use Rattle.std.proofs.Common.{◌≡◌, ◌∙◌, ℕ, suc, ◌+◌, ◌<◌, ◌≤◌, ◌^◌, List, [], ◌∷◌, length, map, Bool, true, false, ◌==◌, ap, subst, sym, arith}
 use Rattle.std.proofs.lemmas.List.Elements.{All-cons, All-get_or, All-nil}
 use Rattle.std.specs.List.{All, list_any, onto_first}
@@ -8,7 +8,7 @@ use Rattle.redcode_text.specs.Code.Loops.{RowsFit}
 use Rattle.redcode_text.specs.Code.Rows.{row_of}
 use Rattle.redcode_text.specs.Source.{SourceRow, begins_redcode, from_redcode, lines_of, read_rows, rows_from, rows_of}
 
--- each row ends at most here
+-- Each row ends at `limit` or before.
 abbrev Within : ℕ → List SourceRow → Type 0
 Within limit [] = ⊤
 Within limit (row ∷ rows) = (row.at + length row.bytes ≤ limit) × Within limit rows
@@ -44,7 +44,7 @@ within-read limit rows h = go (list_any begins_redcode rows)
     go true = within-redcode limit rows h
     go false = h
 
--- the same of rows as the code holds them
+-- The code's rows end at `limit` or before.
 held-within : (limit : ℕ) (rows : List code.SourceRow) → Within limit (map row_of rows) → All (λ row. row.at + length row.bytes.now ≤ limit) rows
 held-within limit [] h = All-nil (λ row. row.at + length row.bytes.now ≤ limit)
 held-within limit (row ∷ rows) h = All-cons (λ row. row.at + length row.bytes.now ≤ limit) row rows h.0 (held-within limit rows h.1)

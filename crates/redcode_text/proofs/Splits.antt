@@ -1,4 +1,4 @@
--- The last operator parts a spelled tree at its root, so the parting finds the tree.
+-- The last operator splits a spelled tree at its root, so splitting the tokens finds the tree.
 use Rattle.std.proofs.Common.{◌≡◌, ℕ, zero, suc, ◌+◌, ◌-◌, ◌<◌, ◌≤◌, List, ◌∷◌, [], ◌++◌, length, Bool, true, false, ◌&&◌, arith, refl, ap, sym, ◌∙◌, append_assoc, append-nil, length-append, Option, Some, None, is_some, cond, eqb, eq-eqb, ◌⊎◌, inl, inr, ⊎_elim}
 use Rattle.std.proofs.lemmas.Bool.{ne_eqb, false≢true, cases_lt}
 use Rattle.std.proofs.lemmas.Bool.Decides.{eqb_tells}
@@ -11,7 +11,7 @@ use Rattle.redcode_text.specs.Expression.{precedence, Tree, Numeral, Named, Pare
 use Rattle.redcode_text.specs.Trees.{spelling, rank, is_prefix, IsLevelled}
 use Rattle.redcode_text.proofs.Trees.{rank-≤5}
 
--- with these tokens before it
+-- The split of tokens with `xs` put before them.
 abbrev prepended : List TokenKind → Option OperatorSplit → Option OperatorSplit
 prepended xs (Some p) = Some (record { before = xs ++ p.before; sign = p.sign; after = p.after })
 prepended xs None = None
@@ -32,7 +32,7 @@ is_some-prepended : (xs : List TokenKind) (o : Option OperatorSplit) → is_some
 is_some-prepended xs (Some p) = refl
 is_some-prepended xs None = refl
 
--- a sign that leaves the depth as it is, and wants an operand after it
+-- The sign leaves the depth of parentheses unchanged, and an operand follows it.
 pub record IsInner (s : Sign) : Type 0 where
   pub depth : (d : ℕ) → depth_after d (token.Sign s) ≡ d
   pub wants : ends_operand (token.Sign s) ≡ false
@@ -47,7 +47,7 @@ operator-inner OpenParen h = absurd (omega arith)
 operator-inner CloseParen h = absurd (omega arith)
 operator-inner _ h = record { depth = λ d. refl; wants = refl }
 
--- an inner sign that is no operator of this precedence outside parentheses
+-- From an inner sign on, the last operator is a later one, or else the sign, if it is an operator of this precedence.
 inner-last : (k d : ℕ) (after : Bool) (s : Sign) (xs : List TokenKind) → IsInner s → last_operator k d after (token.Sign s ∷ xs) ≡ later_or (last_operator k d false xs) (token.Sign s) (operator_at k d after (token.Sign s)) xs
 inner-last k d after s xs h =
     (λ i. later_or (last_operator k (h.depth d i) (h.wants i) xs) (token.Sign s) (operator_at k d after (token.Sign s)) xs)
@@ -66,7 +66,8 @@ operator-none k d s h =
 operator-here : (k : ℕ) (s : Sign) → precedence s ≡ k → operator_at k 0 true (token.Sign s) ≡ Some s
 operator-here k s e = ap (λ b. cond b (Some s) None) (eq-eqb (precedence s) k e)
 
--- no operator of the tree counts: a later one does, or it is inside parentheses, or tighter
+-- No operator of the tree is the last one: a later one is, or those of the tree are inside parentheses, or they are
+-- tighter.
 abbrev Passes : ℕ → ℕ → Tree → Option OperatorSplit → Type 0
 Passes k d t o = (is_some o ≡ true) ⊎ (d ≡ 0 → rank t < k)
 
@@ -110,12 +111,12 @@ spelled-last k d (Binary l s r) rest w p =
     ∙ prepended-twice (spelling l) (token.Sign s ∷ spelling r) o
 spelled-last k d Missing rest w p = absurd w
 
--- a tree of tighter operators alone isn't parted
+-- A tree whose operators are all tighter isn't split.
 none-last : (k : ℕ) (t : Tree) → IsLevelled t → rank t < k → last_operator k 0 false (spelling t) ≡ None
 none-last k t w h =
     ap (last_operator k 0 false) (sym (append-nil (spelling t))) ∙ spelled-last k 0 t [] w (inr (λ _. h))
 
--- a joined tree is parted at its operator
+-- A tree with a binary operator at its root is split at that operator.
 root-last : (l r : Tree) (s : Sign) → IsLevelled (Binary l s r) → last_operator (precedence s) 0 false (spelling l ++ token.Sign s ∷ spelling r) ≡ Some (record { before = spelling l; sign = s; after = spelling r })
 root-last l r s w =
     let here : last_operator (precedence s) 0 true (token.Sign s ∷ spelling r) ≡ Some (record { before = []; sign = s; after = spelling r }) =
@@ -156,7 +157,7 @@ joined-root tree l r s j e w left right =
     ∙ ap (λ o. parted tree j o (at_level tree j xs)) (ap (λ k. last_operator k 0 false xs) (sym e) ∙ root-last l r s w)
     ∙ (λ i. Binary (left i) s (right i))
 
--- the parting finds the tree
+-- Splitting the tokens of a tree finds the tree.
 pub tree-spelled : (t : Tree) (n k : ℕ) → IsLevelled t → length (spelling t) ≤ n → rank t ≤ k → tree_within n k (spelling t) ≡ t
 unfolding tree_within
 tree-spelled t zero k w len h = absurd (omega (arith, spelling-nonempty t w))

@@ -1,4 +1,4 @@
--- The reading stands where the shape stands.
+-- The state of the evaluation corresponds to the state of the shape.
 use Rattle.std.proofs.Common.{◌≡◌, ℕ, ◌+◌, ◌-◌, ◌*◌, ◌<◌, ◌≤◌, List, [], ◌∷◌, length, slice_range, Bool, true, false, cond, eqb, leb, ℤ, Option, Result, Ok, Err, refl, ap, sym, subst, ◌∙◌, arith, ◌⊎◌, ⊎_elim}
 use Rattle.std.proofs.lemmas.Bool.{eqb-false, leb-false, cases_lt, le-leb, lt-leb}
 use Rattle.redcode_text.specs.Results.{◌>>=◌}
@@ -33,7 +33,7 @@ guarded : {A : Type 0} (b : Bool) (e : ExprFault) (x y : A) → cond b (Err e) (
 guarded true e x y h = cc
 guarded false e x y h = (refl, ok-same x y h)
 
--- what is left of a stack keeps its order, and no more is on it
+-- The rest of a stack is ordered and no longer than before.
 pub record Rest (m k n : ℕ) (old new : List Pending) : Type 0 where
   pub ordered : IsOrdered new n
   pub below : StaysBelow k new
@@ -67,7 +67,7 @@ height k n [] h b o = omega arith
 height k n (Value u s ∷ stack) h b o = omega (arith, height (precedence s) n stack (precedence-≤5 s) o.1 o.2)
 height k n (Open a c ∷ stack) h b o = omega (arith, height 0 (n - 1) stack (omega arith) (below-zero stack (n - 1) o.1) o.1)
 
--- there is room for one more, on a stack for any expression or for as many as there are tokens
+-- The stack has room for one more entry, whether it is large enough for any expression or for the number of tokens.
 pub room : (n count places : ℕ) (r : Progress) (p : ShapeState) → Stands n r p → n < count → (390 ≤ places) ⊎ (count ≤ places)
     → length r.stack < places
 room n count places r p s before fits =
@@ -81,7 +81,7 @@ inside-more n [] i = tt
 inside-more n (Value u s ∷ stack) i = inside-more n stack i
 inside-more n (Open a b ∷ stack) i = (i.0, omega (arith, i.1), inside-more n stack i.2)
 
--- an operand, then the place after it
+-- An operand keeps the correspondence.
 operand-next : (ts : List Token) (n : ℕ) (r next : Progress) (p q : ShapeState) (v : ℤ) → Stands n r p → cond p.after_operand (Err Syntax) (Ok (record { opened = p.opened; signs = 0; after_operand = true })) ≡ Ok q → taken ts n r v ≡ Ok next → Stands (n + 1) next q
 operand-next ts n r next p q v s g h =
     let x = bind-ok (signed (kinds (slice_range ts r.first_sign n)) v) (λ w. Ok (record { stack = r.stack; first_sign = n + 1; value = w; after_operand = true })) next h in
@@ -137,7 +137,7 @@ mark-next ts n r next p q s false false e f st g h = subst (λ (y : Progress). S
 mark-next ts n r next p q s true false e f st g h = cc
 mark-next ts n r next p q s false true e f st g h = cc
 
--- one more token
+-- One more token keeps the correspondence.
 pub stands-next : (names : ℕ → Option ℤ) (ts : List Token) (n : ℕ) (r next : Progress) (p q : ShapeState) (x : TokenKind) → Stands n r p → next_state p x ≡ Ok q → advance names ts n r x ≡ Ok next → Stands (n + 1) next q
 stands-next names ts n r next p q (Number v) s g h = operand-next ts n r next p q v s g h
 stands-next names ts n r next p q (Name v) s g h =

@@ -1,4 +1,4 @@
--- The lines that take the place of an EQU name, one at a time, and that they are the defined ones.
+-- The lines that replace an EQU name, one at a time, are the defined ones.
 use Rattle.std.proofs.Common.{◌≡◌, ℕ, zero, suc, ◌+◌, ◌-◌, ◌<◌, ◌≤◌, List, [], ◌∷◌, ◌++◌, length, drop, get_or, map, Bool, true, false, Option, Some, None, Ok, Result, refl, ap, sym, subst, ◌∙◌, arith}
 use Rattle.std.proofs.Math.Seq.{drop-cons}
 use Rattle.redcode_text.specs.Results.{◌>>=◌}
@@ -18,7 +18,7 @@ used-is before [] behind = refl
 used-is before (l ∷ []) behind = refl
 used-is before (l ∷ m ∷ ls) behind = ap (λ r. (before ++ l) ∷ r) (behind-used m ls behind)
 
--- there is one line at least
+-- There is at least one line.
 pub used-length : (before : List Token) (lines : List (List Token)) (behind : List Token) → length (used before lines behind) ≡ length lines - 1 + 1
 used-length before [] behind = refl
 used-length before (l ∷ []) behind = refl
@@ -29,7 +29,7 @@ nothing-before zero = refl
 nothing-before (suc at) = refl
 
 module _ {T : Type 0} (f : T → List Token) where
-  -- a line before the last
+  -- A line before the last.
   pub used-before-last : (before : List Token) (lines : List T) (behind : List Token) (at : ℕ) (d : List Token) (x : T) → at + 1 < length lines → x ≡ get_or lines at x
       → before_line before at ++ f x ≡ get_or (used before (map f lines) behind) at d
   used-before-last before [] behind at d x h is = absurd (omega (arith, h))
@@ -38,7 +38,7 @@ module _ {T : Type 0} (f : T → List Token) where
   used-before-last before (l ∷ m ∷ ls) behind (suc at) d x h is =
       ap (λ b. b ++ f x) (sym (nothing-before at)) ∙ used-before-last [] (m ∷ ls) behind at d x (omega (arith, h)) is
 
-  -- the last line
+  -- The last line.
   pub used-last : (before : List Token) (lines : List T) (behind : List Token) (at : ℕ) (d : List Token) → at ≡ length lines - 1
       → get_or (used (before_line before at) (map f (drop at lines)) behind) 0 d ≡ get_or (used before (map f lines) behind) at d
   used-last before [] behind zero d h = refl
@@ -49,7 +49,7 @@ module _ {T : Type 0} (f : T → List Token) where
   used-last before (l ∷ m ∷ ls) behind (suc at) d h =
       ap (λ b. get_or (used b (map f (drop at (m ∷ ls))) behind) 0 d) (sym (nothing-before at)) ∙ used-last [] (m ∷ ls) behind at d (omega (arith, h))
 
--- the lines of an operation lie in the EQU names
+-- The lines of an operation depend only on the EQU names.
 pub under-same : (operation : Option ℕ) (st other : Reading) → st.equates ≡ other.equates → lines_under st operation ≡ lines_under other operation
 under-same None st other same = refl
 under-same (Some n) st other same = rw same refl
@@ -57,7 +57,7 @@ under-same (Some n) st other same = rw same refl
 abbrev ok : List Token → Result (List Token) TextProblem
 ok l = Ok l
 
--- the line that was made at a place is the one that is there, where the EQU names are the same as at first
+-- The line that was built for an index is the defined one, if the EQU names are still those of the start.
 pub line-at : (operation : Option ℕ) (st first : Reading) (before behind : List Token) (at : ℕ) (lines : List (List Token)) (line read : List Token) → st.equates ≡ first.equates → lines ≡ lines_under st operation
     → ok (get_or (used before lines behind) at []) ≡ ok line → read ≡ line → get_or (used before (lines_under first operation) behind) at [] ≡ read
 line-at operation st first before behind at lines line read same is made e =
@@ -72,26 +72,26 @@ module _ (ordinary : List Token → Step) (ls : List (List Token)) (at : ℕ) (l
       ∙ ap (λ l. each_line ordinary l st) (sym (drop-cons ls at [] h))
       ∙ is
 
-  -- a line that fails
+  -- If reading one line fails, the whole fails.
   pub line-fails : (e : TextProblem) → at < length ls → get_or ls at [] ≡ line → each_line ordinary (drop at ls) st ≡ whole → Fails e (read_one ordinary line st) → Fails e whole
   line-fails e h found is fails =
       subst (Fails e) (next h found is) (fails-bind e (read_one ordinary line st) (λ a. unless_ended a (each_line ordinary (drop (at + 1) ls))) fails)
 
-  -- a line that was read, with those behind it
+  -- After a line was read, the lines after it are read.
   pub line-done : (a : Reading) → at < length ls → get_or ls at [] ≡ line → each_line ordinary (drop at ls) st ≡ whole → read_one ordinary line st ≡ Ok a → a.ended ≡ false → each_line ordinary (drop (at + 1) ls) a ≡ whole
   line-done a h found is done goes =
       ap (λ (b : Bool). elim b as (λ _. Result Reading TextProblem) [ true ↦ Ok a | false ↦ each_line ordinary (drop (at + 1) ls) a ]) (sym goes)
       ∙ ap (λ r. r >>= λ a. unless_ended a (each_line ordinary (drop (at + 1) ls))) (sym done)
       ∙ next h found is
 
-  -- END
+  -- END ends the lines.
   pub line-ends : (a : Reading) → at < length ls → get_or ls at [] ≡ line → each_line ordinary (drop at ls) st ≡ whole → read_one ordinary line st ≡ Ok a → a.ended ≡ true → whole ≡ Ok a
   line-ends a h found is done ends =
       sym (next h found is)
       ∙ ap (λ r. r >>= λ a. unless_ended a (each_line ordinary (drop (at + 1) ls))) done
       ∙ ap (λ (b : Bool). elim b as (λ _. Result Reading TextProblem) [ true ↦ Ok a | false ↦ each_line ordinary (drop (at + 1) ls) a ]) ends
 
--- behind the last line
+-- After the last line, reading is done.
 pub lines-done : (ordinary : List Token → Step) (ls : List (List Token)) (at : ℕ) (st : Reading) (whole : Result Reading TextProblem) → length ls ≤ at → each_line ordinary (drop at ls) st ≡ whole → whole ≡ Ok st
 lines-done ordinary [] zero st whole h is = sym is
 lines-done ordinary [] (suc at) st whole h is = sym is

@@ -1,33 +1,33 @@
--- Bytes that mean something in a source, by their names.
+-- Names for the bytes that have a meaning in a source.
 use Rattle.std.specs.Prelude.{ℕ}
 
--- LF ends a line
+-- LF ends a line.
 abbrev pub line_feed : ℕ
 line_feed = 10
 
--- `;` begins a comment
+-- `;` starts a comment.
 abbrev pub semicolon : ℕ
 semicolon = 59
 
--- `&` begins a join
+-- `&` starts a join.
 abbrev pub ampersand : ℕ
 ampersand = 38
 
--- `:` may stand behind a label
+-- `:` may follow a label.
 abbrev pub colon : ℕ
 colon = 58
 
--- `_` counts as a letter
+-- `_` counts as a letter.
 abbrev pub underscore : ℕ
 underscore = 95
 
--- the printed bytes of ASCII go from the blank to `~`
+-- The printable bytes of ASCII, from the space to `~`.
 abbrev pub first_printed : ℕ
 first_printed = 32
 
 abbrev pub last_printed : ℕ
 last_printed = 126
 
--- `?` stands for what isn't printed
+-- `?` replaces a byte that is not printable.
 abbrev pub question_mark : ℕ
 question_mark = 63

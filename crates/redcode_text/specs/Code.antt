@@ -1,4 +1,4 @@
--- How the code holds and reaches what is defined. All of this serves the proofs alone.
+-- How the code represents and computes what the specification defines. Only the proofs use these definitions.
 pub mod Problems
 pub mod Kinds
 pub mod Rows

@@ -1,4 +1,4 @@
--- EQU names, and tokens with EQU names replaced.
+-- EQU names, and their replacement in tokens.
 use Rattle.std.specs.Prelude.{ℕ, zero, suc, ◌+◌, List, [], ◌∷◌, ◌++◌, length, true, false, Option, Some, None, Result, Ok, Err, nat_le, ◌==◌}
 use Rattle.redcode_text.specs.Results.{◌>>=◌}
 use Rattle.redcode_text.specs.declared.token.Token.{Token}
@@ -9,30 +9,30 @@ use Rattle.redcode_text.specs.declared.fault.TextProblem.TheVariants.{BadToken, 
 use Rattle.redcode_text.specs.declared.fault.TextFault.{TextFault}
 use Rattle.redcode_text.specs.Tokens.{at_line}
 
--- what the limits on lines, tokens and replacements have in common
+-- The limit on the number of lines, of tokens and of replacements.
 abbrev pub limit : ℕ
 limit = 65536
 
--- how deep replacements may nest
+-- How deep replacements may nest.
 abbrev pub depth_limit : ℕ
 depth_limit = 32
 
--- an EQU name, by its index among the names, and the lines that it stands for
+-- An EQU name, by its index among the names, and the lines of its definition.
 pub record Equate : Type 0 where
   pub name : ℕ
   pub lines : List (List Token)
 
--- the lines that an EQU name stands for
+-- The lines of the definition of an EQU name.
 abbrev pub equate_lines : List Equate → ℕ → Option (List (List Token))
 equate_lines [] name = None
 equate_lines (e ∷ es) name = elim (name == e.name) [ true ↦ Some e.lines | false ↦ equate_lines es name ]
 
--- the same for a token that is an EQU name
+-- The lines of the definition of a token, if it is an EQU name.
 abbrev pub token_lines : List Equate → TokenKind → Option (List (List Token))
 token_lines equates (Name n) = equate_lines equates n
 token_lines equates _ = None
 
--- the tokens that stand so far, and how many names were replaced
+-- The resulting tokens so far, and the number of names that were replaced.
 pub record Replaced : Type 0 where
   pub tokens : List Token
   pub count : ℕ
@@ -40,7 +40,7 @@ pub record Replaced : Type 0 where
 abbrev pub Replacing : Type 0
 Replacing = Replaced → List Token → Result Replaced TextProblem
 
--- the one line of an EQU name
+-- The definition of an EQU name, if it has at most one line.
 abbrev pub one_line : List (List Token) → Result (List Token) TextProblem
 one_line [] = Ok []
 one_line (line ∷ []) = Ok line
@@ -49,7 +49,8 @@ one_line (line ∷ next ∷ lines) = Err BadToken
 abbrev pub one_more : Replaced → Result Replaced TextProblem
 one_more r = elim (nat_le limit r.count) [ true ↦ Err TooLong | false ↦ Ok (record { tokens = r.tokens; count = r.count + 1 }) ]
 
--- a name that is replaced by its line, in which names are replaced in turn; nothing stands for that where it is too deep
+-- An EQU name is replaced by the line of its definition, in which names are replaced by `deeper`. Without `deeper` the
+-- nesting is too deep.
 abbrev pub replaced_name : Option Replacing → Replaced → List (List Token) → Result Replaced TextProblem
 replaced_name None r lines = Err EquDepth
 replaced_name (Some deeper) r lines = one_line lines >>= λ line. one_more r >>= λ s. deeper s line
@@ -61,22 +62,22 @@ abbrev pub replaced_token : Option Replacing → Replaced → Token → Option (
 replaced_token deeper r t (Some lines) = replaced_name deeper r lines
 replaced_token deeper r t None = kept_token r t
 
--- the tokens one after another
+-- The tokens with each EQU name replaced, appended to `r`.
 abbrev pub each_replaced : List Equate → Option Replacing → Replacing
 each_replaced equates deeper r [] = Ok r
 each_replaced equates deeper r (t ∷ ts) = replaced_token deeper r t (token_lines equates t.kind) >>= λ s. each_replaced equates deeper s ts
 
--- how tokens are replaced where so many replacements may still nest
+-- How tokens are replaced if `depth` more replacements may nest.
 abbrev pub replacing : ℕ → List Equate → Option Replacing
 replacing zero equates = None
 replacing (suc depth) equates = Some (each_replaced equates (replacing depth equates))
 
--- the same for tokens of a source: a fault has the line of the token at which it is met
+-- The tokens of a source with each EQU name replaced, appended to `r`. An error has the line of the token that caused it.
 abbrev pub each_replaced_at_line : List Equate → Replaced → List Token → Result Replaced TextFault
 each_replaced_at_line equates r [] = Ok r
 each_replaced_at_line equates r (t ∷ ts) =
     at_line t.line (replaced_token (replacing depth_limit equates) r t (token_lines equates t.kind)) >>= λ s. each_replaced_at_line equates s ts
 
--- tokens with each EQU name replaced
+-- The tokens with each EQU name replaced.
 abbrev pub substitution : List Equate → List Token → Result (List Token) TextFault
 substitution equates ts = each_replaced_at_line equates (record { tokens = []; count = 0 }) ts >>= λ r. Ok r.tokens

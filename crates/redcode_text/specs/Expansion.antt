@@ -1,4 +1,4 @@
--- What a source expands to.
+-- The expansion of a source: the program that results from reading it.
 use Rattle.std.specs.Prelude.{ℕ, zero, suc, ◌+◌, List, [], ◌∷◌, length, Bool, true, false, not, ◌||◌, ℤ, pos, negsuc, Option, Some, None, Result, Ok, Err, nat_le, codes}
 use Rattle.redcode_text.specs.Results.{◌>>=◌}
 use Rattle.redcode_text.specs.declared.token.Token.{Token}
@@ -15,19 +15,19 @@ use Rattle.redcode_text.specs.Source as source
 use Rattle.redcode_text.specs.Equates.{Equate, substitution}
 use Rattle.redcode_text.specs.Lines.{Reading, Line, Assert, Predefined, predefined_value, with_current_line, name_at, is_predefined, line_read, row_tokens, tokens_before, tokens_after, name_in_front, plain_line, unless_ended}
 
--- ---- the head of a loop
+-- ---- The header of a loop
 
--- whether a name that isn't predefined is among the tokens
+-- There is a name among the tokens that is not predefined.
 abbrev pub has_label : Predefined → Reading → List TokenKind → Bool
 has_label ps st [] = false
 has_label ps st (Name n ∷ ks) = not (is_predefined ps st n) || has_label ps st ks
 has_label ps st (_ ∷ ks) = has_label ps st ks
 
--- how often a loop may be read
+-- The maximum number of iterations of a loop.
 abbrev pub count_limit : ℕ
 count_limit = 10000
 
--- a count is a value from 0 to the limit
+-- The value of a count, which is from 0 to the limit.
 abbrev pub as_count : Result ℤ ExprFault → Result ℕ TextProblem
 as_count (Ok (pos n)) = elim (nat_le n count_limit) [ true ↦ Ok n | false ↦ Err BadCount ]
 as_count (Ok (negsuc n)) = Err BadCount
@@ -40,7 +40,7 @@ count_of ps st ts =
       | false ↦ as_count (value_of (λ n. predefined_value (with_current_line ps st.instructions) (name_at st.names n)) (kinds us))
     ]
 
--- the counter of a loop, how often its body is read, and all that was read up to there
+-- The counter of a loop, the number of its iterations, and everything read up to and including its header.
 pub record Head : Type 0 where
   pub counter : Option (List ℕ)
   pub count : ℕ
@@ -50,14 +50,14 @@ abbrev pub counter_name : Reading → Option ℕ → Option (List ℕ)
 counter_name st (Some n) = Some (name_at st.names n)
 counter_name st None = None
 
--- how many loops may be open
+-- The maximum number of open loops.
 abbrev pub loop_limit : ℕ
 loop_limit = 32
 
 abbrev pub room_for_loop : Reading → Result Reading TextProblem
 room_for_loop st = elim (nat_le loop_limit (length st.loops)) [ true ↦ Err TooLong | false ↦ Ok st ]
 
--- where the word FOR of a row begins in the source
+-- The offset of the word FOR of a row in the source.
 abbrev pub for_word_at : SourceRow → ℕ
 for_word_at row = elim (source.line_kind row.bytes) [ source.ForLine at ↦ row.at + at | _ ↦ row.at ]
 
@@ -69,20 +69,20 @@ head_line ps row st =
     count_of ps r.1 (tokens_after (for_word_at row) r.0) >>= λ count.
     Ok (record { counter = counter_name r.1 counter; count = count; reading = record (r.1) { equate_grows = false } })
 
--- the tokens of a ROF line mean nothing
+-- A ROF line: its tokens are read, but have no meaning.
 abbrev pub rof_line : SourceRow → Reading → Result Reading TextProblem
 rof_line row st = line_read st >>= row_tokens row 0 >>= λ r. Ok (record (r.1) { equate_grows = false })
 
--- a FOR without its ROF, or a ROF without its FOR
+-- A FOR without its ROF, or a ROF without its FOR.
 abbrev pub unpaired_line : TextProblem → Reading → Result Reading TextProblem
 unpaired_line problem st = line_read st >>= λ _. Err problem
 
--- ---- the whole
+-- ---- The whole source
 
 abbrev pub in_round : Option (List ℕ) → ℕ → Reading → Reading
 in_round counter round st = record st { loops = record { counter = counter; round = round } ∷ st.loops }
 
--- a body so many times, from this round on; between the rounds the loop isn't open
+-- `n` iterations of a body, the first one numbered `round`. The loop is open only while its body is read.
 abbrev pub rounds : (Reading → Result Reading TextFault) → Option (List ℕ) → ℕ → ℕ → Reading → Result Reading TextFault
 rounds body counter round zero st = Ok st
 rounds body counter round (suc n) st =
@@ -115,7 +115,7 @@ nothing_read =
       ended = false;
     }
 
--- what is kept of all that was read
+-- The part of everything read that the assembler needs.
 pub record ProgramValue : Type 0 where
   pub names : List (List ℕ)
   pub equates : List Equate
@@ -127,6 +127,6 @@ pub record ProgramValue : Type 0 where
 abbrev pub program_of : Reading → ProgramValue
 program_of st = record { names = st.names; equates = st.equates; lines = st.lines; name = st.name; author = st.author; asserts = st.asserts }
 
--- the program of a source, or the first fault
+-- The program of a source, or its first error.
 unfoldable pub expansion : Predefined → List ℕ → Result ProgramValue TextFault
 expansion ps source = flat ps (tree_of source) nothing_read >>= λ st. Ok (program_of st)

@@ -12,13 +12,13 @@ use Rattle.redcode_text.specs.declared.fault.ExprFault.{ExprFault}
 use Rattle.redcode_text.specs.declared.fault.ExprFault.TheVariants.{Syntax, Unknown, DivideByZero, Range, Depth}
 use Rattle.redcode_text.specs.declared.expression.shape.ShapeState.{ShapeState}
 
--- what the tokens are, apart from where they stand
+-- The kinds of tokens, without their positions.
 abbrev pub kinds : List Token → List TokenKind
 kinds tokens = map (λ t. t.kind) tokens
 
--- ---- shape
+-- ---- Shape
 
--- the precedence of an operator between two operands: 1 binds tightest, 5 loosest; 0 for any other sign
+-- The precedence of a binary operator: 1 binds tightest, 5 loosest. It is 0 for any other sign.
 abbrev pub precedence : Sign → ℕ
 precedence Star = 1
 precedence Slash = 1
@@ -35,7 +35,7 @@ precedence And = 4
 precedence Or = 5
 precedence _ = 0
 
--- how many signs may stand in a row before an operand, and how many parentheses may be open
+-- The maximum number of unary operators in a row, and the maximum number of open parentheses.
 abbrev pub most_signs : ℕ
 most_signs = 64
 
@@ -45,7 +45,7 @@ most_parens = 64
 abbrev pub one_more_sign : ShapeState → Result ShapeState ExprFault
 one_more_sign p = if nat_le most_signs p.signs then Err Depth else Ok (record { opened = p.opened; signs = p.signs + 1; after_operand = false })
 
--- a sign where an operand is wanted
+-- The state after a sign where an operand is expected.
 abbrev pub before_sign : ShapeState → Sign → Result ShapeState ExprFault
 before_sign p Plus = one_more_sign p
 before_sign p Minus = one_more_sign p
@@ -53,7 +53,7 @@ before_sign p Bang = one_more_sign p
 before_sign p OpenParen = if nat_le most_parens p.opened then Err Depth else Ok (record { opened = p.opened + 1; signs = 0; after_operand = false })
 before_sign p _ = Err Syntax
 
--- a sign where an operator is wanted
+-- The state after a sign where a binary operator is expected.
 abbrev pub after_sign : ShapeState → Sign → Result ShapeState ExprFault
 after_sign p CloseParen = if p.opened == 0 then Err Syntax else Ok (record { opened = p.opened - 1; signs = 0; after_operand = true })
 after_sign p s = if precedence s == 0 then Err Syntax else Ok (record { opened = p.opened; signs = 0; after_operand = false })
@@ -66,7 +66,7 @@ next_state p (Number n) = operand_at p
 next_state p (Name n) = operand_at p
 next_state p (token.Sign s) = if p.after_operand then after_sign p s else before_sign p s
 
--- the fault of the first token that doesn't fit, or of the end
+-- Whether tokens form an expression: the error is that of the first token that does not fit, or of the end.
 abbrev pub shape : ShapeState → List TokenKind → Result (Unit {0}) ExprFault
 shape p [] = if p.after_operand && (p.opened == 0) then Ok tt else Err Syntax
 shape p (x ∷ xs) = next_state p x >>= λ q. shape q xs
@@ -74,7 +74,7 @@ shape p (x ∷ xs) = next_state p x >>= λ q. shape q xs
 abbrev pub start : ShapeState
 start = record { opened = 0; signs = 0; after_operand = false }
 
--- ---- values
+-- ---- Values
 
 abbrev pub truth : Bool → ℤ
 truth b = if b then pos 1 else pos 0
@@ -86,7 +86,7 @@ abbrev pub in_range : ℤ → Result ℤ ExprFault
 in_range (pos n) = if nat_lt n (2 ^ 63) then Ok (pos n) else Err Range
 in_range (negsuc n) = if nat_lt n (2 ^ 63) then Ok (negsuc n) else Err Range
 
--- the value of an operator between two values
+-- The value of the binary operator applied to `a` and `b`.
 abbrev pub binary : Sign → ℤ → ℤ → Result ℤ ExprFault
 binary Or a b = Ok (truth (is_true a || is_true b))
 binary And a b = Ok (truth (is_true a && is_true b))
@@ -103,14 +103,14 @@ binary Slash a b = if int_eq b (pos 0) then Err DivideByZero else in_range (int_
 binary Percent a b = if int_eq b (pos 0) then Err DivideByZero else (in_range (int_div a b) >>= λ _. Ok (int_rem a b))
 binary _ a b = Err Syntax
 
--- the value of a sign before a value
+-- The value of the unary operator applied to `a`.
 abbrev pub unary : Sign → ℤ → Result ℤ ExprFault
 unary Plus a = Ok a
 unary Minus a = in_range (neg_ℤ a)
 unary Bang a = Ok (truth (int_eq a (pos 0)))
 unary _ a = Err Syntax
 
--- ---- trees
+-- ---- Trees
 
 pub data Tree : Type 0 where
   Numeral : ℤ → Tree
@@ -120,18 +120,18 @@ pub data Tree : Type 0 where
   Binary : Tree → Sign → Tree → Tree
   Missing : Tree
 
--- what stands before an operator, the operator, and what stands after it
+-- The tokens before a binary operator, the operator, and the tokens after it.
 pub record OperatorSplit : Type 0 where
   pub before : List TokenKind
   pub sign : Sign
   pub after : List TokenKind
 
--- the operator of this precedence that a token is, where it stands after an operand and outside parentheses
+-- The token as a binary operator of precedence `k`, if it is one: it follows an operand and is outside parentheses.
 abbrev pub operator_at : ℕ → ℕ → Bool → TokenKind → Option Sign
 operator_at k depth after (token.Sign s) = if after && (depth == 0) && (precedence s == k) then Some s else None
 operator_at k depth after _ = None
 
--- the depth of parentheses after a token
+-- The number of open parentheses after a token.
 abbrev pub depth_after : ℕ → TokenKind → ℕ
 depth_after depth (token.Sign OpenParen) = depth + 1
 depth_after depth (token.Sign CloseParen) = depth - 1
@@ -142,13 +142,13 @@ ends_operand (token.Sign CloseParen) = true
 ends_operand (token.Sign _) = false
 ends_operand _ = true
 
--- a later operator, or this one
+-- The operator found later, if there is one, or else the one at the token `x`.
 abbrev pub later_or : Option OperatorSplit → TokenKind → Option Sign → List TokenKind → Option OperatorSplit
 later_or (Some p) x here xs = Some (record { before = x ∷ p.before; sign = p.sign; after = p.after })
 later_or None x (Some s) xs = Some (record { before = []; sign = s; after = xs })
 later_or None x None xs = None
 
--- the last operator of this precedence outside parentheses
+-- The last binary operator of precedence `k` outside parentheses.
 abbrev pub last_operator : ℕ → ℕ → Bool → List TokenKind → Option OperatorSplit
 last_operator k depth after [] = None
 last_operator k depth after (x ∷ xs) = later_or (last_operator k (depth_after depth x) (ends_operand x) xs) x (operator_at k depth after x) xs
@@ -158,7 +158,7 @@ without_last [] = []
 without_last (x ∷ []) = []
 without_last (x ∷ y ∷ ys) = x ∷ without_last (y ∷ ys)
 
--- tokens with no operator outside parentheses
+-- The tree of tokens without a binary operator outside parentheses.
 abbrev pub primary : (ℕ → List TokenKind → Tree) → List TokenKind → Tree
 primary tree [] = Missing
 primary tree (Number n ∷ xs) = Numeral n
@@ -170,12 +170,12 @@ abbrev pub parted : (ℕ → List TokenKind → Tree) → ℕ → Option Operato
 parted tree k (Some p) tighter = Binary (tree (suc k) p.before) p.sign (tree k p.after)
 parted tree k None tighter = tighter
 
--- the last operator of the loosest kind parts the tokens
+-- The tree of tokens: the last of the loosest binary operators splits them.
 abbrev pub at_level : (ℕ → List TokenKind → Tree) → ℕ → List TokenKind → Tree
 at_level tree zero xs = primary tree xs
 at_level tree (suc k) xs = parted tree k (last_operator (suc k) 0 false xs) (at_level tree k xs)
 
--- the tree of at most n tokens, whose operators outside parentheses are no looser than k
+-- The tree of at most `n` tokens, whose binary operators outside parentheses have a precedence of at most `k`.
 unfoldable pub tree_within : ℕ → ℕ → List TokenKind → Tree
 tree_within zero k xs = Missing
 tree_within (suc n) k xs = at_level (tree_within n) k xs
@@ -192,6 +192,6 @@ value names (Unary s t) = value names t >>= λ v. unary s v
 value names (Binary l s r) = value names l >>= λ a. value names r >>= λ b. binary s a b
 value names Missing = Err Syntax
 
--- the value of an expression, or its first fault: the shape first
+-- The value of an expression, or its first error: the shape is checked before any value is computed.
 unfoldable pub value_of : (ℕ → Option ℤ) → List TokenKind → Result ℤ ExprFault
 value_of names xs = shape start xs >>= λ _. value names (tree_within (length xs) 5 xs)

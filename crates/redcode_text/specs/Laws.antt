@@ -1,4 +1,4 @@
--- What the text of a source means, apart from how it is read.
+-- Laws of the text of a source, independent of how it is read.
 use Rattle.std.specs.Prelude.{◌≡◌, ◌⊎◌, ℕ, pos, List, [], ◌∷◌, ◌++◌, length, Bool, false, true, Ok, Err, IfOk, codes}
 use Rattle.std.specs.List.{list_any}
 use Rattle.redcode_text.specs.declared.token.TokenKind.{TokenKind}
@@ -13,45 +13,45 @@ use Rattle.redcode_text.specs.Source.{SourceRow, Items, Loop, begins_redcode, ha
 use Rattle.redcode_text.specs.Lines.{Reading, Predefined}
 use Rattle.redcode_text.specs.Expansion.{Head, expansion, flat, head_line, nothing_read}
 
--- lines before the first `;redcode` have no effect
+-- Lines before the first `;redcode` have no effect.
 abbrev pub LinesBeforeRedcodeAreUnread : Type 0
 LinesBeforeRedcodeAreUnread = (before rows : List SourceRow) → list_any begins_redcode before ≡ false → list_any begins_redcode rows ≡ true
     → tree_of_rows (read_rows (before ++ rows)) ≡ tree_of_rows (read_rows rows)
 
--- What stands behind a source that reads to an END has no effect, whatever it is, but for a line that begins `;redcode`: what stood before it
--- wouldn't be read then. 10 ends the last line of the source.
+-- Lines after END have no effect, unless one of them begins with `;redcode`: then the lines before that one would not be
+-- read. `source` is a source that reads up to an END, and 10 (LF) ends its last line.
 abbrev pub LinesBehindEndAreUnread : Type 0
 LinesBehindEndAreUnread = (ps : Predefined) (source behind : List ℕ) (read : Reading)
     → flat ps (tree_of (source ++ 10 ∷ [])) nothing_read ≡ Ok read → read.ended ≡ true → list_any (has_directive (codes "redcode")) (lines_of behind) ≡ false
     → expansion ps (source ++ 10 ∷ behind) ≡ expansion ps (source ++ 10 ∷ [])
 
--- The body of a loop that goes round no time has no effect: two trees that differ in it alone are read the same. A FOR in it without its ROF,
--- or a ROF without its FOR, would change which lines are the body.
+-- The body of a loop with no iterations has no effect: replacing it by another body changes nothing. Both bodies are given
+-- as items, since a FOR without its ROF, or a ROF without its FOR, would change which lines are the body.
 abbrev pub LinesInNoRoundAreUnread : Type 0
 LinesInNoRoundAreUnread = (ps : Predefined) (head rof : SourceRow) (body other rest : Items) (st : Reading)
     → IfOk (head_line ps head st) (λ (h : Head). h.count ≡ 0)
     → flat ps (Loop head body rof rest) st ≡ flat ps (Loop head other rof rest) st
 
--- ---- the shape of an expression
+-- ---- The shape of an expression
 
--- Tokens of the right shape spell their tree: nothing is missing in it, its operators stand by their levels, and its signs and parentheses are
--- within their limits.
+-- Tokens with a valid shape are the spelling of their tree. Nothing is missing in the tree, its operators are arranged by
+-- precedence, and its unary operators and parentheses are within their limits.
 abbrev pub ShapesAreTrees : Type 0
 ShapesAreTrees = (xs : List TokenKind) → shape start xs ≡ Ok tt →
     let tree = tree_within (length xs) 5 xs in
     (spelling tree ≡ xs) × IsLevelled tree × IsWithin 0 0 tree
 
--- What spells such a tree has the right shape, and that very tree.
+-- The spelling of such a tree has a valid shape, and its tree is that tree.
 abbrev pub TreesHaveShapes : Type 0
 TreesHaveShapes = (tree : Tree) → IsLevelled tree → IsWithin 0 0 tree →
     let xs = spelling tree in
     (shape start xs ≡ Ok tt) × (tree_within (length xs) 5 xs ≡ tree)
 
--- tokens that are an expression with some others behind them
+-- The tokens `xs` can be continued to an expression.
 abbrev pub IsBegun : List TokenKind → Type 0
 IsBegun xs = (rest : List TokenKind) × (shape start (xs ++ rest) ≡ Ok tt)
 
--- + - ! and (, which may stand before an operand
+-- The tokens that may precede an operand: + - ! and (.
 abbrev pub leads_operand : TokenKind → Bool
 leads_operand (token.Sign Plus) = true
 leads_operand (token.Sign Minus) = true
@@ -59,7 +59,8 @@ leads_operand (token.Sign Bang) = true
 leads_operand (token.Sign OpenParen) = true
 leads_operand _ = false
 
--- the first token that makes no expression, whatever stands behind it: the fault is Depth where it leads an operand that might stand there, else Syntax
+-- The first token of `xs` after which the tokens cannot be continued to an expression. The error is `Depth` if the token may
+-- precede an operand and an operand was possible in its place, or else `Syntax`.
 pub record Misplaced (xs : List TokenKind) (fault : ExprFault) : Type 0 where
   pub before : List TokenKind
   pub token : TokenKind
@@ -71,6 +72,7 @@ pub record Misplaced (xs : List TokenKind) (fault : ExprFault) : Type 0 where
       ((fault ≡ Depth) × (leads_operand token ≡ true) × IsBegun (before ++ Number (pos 0) ∷ []))
       ⊎ ((fault ≡ Syntax) × (leads_operand token ≡ true → IsBegun (before ++ Number (pos 0) ∷ []) → ⊥))
 
--- The fault of a shape is that of its first misplaced token; where none is, the expression ends too early.
+-- The error of a shape is that of the first misplaced token. If there is none, the expression ends too early and the error
+-- is `Syntax`.
 abbrev pub MisshapenAtFirst : Type 0
 MisshapenAtFirst = (xs : List TokenKind) (fault : ExprFault) → shape start xs ≡ Err fault → (IsBegun xs × (fault ≡ Syntax)) ⊎ Misplaced xs fault

@@ -1,4 +1,4 @@
--- What a reader of the contracts has to believe, in this order; Examples has worked examples of it.
+-- The specification of how a source is read, in this order; with its laws and examples. It is part of the trusted base.
 pub mod Bytes
 pub mod Results
 pub mod Tokens

@@ -1,4 +1,4 @@
--- What a line adds to all that has been read.
+-- What a line adds to everything that has been read.
 use Rattle.std.specs.Prelude.{ℕ, zero, suc, ◌+◌, ◌-◌, List, [], ◌∷◌, ◌++◌, length, drop, take, map, filter, reverse, Bool, true, false, not, ◌&&◌, ◌||◌, ℤ, pos, Option, Some, None, Result, Ok, Err, nat_lt, nat_le, ◌==◌, codes, is_some, unwrap_or, slice_get}
 use Rattle.std.specs.List.{list_any}
 use Rattle.std.specs.Str.{bytes_eq, str_eq_ignore_ascii_case}
@@ -16,27 +16,28 @@ use Rattle.redcode_text.specs.Tokens.{OpenLoop, tokens}
 use Rattle.redcode_text.specs.Source.{SourceRow, LineKind, EquLine, line_kind, is_comment, has_directive_word, directive_text, directive_text_at, without_blanks}
 use Rattle.redcode_text.specs.Equates.{Equate, depth_limit, equate_lines, limit}
 
--- ---- all that has been read
+-- ---- Everything that has been read
 
--- a line that was read: the number of its row, its labels and its operation, by their indices among the names, and the tokens behind them
+-- A line that was read: its line number, its labels and its operation, as indices into the names, and the tokens after
+-- them.
 pub record Line : Type 0 where
   pub number : ℕ
   pub labels : List ℕ
   pub operation : Option ℕ
   pub rest : List Token
 
--- an assert: its row, the number of instructions before it, and its expression
+-- An assert: its line number, the number of instructions before it, and its expression.
 pub record Assert : Type 0 where
   pub number : ℕ
   pub current_line : ℕ
   pub tokens : List Token
 
 pub record Reading : Type 0 where
-  -- the open loops, the innermost first
+  -- The open loops, innermost first.
   pub loops : List OpenLoop
   pub names : List (List ℕ)
   pub equates : List Equate
-  -- whether an EQU line without a name adds to the last EQU name
+  -- An EQU line without a name continues the definition of the last EQU name.
   pub equate_grows : Bool
   pub lines : List Line
   pub instructions : ℕ
@@ -50,7 +51,7 @@ pub record Reading : Type 0 where
 abbrev pub Step : Type 0
 Step = Reading → Result Reading TextProblem
 
--- the names that have values before anything is read, without CURLINE
+-- The predefined names with their values, without CURLINE.
 abbrev pub Predefined : Type 0
 Predefined = List (List ℕ × ℤ)
 
@@ -58,11 +59,11 @@ abbrev pub predefined_value : Predefined → List ℕ → Option ℤ
 predefined_value [] name = None
 predefined_value (p ∷ ps) name = elim (bytes_eq p.0 name) [ true ↦ Some p.1 | false ↦ predefined_value ps name ]
 
--- the predefined names with CURLINE, the number of instructions so far
+-- The predefined names with CURLINE, whose value is the number of instructions so far.
 abbrev pub with_current_line : Predefined → ℕ → Predefined
 with_current_line ps instructions = (codes "CURLINE", pos instructions) ∷ ps
 
--- the bytes of a name, by its index
+-- The name with the index `n`.
 abbrev pub name_at : List (List ℕ) → ℕ → List ℕ
 name_at names n = unwrap_or (slice_get names n) []
 
@@ -75,7 +76,7 @@ is_equate st n = is_some (equate_lines st.equates n)
 abbrev pub is_label : Reading → ℕ → Bool
 is_label st n = list_any (λ l. list_any (λ m. m == n) l.labels) st.lines
 
--- ---- counts of lines and tokens
+-- ---- The number of lines and tokens
 
 abbrev pub line_read : Step
 line_read st = elim (nat_le limit st.lines_read) [ true ↦ Err TooLong | false ↦ Ok (record st { lines_read = st.lines_read + 1 }) ]
@@ -83,16 +84,16 @@ line_read st = elim (nat_le limit st.lines_read) [ true ↦ Err TooLong | false 
 abbrev pub tokens_counted : List Token → Step
 tokens_counted ts st = elim (nat_lt limit (st.tokens_read + length ts)) [ true ↦ Err TooLong | false ↦ Ok (record st { tokens_read = st.tokens_read + length ts }) ]
 
--- the bytes up to a `;`
+-- The bytes before the first `;`, or all bytes if there is none.
 abbrev pub before_comment : List ℕ → List ℕ
 before_comment [] = []
 before_comment (b ∷ bs) = elim (b == semicolon) [ true ↦ [] | false ↦ b ∷ before_comment bs ]
 
--- what was read with some tokens
+-- Tokens, and everything read including them.
 abbrev pub WithTokens : Type 0
 WithTokens = List Token × Reading
 
--- the tokens of a row from a place on up to a comment, of which there may be as many as the limit leaves
+-- The tokens of a row from the offset `at` on, up to a comment. There may be as many tokens as the limit leaves.
 abbrev pub row_tokens : SourceRow → ℕ → Reading → Result WithTokens TextProblem
 row_tokens row at st =
     tokens st.loops row.number (row.at + at) (limit - st.tokens_read) st.names (before_comment (drop at row.bytes)) >>= λ s.
@@ -100,21 +101,21 @@ row_tokens row at st =
 
 -- ---- FOR and EQU lines
 
--- the tokens on each side of the word that begins at this byte of the source
+-- The tokens before and after the word at the offset `at` in the source.
 abbrev pub tokens_before : ℕ → List Token → List Token
 tokens_before at ts = filter (λ t. nat_lt t.from at) ts
 
 abbrev pub tokens_after : ℕ → List Token → List Token
 tokens_after at ts = filter (λ t. nat_lt at t.from) ts
 
--- nothing, or one name and perhaps a colon
+-- The name before FOR or EQU, if there is one. A colon may follow it.
 abbrev pub name_in_front : List TokenKind → Result (Option ℕ) TextProblem
 name_in_front [] = Ok None
 name_in_front (Name n ∷ []) = Ok (Some n)
 name_in_front (Name n ∷ token.Sign Colon ∷ []) = Ok (Some n)
 name_in_front _ = Err BadToken
 
--- one more line for the last EQU name
+-- The EQU names, with one line added to the definition of the last one.
 abbrev pub with_line : List Equate → List Token → List Equate
 with_line [] ts = []
 with_line (e ∷ []) ts = record { name = e.name; lines = e.lines ++ ts ∷ [] } ∷ []
@@ -128,13 +129,13 @@ equated ps ts (Some n) st =
       | false ↦ Ok (record st { equates = st.equates ++ record { name = n; lines = ts ∷ [] } ∷ []; equate_grows = true })
     ]
 
--- an EQU line whose word EQU begins at this byte of the source
+-- The step that reads an EQU line, whose word EQU is at the offset `at` in the source.
 abbrev pub equ_line : Predefined → ℕ → List Token → Step
 equ_line ps at ts st = name_in_front (kinds (tokens_before at ts)) >>= λ name. equated ps (tokens_after at ts) name st
 
--- ---- ordinary lines
+-- ---- Ordinary lines
 
--- labels, also as they stand with their colons, then the operation, then the rest
+-- The parts of a line: its labels, the tokens of the labels with their colons, the operation, and the remaining tokens.
 pub record Parts : Type 0 where
   pub labels : List ℕ
   pub label_tokens : List Token
@@ -148,16 +149,18 @@ operations =
 abbrev pub is_operation : Reading → ℕ → Bool
 is_operation st n = is_equate st n || list_any (str_eq_ignore_ascii_case (name_at st.names n)) operations
 
--- a label isn't one already, also on this line, and isn't predefined
+-- The name `n` may be a label: it is not predefined and not yet a label, neither on another line nor among `labels` on this
+-- line.
 abbrev pub may_label : Predefined → Reading → List ℕ → ℕ → Bool
 may_label ps st labels n = not (is_label st n || is_predefined ps st n || list_any (λ m. m == n) labels)
 
--- a colon behind a label, and what follows
+-- The colon after a label, if there is one, and the tokens after it.
 abbrev pub split_colon : List Token → List Token × List Token
 split_colon [] = ([], [])
 split_colon (t ∷ ts) = elim t.kind [ token.Sign s ↦ elim s [ Colon ↦ (t ∷ [], ts) | _ ↦ ([], t ∷ ts) ] | _ ↦ ([], t ∷ ts) ]
 
--- the parts of at most k tokens behind these labels
+-- The parts of a line whose first labels are `labels`, with the tokens `before`. At most `k` labels more are read from
+-- `ts`.
 abbrev pub parts_within : Predefined → Reading → ℕ → List ℕ → List Token → List Token → Result Parts TextProblem
 parts_within ps st zero labels before ts = Ok (record { labels = labels; label_tokens = before; operation = None; rest = ts })
 parts_within ps st (suc k) labels before [] = Ok (record { labels = labels; label_tokens = before; operation = None; rest = [] })
@@ -176,7 +179,7 @@ parts_within ps st (suc k) labels before (t ∷ ts) =
 abbrev pub parts_of : Predefined → Reading → List Token → Result Parts TextProblem
 parts_of ps st ts = parts_within ps st (length ts) [] [] ts
 
--- whether an operation is this word in either case
+-- The operation is `word`, in either case.
 abbrev pub is_spelled : List (List ℕ) → List ℕ → Option ℕ → Bool
 is_spelled names word (Some n) = str_eq_ignore_ascii_case (name_at names n) word
 is_spelled names word None = false
@@ -187,11 +190,11 @@ is_org names operation = is_spelled names (codes "org") operation
 abbrev pub is_end : List (List ℕ) → Option ℕ → Bool
 is_end names operation = is_spelled names (codes "end") operation
 
--- every line with an operation or a rest is an instruction, but for ORG and END
+-- A line is an instruction if it has an operation or any token after its labels, and is not ORG or END.
 abbrev pub is_instruction : List (List ℕ) → Option ℕ → List Token → Bool
 is_instruction names operation rest = (is_some operation || nat_lt 0 (length rest)) && not (is_org names operation || is_end names operation)
 
--- a line whose operation is no EQU name
+-- Everything read, with one line added whose operation is not an EQU name.
 abbrev pub line_added : ℕ → Parts → Reading → Reading
 line_added number p st =
     record st {
@@ -201,15 +204,15 @@ line_added number p st =
       ended = is_end st.names p.operation;
     }
 
--- a token as one of a line of this number
+-- A token with the given line number.
 abbrev pub token_on_line : ℕ → Token → Token
 token_on_line number t = record t { line = number }
 
--- tokens as those of a line of this number: that of the use, where they come from EQU
+-- Tokens with the given line number: tokens that come from EQU get the number of the line that uses the name.
 abbrev pub on_line : ℕ → List Token → List Token
 on_line number ts = map (token_on_line number) ts
 
--- these tokens before the first line, and those behind the last
+-- The lines with `ts` put before the first one; and the lines with `ts` put after the last one.
 abbrev pub before_first : List Token → List (List Token) → List (List Token)
 before_first ts [] = ts ∷ []
 before_first ts (l ∷ ls) = (ts ++ l) ∷ ls
@@ -219,11 +222,11 @@ behind_last [] ts = ts ∷ []
 behind_last (l ∷ []) ts = (l ++ ts) ∷ []
 behind_last (l ∷ m ∷ ls) ts = l ∷ behind_last (m ∷ ls) ts
 
--- what follows, unless an END was read
+-- Continues with `rest`, unless an END was read.
 abbrev pub unless_ended : {E : Type 0} → Reading → (Reading → Result Reading E) → Result Reading E
 unless_ended st rest = elim st.ended [ true ↦ Ok st | false ↦ rest st ]
 
--- the lines that come from EQU, each by the same rules as an ordinary line
+-- The step that reads the lines that come from EQU, each by the rules for an ordinary line.
 abbrev pub each_line : (List Token → Step) → List (List Token) → Step
 each_line ordinary [] st = Ok st
 each_line ordinary (l ∷ ls) st = line_read st >>= tokens_counted l >>= ordinary l >>= λ a. unless_ended a (each_line ordinary ls)
@@ -232,7 +235,8 @@ abbrev pub operation_lines : Reading → Option ℕ → Option (List (List Token
 operation_lines st (Some n) = equate_lines st.equates n
 operation_lines st None = None
 
--- a line in its parts: where its operation is an EQU name, the lines of that name take its place, unless they are too deep
+-- The step that reads a line, given in parts. If its operation is an EQU name, the lines of the name's definition replace
+-- it, unless they are nested too deep.
 abbrev pub parts_read : Option (List Token → Step) → ℕ → Parts → Option (List (List Token)) → Step
 parts_read deeper number p None st = Ok (line_added number (record p { rest = on_line number p.rest }) st)
 parts_read None number p (Some lines) st = Err EquDepth
@@ -241,21 +245,22 @@ parts_read (Some ordinary) number p (Some lines) st = each_line ordinary (behind
 abbrev pub ordinary_with : Predefined → ℕ → Option (List Token → Step) → List Token → Step
 ordinary_with ps number deeper ts st = parts_of ps st ts >>= λ p. parts_read deeper number p (operation_lines st p.operation) st
 
--- an ordinary line of this row, in which EQU names may nest so deep
+-- The step that reads an ordinary line with this number, in which EQU names may nest `depth` deep.
 abbrev pub ordinary_line : Predefined → ℕ → ℕ → List Token → Step
 ordinary_line ps number zero = ordinary_with ps number None
 ordinary_line ps number (suc depth) = ordinary_with ps number (Some (ordinary_line ps number depth))
 
--- ---- directives
+-- ---- Directives
 
 abbrev pub printable : ℕ → ℕ
 printable b = elim (nat_le first_printed b && nat_le b last_printed) [ true ↦ b | false ↦ question_mark ]
 
--- how many bytes a name or an author may have
+-- The maximum number of bytes of a name or an author.
 abbrev pub longest_name : ℕ
 longest_name = 60
 
--- the text of `;name` or `;author`: no blanks at both ends, `?` for what can't be printed, at most 60 bytes
+-- The value of `;name` or `;author`: its text without whitespace at both ends, with `?` for bytes that are not printable,
+-- and at most 60 bytes.
 abbrev pub directive_value : List ℕ → List ℕ
 directive_value text = take longest_name (map printable (reverse (without_blanks (reverse (without_blanks text)))))
 
@@ -278,7 +283,7 @@ comment_line row st =
       ]
     ]
 
--- ---- a line that is neither FOR nor ROF
+-- ---- A line that is neither FOR nor ROF
 
 abbrev pub tokens_line : Predefined → LineKind → SourceRow → List Token → Step
 tokens_line ps kind row [] st = Ok st

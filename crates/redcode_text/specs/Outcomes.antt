@@ -1,15 +1,15 @@
--- What a call answers that wants memory: what is defined, or want of memory.
+-- How the result of a call that allocates is related to its definition: it is the defined one, or memory ran out.
 use Rattle.std.specs.Prelude.{◌≡◌, Result, Ok, Err}
 use Rattle.redcode_text.specs.declared.fault.TextFault.{TextFault}
 use Rattle.redcode_text.specs.declared.fault.TextProblem.{TextProblem}
 use Rattle.redcode_text.specs.declared.fault.TextProblem.TheVariants.{OutOfMemory}
 
--- a fault is the defined one, or want of memory, which has no line
+-- An error is the defined one, or memory ran out, which is reported without a line.
 abbrev pub FailsAt : {X : Type 0} → TextProblem → TextFault → Result X TextFault → Type 0
 FailsAt OutOfMemory fault defined = fault.line ≡ 0
 FailsAt problem fault defined = defined ≡ Err fault
 
--- the result, seen by f, is the defined one, or want of memory
+-- The result, mapped by `f`, is the defined one, or memory ran out.
 abbrev pub Answers : {X Y : Type 0} → (Y → X) → Result Y TextFault → Result X TextFault → Type 0
 Answers f (Ok y) defined = defined ≡ Ok (f y)
 Answers f (Err fault) defined = FailsAt fault.problem fault defined

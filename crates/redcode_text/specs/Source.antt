@@ -5,15 +5,15 @@ use Rattle.std.specs.Str.{str_eq_ignore_ascii_case, str_to_ascii_lowercase}
 use Rattle.redcode_text.specs.Bytes.{colon, line_feed, semicolon}
 use Rattle.redcode_text.specs.Tokens.{is_blank, word_len}
 
--- ---- lines
+-- ---- Lines
 
--- a line of the source: its number from 1, the place of its first byte in the source, and its bytes
+-- A line of the source: its number, from 1, the offset of its first byte in the source, and its bytes.
 pub record SourceRow : Type 0 where
   pub number : ℕ
   pub at : ℕ
   pub bytes : List ℕ
 
--- each line is ended by LF, the last perhaps not
+-- The lines of a source. LF ends a line, and the last line may lack it.
 abbrev pub lines_of : List ℕ → List (List ℕ)
 lines_of [] = []
 lines_of (b ∷ bs) = elim (b == line_feed) [ true ↦ [] ∷ lines_of bs | false ↦ onto_first b (lines_of bs) ]
@@ -25,20 +25,20 @@ rows_from number at (bytes ∷ rest) = record { number = number; at = at; bytes 
 abbrev pub rows_of : List ℕ → List SourceRow
 rows_of source = rows_from 1 0 (lines_of source)
 
--- ---- words of a line
+-- ---- Words of a line
 
--- how many blanks stand in front
+-- The number of whitespace bytes at the start.
 abbrev pub blank_len : List ℕ → ℕ
 blank_len bytes = prefix_len is_blank bytes
 
--- the first place from a place on where no blank stands
+-- The offset of the first byte from `at` on that is not whitespace.
 abbrev pub past_blanks : List ℕ → ℕ → ℕ
 past_blanks bytes at = at + blank_len (drop at bytes)
 
 abbrev pub past_word : List ℕ → ℕ → ℕ
 past_word bytes at = at + word_len (drop at bytes)
 
--- one colon, if it is there
+-- The length of the colon at the start: 1, or 0 if there is none.
 abbrev pub colon_len : List ℕ → ℕ
 colon_len [] = 0
 colon_len (b ∷ bs) = elim (b == colon) [ true ↦ 1 | false ↦ 0 ]
@@ -46,18 +46,18 @@ colon_len (b ∷ bs) = elim (b == colon) [ true ↦ 1 | false ↦ 0 ]
 abbrev pub past_colon : List ℕ → ℕ → ℕ
 past_colon bytes at = at + colon_len (drop at bytes)
 
--- where the first and the second word of a line begin: a colon may stand between them
+-- The offsets of the first and the second word of a line. A colon may separate them.
 abbrev pub first_word_at : List ℕ → ℕ
 first_word_at bytes = past_blanks bytes 0
 
 abbrev pub second_word_at : List ℕ → ℕ
 second_word_at bytes = past_blanks bytes (past_colon bytes (past_blanks bytes (past_word bytes (first_word_at bytes))))
 
--- whether this word, in either case, stands at a place
+-- The word at the offset `at` is `word`, in either case.
 abbrev pub has_word : List ℕ → List ℕ → ℕ → Bool
 has_word word bytes at = str_eq_ignore_ascii_case (take (word_len (drop at bytes)) (drop at bytes)) word
 
--- where a word stands as the first or the second word of a line
+-- The offset of `word`, if it is the first or the second word of a line.
 abbrev pub leading_word_at : List ℕ → List ℕ → Option ℕ
 leading_word_at word bytes =
     elim (has_word word bytes (first_word_at bytes)) [
@@ -65,9 +65,9 @@ leading_word_at word bytes =
       | false ↦ elim (has_word word bytes (second_word_at bytes)) [ true ↦ Some (second_word_at bytes) | false ↦ None ]
     ]
 
--- ---- kinds of lines
+-- ---- Kinds of lines
 
--- with the place of the word FOR or EQU
+-- The kind of a line, with the offset of the word FOR or EQU.
 pub data LineKind : Type 0 where
   RofLine : LineKind
   ForLine : ℕ → LineKind
@@ -89,20 +89,20 @@ line_kind bytes =
       | false ↦ for_or (equ_or_other (leading_word_at (codes "equ") bytes)) (leading_word_at (codes "for") bytes)
     ]
 
--- ---- directives
+-- ---- Directives
 
--- a line without the blanks in front
+-- A line without the whitespace at its start.
 abbrev pub without_blanks : List ℕ → List ℕ
 without_blanks bytes = drop (blank_len bytes) bytes
 
 abbrev pub is_comment : List ℕ → Bool
 is_comment bytes = starts_with nat_eq (without_blanks bytes) (semicolon ∷ [])
 
--- whether a line is a comment that begins with this word, in either case
+-- The line is a comment that begins with `word`, in either case.
 abbrev pub has_directive : List ℕ → List ℕ → Bool
 has_directive word bytes = starts_with nat_eq (str_to_ascii_lowercase (without_blanks bytes)) (semicolon ∷ word)
 
--- where what stands behind the word of a directive begins
+-- The offset of the text after the word of a directive.
 abbrev pub directive_text_at : List ℕ → List ℕ → ℕ
 directive_text_at word bytes = blank_len bytes + length word + 1
 
@@ -113,25 +113,25 @@ abbrev pub ends_word : List ℕ → Bool
 ends_word [] = true
 ends_word (b ∷ bs) = is_blank b
 
--- the same as has_directive, with a blank or the end of the line behind the word
+-- The line is a comment that begins with `word`, in either case, and whitespace or the end of the line follows it.
 abbrev pub has_directive_word : List ℕ → List ℕ → Bool
 has_directive_word word bytes = has_directive word bytes && ends_word (directive_text word bytes)
 
 abbrev pub begins_redcode : SourceRow → Bool
 begins_redcode row = has_directive (codes "redcode") row.bytes
 
--- the rows from the first `;redcode` on
+-- The rows from the first `;redcode` on.
 abbrev pub from_redcode : List SourceRow → List SourceRow
 from_redcode [] = []
 from_redcode (row ∷ rows) = elim (begins_redcode row) [ true ↦ row ∷ rows | false ↦ from_redcode rows ]
 
--- the rows that are read: all of them where no `;redcode` is there
+-- The rows that are read: those from the first `;redcode` on, or all of them if there is none.
 abbrev pub read_rows : List SourceRow → List SourceRow
 read_rows rows = elim (list_any begins_redcode rows) [ true ↦ from_redcode rows | false ↦ rows ]
 
--- ---- the tree
+-- ---- The tree
 
--- the items of a source or of a loop's body, in order
+-- The items of a source or of a loop's body, in order.
 pub data Items : Type 0 where
   Nothing : Items
   Plain : SourceRow → Items → Items
@@ -139,12 +139,13 @@ pub data Items : Type 0 where
   UnclosedFor : SourceRow → Items → Items
   LoneRof : SourceRow → Items → Items
 
--- what was read from the end so far: the items here, and for each ROF that waits for its FOR its row and the items behind it
+-- The result of pairing the rows from the end of the source up to here. `here` has the items of the current body. `waiting`
+-- has each ROF whose FOR was not found yet, with the items after the ROF.
 pub record Pairing : Type 0 where
   pub here : Items
   pub waiting : List (SourceRow × Items)
 
--- a FOR takes the items here as its body, up to the nearest ROF that waits
+-- The FOR `head` opens a loop: its body is `here`, and it ends at the nearest waiting ROF.
 abbrev pub opened : SourceRow → Items → List (SourceRow × Items) → Pairing
 opened head here [] = record { here = UnclosedFor head here; waiting = [] }
 opened head here (rof ∷ waiting) = record { here = Loop head here rof.0 rof.1; waiting = waiting }
@@ -159,7 +160,7 @@ abbrev pub paired : List SourceRow → Pairing
 paired [] = record { here = Nothing; waiting = [] }
 paired (row ∷ rows) = paired_with (line_kind row.bytes) row (paired rows)
 
--- the items, then a ROF that closes nothing: reading ends at it
+-- The items, followed by a ROF without a FOR, at which reading ends.
 abbrev pub then_lone : SourceRow → Items → Items
 then_lone rof Nothing = LoneRof rof Nothing
 then_lone rof (Plain row rest) = Plain row (then_lone rof rest)
@@ -174,6 +175,6 @@ with_lone here (rof ∷ waiting) = then_lone rof.0 here
 abbrev pub tree_of_rows : List SourceRow → Items
 tree_of_rows rows = with_lone (paired rows).here (paired rows).waiting
 
--- the tree of a source
+-- The tree of a source.
 abbrev pub tree_of : List ℕ → Items
 tree_of source = tree_of_rows (read_rows (rows_of source))

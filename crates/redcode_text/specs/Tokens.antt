@@ -1,4 +1,4 @@
--- The tokens of a line's bytes, with joins and counters done.
+-- The tokens of a line's bytes, after `&` joins and loop counters are replaced.
 use Rattle.std.specs.Prelude.{ℕ, zero, suc, ◌+◌, ◌-◌, ◌^◌, List, [], ◌∷◌, ◌++◌, length, take, Bool, true, false, not, ◌&&◌, ◌||◌, ◌==◌, nat_lt, pos, Option, Some, None, Result, Ok, Err, if◌then◌else◌, decimal}
 use Rattle.std.specs.Char.{is_ascii, is_ascii_alphabetic, is_ascii_digit}
 use Rattle.std.specs.List.{list_all, list_any, onto_first, position_or_len}
@@ -16,7 +16,7 @@ use Rattle.redcode_text.specs.declared.fault.TextFault.{TextFault}
 use Rattle.redcode_text.specs.declared.fault.TextProblem.{TextProblem}
 use Rattle.redcode_text.specs.declared.fault.TextProblem.TheVariants.{NotAscii, BadToken, TooLong}
 
--- a problem is that of a line
+-- A result whose error gets the line number `n`.
 abbrev pub at_line : {A : Type 0} → ℕ → Result A TextProblem → Result A TextFault
 at_line n (Ok x) = Ok x
 at_line n (Err e) = Err (record { line = n; problem = e })
@@ -25,9 +25,9 @@ abbrev pub without_line : {A : Type 0} → Result A TextFault → Result A TextP
 without_line (Ok x) = Ok x
 without_line (Err e) = Err e.problem
 
--- ---- bytes
+-- ---- Bytes
 
--- every byte up to 32 but LF
+-- Whitespace: every byte up to 32, except for LF.
 abbrev pub is_blank : ℕ → Bool
 is_blank b = nat_lt b 33 && not (b == line_feed)
 
@@ -41,19 +41,19 @@ abbrev pub begins_name : List ℕ → Bool
 begins_name [] = false
 begins_name (b ∷ bs) = is_letter b
 
--- a byte of a word, or a join
+-- The text starts with a byte of a word, or with a join.
 abbrev pub begins_word : List ℕ → Bool
 begins_word [] = false
 begins_word (b ∷ bs) = is_word_byte b || ((b == ampersand) && begins_name bs)
 
--- how many bytes the word at the front has, its joins too
+-- The number of bytes of the word at the start, including its joins.
 abbrev pub word_len : List ℕ → ℕ
 word_len [] = 0
 word_len (b ∷ bs) = elim (begins_word (b ∷ bs)) [ true ↦ word_len bs + 1 | false ↦ 0 ]
 
--- ---- joins and counters
+-- ---- Joins and counters
 
--- an open loop: its counter, if it has one, and the number of its round, from 1
+-- An open loop: its counter, if it has one, and the number of the iteration, from 1.
 pub record OpenLoop : Type 0 where
   pub counter : Option (List ℕ)
   pub round : ℕ
@@ -62,16 +62,16 @@ abbrev pub is_counter : List ℕ → Option (List ℕ) → Bool
 is_counter name (Some counter) = bytes_eq counter name
 is_counter name None = false
 
--- the round of the loop whose counter has this name
+-- The iteration of the loop with the counter `name`. The innermost loop comes first.
 abbrev pub round_of : List OpenLoop → List ℕ → Option ℕ
 round_of [] name = None
 round_of (l ∷ ls) name = elim (is_counter name l.counter) [ true ↦ Some l.round | false ↦ round_of ls name ]
 
--- at least two digits
+-- The digits of an iteration's number, at least two.
 abbrev pub round_digits : ℕ → List ℕ
 round_digits n = if nat_lt n 10 then 48 ∷ decimal n else decimal n
 
--- what stands before the first join of a word, and the name of each join
+-- The part of a word before its first `&`, and the name after each `&`.
 abbrev pub parts_at_joins : List ℕ → List (List ℕ)
 parts_at_joins [] = [] ∷ []
 parts_at_joins (b ∷ bs) = elim (b == ampersand) [ true ↦ [] ∷ parts_at_joins bs | false ↦ onto_first b (parts_at_joins bs) ]
@@ -80,7 +80,7 @@ abbrev pub round_or_bad : Option ℕ → Result ℕ TextProblem
 round_or_bad (Some n) = Ok n
 round_or_bad None = Err BadToken
 
--- the digits of the counter of each name, behind what stands in front
+-- `front`, followed by the digits of the counter of each name.
 abbrev pub join_counters : List OpenLoop → List ℕ → List (List ℕ) → Result (List ℕ) TextProblem
 join_counters loops front [] = Ok front
 join_counters loops front (name ∷ names) = round_or_bad (round_of loops name) >>= λ n. join_counters loops (front ++ round_digits n) names
@@ -89,27 +89,27 @@ abbrev pub join_parts : List OpenLoop → List (List ℕ) → Result (List ℕ) 
 join_parts loops [] = Ok []
 join_parts loops (front ∷ names) = join_counters loops front names
 
--- a word with its joins done
+-- A word in which each join is replaced by digits.
 abbrev pub joined : List OpenLoop → List ℕ → Result (List ℕ) TextProblem
 joined loops word = join_parts loops (parts_at_joins word)
 
--- ---- words
+-- ---- Words
 
--- the index of a name among the names
+-- The index of a name, or the number of names if it is new.
 abbrev pub name_index : List (List ℕ) → List ℕ → ℕ
 name_index names name = position_or_len (bytes_eq name) names
 
--- the names with a name, behind the others where it is new
+-- The names with `name` appended, unless it is among them.
 abbrev pub with_name : List (List ℕ) → List ℕ → List (List ℕ)
 with_name names name = if list_any (bytes_eq name) names then names else names ++ name ∷ []
 
--- what the token at the front is, how many bytes spell it, and the names with it
+-- The token at the start of a text: its kind, its number of bytes, and the names including it.
 pub record Found : Type 0 where
   pub kind : TokenKind
   pub len : ℕ
   pub names : List (List ℕ)
 
--- a number is below 2^63
+-- The token of a number, which must be below 2^63.
 abbrev pub number_kind : ℕ → Result TokenKind TextProblem
 number_kind n = if nat_lt n (2 ^ 63) then Ok (Number (pos n)) else Err BadToken
 
@@ -120,11 +120,11 @@ abbrev pub name_found : List (List ℕ) → ℕ → List ℕ → Result Found Te
 name_found names len name =
     if begins_name name then Ok (record { kind = Name (name_index names name); len = len; names = with_name names name }) else Err BadToken
 
--- a word that is no counter
+-- The token of a word that is not a counter.
 abbrev pub plain_word_found : List (List ℕ) → ℕ → List ℕ → Result Found TextProblem
 plain_word_found names len word = if list_all is_ascii_digit word then number_found names len word else name_found names len word
 
--- a word with its joins done, whose bytes were `len`
+-- The token of a word after its joins were replaced. It had `len` bytes, and `Some round` is given if it is a counter.
 abbrev pub word_found : List (List ℕ) → ℕ → List ℕ → Option ℕ → Result Found TextProblem
 word_found names len word (Some round) = Ok (record { kind = Number (pos round); len = len; names = names })
 word_found names len word None = plain_word_found names len word
@@ -132,7 +132,7 @@ word_found names len word None = plain_word_found names len word
 abbrev pub word_token : List OpenLoop → List (List ℕ) → List ℕ → Result Found TextProblem
 word_token loops names raw = joined loops raw >>= λ word. word_found names (length raw) word (round_of loops word)
 
--- ---- signs
+-- ---- Operators and punctuation
 
 abbrev pub look_up : List (List ℕ × Sign) → List ℕ → Option Sign
 look_up [] text = None
@@ -150,7 +150,7 @@ one_byte_signs =
     ∷ (40 ∷ [], OpenParen) ∷ (41 ∷ [], CloseParen) ∷ (44 ∷ [], Comma) ∷ (46 ∷ [], Dot) ∷ (58 ∷ [], Colon) ∷ (35 ∷ [], Hash) ∷ (36 ∷ [], Dollar) ∷ (64 ∷ [], At)
     ∷ (123 ∷ [], OpenBrace) ∷ (125 ∷ [], CloseBrace) ∷ []
 
--- a sign of two bytes goes before one of one byte
+-- The token of a sign. A sign of two bytes has precedence over one of one byte.
 abbrev pub sign_found : List (List ℕ) → Option Sign → Option Sign → Result Found TextProblem
 sign_found names (Some sign) one = Ok (record { kind = token.Sign sign; len = 2; names = names })
 sign_found names None (Some sign) = Ok (record { kind = token.Sign sign; len = 1; names = names })
@@ -159,30 +159,30 @@ sign_found names None None = Err BadToken
 abbrev pub sign_token : List (List ℕ) → List ℕ → Result Found TextProblem
 sign_token names bs = sign_found names (look_up two_byte_signs (take 2 bs)) (look_up one_byte_signs (take 1 bs))
 
--- ---- the tokens of a text
+-- ---- The tokens of a text
 
--- the token at the front of a text that begins with no blank
+-- The token at the start of a text that does not start with whitespace.
 abbrev pub token_at : List OpenLoop → List (List ℕ) → List ℕ → Result Found TextProblem
 token_at loops names bs =
     if not (list_all is_ascii (take 1 bs)) then Err NotAscii
     else if begins_word bs then word_token loops names (take (word_len bs) bs)
     else sign_token names bs
 
--- what was read: the tokens, and the names in order of first use
+-- What has been scanned: the tokens, and the names in the order of their first use.
 pub record Scanned : Type 0 where
   pub tokens : List Token
   pub names : List (List ℕ)
 
--- one token more, which begins at `at`
+-- What has been scanned, with the token `f` added, which starts at `at`.
 abbrev pub with_token : Scanned → ℕ → ℕ → Found → Scanned
 with_token s line at f =
     record { tokens = s.tokens ++ record { kind = f.kind; line = line; from = at; to = at + f.len } ∷ []; names = f.names }
 
--- one token more, where there may be so many
+-- What has been scanned, with the token `f` added, if there are fewer than `room` tokens.
 abbrev pub with_room : ℕ → Scanned → ℕ → ℕ → Found → Result Scanned TextProblem
 with_room room s line at f = if nat_lt (length s.tokens) room then Ok (with_token s line at f) else Err TooLong
 
--- what is read from `at` on, behind what was read; `skip` more bytes belong to the last token
+-- The result of scanning the bytes from `at` on, after `s` was scanned. The next `skip` bytes belong to the last token.
 abbrev pub scan_from : List OpenLoop → ℕ → ℕ → ℕ → ℕ → List ℕ → Scanned → Result Scanned TextProblem
 scan_from loops line room at skip [] s = Ok s
 scan_from loops line room at (suc skip) (b ∷ bs) s = scan_from loops line room (at + 1) skip bs s
@@ -192,10 +192,10 @@ scan_from loops line room at zero (b ∷ bs) s =
       | false ↦ token_at loops s.names (b ∷ bs) >>= λ f. with_room room s line at f >>= λ t. scan_from loops line room (at + 1) (f.len - 1) bs t
     ]
 
--- at most `room` tokens of a line's bytes, of which the first stands at `at`, and the names with theirs
+-- The tokens of a line's bytes, at most `room`, and the names including theirs. The first byte is at `at` in the source.
 abbrev pub tokens : List OpenLoop → ℕ → ℕ → ℕ → List (List ℕ) → List ℕ → Result Scanned TextProblem
 tokens loops line at room names bs = scan_from loops line room at 0 bs (record { tokens = []; names = names })
 
--- tokens and names of a text of one line, outside loops
+-- The tokens and names of a text of one line, outside loops.
 unfoldable pub scanned : List ℕ → Result Scanned TextFault
 scanned bs = at_line 1 (tokens [] 1 0 (length bs) [] bs)

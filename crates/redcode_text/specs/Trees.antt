@@ -1,4 +1,4 @@
--- What an expression is, in the words of its levels and operands: the trees that tokens spell.
+-- What an expression is, in terms of levels and operands: the trees that tokens can spell.
 use Rattle.std.specs.Prelude.{◌≡◌, ℕ, ◌+◌, ◌<◌, ◌≤◌, List, [], ◌∷◌, ◌++◌, Bool, true, false, ⊤}
 use Rattle.redcode_text.specs.declared.token.TokenKind.{TokenKind}
 use Rattle.redcode_text.specs.declared.token.TokenKind.TheVariants.{Number, Name}
@@ -7,7 +7,7 @@ use Rattle.redcode_text.specs.declared.token.Sign.{Sign}
 use Rattle.redcode_text.specs.declared.token.Sign.TheVariants.{Plus, Minus, Bang, OpenParen, CloseParen}
 use Rattle.redcode_text.specs.Expression.{most_parens, most_signs, precedence, Tree, Numeral, Named, Parens, Unary, Binary, Missing}
 
--- the tokens that spell a tree
+-- The tokens that spell a tree.
 abbrev pub spelling : Tree → List TokenKind
 spelling (Numeral n) = Number n ∷ []
 spelling (Named n) = Name n ∷ []
@@ -16,7 +16,7 @@ spelling (Unary s t) = token.Sign s ∷ spelling t
 spelling (Binary l s r) = spelling l ++ token.Sign s ∷ spelling r
 spelling Missing = []
 
--- the precedence of the operator at the root, 0 where there is none
+-- The precedence of the binary operator at the root, 0 if there is none.
 abbrev pub rank : Tree → ℕ
 rank (Binary l s r) = precedence s
 rank _ = 0
@@ -27,7 +27,7 @@ is_prefix Minus = true
 is_prefix Bang = true
 is_prefix _ = false
 
--- operators of one precedence group to the left, and looser ones stand above
+-- Operators of equal precedence group to the left, and looser operators are above tighter ones.
 abbrev pub IsLevelled : Tree → Type 0
 IsLevelled (Numeral n) = Unit {0}
 IsLevelled (Named n) = Unit {0}
@@ -36,7 +36,8 @@ IsLevelled (Unary s t) = (is_prefix s ≡ true) × (rank t ≡ 0) × IsLevelled 
 IsLevelled (Binary l s r) = (0 < precedence s) × (rank l ≤ precedence s) × (rank r < precedence s) × IsLevelled l × IsLevelled r
 IsLevelled Missing = ⊥
 
--- whether the signs in a row and the open parentheses are within their limits, behind so many open parentheses and signs
+-- The numbers of unary operators in a row and of open parentheses are within their limits, if `opened` parentheses are open
+-- before the tree and `signs` unary operators directly precede it.
 abbrev pub IsWithin : ℕ → ℕ → Tree → Type 0
 IsWithin opened signs (Parens t) = (opened < most_parens) × IsWithin (opened + 1) 0 t
 IsWithin opened signs (Unary s t) = (signs < most_signs) × IsWithin opened (signs + 1) t

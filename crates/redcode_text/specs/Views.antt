@@ -1,4 +1,4 @@
--- What a value of the code means.
+-- The specification's view of the values of the code.
 use Rattle.std.specs.Prelude.{ℕ, List, [], ◌∷◌, Vec, codes}
 use Rattle.redcode_text.specs.declared.names.predefined.PredefinedNames.{PredefinedNames}
 use Rattle.redcode_text.specs.declared.program.Assert as assert
@@ -7,7 +7,7 @@ use Rattle.redcode_text.specs.declared.token.Token.{Token}
 use Rattle.redcode_text.specs.Lines.{Assert, Line, Predefined}
 use Rattle.redcode_text.specs.Tokens.{Scanned}
 
--- the names with their values
+-- The predefined names with their values.
 abbrev pub predefined_of : PredefinedNames → Predefined
 predefined_of n =
     (codes "CORESIZE", n.core_size) ∷ (codes "MAXPROCESSES", n.max_processes) ∷ (codes "MAXCYCLES", n.max_cycles) ∷ (codes "MAXLENGTH", n.max_length)
@@ -19,6 +19,6 @@ line_of l = record { number = l.number; labels = l.labels.items; operation = l.o
 abbrev pub assert_of : assert.Assert → Assert
 assert_of a = record { number = a.number; current_line = a.current_line; tokens = a.tokens.items }
 
--- tokens, and the names that they call
+-- The tokens and the names that they refer to.
 abbrev pub scan_of : {A : Type 0} → Vec Token A → List (List ℕ) → Scanned
 scan_of tokens names = record { tokens = tokens.items; names = names }

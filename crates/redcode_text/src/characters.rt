@@ -1,4 +1,4 @@
-//! The bytes of a line: blanks, and those of words.
+//! Classes of bytes in a line: whitespace and words.
 ghost use Rattle.std.specs.Prelude.{◌≡◌, ◌≤◌, ◌==◌, length, not, take, true, IsAscii};
 ghost use Rattle.std.specs.Char.{is_ascii_digit};
 ghost use Rattle.std.specs.List.{list_all, prefix_len};
@@ -7,14 +7,14 @@ ghost use Rattle.redcode_text.specs.Bytes.{ampersand};
 ghost use Rattle.redcode_text.specs.Source.{blank_len};
 ghost use Rattle.redcode_text.specs.Tokens.{is_blank, is_letter, is_word_byte, begins_name, begins_word, word_len};
 
-/// Whether a byte is one up to 32, other than LF.
+/// Returns whether a byte is whitespace: up to 32, except for LF.
 pub fn is_blank(byte: u8) -> bool
     ensures { result ≡ is_blank byte }
 {
     byte <= b' ' && byte != b'\n'
 }
 
-/// How many blanks stand in front.
+/// Returns the number of whitespace bytes at the start.
 pub fn blank_len(bytes: &[u8]) -> usize
     ensures value { result ≡ blank_len bytes.now }
     ensures within { result ≤ length bytes.now }
@@ -22,21 +22,21 @@ pub fn blank_len(bytes: &[u8]) -> usize
     bytes.iter().take_while(|byte| is_blank(**byte)).count()
 }
 
-/// Whether a byte is a letter or `_`.
+/// Returns whether a byte is a letter or `_`.
 pub fn is_letter(byte: u8) -> bool
     ensures { result ≡ is_letter byte }
 {
     byte.is_ascii_alphabetic() || byte == b'_'
 }
 
-/// Whether a byte is a letter, a digit or `_`.
+/// Returns whether a byte is a letter, a digit or `_`.
 pub fn is_word_byte(byte: u8) -> bool
     ensures { result ≡ is_word_byte byte }
 {
     is_letter(byte) || byte.is_ascii_digit()
 }
 
-/// Whether the bytes begin with a letter or `_`.
+/// Returns whether the bytes begin with a letter or `_`.
 pub fn begins_name(bytes: &[u8]) -> bool
     ensures { result ≡ begins_name bytes.now }
 {
@@ -46,7 +46,7 @@ pub fn begins_name(bytes: &[u8]) -> bool
     }
 }
 
-/// Whether the bytes begin with a byte of a word, or with a join.
+/// Returns whether the bytes begin with a byte of a word, or with a join.
 pub fn begins_word(bytes: &[u8]) -> bool
     ensures { result ≡ begins_word bytes.now }
 {
@@ -57,14 +57,14 @@ pub fn begins_word(bytes: &[u8]) -> bool
     }
 }
 
-/// Whether two words are the same but for the case of their letters.
+/// Returns whether two words are equal, in either case.
 pub fn is_word(part: &[u8], word: &[u8]) -> bool
     ensures { result ≡ str_eq_ignore_ascii_case part.now word.now }
 {
     part.eq_ignore_ascii_case(word)
 }
 
-/// How many bytes the word at the front has, its joins too.
+/// Returns the number of bytes of the word at the start, including its joins.
 pub fn word_len(bytes: &[u8]) -> usize
     ensures value { result ≡ word_len bytes.now }
     ensures within { result ≤ length bytes.now }
@@ -78,7 +78,7 @@ pub fn word_len(bytes: &[u8]) -> usize
     len
 }
 
-/// How many bytes stand before the next join.
+/// Returns the number of bytes before the next `&`.
 pub fn part_len(bytes: &[u8]) -> usize
     ensures value { result ≡ prefix_len (λ b. not (b == ampersand)) bytes.now }
     ensures within { result ≤ length bytes.now }
@@ -86,7 +86,7 @@ pub fn part_len(bytes: &[u8]) -> usize
     bytes.iter().take_while(|byte| **byte != b'&').count()
 }
 
-/// Whether all bytes are decimal digits.
+/// Returns whether all bytes are decimal digits.
 pub fn are_digits(bytes: &[u8]) -> bool
     ensures { result ≡ list_all is_ascii_digit bytes.now }
 {

@@ -1,4 +1,4 @@
-//! EQU names, and tokens with EQU names replaced.
+//! EQU names, and their replacement in tokens.
 ghost use Rattle.std.specs.Prelude.{◌≡◌, ◌≤◌, [], ◌∷◌, ◌++◌, map, None, Ok, Err, IfOk, MatchResult, option_map, vec_len};
 ghost use Rattle.redcode_text.specs.declared.limits.TheConstants.{MAX_REPLACED};
 ghost use Rattle.redcode_text.specs.Equates.{Replaced, equate_lines, token_lines, one_line, one_more, kept_token, replaced_name, replaced_token, each_replaced, replacing, depth_limit, each_replaced_at_line, substitution};
@@ -14,7 +14,7 @@ use indexmap::IndexMap;
 use std::alloc::Global;
 use std::marker::Model;
 
-/// The EQU names, in the order of their definitions, each with its lines.
+/// The EQU names in the order of their definitions, each with the lines of its definition.
 #[derive(Drop)]
 pub struct Equates {
     lines: IndexMap<usize, Vec<Vec<Token>>>,
@@ -30,7 +30,7 @@ impl Model for Equates {
 }
 
 impl Equates {
-    /// No EQU name.
+    /// Returns an empty list of EQU names.
     pub fn new(alloc: Global) -> Self
         ensures { result ≡ [] }
     {
@@ -39,7 +39,7 @@ impl Equates {
         }
     }
 
-    /// The lines of an EQU name, by its index among the names.
+    /// Returns the lines of the definition of an EQU name, by its index among the names.
     pub fn lines_of(&self, name: usize) -> Option<&[Vec<Token>]>
         ensures { option_map (λ lines. map (λ line. line.items) lines.now) result ≡ equate_lines self.now name }
     {
@@ -48,7 +48,7 @@ impl Equates {
     }
 }
 
-/// The tokens that stand so far, and how many names were replaced.
+/// The resulting tokens so far, and the number of names that were replaced.
 #[derive(Drop)]
 struct Replaced {
     tokens: Vec<Token>,
@@ -65,7 +65,7 @@ impl Model for Replaced {
 }
 
 impl Replaced {
-    /// One name more is replaced.
+    /// Counts one more replaced name.
     fn count_one(&mut self) -> Result<(), TextProblem>
         ensures { Gives (λ _. self.new) result (one_more self.old) }
     {
@@ -76,7 +76,7 @@ impl Replaced {
         Ok(())
     }
 
-    /// A token that is no EQU name.
+    /// Appends a token that isn't an EQU name.
     fn keep(&mut self, token: Token) -> Result<(), TextProblem>
         ensures { Gives (λ _. self.new) result (kept_token self.old token) }
     {
@@ -90,7 +90,7 @@ impl Replaced {
     }
 }
 
-/// The one line of an EQU name.
+/// Returns the definition of an EQU name, which may have at most one line.
 fn only_line(lines: &[Vec<Token>]) -> Result<&[Token], TextProblem>
     ensures { let defined = one_line (map (λ line. line.items) lines.now) in MatchResult result (λ line. defined ≡ Ok line.now)
         (λ problem. defined ≡ Err problem) }
@@ -103,7 +103,8 @@ fn only_line(lines: &[Vec<Token>]) -> Result<&[Token], TextProblem>
 }
 
 impl Equates {
-    /// Puts what these lines of an EQU name stand for behind the tokens that stand; `depth` replacements may nest.
+    /// Appends the expansion of an EQU name, whose definition is `lines`, to `replaced`. At most `depth` expansions may
+    /// nest.
     #[cycle(replacing)]
     fn replace(
         &self,
@@ -122,7 +123,7 @@ impl Equates {
         self.replace_each(depth - 1, line, replaced)
     }
 
-    /// Puts a token, or what it stands for, behind the tokens that stand.
+    /// Appends a token, or its expansion if it is an EQU name, to `replaced`.
     #[cycle(replacing)]
     fn put(&self, depth: usize, token: Token, replaced: &mut Replaced) -> Result<(), TextProblem>
         ensures { Gives (λ _. replaced.new) result
@@ -137,7 +138,7 @@ impl Equates {
         }
     }
 
-    /// Puts tokens, or what each stands for, one after another behind the tokens that stand.
+    /// Appends tokens, with each EQU name expanded, to `replaced`.
     #[cycle(replacing)]
     fn replace_each(
         &self,
@@ -155,7 +156,7 @@ impl Equates {
 }
 
 impl Equates {
-    /// Puts a token of a source, or what it stands for, behind the tokens that stand; a fault has its line.
+    /// Appends a token of a source, or its expansion, to `replaced`. An error gets the line of the token.
     fn place_at_line(&self, token: Token, replaced: &mut Replaced) -> Result<(), TextFault>
         ensures { Answers (λ _. replaced.new) result
             (at_line token.line (replaced_token (replacing depth_limit self.now) replaced.old token
@@ -167,7 +168,7 @@ impl Equates {
         }
     }
 
-    /// Puts tokens of a source, or what each stands for, one after another; a fault has the line of its token.
+    /// Appends tokens of a source, with each EQU name expanded, to `replaced`. An error gets the line of its token.
     fn place_each(&self, tokens: &[Token], replaced: &mut Replaced) -> Result<(), TextFault>
         ensures { Answers (λ _. replaced.new) result (each_replaced_at_line self.now replaced.old tokens.now) }
     {
@@ -177,7 +178,7 @@ impl Equates {
         Ok(())
     }
 
-    /// Tokens with each EQU name replaced by its line, and the names in it in turn, at most 32 deep.
+    /// Replaces each EQU name by its definition, and the names in the definition in turn, at most 32 deep.
     pub fn substitute(&self, alloc: Global, tokens: &[Token]) -> Result<Vec<Token>, TextFault>
         ensures value { Answers (λ made. made.items) result (substitution self.now tokens.now) }
         ensures few { IfOk result (λ made. vec_len made ≤ MAX_REPLACED) }
@@ -193,7 +194,7 @@ impl Equates {
 }
 
 impl Equates {
-    /// One EQU name more, with its first line.
+    /// Adds an EQU name with the first line of its definition.
     pub fn define(
         &mut self,
         alloc: Global,
@@ -213,7 +214,7 @@ impl Equates {
         }
     }
 
-    /// One line more for the last EQU name.
+    /// Adds a line to the definition of the last EQU name.
     pub fn add_line(&mut self, line: Vec<Token>) -> Result<(), TextProblem>
         ensures { Gives (λ _. self.new) result (Ok (with_line self.old line.items)) }
     {

@@ -17,7 +17,7 @@ use crate::source::row::SourceRow;
 use crate::source::{read_rows, rows_of};
 use std::alloc::Global;
 
-/// What is kept of all that was read.
+/// Builds the program from everything that was read.
 fn program_of(reading: Reading) -> Program
     ensures { result ≡ program_of (reading_of reading) }
 {
@@ -31,7 +31,7 @@ fn program_of(reading: Reading) -> Program
         asserts,
         ..
     } = reading;
-    // by a call, since its drop in this body is dear to prove
+    // Dropped by a call, because dropping it in this body is expensive to prove.
     drop(labels);
     Program {
         names: names.into_table(),
@@ -59,7 +59,7 @@ fn read_from_rows(
     match read_all(alloc, names, rows, &mut reading) {
         Ok(()) => Ok(reading),
         Err(fault) => {
-            // by one call, since the drop of each field in this body is dear to prove
+            // Dropped by one call, because dropping each field in this body is expensive to prove.
             drop(reading);
             Err(fault)
         }
@@ -77,25 +77,28 @@ fn read_source(alloc: Global, bytes: &[u8], names: &PredefinedNames) -> Result<R
     read_from_rows(alloc, read_rows(&rows), names)
 }
 
-/// Reads a source, with what FOR and EQU mean done: from its first `;redcode` line on, if it has one, up to END.
+/// Reads a source, from its first `;redcode` line on, if it has one, up to END: expands FOR loops, and EQU names that are
+/// used as operations.
 ///
-/// A fault is the first in the order of reading, with the number of its line in the source, from 1. The faults of one
-/// line come in this order:
+/// The running time is linear in the number of bytes that are read, where a line of a loop counts once per iteration, and
+/// in the number of replacements in counts. Each count has at most 65,536 replacements.
 ///
-/// - TooLong, where 65,536 lines were read before it.
-/// - UnclosedFor and RofAlone.
-/// - Those of its tokens from the left: NotAscii, BadToken, or TooLong for the 65,537th token of all.
-/// - In a FOR line: BadToken for what stands before FOR, TooLong for the 33rd open loop, those of replacing EQU names
-///   in the count (EquDepth, BadToken, TooLong), LabelInCount, Expression, BadCount.
-/// - In an EQU line: BadToken for what stands before EQU, or where there is no name for the line to belong to, then
-///   Duplicate.
-/// - In any other line: Duplicate for its labels from the left. Where its operation is an EQU name, EquDepth, and then
-///   those of the lines that take its place, in turn.
+/// # Errors
 ///
-/// OutOfMemory, with the line 0, comes only where a growth was refused, in place of what would have come later.
+/// Returns the first error in the order of reading, with its line number in the source, from 1. The errors of one line
+/// come in this order:
 ///
-/// The time is linear in the bytes of the lines that are read, those of a loop once for each round, and in the replacements in
-/// counts, of which each count has at most 65,536.
+/// - `TooLong` if 65,536 lines were read before it
+/// - `UnclosedFor` and `RofAlone`
+/// - the errors of its tokens, from the left: `NotAscii`, `BadToken`, or `TooLong` for the 65,537th token of the source
+/// - in a FOR line: `BadToken` for the tokens before FOR, `TooLong` for the 33rd open loop, `EquDepth`, `BadToken` or
+///   `TooLong` for replacing the EQU names in the count, `LabelInCount`, `Expression`, `BadCount`
+/// - in an EQU line: `BadToken` for the tokens before EQU, or if there is no name that the line can belong to, then
+///   `Duplicate`
+/// - in any other line: `Duplicate` for its labels, from the left; then, if its operation is an EQU name, `EquDepth` and
+///   the errors of the lines that replace it, in turn
+///
+/// `OutOfMemory`, with the line 0, replaces any error that would have been found after the allocation that failed.
 #[tactic(auto, unfolding(crate::specs::Expansion::expansion))]
 pub fn expand(alloc: Global, bytes: &[u8], names: &PredefinedNames) -> Result<Program, TextFault>
     ensures { Answers (λ program. program) result (expansion (predefined_of names.now) bytes.now) }

@@ -13,19 +13,20 @@ use crate::fault::ExprFault;
 use crate::limits::{FEW_WAITING, MAX_WAITING};
 use crate::token::{Token, TokenKind};
 
-/// What names stand for.
+/// The values of names.
 pub trait Env {
     ghost use Rattle.std.specs.Prelude.{ℕ, ℤ, Option};
 
     ghost value_of: { Self → ℕ → Option ℤ };
 
-    /// What the name of this index stands for, if it stands for anything.
+    /// Returns the value of the name with this index, if it has one.
     fn value(&self, name: usize) -> Option<i64>
         ensures { result ≡ value_of self.now name };
 }
 
-/// The value of tokens that have the shape of an expression, read from the left with a stack of `N` places.
-/// That is as many as any expression needs, or as there are tokens, since a token lets at most one more wait.
+/// Evaluates tokens that have the shape of an expression, from left to right, with a stack of `N` entries.
+///
+/// `N` is the maximum for any expression, or at least the number of tokens: each token adds at most one entry.
 fn evaluate<E: Env, const N: usize>(tokens: &[Token], env: &E) -> Result<i64, ExprFault>
     requires shape { shape start (kinds tokens.now) ≡ Ok tt }
     requires places { N ≤ MAX_WAITING }
@@ -39,7 +40,7 @@ fn evaluate<E: Env, const N: usize>(tokens: &[Token], env: &E) -> Result<i64, Ex
     evaluation.finish()
 }
 
-/// The value of a lone number or name, which most expressions are: nothing has to wait on a stack.
+/// Evaluates a single number or name without a stack. Most expressions are of this kind.
 #[tactic(auto, unfolding(crate::specs::Expression::value_of, crate::specs::Expression::tree_within))]
 fn evaluate_operand<E: Env>(tokens: &[Token], env: &E) -> Option<Result<i64, ExprFault>>
     ensures { IfSome result (λ value. value ≡ value_of (E.value_of env.now) (kinds tokens.now)) }
@@ -54,8 +55,11 @@ fn evaluate_operand<E: Env>(tokens: &[Token], env: &E) -> Option<Result<i64, Exp
     }
 }
 
-/// The value of an expression, or its first fault: those of the shape first, then those of the values from the left.
-/// It takes no memory.
+/// Evaluates an expression. Does not allocate.
+///
+/// # Errors
+///
+/// Returns an error of the shape if there is one, or else the first error of a value, from left to right.
 pub fn eval<E: Env>(tokens: &[Token], env: &E) -> Result<i64, ExprFault>
     ensures { result ≡ value_of (E.value_of env.now) (kinds tokens.now) }
 {
@@ -63,7 +67,7 @@ pub fn eval<E: Env>(tokens: &[Token], env: &E) -> Result<i64, ExprFault>
         return value;
     }
     check_shape(tokens)?;
-    // All places of a stack are written when it is made, and most expressions are short.
+    // Creating a stack writes all its entries, so a short expression gets a small one.
     if tokens.len() <= FEW_WAITING {
         evaluate::<E, FEW_WAITING>(tokens, env)
     } else {

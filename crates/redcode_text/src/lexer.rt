@@ -22,14 +22,14 @@ use std::alloc::Global;
 /// The part of a line that is read as tokens.
 #[derive(Clone, Copy)]
 pub struct Text<'a> {
-    /// The number of its line, from 1.
+    /// The line number, from 1.
     pub number: usize,
-    /// The index of its first byte in the source.
+    /// The offset of the first byte in the source.
     pub at: usize,
     pub bytes: &'a [u8],
 }
 
-/// The sign at the front of some bytes: one of two bytes goes before one of one byte.
+/// Reads the sign at the start of `bytes`. A sign of two bytes has precedence over one of one byte.
 fn read_sign(bytes: &[u8]) -> Result<Spelled, TextProblem>
     ensures value { found_alone result ≡ sign_token [] bytes.now }
     ensures len { IfOk result (λ s. (1 ≤ s.len) × (s.len ≤ length bytes.now)) }
@@ -54,7 +54,7 @@ fn read_sign(bytes: &[u8]) -> Result<Spelled, TextProblem>
     }
 }
 
-/// The token at the front of some bytes, which begin with no blank.
+/// Reads the token at the start of `bytes`, which don't start with whitespace.
 fn read_token(alloc: Global, names: &mut SourceNames, bytes: &[u8]) -> Result<Spelled, TextProblem>
     ensures value { Gives (with_names names.new.table) result (token_at (loops_of names.old) names.old.table bytes.now) }
     ensures len { IfOk result (λ s. (1 ≤ s.len) × (s.len ≤ length bytes.now)) }
@@ -72,7 +72,7 @@ fn read_token(alloc: Global, names: &mut SourceNames, bytes: &[u8]) -> Result<Sp
     read_sign(bytes)
 }
 
-/// Reads the token that begins at a place of a text, and says how many bytes it takes.
+/// Reads the token at an offset of a text, and returns its number of bytes.
 fn add_token(
     alloc: Global,
     text: Text<'_>,
@@ -109,7 +109,7 @@ fn add_token(
     }
 }
 
-/// Reads the tokens of a text behind those that are there, up to so many in all.
+/// Reads the tokens of a text and appends them to `tokens`, up to a maximum number in total.
 pub fn read_tokens(
     alloc: Global,
     text: Text<'_>,
@@ -142,15 +142,18 @@ pub fn read_tokens(
 #[derive(Drop)]
 pub struct LineTokens {
     pub tokens: Vec<Token>,
-    /// The names, by whose indices the tokens call them.
+    /// The names; the tokens refer to them by index.
     pub names: NameTable,
 }
 
-/// Reads the tokens of a text of one line, outside loops, whose number is 1.
+/// Reads the tokens of a text of one line, outside loops. The line number is 1.
 ///
-/// The longest token is taken. The faults are NotAscii and BadToken, of the first byte that begins no token; LF and `;`
-/// begin none. OutOfMemory, with the line 0, comes only where a growth was refused, in place of what would have come
-/// later.
+/// The longest possible token is read.
+///
+/// # Errors
+///
+/// - `NotAscii` or `BadToken` for the first byte that starts no token; LF and `;` start none
+/// - `OutOfMemory`, with the line 0, replaces any error that would have been found after the allocation that failed
 pub fn scan(alloc: Global, text: &[u8]) -> Result<LineTokens, TextFault>
     ensures { Answers (λ s. scan_of s.tokens s.names) result (scanned text.now) }
 {

@@ -12,8 +12,10 @@ use indexmap::IndexSet;
 use std::alloc::{AllocError, Global};
 use std::marker::Model;
 
-/// Names, in the order of their first use. Their hashes have no seed: names that collide cost half a minute at most, and who reads
-/// sources of strangers needs a limit of time anyway.
+/// The names of a text, in the order of their first use.
+///
+/// The hashes are not seeded, so a source can have names that collide. They cost at most half a minute, and a program
+/// that reads sources of strangers needs a time limit anyway.
 #[derive(Drop)]
 pub struct NameTable {
     names: IndexSet<String>,
@@ -28,7 +30,7 @@ impl Model for NameTable {
 }
 
 impl NameTable {
-    /// No name.
+    /// Returns an empty table of names.
     pub(crate) fn new(alloc: Global) -> Self
         ensures { result ≡ [] }
     {
@@ -37,7 +39,7 @@ impl NameTable {
         }
     }
 
-    /// The index of a name; it is added where it is new.
+    /// Returns the index of a name, which is added if it is new.
     pub(crate) fn index_of(&mut self, alloc: Global, name: &[u8]) -> Result<usize, AllocError>
         requires ascii { IsAscii name.now }
         ensures index { IfOk result (λ n. n ≡ name_index self.old name.now) }
@@ -53,14 +55,14 @@ impl NameTable {
         Ok(index)
     }
 
-    /// How many names there are.
+    /// Returns the number of names.
     pub fn len(&self) -> usize
         ensures { result ≡ length self.now }
     {
         self.names.len()
     }
 
-    /// The bytes of a name, by its index; none where there is no such name.
+    /// Returns the bytes of the name with this index, or no bytes if there is none.
     pub fn name(&self, index: usize) -> &[u8]
         ensures { result.now ≡ name_at self.now index }
     {
@@ -70,7 +72,7 @@ impl NameTable {
         }
     }
 
-    /// Whether a name, by its index, is this word in either case.
+    /// Returns whether the name with this index is `word`, in either case.
     pub fn is_word(&self, index: usize, word: &[u8]) -> bool
         ensures { result ≡ str_eq_ignore_ascii_case (name_at self.now index) word.now }
     {

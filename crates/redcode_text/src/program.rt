@@ -1,4 +1,4 @@
-//! A program: what is kept of a source.
+//! Programs: the part of a source that the assembler needs.
 ghost use Rattle.std.specs.Prelude.{◌≡◌};
 ghost use Rattle.redcode_text.specs.Lines.{is_end, is_instruction, is_spelled};
 
@@ -12,28 +12,28 @@ use std::marker::Model;
 /// A line that was read.
 #[derive(Drop)]
 pub struct Line {
-    /// The number of its line in the source, from 1.
+    /// The line number in the source, from 1.
     pub number: usize,
-    /// Its labels, by their indices among the names.
+    /// The labels, as indices into the names.
     pub labels: Vec<usize>,
-    /// Its operation, by its index among the names, if it has one.
+    /// The operation, as an index into the names, if there is one.
     pub operation: Option<usize>,
-    /// The tokens behind the operation; all of them where no name is first.
+    /// The tokens after the operation, or after the labels if there is no operation.
     pub rest: Vec<Token>,
 }
 
 /// An assert.
 #[derive(Drop)]
 pub struct Assert {
-    /// The number of its line in the source, from 1.
+    /// The line number in the source, from 1.
     pub number: usize,
     /// The number of instructions before it.
     pub current_line: u32,
-    /// Its expression.
+    /// The expression.
     pub tokens: Vec<Token>,
 }
 
-/// What is kept of a source: its lines with FOR and EQU done, and the names in them.
+/// A source after FOR loops, and EQU names that are used as operations, were expanded: its lines, with the names in them.
 ///
 /// It has at most 65,536 lines. Its name and its author have at most 60 bytes, each from 32 to 126.
 #[derive(Drop)]
@@ -80,15 +80,16 @@ impl Program {
     ghost use Rattle.redcode_text.specs.Outcomes.{Answers};
     ghost use Rattle.redcode_text.specs.Programs.{IsPrinted};
 
-    /// The names, in the order of their first use; the tokens have their indices.
+    /// Returns the names, in the order of their first use. Tokens refer to them by index.
     pub fn names(&self) -> &NameTable
         ensures { result.now ≡ self.now.names }
     {
         &self.names
     }
 
-    /// The ordinary lines, at most 65,536, in the order of reading. One that came from an empty line of an EQU name has
-    /// no label, no operation and no rest.
+    /// Returns the ordinary lines, at most 65,536, in the order of reading.
+    ///
+    /// A line that comes from an empty line of an EQU definition may have no label, no operation and no other token.
     pub fn lines(&self) -> &[Line]
         ensures value { map line_of result.now ≡ self.now.lines }
         ensures few { length result.now ≤ limit }
@@ -96,7 +97,7 @@ impl Program {
         &self.lines
     }
 
-    /// The name: at most 60 bytes, each from 32 to 126; `Unknown` where the source gives none.
+    /// Returns the name: at most 60 bytes, each from 32 to 126; `Unknown` if the source gives none.
     pub fn name(&self) -> &str
         ensures value { result.now ≡ self.now.name }
         ensures printed { IsPrinted self.now.name }
@@ -104,7 +105,7 @@ impl Program {
         self.name.as_str()
     }
 
-    /// The author: at most 60 bytes, each from 32 to 126; `Anonymous` where the source gives none.
+    /// Returns the author: at most 60 bytes, each from 32 to 126; `Anonymous` if the source gives none.
     pub fn author(&self) -> &str
         ensures value { result.now ≡ self.now.author }
         ensures printed { IsPrinted self.now.author }
@@ -112,25 +113,29 @@ impl Program {
         self.author.as_str()
     }
 
-    /// The asserts, in the order of reading.
+    /// Returns the asserts, in the order of reading.
     pub fn asserts(&self) -> &[Assert]
         ensures { map assert_of result.now ≡ self.now.asserts }
     {
         &self.asserts
     }
 
-    /// The lines that an EQU name stands for, by its index among the names; none where it is no EQU name.
+    /// Returns the lines of an EQU name's definition, by its index among the names, or `None` if it isn't an EQU name.
     pub fn equate_lines(&self, name: usize) -> Option<&[Vec<Token>]>
         ensures { option_map (λ lines. map (λ line. line.items) lines.now) result ≡ equate_lines self.now.equates name }
     {
         self.equates.lines_of(name)
     }
 
-    /// Tokens with each EQU name replaced by its line, and the names in it in turn.
+    /// Replaces each EQU name among tokens by its definition, and the names in the definition in turn.
     ///
-    /// The answer has at most 65,536 tokens. The first fault from the left is EquDepth where replacements nest more
-    /// than 32 deep, BadToken for a name of several lines, or TooLong for more than 65,536 tokens or replacements. It
-    /// has the line of its token among `tokens`, which is that of the use; want of memory has line 0.
+    /// The result has at most 65,536 tokens.
+    ///
+    /// # Errors
+    ///
+    /// Returns the first error, from left to right: `EquDepth` if expansions nest more than 32 deep, `BadToken` for a
+    /// name whose definition has several lines, or `TooLong` for more than 65,536 tokens or replacements. It has the line
+    /// of its token among `tokens`, which is the line of the use. `OutOfMemory` has the line 0.
     pub fn substitute(&self, alloc: Global, tokens: &[Token]) -> Result<Vec<Token>, TextFault>
         ensures value { Answers (λ made. made.items) result (substitution self.now.equates tokens.now) }
         ensures few { IfOk result (λ made. vec_len made ≤ limit) }
@@ -139,7 +144,7 @@ impl Program {
     }
 }
 
-/// Whether an operation, by its index among the names, is this word in either case.
+/// Returns whether an operation, given as an index into the names, is `word`, in either case.
 pub fn is_spelled(names: &NameTable, word: &[u8], operation: Option<usize>) -> bool
     ensures { result ≡ is_spelled names.now word.now operation }
 {
@@ -149,14 +154,14 @@ pub fn is_spelled(names: &NameTable, word: &[u8], operation: Option<usize>) -> b
     }
 }
 
-/// Whether an operation is END.
+/// Returns whether an operation is END.
 pub(crate) fn is_end(names: &NameTable, operation: Option<usize>) -> bool
     ensures { result ≡ is_end names.now operation }
 {
     is_spelled(names, b"end", operation)
 }
 
-/// Whether a line is an instruction: one with an operation or a rest, other than ORG and END.
+/// Returns whether a line is an instruction: it has an operation or other tokens after its labels, and isn't ORG or END.
 pub fn is_instruction(names: &NameTable, operation: Option<usize>, rest: &[Token]) -> bool
     ensures { result ≡ is_instruction names.now operation rest.now }
 {

@@ -1,4 +1,4 @@
-//! All that has been read of a source: what a line adds to it, and what a name is to it.
+//! Everything that has been read of a source: what a line adds to it, and the kind of each name.
 ghost use Rattle.std.specs.Prelude.{◌≡◌, ◌≤◌, ◌<◌, ◌+◌, ◌^◌, length, string_bytes, vec_len, [], false, IfOk, OnOk, ◌∷◌, MatchOption};
 ghost use Rattle.redcode_text.specs.Code.Labels.{AreLabels};
 ghost use Rattle.redcode_text.specs.Programs.{IsPrinted};
@@ -27,12 +27,12 @@ use crate::source::row::{SourceRow, before_comment};
 use crate::token::{Sign, Token, TokenKind};
 use std::alloc::{AllocError, Global};
 
-/// All that has been read.
+/// Everything that has been read.
 #[derive(Drop)]
 pub struct Reading {
     pub names: SourceNames,
     pub equates: Equates,
-    /// Whether an EQU line without a name adds to the last EQU name.
+    /// Whether an EQU line without a name continues the last EQU definition.
     pub equate_grows: bool,
     pub lines: Vec<Line>,
     /// The labels of all lines.
@@ -54,20 +54,20 @@ pub struct Reading {
     ghost printed_author: { IsPrinted (string_bytes author) },
 }
 
-/// The words that are operations by themselves, in either case.
+/// The words that are operations in themselves, in either case.
 const OPERATIONS: [&str; 25] = [
     "dat", "mov", "add", "sub", "mul", "div", "mod", "jmp", "jmz", "jmn", "djn", "seq", "sne",
     "slt", "spl", "nop", "cmp", "org", "end", "equ", "for", "rof", "ldp", "stp", "pin",
 ];
 
-/// Whether a word is one of these, in either case.
+/// Returns whether a word is among `words`, in either case.
 fn is_among(word: &[u8], words: &[&str]) -> bool
     ensures { result ≡ list_any (λ other. str_eq_ignore_ascii_case word.now other.now) words.now }
 {
     words.iter().any(|other| is_word(word, other.as_bytes()))
 }
 
-/// Whether a word is an operation by itself, in either case.
+/// Returns whether a word is an operation in itself, in either case.
 fn is_operation_word(name: &[u8]) -> bool
     ensures { result ≡ list_any (str_eq_ignore_ascii_case name.now) operations }
 {
@@ -83,7 +83,7 @@ impl Reading {
     ghost use Rattle.redcode_text.specs.Code.Rows.{row_of};
     ghost use Rattle.redcode_text.specs.Views.{predefined_of};
 
-    /// Nothing, before a source is read.
+    /// Returns the state before anything is read.
     pub fn new(alloc: Global) -> Result<Reading, AllocError>
         ensures value { IfOk result (λ reading. reading_of reading ≡ nothing_read) }
         ensures loops { IfOk result (λ reading. loops_of reading.names ≡ []) }
@@ -107,7 +107,7 @@ impl Reading {
         })
     }
 
-    /// One more line is read.
+    /// Counts one more line.
     pub fn count_line(&mut self) -> Result<(), TextProblem>
         ensures value { Gives (λ _. reading_of self.new) result (line_read (reading_of self.old)) }
         ensures equates { self.new.equates ≡ self.old.equates }
@@ -120,7 +120,7 @@ impl Reading {
         Ok(())
     }
 
-    /// These tokens of a line that comes from EQU are read.
+    /// Counts the tokens of a line that comes from EQU.
     pub fn count_tokens(&mut self, tokens: &[Token]) -> Result<(), TextProblem>
         ensures value { Gives (λ _. reading_of self.new) result (tokens_counted tokens.now (reading_of self.old)) }
         ensures equates { self.new.equates ≡ self.old.equates }
@@ -134,7 +134,7 @@ impl Reading {
         Ok(())
     }
 
-    /// The tokens of a row from a place on up to a comment.
+    /// Reads the tokens of a row from an offset on, up to a comment.
     pub fn row_tokens(
         &mut self,
         alloc: Global,
@@ -164,14 +164,14 @@ impl Reading {
         }
     }
 
-    /// Whether a name is an EQU name.
+    /// Returns whether a name is an EQU name.
     pub fn is_equate(&self, name: usize) -> bool
         ensures { result ≡ is_equate (reading_of self.now) name }
     {
         self.equates.lines_of(name).is_some()
     }
 
-    /// Whether a name is a label.
+    /// Returns whether a name is a label.
     #[tactic(auto, using(crate::proofs::NameSets::label_known))]
     pub fn is_label(&self, name: usize) -> bool
         ensures { result ≡ is_label (reading_of self.now) name }
@@ -179,14 +179,14 @@ impl Reading {
         self.labels.contains(name)
     }
 
-    /// Whether a name is predefined.
+    /// Returns whether a name is predefined.
     pub fn is_predefined(&self, names: &PredefinedNames, name: usize) -> bool
         ensures { result ≡ is_predefined (predefined_of names.now) (reading_of self.now) name }
     {
         names.value_at(0, self.names.table.name(name)).is_some()
     }
 
-    /// Whether a name is an operation.
+    /// Returns whether a name is an operation.
     pub fn is_operation(&self, name: usize) -> bool
         ensures { result ≡ is_operation (reading_of self.now) name }
     {
@@ -194,7 +194,7 @@ impl Reading {
     }
 }
 
-/// The first token that begins before a place of the source, and the tokens behind it.
+/// Returns the first token that starts before an offset of the source, and the tokens after it.
 fn next_before(tokens: &[Token], at: usize) -> Option<(TokenKind, &[Token])>
     ensures { MatchOption result (kinds (tokens_before at tokens.now) ≡ [])
         (λ r. kinds (tokens_before at tokens.now) ≡ r.0 ∷ kinds (tokens_before at r.1.now)) }
@@ -207,7 +207,7 @@ fn next_before(tokens: &[Token], at: usize) -> Option<(TokenKind, &[Token])>
     None
 }
 
-/// The name before a place of the source: nothing, or one name and perhaps a colon, may stand there.
+/// Returns the name before an offset of the source, if there is one. A colon may follow it; any other token is an error.
 pub fn name_in_front(tokens: &[Token], at: usize) -> Result<Option<usize>, TextProblem>
     ensures { result ≡ name_in_front (kinds (tokens_before at tokens.now)) }
 {
@@ -229,7 +229,7 @@ pub fn name_in_front(tokens: &[Token], at: usize) -> Result<Option<usize>, TextP
     }
 }
 
-/// Keeps the tokens that begin behind a place of the source.
+/// Retains the tokens that start after an offset of the source.
 pub fn keep_after(tokens: &mut Vec<Token>, at: usize)
     ensures { tokens.new.items ≡ tokens_after at tokens.old.items }
 {

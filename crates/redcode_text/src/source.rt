@@ -1,4 +1,4 @@
-//! The lines of a source, and which ROF closes which FOR.
+//! The lines of a source, and the ROF of each FOR.
 ghost use Rattle.std.specs.Prelude.{◌≡◌, ◌≤◌, ◌==◌, length, map, not, IfOk, ℕ, ◌+◌, ◌<◌, slice_index, vec_len};
 ghost use Rattle.std.specs.List.{prefix_len};
 ghost use Rattle.redcode_text.specs.Bytes.{line_feed};
@@ -13,7 +13,7 @@ use crate::source::directives::has_directive;
 use crate::source::row::{LineKind, SourceRow};
 use std::alloc::{AllocError, Global};
 
-/// How many bytes the first line has.
+/// Returns the number of bytes of the first line.
 fn line_len(bytes: &[u8]) -> usize
     ensures value { result ≡ prefix_len (λ b. not (b == line_feed)) bytes.now }
     ensures within { result ≤ length bytes.now }
@@ -21,7 +21,7 @@ fn line_len(bytes: &[u8]) -> usize
     bytes.iter().take_while(|byte| **byte != b'\n').count()
 }
 
-/// The lines of a source.
+/// Returns the lines of a source.
 pub fn rows_of<'a>(alloc: Global, source: &'a [u8]) -> Result<Vec<SourceRow<'a>>, AllocError>
     ensures { IfOk result (λ rows. map row_of rows.items ≡ rows_of source.now) }
 {
@@ -40,7 +40,7 @@ pub fn rows_of<'a>(alloc: Global, source: &'a [u8]) -> Result<Vec<SourceRow<'a>>
     Ok(rows)
 }
 
-/// The rows from the first `;redcode` on, or all where there is none.
+/// Returns the rows from the first `;redcode` on, or all rows if there is none.
 pub fn read_rows<'r, 'a>(rows: &'r [SourceRow<'a>]) -> &'r [SourceRow<'a>]
     ensures { map row_of result.now ≡ read_rows (map row_of rows.now) }
 {
@@ -52,7 +52,7 @@ pub fn read_rows<'r, 'a>(rows: &'r [SourceRow<'a>]) -> &'r [SourceRow<'a>]
     rows
 }
 
-/// Where the items that begin at a place end, where that is known for each later place.
+/// Returns the end of the items that start at an index, given the ends for all later indices.
 pub fn end_from(rows: &[SourceRow<'_>], ends: &[usize], first: usize) -> usize
     requires within { first ≤ length rows.now }
     requires same_length { length ends.now ≡ length rows.now }
@@ -76,7 +76,7 @@ pub fn end_from(rows: &[SourceRow<'_>], ends: &[usize], first: usize) -> usize
     }
 }
 
-/// For each row the place where the items behind it end: that of a ROF, or the number of the rows.
+/// Returns for each row the index at which the items after it end: that of a ROF, or the number of rows.
 pub fn ends_of(alloc: Global, rows: &[SourceRow<'_>]) -> Result<Vec<usize>, AllocError>
     ensures ends { IfOk result (λ ends. AreEnds rows.now ends.items) }
     ensures len { IfOk result (λ ends. vec_len ends ≡ length rows.now) }

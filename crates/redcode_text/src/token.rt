@@ -1,8 +1,8 @@
-//! The tokens of a line, and the signs that bytes spell.
+//! The tokens of a line, and the signs that bytes form.
 ghost use Rattle.std.specs.Prelude.{◌≡◌, [], ◌∷◌};
 ghost use Rattle.redcode_text.specs.Tokens.{look_up, one_byte_signs, two_byte_signs};
 
-/// A sign of one or two bytes.
+/// A sign: an operator or punctuation mark of one or two bytes.
 #[derive(Clone, Copy, Debug, PartialEq, Eq)]
 pub enum Sign {
     /// `==`
@@ -55,37 +55,37 @@ pub enum Sign {
     CloseBrace,
 }
 
-/// What a token is.
+/// The kind of a token.
 #[derive(Clone, Copy, Debug, PartialEq, Eq)]
 pub enum TokenKind {
-    /// A number, which is never negative as it is written.
+    /// A number. It is never negative, because a minus sign is a token of its own.
     Number(i64),
-    /// A name, by its index among the names in order of first use.
+    /// A name, by its index among the names in the order of their first use.
     Name(usize),
     /// A sign of one or two bytes.
     Sign(Sign),
 }
 
-/// A token, and where it stands.
+/// A token, with its position.
 #[derive(Clone, Copy, Debug, PartialEq, Eq)]
 pub struct Token {
     pub kind: TokenKind,
-    /// The number of its line, from 1 over the whole file; in the lines of a program, where it comes from EQU, that of the line
-    /// that uses it.
+    /// The line number, from 1 for the first line of the file. In the lines of a program, a token that comes from EQU has
+    /// the number of the line that uses the name.
     pub line: usize,
-    /// Its spelling are the bytes of the source from `from` up to, but not with, `to`.
+    /// The token's bytes in the source are those from `from` up to, but excluding, `to`.
     pub from: usize,
     pub to: usize,
 }
 
-/// What stands at the front of a text, and how many bytes spell it.
+/// The token at the start of a text, and its number of bytes.
 #[derive(Clone, Copy)]
 pub struct Spelled {
     pub kind: TokenKind,
     pub len: usize,
 }
 
-/// The sign that two bytes spell.
+/// Returns the sign that two bytes form.
 pub fn two_byte_sign(first: u8, second: u8) -> Option<Sign>
     ensures { result ≡ look_up two_byte_signs (first ∷ second ∷ []) }
 {
@@ -100,7 +100,7 @@ pub fn two_byte_sign(first: u8, second: u8) -> Option<Sign>
     }
 }
 
-/// The sign that one byte spells.
+/// Returns the sign that one byte is.
 pub fn one_byte_sign(byte: u8) -> Option<Sign>
     ensures { result ≡ look_up one_byte_signs (byte ∷ []) }
 {

@@ -1,7 +1,7 @@
-//! Whole sources: their lines, directives and asserts, their faults, and how much may be read.
+//! Whole sources: their lines, directives and asserts, their errors, and their limits.
 //!
-//! A test hands its program to functions that borrow it, and then to `drop`: where it goes out of scope by itself, each such
-//! body proves anew how a program is dropped.
+//! A test passes its program to functions that borrow it, and then to `drop`. If the program went out of scope by
+//! itself, each such body would prove again how a program is dropped.
 use redcode_text::{
     Assert, Env, Line, NameTable, PredefinedNames, Program, Sign, TextFault, TextProblem, Token,
     TokenKind, eval, expand,
@@ -16,7 +16,7 @@ mod memory;
 mod no_memory;
 mod words;
 
-/// What the predefined names stand for.
+/// The values of the predefined names.
 pub const NAMES: PredefinedNames = PredefinedNames {
     core_size: 8000,
     max_processes: 8000,
@@ -28,11 +28,11 @@ pub const NAMES: PredefinedNames = PredefinedNames {
     version: 80,
 };
 
-/// Prose that is never read, two rounds of a loop, and a line that names what they made.
+/// Prose that is never read, a loop of two iterations, and a line that uses the labels that the loop made.
 const LOOPS: &[u8] =
     b"FOR 0\nthis is prose, 100\xE2\x82\xAC\nROF\ni FOR 2\nx&i DAT i, 0\nROF\nDAT x02, x01\n";
 
-/// An EQU name of two lines in place of an operation.
+/// An EQU name with a definition of two lines, used as an operation.
 const COPIES: &[u8] =
     b"step EQU 4\ncopy EQU MOV.I target, step\n     EQU ADD.AB #step, target\ntarget DAT 0, 0\ncopy\nEND target\n";
 
@@ -48,7 +48,7 @@ fn at(line: usize, problem: TextProblem) -> Option<TextFault> {
     Some(fault(line, problem))
 }
 
-/// Each source has the fault of this line and problem.
+/// Checks that each source has its error, on the given line.
 fn check_faults(rt: &impl Abort, alloc: Global, rows: &[(&[u8], usize, TextProblem)]) {
     for (source, line, problem) in rows {
         let fault = at(*line, *problem);
@@ -56,7 +56,7 @@ fn check_faults(rt: &impl Abort, alloc: Global, rows: &[(&[u8], usize, TextProbl
     }
 }
 
-/// No source has a fault.
+/// Checks that no source has an error.
 fn check_no_faults(rt: &impl Abort, alloc: Global, sources: &[&[u8]]) {
     for source in sources {
         assert_eq!(rt; fault_of(alloc, source), None, "in {source:?}");
@@ -69,7 +69,7 @@ fn push_word(text: &mut String, word: &str) -> Result<(), Fail> {
     Ok(())
 }
 
-/// A name, by its index, with a blank behind.
+/// Appends the name with this index, and a space.
 fn push_named(text: &mut String, names: &NameTable, name: usize) -> Result<(), Fail> {
     match str::from_utf8(names.name(name)) {
         Ok(word) => push_word(text, word),
@@ -77,7 +77,7 @@ fn push_named(text: &mut String, names: &NameTable, name: usize) -> Result<(), F
     }
 }
 
-/// Tokens, with blanks behind each.
+/// Appends tokens, with a space after each.
 fn push_tokens(
     alloc: Global,
     text: &mut String,
@@ -98,7 +98,7 @@ fn push_tokens(
     Ok(())
 }
 
-/// A line: its number, its labels, each with a colon, its operation, and the rest behind a bar.
+/// A line as text: its number, its labels, each with a colon, its operation, and the remaining tokens after a bar.
 fn shown(alloc: Global, names: &NameTable, line: &Line) -> Result<String, Fail> {
     let number = line.number;
     let mut text = format!(in alloc; "{number} ")?;
@@ -114,7 +114,7 @@ fn shown(alloc: Global, names: &NameTable, line: &Line) -> Result<String, Fail> 
     Ok(text)
 }
 
-/// Lines, each with LF behind it.
+/// Lines as text, with LF after each.
 fn all_shown(alloc: Global, names: &NameTable, lines: &[Line]) -> Result<String, Fail> {
     let mut text = String::new(alloc);
     for line in lines {
@@ -124,7 +124,7 @@ fn all_shown(alloc: Global, names: &NameTable, lines: &[Line]) -> Result<String,
     Ok(text)
 }
 
-/// All lines of the program of a source.
+/// All lines of the program of a source, as text.
 fn lines_of(alloc: Global, source: &[u8]) -> Result<String, Fail> {
     let program = expand(alloc, source, &NAMES)?;
     let text = all_shown(alloc, program.names(), program.lines());
@@ -132,14 +132,14 @@ fn lines_of(alloc: Global, source: &[u8]) -> Result<String, Fail> {
     text
 }
 
-/// The program of a source has these lines.
+/// Checks that the program of a source has these lines.
 fn check_lines(rt: &impl Abort, alloc: Global, source: &[u8], expected: &str) -> Result<(), Fail> {
     let text = lines_of(alloc, source)?;
     assert_eq!(rt; text.as_str(), expected);
     Ok(())
 }
 
-/// So many copies of a text.
+/// Returns `count` copies of a text.
 fn copies(alloc: Global, text: &[u8], count: usize) -> Result<Vec<u8>, Fail> {
     let mut made = Vec::new(alloc);
     for _ in 0..count {
@@ -148,7 +148,7 @@ fn copies(alloc: Global, text: &[u8], count: usize) -> Result<Vec<u8>, Fail> {
     Ok(made)
 }
 
-/// So many copies of a text have this fault.
+/// Checks that copies of a text have this error.
 fn check_copies(
     rt: &impl Abort,
     alloc: Global,
@@ -161,7 +161,7 @@ fn check_copies(
     Ok(())
 }
 
-/// Texts one behind the other.
+/// Returns texts, one after another.
 fn joined(alloc: Global, texts: &[&[u8]]) -> Result<Vec<u8>, Fail> {
     let mut made = Vec::new(alloc);
     for text in texts {
@@ -190,7 +190,7 @@ fn an_operation_stands_for_lines(rt: HostRuntime) -> Result<(), Fail> {
     check_lines(&rt, rt.alloc(), source, lines)
 }
 
-/// There are 100 lines from line 2, without labels.
+/// Checks that there are 100 lines without labels, all from line 2.
 fn check_rounds(rt: &impl Abort, lines: &[Line]) {
     assert_eq!(rt; lines.len(), 100);
     for line in lines {
@@ -222,7 +222,7 @@ fn end_stops_the_reading(rt: HostRuntime) -> Result<(), Fail> {
     check_lines(&rt, rt.alloc(), used, "4 DAT | 1 \n4 eNd | 2 \n")
 }
 
-/// Directives among prose, before the mark and behind it, and an instruction between two asserts.
+/// Directives among prose, before and after the `;redcode` line, and an instruction between two asserts.
 const DIRECTIVES: &[u8] =
     b"prose \xC8\n;name first\n ;RedCode-94 ?\n;name  An \xC8imp \n;AUTHOR\n;assert CORESIZE ;comment\nMOV 0\n;assert x\n;name\n";
 
@@ -251,7 +251,7 @@ fn lines_among_directives(rt: HostRuntime) -> Result<(), Fail> {
     Ok(())
 }
 
-/// An assert stands on this line, behind so many instructions, and has so many tokens.
+/// Checks the line of an assert, the number of instructions before it, and its number of tokens.
 fn check_assert(rt: &impl Abort, assert: &Assert, number: usize, before: u32, tokens: usize) {
     assert_eq!(rt; assert.number, number);
     assert_eq!(rt; assert.current_line, before);
@@ -272,7 +272,7 @@ fn what_is_asserted(rt: HostRuntime) -> Result<(), Fail> {
     Ok(())
 }
 
-/// There are two asserts, of three tokens and of one.
+/// Checks that there are two asserts, with three tokens and one token.
 fn check_assert_lens(rt: &impl Abort, asserts: &[Assert]) {
     assert_eq!(rt; asserts.len(), 2);
     assert_eq!(rt; asserts[0].tokens.len(), 3);
@@ -288,7 +288,7 @@ fn an_assert_ends_at_a_comment(rt: HostRuntime) -> Result<(), Fail> {
     Ok(())
 }
 
-/// No name stands for anything.
+/// No name has a value.
 struct NoNames;
 
 impl Env for NoNames {
@@ -301,7 +301,7 @@ impl Env for NoNames {
     }
 }
 
-/// There is one line, whose operand has the value 8 where EQU names are replaced.
+/// Checks that there is one line, whose operand has the value 8 after its EQU names are replaced.
 fn check_operand(rt: &impl Abort, alloc: Global, program: &Program) -> Result<(), Fail> {
     assert_eq!(rt; program.lines().len(), 1);
     for line in program.lines() {
@@ -319,7 +319,7 @@ fn an_operand_is_replaced_and_has_a_value(rt: HostRuntime) -> Result<(), Fail> {
     checked
 }
 
-/// How many labels the first line of a source has.
+/// The number of labels of the first line of a source.
 fn first_labels(alloc: Global, source: &[u8]) -> Result<usize, Fail> {
     let program = expand(alloc, source, &NAMES)?;
     let labels = match program.lines() {

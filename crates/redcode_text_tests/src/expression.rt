@@ -1,7 +1,7 @@
 use redcode_text::{Env, ExprFault, Sign, TextFault, TextProblem, Token, TokenKind, eval};
 use std::test::Fail;
 
-/// The name 0 stands for 5, and no other for anything.
+/// The name 0 has the value 5, and no other name has a value.
 struct OneName;
 
 impl Env for OneName {
@@ -31,7 +31,7 @@ fn sign(sign: Sign) -> Token {
     token(TokenKind::Sign(sign))
 }
 
-/// 64 or more of one sign, and then 1.
+/// `count` copies of one sign, followed by 1.
 fn signs_before_one(rt: HostRuntime, count: usize, with: Sign) -> Result<Vec<Token>, Fail> {
     let mut tokens = Vec::new(rt.alloc());
     for _ in 0..count {

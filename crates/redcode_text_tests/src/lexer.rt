@@ -14,7 +14,7 @@ fn kinds_in(alloc: Global, tokens: &[Token]) -> Result<Vec<TokenKind>, Fail> {
     Ok(kinds)
 }
 
-/// What the tokens of a text are, outside loops.
+/// The kinds of the tokens of a text outside loops.
 fn kinds_of(alloc: Global, text: &[u8]) -> Result<Vec<TokenKind>, Fail> {
     let read = scan(alloc, text)?;
     let kinds = kinds_in(alloc, &read.tokens);
@@ -26,7 +26,7 @@ fn problem_of(alloc: Global, text: &[u8]) -> Option<TextProblem> {
     Some(scan(alloc, text).err()?.problem)
 }
 
-/// Each text has a problem, which is this one.
+/// Checks that each text has this error.
 fn check_problems(rt: &impl Abort, alloc: Global, texts: &[&[u8]], problem: TextProblem) {
     for text in texts {
         assert_eq!(rt; problem_of(alloc, text), Some(problem), "in {text:?}");
@@ -92,13 +92,14 @@ fn what_begins_no_token(rt: HostRuntime) {
     assert_eq!(rt; problem, Some(TextProblem::NotAscii));
 }
 
-/// A line in three loops, last read in round 12 of `j`, round 3 of one without a counter and round 1 of `i`.
+/// A line in three loops, last read in iteration 12 of `j`, iteration 3 of a loop without a counter, and iteration 1 of
+/// `i`.
 const JOINS: &[u8] = b"j FOR 12\nFOR 3\ni FOR 1\nDAT x&i x&i&j &i 5&i j\nROF\nROF\nROF\n";
 
-/// A join to `x`, which is no counter, in the same loops.
+/// A join to `x`, which isn't a counter, in the same three loops as in `JOINS`.
 const NO_COUNTER: &[u8] = b"j FOR 12\nFOR 3\ni FOR 1\nDAT &i&x\nROF\nROF\nROF\n";
 
-/// A token is this name.
+/// Checks that a token is this name.
 fn check_name(rt: &impl Abort, names: &NameTable, token: &Token, name: &[u8]) {
     let found = match token.kind {
         TokenKind::Name(index) => names.name(index),
@@ -107,7 +108,7 @@ fn check_name(rt: &impl Abort, names: &NameTable, token: &Token, name: &[u8]) {
     assert_eq!(rt; found, name);
 }
 
-/// The tokens that were read last: two names and three numbers.
+/// Checks the tokens of the last line: two names and three numbers.
 fn check_joined(rt: &impl Abort, program: &Program) -> Result<(), Fail> {
     let last = program.lines().last().ok_or("line")?;
     let [name, longer, counter, number, alone] = last.rest.as_slice() else {
@@ -154,7 +155,7 @@ fn tokens_know_where_they_stand(rt: HostRuntime) -> Result<(), Fail> {
     Ok(())
 }
 
-/// With a refused allocation, the answer is want of memory at line 0 and nothing else.
+/// If an allocation fails, the error is `OutOfMemory` with line 0.
 #[test]
 fn want_of_memory_has_no_line(rt: HostRuntime) {
     match scan(rt.alloc(), b"first second third + 4") {

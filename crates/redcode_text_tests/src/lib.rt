@@ -1,4 +1,4 @@
-//! The worked cases of `redcode_text`, by its calls.
+//! Test cases of `redcode_text`, through its public calls.
 #![tactic(auto)]
 
 #[cfg(test)]

@@ -159,7 +159,7 @@ def read_warrior(
     assemble: Callable[..., Warrior], path: str, settings: Settings, rounds: int = 1, warriors: int = 2
 ) -> Warrior:
     """Returns the warrior of a file: of a load file if its name ends in .load, otherwise of a source. Raises FileFault,
-    and Fault if the settings are invalid.
+    and `Fault` if the settings are invalid.
     """
     text = read_file(path)
     try:

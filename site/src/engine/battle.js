@@ -6,8 +6,8 @@ const WORD = 4;
 const HEADER_WORDS = MarsBattle.size / WORD;
 
 /**
- * A view of the words of a battle, as struct MarsBattle of include/mars.h describes them. It copies nothing: whoever
- * changes the words changes the battle, and the next call of the machine checks them.
+ * A view of the words of a battle, as struct MarsBattle of include/mars.h describes them. It copies nothing: a
+ * change of the words changes the battle, and the next call of the machine checks them.
  */
 export class Battle {
   /** @param {Uint32Array} words */

@@ -17,7 +17,7 @@ extern unsigned char __heap_base;
 static uintptr_t memory_end, region, region_end;
 static void *free_blocks[CLASSES];
 
-/* Returns the smallest class whose blocks have so many bytes: 16, 20, 24, 28, 32, 40, .. */
+/* Returns the smallest class whose blocks have at least `size` bytes: 16, 20, 24, 28, 32, 40, .. */
 static unsigned class_of(size_t size)
 {
     if (size <= 16) return 0;
@@ -49,7 +49,7 @@ static void *reuse(unsigned class)
     return block;
 }
 
-/* Makes the region at least so long at the end of the memory; returns 0 if more memory is refused. */
+/* Grows the region at the end of the memory to at least `length` bytes; returns 0 if the memory cannot grow. */
 static int grow(size_t length)
 {
     if (!memory_end) {

@@ -277,7 +277,7 @@ export class Mars {
   }
 
   /**
-   * Takes memory until the end of the call.
+   * Allocates a block until the end of the call.
    * @param {number} size in bytes
    */
   #take(size) {

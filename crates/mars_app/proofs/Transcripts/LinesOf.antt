@@ -16,7 +16,7 @@ unfolding lines_of
 lines_of-line [] bs h = refl
 lines_of-line (b ∷ l) bs h = rw (not_newline b h.0, lines_of-line l bs h.1) refl
 
--- the line without a newline, where there is one
+-- The line without a newline, if there is one.
 abbrev pub last_of : List ℕ → List (List ℕ)
 last_of [] = []
 last_of (b ∷ l) = (b ∷ l) ∷ []
@@ -53,7 +53,7 @@ pub until_quit-one : (m : ℕ) (l : List ℕ) → GoesOn m l → until_quit m (l
 unfolding until_quit
 until_quit-one m l h = rw (is_no_quit (line_asks m l) h) refl
 
--- what is executed of some bytes
+-- The lines of some bytes that are executed.
 pub executed_lines : (m : ℕ) (bytes : List ℕ) (lines : List (List ℕ)) (rest : List ℕ) → Splits bytes lines rest → AllByRecursion (GoesOn m) lines
     → until_quit m (lines_of bytes) ≡ lines ++ until_quit m (last_of rest)
 executed_lines m bytes lines rest s g = rw (s.whole, lines_of-lines lines rest s.each, until_quit-lines m lines (lines_of rest) g, lines_of-open rest s.unfinished) refl

@@ -1,4 +1,4 @@
--- Steps of the debugger, one after the other.
+-- The steps of the debugger, one after another.
 use Rattle.std.proofs.Common.{◌≡◌, ◌≢◌, refl, ℕ, ◌+◌, ◌<◌, Bool, true, false, nat_eq, List, [], ◌∷◌, ◌++◌, Option, None, Some, IfSome, length, take, drop, get_or, take-append-drop, sym, ap, subst, ◌∙◌, inl, inr, append_assoc, append-nil}
 use Rattle.std.proofs.lemmas.Grind.{flat_map-append}
 use Rattle.std.proofs.lemmas.List.{take_more}
@@ -21,7 +21,7 @@ use Rattle.mars_app.specs.Debugger.Transcript.Transcript.{none, line}
 use Rattle.mars_app.specs.Code.Steps.{GoesThrough, Quits, Breaks, ReadsOn, Quitting, Finishes, BreaksAtEnd}
 use Rattle.mars_app.proofs.Transcripts.LinesOf.{executed_lines, last_of, lines_of-line, lines_of-lines, until_quit-lines, until_quit-one, until_quit-quit}
 
--- ---- the core's size under another name
+-- ---- The core size under another name
 
 module _ {input left : Option (List ℕ)} {s : SessionState} {v : Option (List ℕ)} {t : SessionState} {w : Option (List ℕ)} {a b : ℕ} where
   pub Completes-along : a ≡ b → Completes a input left s v t w → Completes b input left s v t w
@@ -30,7 +30,7 @@ module _ {input left : Option (List ℕ)} {s : SessionState} {v : Option (List �
   pub WriteFails-along : a ≡ b → WriteFails a input left s v t w → WriteFails b input left s v t w
   WriteFails-along e h = let P : ℕ → Type 0 = λ n. WriteFails n input left s v t w in subst P e h
 
--- ---- lists
+-- ---- Lists
 
 pub every_push : {X : Type 0} (P : X → Type 0) (xs : List X) (x : X) → AllByRecursion P xs → P x → AllByRecursion P (xs ++ x ∷ [])
 every_push P [] x h p = (p, tt)
@@ -41,20 +41,20 @@ every_split P [] x h = (tt, h.0)
 every_split P (y ∷ xs) x h = let r = every_split P xs x h.1 in ((h.0, r.0), r.1)
 
 module _ (core : ℕ) where
-  -- ---- lines and their text
+  -- ---- Lines and their replies
 
-  -- lines, and then others
+  -- Executing lines, and then others, is executing all of them.
   pub Transcript-append : {s t u : SessionState} {x y : List ℕ} {a b : List (List ℕ)} → Transcript core s a t x → Transcript core t b u y → Transcript core s (a ++ b) u (x ++ y)
   Transcript-append none q = q
   Transcript-append (line poor l p e) q = line poor l (Transcript-append p q) (rw (e, append_assoc) refl)
 
-  -- one line
+  -- Executing one line.
   pub Transcript-one : (poor : Bool) (t : SessionState) (l : List ℕ) → Transcript core t (l ∷ []) (answer poor t (line_asks core l)).0 (answer poor t (line_asks core l)).1
   Transcript-one poor t l = line poor l none (rw append-nil refl)
 
-  -- ---- a byte
+  -- ---- One byte
 
-  -- another byte of the line
+  -- The byte is another byte of the line.
   pub goes_through_byte : (a b : LineBuffer) (t : SessionState) (v : Option (List ℕ)) (byte : ℕ) → byte ≢ 10 → ((l : List ℕ) → Holds a l → Holds b (l ++ byte ∷ []))
       → GoesThrough core (byte ∷ []) a t v b t v
   goes_through_byte a b t v byte other push s bytes text r = (
@@ -74,7 +74,7 @@ module _ (core : ℕ) where
     },
   )
 
-  -- the line's end, and the line is executed
+  -- The byte ends the line, and the line is executed.
   pub goes_through_line : (a b : LineBuffer) (t u : SessionState) (v w : Option (List ℕ)) (request : Request) (poor : Bool)
       → ((l : List ℕ) → Holds a l → request ≡ line_asks core l) → Holds b [] → request ≢ Quit
       → u ≡ (answer poor t request).0 → Appends v w (answer poor t request).1
@@ -97,7 +97,7 @@ module _ (core : ℕ) where
         },
       )
 
-  -- the line's end, where the line is quit
+  -- The byte ends the line, and the line is `quit`.
   pub quits_at_line : (a : LineBuffer) (t : SessionState) (v : Option (List ℕ)) (request : Request)
       → ((l : List ℕ) → Holds a l → request ≡ line_asks core l) → request ≡ Quit → Quits core (10 ∷ []) a t v t v
   quits_at_line a t v request asks quit s bytes text r = (
@@ -115,7 +115,7 @@ module _ (core : ℕ) where
     },
   )
 
-  -- the line's end, and a write failed
+  -- The byte ends the line, and a write of its reply fails.
   pub breaks_at_line : (a : LineBuffer) (t u : SessionState) (v w : Option (List ℕ)) (request : Request) (poor : Bool)
       → ((l : List ℕ) → Holds a l → request ≡ line_asks core l)
       → u ≡ (answer poor t request).0 → CutShort v w (answer poor t request).1 → Breaks core (10 ∷ []) a t v u w
@@ -143,7 +143,7 @@ module _ (core : ℕ) where
         },
       )
 
-  -- ---- several bytes
+  -- ---- Several bytes
 
   pub goes_through_both : (x y : List ℕ) (a b c : LineBuffer) (t u m : SessionState) (v w z : Option (List ℕ))
       → GoesThrough core x a t v b u w → GoesThrough core y b u w c m z → GoesThrough core (x ++ y) a t v c m z
@@ -166,7 +166,7 @@ module _ (core : ℕ) where
       let q = second s (bytes ++ x) (text ++ p.0) p.2 in
       (p.0 ++ q.0, Appends-trans v w z p.0 q.0 p.1 q.1, rw (← append_assoc bytes x y, ← append_assoc text p.0 q.0) q.2)
 
-  -- what follows doesn't matter
+  -- Bytes after the line do not matter.
   more_bytes : (bytes front last more others : List ℕ) → bytes ≡ front ++ (last ++ 10 ∷ more) → bytes ++ others ≡ front ++ (last ++ 10 ∷ (more ++ others))
   more_bytes bytes front last more others e = ap (λ l. l ++ others) e ∙ append_assoc front (last ++ 10 ∷ more) others ∙ ap (λ l. front ++ l) (append_assoc last (10 ∷ more) others)
 
@@ -203,7 +203,7 @@ module _ (core : ℕ) where
         },
       )
 
-  -- ---- a loop over bytes
+  -- ---- A loop over bytes
 
   module _ (xs : List ℕ) (i byte : ℕ) (inside : i < length xs) (is : byte ≡ get_or xs i 0) where
     one_more : take (i + 1) xs ≡ take i xs ++ byte ∷ []
@@ -224,7 +224,7 @@ module _ (core : ℕ) where
         → GoesThrough core (take i xs) a t v b u w → Breaks core (byte ∷ []) b u w m z → Breaks core xs a t v m z
     breaks_inside a b t u m v w z p q = rw around (breaks_early _ (drop (i + 1) xs) a t m v z (breaks_after _ _ a b t u m v w z p q))
 
-  -- ---- the end of the input
+  -- ---- The end of the input
 
   is_empty_list : (l : List ℕ) → true ≡ nat_eq (length l) 0 → l ≡ []
   is_empty_list [] h = refl
@@ -234,21 +234,21 @@ module _ (core : ℕ) where
   is_last [] h = cc
   is_last (b ∷ l) h = refl
 
-  -- there is no unfinished line
+  -- There is no unfinished line.
   pub finishes_empty : (a : LineBuffer) (t : SessionState) (v : Option (List ℕ)) → ((l : List ℕ) → Holds a l → true ≡ nat_eq (length l) 0) → Finishes core a t v t v
   unfolding until_quit
   finishes_empty a t v empty s bytes text r =
       let none : r.rest ≡ [] = is_empty_list r.rest (empty r.rest r.holds) in
       ([], Appends-nil v, rw (executed_lines core bytes r.lines r.rest r.splits r.goes_on, none, append-nil, append-nil) r.answers)
 
-  -- the unfinished line is quit
+  -- The unfinished line is `quit`.
   pub finishes_quit : (a : LineBuffer) (t : SessionState) (v : Option (List ℕ)) (request : Request) → ((l : List ℕ) → Holds a l → false ≡ nat_eq (length l) 0)
       → ((l : List ℕ) → Holds a l → request ≡ line_asks core l) → request ≡ Quit → Finishes core a t v t v
   finishes_quit a t v request some asks quit s bytes text r =
       let one = is_last r.rest (some r.rest r.holds) in
       ([], Appends-nil v, rw (executed_lines core bytes r.lines r.rest r.splits r.goes_on, one, until_quit-quit core r.rest [] (sym (asks r.rest r.holds) ∙ quit), append-nil, append-nil) r.answers)
 
-  -- the unfinished line is executed
+  -- The unfinished line is executed.
   pub finishes_line : (a : LineBuffer) (t u : SessionState) (v w : Option (List ℕ)) (request : Request) (poor : Bool) → ((l : List ℕ) → Holds a l → false ≡ nat_eq (length l) 0)
       → ((l : List ℕ) → Holds a l → request ≡ line_asks core l) → request ≢ Quit
       → u ≡ (answer poor t request).0 → Appends v w (answer poor t request).1 → Finishes core a t v u w
@@ -261,7 +261,7 @@ module _ (core : ℕ) where
             (Transcript-append r.answers (rw (tape, e) (Transcript-one poor t r.rest))),
       )
 
-  -- the unfinished line is executed, and a write fails
+  -- The unfinished line is executed, and a write of its reply fails.
   pub breaks_at_last : (a : LineBuffer) (t u : SessionState) (v w : Option (List ℕ)) (request : Request) (poor : Bool)
       → ((l : List ℕ) → Holds a l → request ≡ line_asks core l)
       → u ≡ (answer poor t request).0 → CutShort v w (answer poor t request).1 → BreaksAtEnd core a t v u w
@@ -286,7 +286,7 @@ module _ (core : ℕ) where
         },
       )
 
-  -- quit is the end of all that is executed, whatever follows
+  -- A `quit` ends the lines that are executed, whatever follows it.
   pub quits_all : (s : SessionState) (bytes : List ℕ) (u : SessionState) (text more : List ℕ) → Quitting core s bytes u text → Transcript core s (until_quit core (lines_of (bytes ++ more))) u text
   quits_all s bytes u text more q =
       let split = every_split IsLine q.lines q.last q.each in
@@ -302,15 +302,15 @@ module _ (core : ℕ) where
   pub quits_there : (s : SessionState) (bytes : List ℕ) (u : SessionState) (text : List ℕ) → Quitting core s bytes u text → Transcript core s (until_quit core (lines_of bytes)) u text
   quits_there s bytes u text q = let all = quits_all s bytes u text [] q in rw append-nil at all
 
-  -- ---- read after read
+  -- ---- One read after another
 
   Consumes-front : (a b : Option (List ℕ)) (bs : List ℕ) (P : List ℕ → Type 0) → Consumes a b bs → ((more : List ℕ) → P (bs ++ more)) → IfSome a P
   Consumes-front None b bs P p h = tt
   Consumes-front (Some x) None bs P p h = absurd p
   Consumes-front (Some x) (Some y) bs P p h = subst P (sym p) (h y)
 
-  -- What the reads so far brought was taken: `input` and `left` are what the reader had and has left, v and w what
-  -- the writer held and holds.
+  -- The bytes of the reads so far were processed: `input` and `left` are what the reader had and has left, `v` and `w` what the
+  -- writer had and has.
   abbrev pub SoFar : Option (List ℕ) → Option (List ℕ) → SessionState → Option (List ℕ) → LineBuffer → SessionState → Option (List ℕ) → Type 0
   SoFar input left t v a u w = (bytes : List ℕ) × (text : List ℕ) × Consumes input left bytes × Appends v w text × ReadsOn core t bytes a u text
 

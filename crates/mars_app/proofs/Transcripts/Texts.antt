@@ -1,4 +1,4 @@
--- Texts behind one another, and a writer that failed in one of them.
+-- Texts one after another, and a writer that failed in one of them.
 use Rattle.std.proofs.Common.{◌≡◌, refl, ℕ, zero, suc, ◌+◌, ◌<◌, List, [], ◌++◌, Option, ◌⊎◌, inl, inr, arith, append_assoc, add-one, append-nil}
 use Rattle.mars_cell.specs.Output.{CutShort}
 use Rattle.mars_cell.proofs.CallerLemmas.{CutShort-front}
@@ -7,7 +7,7 @@ use Rattle.mars_app.specs.Debugger.Readings.{texts}
 pub four_texts : (x y z last : List ℕ) → x ++ ((y ++ z) ++ last) ≡ (x ++ y) ++ (z ++ last)
 four_texts x y z last = rw (append_assoc y z last, append_assoc x y (z ++ last)) refl
 
--- ---- texts by number
+-- ---- Texts by number
 
 module _ (f : ℕ → List ℕ) where
   pub texts-one_more : (i : ℕ) → texts f (i + 1) ≡ texts f i ++ f i
@@ -17,7 +17,7 @@ module _ (f : ℕ → List ℕ) where
   below_suc : (i n : ℕ) → i < suc n → (i < n) ⊎ (i ≡ n)
   below_suc i n h = grind arith
 
-  -- the texts before one, its own, and those after it
+  -- The texts consist of those before text `i`, text `i`, and the rest.
   pub texts-around : (n i : ℕ) → i < n → (rest : List ℕ) × (texts f n ≡ texts f i ++ (f i ++ rest))
   unfolding texts
   texts-around zero i h = absurd (omega arith)
@@ -26,6 +26,6 @@ module _ (f : ℕ → List ℕ) where
     | inr e ↦ ([], rw (e, append-nil) refl)
   ]
 
-  -- the writer failed before one of the texts
+  -- If the writer failed in the texts before text `i`, it failed in all texts.
   pub texts_begun : (a b : Option (List ℕ)) (n i : ℕ) → CutShort a b (texts f i) → i < n → CutShort a b (texts f n)
   texts_begun a b n i cut inside = let r = texts-around n i inside in rw r.1 (CutShort-front a b (texts f i) (f i ++ r.0) cut)

@@ -1,4 +1,4 @@
--- What is allowed, as the program uses it.
+-- The conditions on options, as the program uses them.
 use Rattle.std.specs.Prelude.{◌≡◌, ℕ, ◌+◌, ◌≤◌, false, true, IfSome, vec_len}
 use Rattle.mars_core.specs.Limits.{most_warriors}
 use Rattle.mars_app.specs.Limits.{longest_history, most_rounds}
@@ -6,23 +6,28 @@ use Rattle.mars_match.specs.Placement.{greatest_seed}
 use Rattle.mars_cell.specs.Limits.{largest_core, most_cycles, most_processes}
 use Rattle.mars_app.specs.declared.options.Options.{Options}
 
+-- `n` is in the range from `least` to `greatest`, both included.
 abbrev pub IsBetween : ℕ → ℕ → ℕ → Type 0
 IsBetween least greatest n = (least ≤ n) × (n ≤ greatest)
 
+-- The options have a number of files that is allowed.
 pub record HaveFiles (o : Options) : Type 0 where
   pub count : IsBetween 1 most_warriors (vec_len o.files)
   pub load : o.load ≡ true → vec_len o.files ≡ 1
   pub league : o.league ≡ true → 2 ≤ vec_len o.files
 
+-- The position is for two warriors, and at least the minimum distance from the first one in both directions around the core.
 pub record IsFittingPosition (o : Options) (position : ℕ) : Type 0 where
   pub two_files : vec_len o.files ≡ 2
   pub no_league : o.league ≡ false
   pub up : o.distance ≤ position
   pub down : position + o.distance ≤ o.core
 
+-- The options have no position, or one that fits.
 abbrev pub HaveFittingPosition : Options → Type 0
 HaveFittingPosition o = IfSome o.fixed (IsFittingPosition o)
 
+-- Each number of the options is in its range.
 pub record HaveNumbers (o : Options) : Type 0 where
   pub rounds : IsBetween 1 most_rounds o.rounds
   pub core : IsBetween 1 largest_core o.core
@@ -35,6 +40,7 @@ pub record HaveNumbers (o : Options) : Type 0 where
   pub read_limit : IfSome o.read_limit (IsBetween 1 largest_core)
   pub write_limit : IfSome o.write_limit (IsBetween 1 largest_core)
 
+-- The conditions on options that the program uses.
 pub record AreInRange (o : Options) : Type 0 where
   pub numbers : HaveNumbers o
   pub files : HaveFiles o

@@ -1,4 +1,4 @@
--- Why options are refused, and what is done with the warriors of their files.
+-- Why options are rejected, and what is done with the warriors of their files.
 use Rattle.std.specs.Prelude.{◌≡◌, ◌⊎◌, false, true, List, ◌++◌, Ok, Err, string_bytes}
 use Rattle.std.specs.Io.KnownBytes.{Keeps}
 use Rattle.mars_cell.specs.ParameterFaults.{checked_parameters}
@@ -20,21 +20,22 @@ use Rattle.mars_app.specs.declared.fault.RunFault.{RunFault}
 use Rattle.mars_app.specs.declared.fault.RunFault.TheVariants as fault
 use Rattle.mars_app.specs.declared.options.Options.{Options}
 
--- the parameters aren't allowed, or there is no formula, or memory is wanting
+-- `f` is a reason for which the options are rejected: an allocation fails, the parameters are out of range, or the formula has
+-- an error.
 abbrev pub IsRefused : Options → RunFault → Type 0
 IsRefused o f = (f ≡ fault.OutOfMemory)
     ⊎ (((e : ParamFault) × (checked_parameters (parameters_of o) ≡ Err e) × (f ≡ fault.Parameters e))
     ⊎ ((p : Parameters) × (checked_parameters (parameters_of o) ≡ Ok p)
     × (e : ExprFault) × (formula_of (string_bytes o.score) ≡ Err e) × (f ≡ fault.Formula (Expression e))))
 
--- the battle of the first round was debugged, or the contest was held
+-- The battle of the first round was debugged, or the match or league was run, without an error.
 abbrev pub PlaysWell : Options → Setup → List WarriorValue → StreamsValue → StreamsValue → Type 0
 PlaysWell o setup ws old new =
     ((o.debugger ≡ true) × (s : State) × (first_round setup ws ≡ Ok s) × DebugsWell (session_at o.history s) old new)
     ⊎ ((o.debugger ≡ false) × (rows : List RowValue) × (contest o.league setup ws ≡ Ok rows)
     × Writes old new (listing setup.params.core_size o.brief ws ++ results_text rows o.sorted))
 
--- that didn't end well
+-- Debugging, or the match or league, ended with the error `f`.
 abbrev pub PlaysInPart : Options → Setup → List WarriorValue → StreamsValue → StreamsValue → RunFault → Type 0
 PlaysInPart o setup ws old new f =
     ((o.debugger ≡ true) × (StartsNothing f (first_round setup ws) old new

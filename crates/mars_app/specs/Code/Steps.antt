@@ -1,4 +1,4 @@
--- What the debugger's steps do, byte by byte, from one state to the next: a buffer, a session and what the writer holds.
+-- The steps of the debugger, byte by byte. The state consists of a line buffer, a session and the content of the writer.
 use Rattle.std.specs.Prelude.{◌≡◌, ℕ, List, [], ◌∷◌, ◌++◌, Option}
 use Rattle.std.specs.List.{flat_map, AllByRecursion}
 use Rattle.std.specs.Io.KnownBytes.{Appends}
@@ -11,8 +11,8 @@ use Rattle.mars_cell.specs.Written.{with_newline}
 use Rattle.mars_app.specs.Debugger.Lines.{line_asks, Splits, IsLine}
 use Rattle.mars_app.specs.Debugger.Transcript.{Transcript, BrokenAt, GoesOn, until_quit}
 
--- The bytes were read from the session s on. The whole lines among them were executed, which left the session t
--- and gave the text; none of them is quit; and the buffer holds the unfinished line.
+-- `bytes` were read, starting with the session `s`. The complete lines among them were executed, which led to the session `t`
+-- and replied `text`; none of them is `quit`. `buffer` has the unfinished line.
 pub record ReadsOn (core_size : ℕ) (s : SessionState) (bytes : List ℕ) (buffer : LineBuffer) (t : SessionState) (text : List ℕ) : Type 0 where
   pub lines : List (List ℕ)
   pub rest : List ℕ
@@ -21,7 +21,8 @@ pub record ReadsOn (core_size : ℕ) (s : SessionState) (bytes : List ℕ) (buff
   pub answers : Transcript core_size s lines t text
   pub holds : Holds buffer rest
 
--- the same, up to a whole line that is quit; others may follow it
+-- `bytes` were read, starting with the session `s`, and contain a complete line that is `quit`. The lines before it were
+-- executed, which led to the session `t` and replied `text`. Bytes may follow the `quit`.
 pub record Quitting (core_size : ℕ) (s : SessionState) (bytes : List ℕ) (t : SessionState) (text : List ℕ) : Type 0 where
   pub lines : List (List ℕ)
   pub last : List ℕ
@@ -32,7 +33,8 @@ pub record Quitting (core_size : ℕ) (s : SessionState) (bytes : List ℕ) (t :
   pub quits : line_asks core_size last ≡ Quit
   pub answers : Transcript core_size s lines t text
 
--- the same, up to a whole line that was executed, and of whose text a beginning went out, not all of it
+-- `bytes` were read, starting with the session `s`. The complete lines up to the line `last` were executed, which led to the
+-- session `t`; writing failed in the reply to `last`, of which only a beginning, not all, is in `text`.
 pub record Breaking (core_size : ℕ) (s : SessionState) (bytes : List ℕ) (t : SessionState) (text : List ℕ) : Type 0 where
   pub lines : List (List ℕ)
   pub last : List ℕ
@@ -42,27 +44,28 @@ pub record Breaking (core_size : ℕ) (s : SessionState) (bytes : List ℕ) (t :
   pub goes_on : AllByRecursion (GoesOn core_size) lines
   pub cut : BrokenAt core_size s lines last t text
 
--- Whatever was read and written before: where the bytes are taken, the reading goes on.
+-- Whatever was read and written before, after taking the bytes `taken` reading continues.
 abbrev pub GoesThrough : ℕ → List ℕ → LineBuffer → SessionState → Option (List ℕ) → LineBuffer → SessionState → Option (List ℕ) → Type 0
 GoesThrough core_size taken a t v b u w = (s : SessionState) (bytes text : List ℕ) → ReadsOn core_size s bytes a t text
     → (added : List ℕ) × Appends v w added × ReadsOn core_size s (bytes ++ taken) b u (text ++ added)
 
--- the same, where quit is met
+-- Whatever was read and written before, after taking the bytes `taken` a `quit` was read.
 abbrev pub Quits : ℕ → List ℕ → LineBuffer → SessionState → Option (List ℕ) → SessionState → Option (List ℕ) → Type 0
 Quits core_size taken a t v u w = (s : SessionState) (bytes text : List ℕ) → ReadsOn core_size s bytes a t text
     → (added : List ℕ) × Appends v w added × Quitting core_size s (bytes ++ taken) u (text ++ added)
 
--- the same, where a write fails
+-- Whatever was read and written before, a write failed after taking the bytes `taken`.
 abbrev pub Breaks : ℕ → List ℕ → LineBuffer → SessionState → Option (List ℕ) → SessionState → Option (List ℕ) → Type 0
 Breaks core_size taken a t v u w = (s : SessionState) (bytes text : List ℕ) → ReadsOn core_size s bytes a t text
     → (added : List ℕ) × Appends v w added × Breaking core_size s (bytes ++ taken) u (text ++ added)
 
--- at the end of the input the unfinished line, where there is one, is executed as a line
+-- Whatever was read and written before, the unfinished line at the end of the input was executed, if there is one and it is not
+-- `quit`.
 abbrev pub Finishes : ℕ → LineBuffer → SessionState → Option (List ℕ) → SessionState → Option (List ℕ) → Type 0
 Finishes core_size a t v u w = (s : SessionState) (bytes text : List ℕ) → ReadsOn core_size s bytes a t text
     → (added : List ℕ) × Appends v w added × Transcript core_size s (until_quit core_size (lines_of bytes)) u (text ++ added)
 
--- the same, where a write fails
+-- Whatever was read and written before, a write failed in the reply to the unfinished line at the end of the input.
 abbrev pub BreaksAtEnd : ℕ → LineBuffer → SessionState → Option (List ℕ) → SessionState → Option (List ℕ) → Type 0
 BreaksAtEnd core_size a t v u w = (s : SessionState) (bytes text : List ℕ) → ReadsOn core_size s bytes a t text
     → (added : List ℕ) × (lines : List (List ℕ)) × (last : List ℕ) × Appends v w added

@@ -1,5 +1,7 @@
--- The rules that `clap` has for the words of the table.
--- That they are the rules of the definition is closed by computation. What `clap` asks of the command then computes (`clap_on_literals`).
+-- The rules of `clap` for the options in the table.
+--
+-- That they are the rules of the definition is proved by computation. What `clap` requires of the command then computes too
+-- (`clap_on_literals`).
 use Rattle.std.specs.Prelude.{ℕ, None, Option, Some, pos}
 use Rattle.std.specs.Borrow.{Bor}
 use Rattle.clap.specs.Simple.{new_rule}
@@ -10,20 +12,22 @@ use Rattle.mars_app.specs.declared.command_line.Value.{Value}
 use Rattle.mars_app.specs.declared.command_line.Value.TheVariants as value
 use Rattle.mars_app.specs.declared.command_line.Word.{Word}
 
--- with the value that follows the word
+-- The rule for the value that follows the option.
 abbrev pub valued : Value → Rule → Rule
 valued (value.Flag action) rule = record rule { action = Some action }
 valued (value.Number greatest) rule = record rule { value_names = 1; parser = Some (parser.Signed (pos 1) (pos greatest)) }
 valued value.Formula rule = record rule { value_names = 1 }
 
--- with the letter behind one minus, or else the name behind two
+-- The rule of an option with a letter (after one minus), or otherwise with a name (after two).
 abbrev pub reached : Option ℕ → Text → Rule
 reached (Some letter) name = short letter (new_rule name)
 reached None name = long (new_rule name)
 
+-- The rule with the default of the option, if it has one.
 abbrev pub defaulted : Option (Bor Text) → Rule → Rule
 defaulted (Some text) rule = or_else text.now rule
 defaulted None rule = rule
 
+-- The rule of an option of the table.
 abbrev pub rule_of_word : Word → Rule
 rule_of_word word = defaulted word.default (valued word.value (reached word.letter word.name.now))

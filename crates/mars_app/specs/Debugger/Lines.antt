@@ -1,4 +1,4 @@
--- Lines of bytes, and what each asks for.
+-- Lines of bytes, and the request of each.
 use Rattle.std.specs.Prelude.{◌≡◌, ◌≢◌, ℕ, List, ◌++◌, nat_lt, length, if◌then◌else◌}
 use Rattle.std.specs.List.{flat_map, AllByRecursion}
 use Rattle.mars_cell.specs.Written.{with_newline}
@@ -6,19 +6,19 @@ use Rattle.mars_app.specs.Debugger.Requests.{request_of}
 use Rattle.mars_app.specs.declared.debugger.request.Request.{Request}
 use Rattle.mars_app.specs.declared.debugger.request.Request.TheVariants.{Unknown}
 
--- the longest line that is looked at
+-- The maximum length of a line in bytes.
 abbrev pub longest : ℕ
 longest = 256
 
--- what a line asks for in a core of that size; one of more than 256 bytes is unknown as a whole
+-- The request of a line in a core of size `core_size`. A line of more than 256 bytes is unknown as a whole.
 abbrev pub line_asks : ℕ → List ℕ → Request
 line_asks core_size l = if nat_lt longest (length l) then Unknown else request_of core_size l
 
--- a line has no LF in it
+-- A line contains no LF.
 abbrev pub IsLine : List ℕ → Type 0
 IsLine l = AllByRecursion (λ b. b ≢ 10) l
 
--- the bytes are these whole lines, and then a beginning of one
+-- The bytes are these complete lines, followed by the beginning `rest` of another one.
 pub record Splits (bytes : List ℕ) (lines : List (List ℕ)) (rest : List ℕ) : Type 0 where
   pub whole : bytes ≡ flat_map with_newline lines ++ rest
   pub each : AllByRecursion IsLine lines

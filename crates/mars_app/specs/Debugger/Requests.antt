@@ -1,4 +1,4 @@
--- What a line asks for.
+-- The request of a line.
 use Rattle.std.specs.Prelude.{ℕ, ◌==◌, List, [], ◌∷◌, length, Option, Some, None, option_map, unwrap_or, if◌then◌else◌, codes}
 use Rattle.std.specs.List.{find}
 use Rattle.std.specs.Str.{bytes_eq}
@@ -10,6 +10,7 @@ use Rattle.mars_app.specs.declared.debugger.request.Command.TheVariants as comma
 use Rattle.mars_app.specs.declared.debugger.request.Request.{Request}
 use Rattle.mars_app.specs.declared.debugger.request.Request.TheVariants as request
 
+-- The name of a command.
 abbrev pub word_of : Command → List ℕ
 word_of command.Step = codes "step"
 word_of command.Run = codes "run"
@@ -27,36 +28,39 @@ word_of command.Queue = codes "queue"
 word_of command.Show = codes "show"
 word_of command.Quit = codes "quit"
 
+-- All commands.
 abbrev pub commands : List Command
 commands = command.Step ∷ command.Run ∷ command.Until ∷ command.Edit ∷ command.Fill ∷ command.Move ∷ command.Kill ∷ command.Spawn ∷ command.Undo ∷ command.Redo ∷ command.Goto ∷ command.List ∷ command.Queue ∷ command.Show ∷ command.Quit ∷ []
 
--- the command whose word it is
+-- The command with this name.
 abbrev pub command_of : List ℕ → Option Command
 command_of w = find (λ c. bytes_eq (word_of c) w) commands
 
--- x, where no word follows
+-- `x` if no word follows, None otherwise.
 unfoldable pub alone : {X : Type 0} → X → List ℕ → Option X
 alone x l = if length (first_word l) == 0 then Some x else None
 
--- so many numbers, and no word after them
+-- One number that no word follows.
 unfoldable pub one_number : List ℕ → Option ℕ
 one_number l = do
   a ← number_at l
   alone a.0 a.1
 
+-- Two numbers that no word follows.
 unfoldable pub two_numbers : List ℕ → Option (ℕ × ℕ)
 two_numbers l = do
   a ← number_at l
   b ← one_number a.1
   Some (a.0, b)
 
+-- Three numbers that no word follows.
 unfoldable pub three_numbers : List ℕ → Option (ℕ × ℕ × ℕ)
 three_numbers l = do
   a ← number_at l
   b ← two_numbers a.1
   Some (a.0, b.0, b.1)
 
--- what a command asks for with what follows it on its line
+-- The request of a command with the arguments that follow it on its line.
 unfoldable pub with_arguments : ℕ → Command → List ℕ → Option Request
 with_arguments core_size command.Step l = alone (request.Call call.Step) l
 with_arguments core_size command.Run l = option_map (λ n. request.Call (call.Run n)) (one_number l)
@@ -81,13 +85,13 @@ with_arguments core_size command.Queue l = option_map (λ n. request.Queue n) (o
 with_arguments core_size command.Show l = alone request.Show l
 with_arguments core_size command.Quit l = alone request.Quit l
 
--- what a line with some words asks for, where they are those of a command
+-- The request of a line with a known command, if the arguments are right.
 unfoldable pub command_request : ℕ → List ℕ → Option Request
 command_request core_size l = do
   named ← command_of (first_word l)
   with_arguments core_size named (after_word l)
 
--- what a line asks for in a core of that size: blanks alone ask for nothing
+-- The request of a line in a core of size `core_size`. A line of only whitespace requests nothing.
 unfoldable pub request_of : ℕ → List ℕ → Request
 request_of core_size l =
     if length (first_word l) == 0 then request.Nothing else unwrap_or (command_request core_size l) request.Unknown

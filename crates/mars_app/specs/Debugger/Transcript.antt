@@ -1,4 +1,4 @@
--- What the debugger writes for its lines.
+-- What the debugger writes in reply to its lines.
 use Rattle.std.specs.Prelude.{◌≡◌, ◌≢◌, if◌then◌else◌, ℕ, Bool, false, true, ◌<◌, ◌≤◌, List, [], ◌∷◌, ◌++◌, length, take, codes, Option, ◌⊎◌, IfSome}
 use Rattle.std.specs.List.{flat_map, AllByRecursion}
 use Rattle.std.specs.Io.KnownBytes.{Appends, Consumes, IsAtEnd, Keeps}
@@ -11,11 +11,11 @@ use Rattle.mars_app.specs.Debugger.Lines.{line_asks, Splits, IsLine}
 use Rattle.mars_app.specs.Debugger.Readings.{list_text, queue_text, show_text}
 use Rattle.mars_app.specs.Debugger.Replies.{reply_text}
 
--- the cells of the core that a session stands at
+-- The core size of the battle of a session.
 abbrev pub core_size_of : SessionState → ℕ
 core_size_of s = s.history.present.state.params.core_size
 
--- the session after a request, and what is written for it; poor says whether memory was wanting
+-- The session after a request, and the reply that is written. `poor` is true if an allocation fails.
 unfoldable pub answer : Bool → SessionState → Request → SessionState × List ℕ
 answer poor s request.Nothing = (s, [])
 answer poor s (request.Call call) =
@@ -27,8 +27,8 @@ answer poor s request.Show = (s, show_text (standing_of s.history) s.history.pre
 answer poor s request.Quit = (s, [])
 answer poor s request.Unknown = (s, codes "unknown\n")
 
--- Executed one after the other, the lines turn the session s into t and have this text. Of each line it says whether
--- memory was wanting.
+-- Executing the lines one after another leads from the session `s` to `t` and replies `text`. Each line has its own `poor`,
+-- which is true if an allocation failed.
 pub data Transcript (core_size : ℕ) : SessionState → List (List ℕ) → SessionState → List ℕ → Type 0 where
   none : {s : SessionState} → Transcript core_size s [] s []
   line : (poor : Bool) {s t : SessionState} {text whole : List ℕ} (l : List ℕ) {ls : List (List ℕ)}
@@ -36,6 +36,7 @@ pub data Transcript (core_size : ℕ) : SessionState → List (List ℕ) → Ses
       → whole ≡ (answer poor s (line_asks core_size l)).1 ++ text
       → Transcript core_size s (l ∷ ls) t whole
 
+-- Whether a request is `quit`.
 abbrev pub is_quit : Request → Bool
 is_quit request.Nothing = false
 is_quit (request.Call call) = false
@@ -45,16 +46,16 @@ is_quit request.Show = false
 is_quit request.Quit = true
 is_quit request.Unknown = false
 
--- lines up to the first quit
+-- The lines before the first `quit`.
 unfoldable pub until_quit : ℕ → List (List ℕ) → List (List ℕ)
 until_quit core_size [] = []
 until_quit core_size (l ∷ ls) = if is_quit (line_asks core_size l) then [] else l ∷ until_quit core_size ls
 
--- the line doesn't end the debugger
+-- The line does not end the debugger.
 abbrev pub GoesOn : ℕ → List ℕ → Type 0
 GoesOn core_size l = line_asks core_size l ≢ request.Quit
 
--- among the bytes is a line with its LF that is quit, the first one
+-- The bytes contain a complete line, with its LF, that is `quit`; `last` is the first such line.
 pub record HasQuit (core_size : ℕ) (bytes : List ℕ) : Type 0 where
   pub lines : List (List ℕ)
   pub last : List ℕ
@@ -64,8 +65,9 @@ pub record HasQuit (core_size : ℕ) (bytes : List ℕ) : Type 0 where
   pub goes_on : AllByRecursion (GoesOn core_size) lines
   pub quits : line_asks core_size last ≡ request.Quit
 
--- The debugger came to quit or to the end. These bytes were read. Their lines up to the first quit were executed, which
--- turned the session s into t, and all their text was written; and quit is one of them, or the reader has no more.
+-- The debugger ended at a `quit` or at the end of its input. `bytes` were read. Their lines before the first `quit` were
+-- executed, which led from the session `s` to `t`, and all replies were written. Either one of the lines is `quit`, or the
+-- reader has no more bytes.
 pub record Completes (core_size : ℕ) (input left : Option (List ℕ)) (s : SessionState) (v : Option (List ℕ)) (t : SessionState) (w : Option (List ℕ)) : Type 0 where
   pub bytes : List ℕ
   pub text : List ℕ
@@ -73,10 +75,10 @@ pub record Completes (core_size : ℕ) (input left : Option (List ℕ)) (s : Ses
   pub answers : Transcript core_size s (until_quit core_size (lines_of bytes)) t text
   pub written : Appends v w text
   pub ends : HasQuit core_size bytes ⊎ IsAtEnd left
-  -- so the lines are those of all that the reader had, however it came in pieces
+  -- The lines are those of the whole input, however it was split into reads.
   pub all : IfSome input (λ xs. Transcript core_size s (until_quit core_size (lines_of xs)) t text)
 
--- At most n bytes of the input were read.
+-- At most `n` bytes of the input were read.
 abbrev pub TakesAtMost : ℕ → Option (List ℕ) → Option (List ℕ) → Type 0
 TakesAtMost n input left = (bytes : List ℕ) × Consumes input left bytes × (length bytes ≤ n)
 
@@ -86,8 +88,8 @@ pub record NothingDone (input left : Option (List ℕ)) (s : SessionState) (v : 
   pub session : t ≡ s
   pub writer : Keeps v w
 
--- A read failed. What was read is these whole lines and an unfinished one; the lines were executed, none of them is
--- quit, and all their text was written.
+-- A read failed. The bytes that were read are these complete lines and an unfinished one. The complete lines were executed,
+-- none of them is `quit`, and all their replies were written.
 pub record ReadFails (core_size : ℕ) (input left : Option (List ℕ)) (s : SessionState) (v : Option (List ℕ)) (t : SessionState) (w : Option (List ℕ)) : Type 0 where
   pub bytes : List ℕ
   pub lines : List (List ℕ)
@@ -99,8 +101,8 @@ pub record ReadFails (core_size : ℕ) (input left : Option (List ℕ)) (s : Ses
   pub answers : Transcript core_size s lines t text
   pub written : Appends v w text
 
--- The lines and then the last one were executed; the text is that of the lines, and a beginning of the last
--- one's, not all of it.
+-- The lines and then the line `last` were executed. `text` has the replies to the lines and a beginning of the reply to `last`,
+-- not all of it.
 pub record BrokenAt (core_size : ℕ) (s : SessionState) (lines : List (List ℕ)) (last : List ℕ) (t : SessionState) (text : List ℕ) : Type 0 where
   pub between : SessionState
   pub before : List ℕ
@@ -111,13 +113,13 @@ pub record BrokenAt (core_size : ℕ) (s : SessionState) (lines : List (List ℕ
   pub short : count < length (answer poor between (line_asks core_size last)).1
   pub text_is : text ≡ before ++ take count (answer poor between (line_asks core_size last)).1
 
--- the bytes are the whole lines, and then the last line, which has an LF or is all that is left
+-- The bytes are the complete lines and then the line `last`, which ends in an LF or at the end of the input.
 pub data EndsIn (bytes : List ℕ) (lines : List (List ℕ)) (last : List ℕ) (rest : Option (List ℕ)) : Type 0 where
   at_newline : (more : List ℕ) → bytes ≡ flat_map with_newline lines ++ (last ++ 10 ∷ more) → EndsIn bytes lines last rest
   at_end : bytes ≡ flat_map with_newline lines ++ last → IsAtEnd rest → EndsIn bytes lines last rest
 
--- A write failed. What was read is these lines, and a last one; they were executed, none before the last is quit, the
--- text of the lines was written, and of the last one's a beginning, not all of it.
+-- A write failed. The bytes that were read are these lines and the line `last`. All of them were executed, and none before
+-- `last` is `quit`. The replies to the lines were written, and a beginning of the reply to `last`, not all of it.
 pub record WriteFails (core_size : ℕ) (input left : Option (List ℕ)) (s : SessionState) (v : Option (List ℕ)) (t : SessionState) (w : Option (List ℕ)) : Type 0 where
   pub bytes : List ℕ
   pub lines : List (List ℕ)

@@ -1,4 +1,4 @@
--- Worked examples: what the words of the program ask for.
+-- Examples of what the arguments request.
 use Rattle.std.specs.Prelude.{◌≡◌, ℕ, [], ◌∷◌, List, None, Some, codes, false, true, refl}
 use Rattle.clap.proofs.OnLiterals.{clap_on_literals}
 use Rattle.clap.specs.Faults.{fault_of}
@@ -6,7 +6,7 @@ use Rattle.clap.specs.declared.error.kind.ErrorKind.TheVariants as kind
 use Rattle.mars_app.specs.CommandLine.{mars}
 use Rattle.mars_app.specs.Options.{are_allowed, said_by}
 
--- two files alone: each word has its default
+-- Only two files: each option has its default.
 abbrev two_files : List (List ℕ)
 two_files = codes "a.red" ∷ codes "b.red" ∷ []
 
@@ -30,7 +30,7 @@ pub defaults :
 unfolding clap_on_literals
 defaults = (refl, refl, refl, refl, refl, refl, refl, refl, refl, refl, refl, refl, refl, refl, refl, refl)
 
--- short words may stand together, and a plus before a number
+-- Short options may be combined, and a plus may precede a number.
 abbrev debugged : List (List ℕ)
 debugged = codes "-eb" ∷ codes "-s" ∷ codes "+8" ∷ codes "--history=7" ∷ codes "a.red" ∷ []
 
@@ -43,7 +43,8 @@ pub bundles :
 unfolding clap_on_literals
 bundles = (refl, refl, refl, refl, refl)
 
--- the help, unless a bad word stands left of it; a word given twice; a debugger beside a league
+-- `--help` requests the help unless a bad argument is to its left. An option may not be given twice, and the debugger may not be
+-- combined with a league.
 pub others :
     (fault_of mars (codes "--help" ∷ []) ≡ kind.DisplayHelp ∷ [])
     × (fault_of mars (codes "-r" ∷ codes "0" ∷ codes "--help" ∷ []) ≡ kind.ValueValidation ∷ [])
@@ -52,7 +53,7 @@ pub others :
 unfolding clap_on_literals
 others = (refl, refl, refl, refl)
 
--- each letter and each name with its own number
+-- Each letter and each name has its own number.
 abbrev numbered : List (List ℕ)
 numbered = codes "-r" ∷ codes "2" ∷ codes "-s" ∷ codes "800" ∷ codes "-c" ∷ codes "4" ∷ codes "-p" ∷ codes "5" ∷ codes "-l" ∷ codes "6" ∷ codes "-d" ∷ codes "7" ∷ codes "-F" ∷ codes "8" ∷ codes "--seed" ∷ codes "9"
     ∷ codes "--read-limit" ∷ codes "10" ∷ codes "--write-limit" ∷ codes "11" ∷ codes "a.red" ∷ codes "b.red" ∷ []
@@ -78,7 +79,7 @@ Allowed words = are_allowed (said_by words) ≡ true
 abbrev Forbidden : List (List ℕ) → Type 0
 Forbidden words = are_allowed (said_by words) ≡ false
 
--- one load file of one source, a league of two at least, and neither beside the debugger
+-- `--load` requires exactly one file, a league requires at least two warriors, and neither may be combined with the debugger.
 pub contests_are_judged :
     Allowed (codes "--load" ∷ codes "a.red" ∷ [])
     × Forbidden (codes "--load" ∷ codes "a.red" ∷ codes "b.red" ∷ [])
@@ -88,7 +89,8 @@ pub contests_are_judged :
 unfolding clap_on_literals
 contests_are_judged = (refl, refl, refl, refl, refl)
 
--- a position is for the second of two warriors, as far as the distance from the first, both ways round the core
+-- A position is for the second of two warriors, at least the minimum distance from the first in both directions around the
+-- core.
 pub positions_are_judged :
     Allowed (codes "-F" ∷ codes "100" ∷ two_files)
     × Allowed (codes "-F" ∷ codes "7900" ∷ two_files)

@@ -1,4 +1,4 @@
--- Worked examples: the listing of the warriors, what the options leave open, and the status of faults.
+-- Examples of the listing of the warriors, the defaults of options, and the exit statuses of errors.
 use Rattle.std.specs.Prelude.{◌≡◌, List, [], ◌∷◌, ◌++◌, None, true, false, codes, refl}
 use Rattle.std.specs.Fmt.{digits}
 use Rattle.mars_cell.specs.declared.instruction.Op.TheVariants.{Mov}
@@ -27,7 +27,7 @@ imp = record {
   start = 0;
 }
 
--- each warrior with its load file and an empty line
+-- Each warrior has its load file and an empty line.
 pub warriors_are_listed : listing 8000 false (imp ∷ imp ∷ []) ≡
     codes "warrior 0: Imp by Dewdney, 1 instructions\n;load 2 8000\n;name Imp\n;author Dewdney\nORG 0\nMOV.I $0, $1\n\n"
     ++ codes "warrior 1: Imp by Dewdney, 1 instructions\n;load 2 8000\n;name Imp\n;author Dewdney\nORG 0\nMOV.I $0, $1\n\n"
@@ -37,11 +37,11 @@ warriors_are_listed = refl
 pub brief_contests_list_nothing : listing 8000 true (imp ∷ imp ∷ []) ≡ []
 brief_contests_list_nothing = refl
 
--- a limit that isn't named is the size of the core
+-- A limit that isn't given is the core size.
 pub limits_are_the_core : (o : Options) → let p = parameters_of (record o { core = 8; longest = 3; read_limit = None; write_limit = None }) in (p.read_limit ≡ 8) × (p.write_limit ≡ 8) × (p.max_length ≡ 3)
 limits_are_the_core o = (refl, refl, refl)
 
--- a league is fought where one is asked for, between two at a time; else a match
+-- With `league` each two warriors run a match, otherwise all warriors run one match.
 pub a_league_or_a_match : (o : Options) (setup : Setup) (warriors : List WarriorValue) →
     let p = setup.params in
     let plan = setup.plan in
@@ -50,7 +50,7 @@ pub a_league_or_a_match : (o : Options) (setup : Setup) (warriors : List Warrior
     × (contest false setup warriors ≡ table_of p warriors plan.formula plan.fixed plan.rounds plan.seed)
 a_league_or_a_match o setup warriors = (refl, refl, refl)
 
--- 2 where the words say what can't be, else 1
+-- The status is 2 if the arguments have an error, otherwise 1.
 pub statuses : (status_of fault.Words ≡ 2)
     × (status_of (fault.Parameters CoreSize) ≡ 2)
     × (status_of (fault.Formula (Expression Syntax)) ≡ 2)

@@ -1,4 +1,4 @@
--- Worked examples: the lines that the debugger answers with.
+-- Examples of the lines that the debugger replies.
 use Rattle.std.specs.Prelude.{◌≡◌, ℕ, [], ◌∷◌, ◌++◌, Ok, Err, codes, refl}
 use Rattle.std.specs.Fmt.{digits}
 use Rattle.mars_cell.specs.declared.instruction.Cell.{Cell}
@@ -37,7 +37,7 @@ replies_are_written = (refl, refl, refl, refl, refl, refl, refl, refl, refl, ref
 abbrev cell : ℕ → Cell
 cell b = record { op = op.Jmp; modifier = modifier.B; a_mode = Direct; a = 0; b_mode = Direct; b = b }
 
--- a core of three cells; the first warrior has two processes, the second died in the fourth turn
+-- A core of three cells. The first warrior has two processes; the second died in the fourth turn.
 abbrev state : State
 state = record {
   params = record { core_size = 3; processes = 8; cycles = 10; read_limit = 3; write_limit = 3; max_length = 1; distance = 1 };
@@ -49,7 +49,7 @@ state = record {
   turns = 4;
 }
 
--- a list goes around the core; an address outside it, and no cell or more than 1,000,000 of them, are refused
+-- A list wraps around the core. An address outside the core is refused, and so are 0 cells and more than 1,000,000 cells.
 pub cells_are_listed :
     (list_text state 2 2 ≡ codes "2 JMP.B $0, $-1\n" ++ codes "0 JMP.B $0, $0\n")
     × (list_text state 3 1 ≡ codes "refused 2 Address\n")
@@ -65,7 +65,7 @@ pub queues_are_listed :
 unfolding queue_text refusal_text digits
 queues_are_listed = (refl, refl, refl)
 
--- of several, one alive ends the battle
+-- If only one of several warriors is alive, the battle is over.
 pub battle_is_shown : show_text standing state ≡
     codes "turn 12 cycle 5 next 1 alive 2 at 3/200000\n"
     ++ codes "warrior 0 processes 2\n"

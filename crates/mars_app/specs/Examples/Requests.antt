@@ -1,4 +1,4 @@
--- Worked examples: what lines ask for.
+-- Examples of what lines request.
 use Rattle.std.specs.Prelude.{◌≡◌, [], codes, replicate, refl}
 use Rattle.mars_cell.specs.declared.instruction.Op.TheVariants as op
 use Rattle.mars_cell.specs.declared.instruction.Modifier.TheVariants as modifier
@@ -13,7 +13,7 @@ use Rattle.mars_app.specs.Debugger.Requests.{alone, command_request, command_of,
 use Rattle.mars_app.specs.Debugger.Lines.{line_asks}
 use Rattle.mars_app.specs.declared.debugger.request.Request.TheVariants as request
 
--- commands with their numbers; blanks may stand anywhere between the words
+-- Commands with their numbers. Whitespace may precede, separate and follow the words.
 pub commands_are_known :
     (line_asks 8 (codes "step") ≡ request.Call call.Step)
     × (line_asks 8 (codes "run 5") ≡ request.Call (call.Run 5))
@@ -31,15 +31,15 @@ pub commands_are_known :
 unfolding request_of command_request command_of with_arguments alone one_number two_numbers three_numbers first_word after_word number_in parse_digits
 commands_are_known = (refl, refl, refl, refl, refl, refl, refl, refl, refl, refl, refl, refl, refl)
 
--- a cell is as in a load file, and its numbers count modulo the core size
+-- A cell is written as in a load file, and its numbers count modulo the core size.
 pub cells_are_read :
     (line_asks 8 (codes "edit 7 NOP.F $0, $0") ≡ request.Call (call.SetCell 7 record { op = op.Nop; modifier = modifier.F; a_mode = Direct; a = 0; b_mode = Direct; b = 0 }))
     × (line_asks 8 (codes "fill 10 2 add #-1, 9") ≡ request.Call (call.Fill 10 2 record { op = op.Add; modifier = modifier.Ab; a_mode = Immediate; a = 7; b_mode = Direct; b = 1 }))
 unfolding request_of command_request with_arguments first_word after_word number_in parse_digits parts joins begins_word cell_of op_at suffix_at modifier_at mode_at number_at operand_at comma_at op_of modifier_of mode_of parse_number split_sign nearest default_modifier
 cells_are_read = (refl, refl)
 
--- Blanks alone ask for nothing. A word too few or too many, another spelling, a sign, a number of 19 digits, half a cell, and
--- a line of more than 256 bytes are unknown.
+-- A line of only whitespace requests nothing. A line is unknown if a word is missing, added or misspelt, if a number has a sign or
+-- 19 digits, if a cell is incomplete, or if the line has more than 256 bytes.
 pub lines_that_are_no_commands :
     (line_asks 8 [] ≡ request.Nothing)
     × (line_asks 8 (codes " \t\r") ≡ request.Nothing)

@@ -1,4 +1,5 @@
--- Worked examples: what the debugger writes for its lines, over a lone imp and over three warriors that wait.
+-- Examples of what the debugger writes for its lines, over a battle of one imp and a battle of three warriors that execute
+-- JMP.B $0, $0.
 use Rattle.std.specs.Prelude.{◌≡◌, ℕ, List, [], ◌∷◌, ◌++◌, false, codes, replicate, refl}
 use Rattle.std.specs.Fmt.{digits}
 use Rattle.mars_cell.specs.declared.instruction.Op.TheVariants.{Jmp}
@@ -22,12 +23,12 @@ use Rattle.mars_app.specs.Debugger.Requests.{alone, command_request, one_number,
 use Rattle.mars_app.specs.Debugger.Transcript.{answer, until_quit}
 use Rattle.mars_app.specs.Debugger.Words.{after_word, first_word, number_at as number_in}
 
--- what is written for lines, one after another, where memory is ample
+-- What is written for the lines, one after another, if no allocation fails.
 abbrev answers : SessionState → List (List ℕ) → List ℕ
 answers s [] = []
 answers s (l ∷ ls) = let after = answer false s (line_asks 8 l) in after.1 ++ answers after.0 ls
 
--- the transcript of lines over a session that keeps so many places beside the last one
+-- `text` is the transcript of the lines over a session that keeps `most` places beside the last one.
 abbrev IsTranscript : ℕ → State → List (List ℕ) → List ℕ → Type 0
 IsTranscript most state lines text = answers (session_at most state) lines ≡ text
 
@@ -43,7 +44,7 @@ pub a_step_and_back : IsTranscript 100 imp
 unfolding the_machine answer request_of command_request with_arguments alone one_number first_word after_word number_in parse_digits queue_text show_text texts warrior_text digits
 a_step_and_back = refl
 
--- an edit in the middle of a run drops what follows
+-- An edit in the middle of a run drops the places that follow.
 pub an_edit_in_the_middle : IsTranscript 100 imp
     (codes "run 4" ∷ codes "goto 2" ∷ codes "edit 7 NOP.F $0, $0" ∷ codes "undo" ∷ codes "list 7 1" ∷ codes "redo" ∷ [])
     (codes "turn 4 cycle 4 next 0 alive 1 at 4/4\n"
@@ -65,14 +66,14 @@ pub refusals : IsTranscript 100 imp
 unfolding the_machine answer request_of command_request with_arguments alone one_number first_word after_word number_in parse_digits refusal_text digits
 refusals = refl
 
--- an empty line has no answer, and a line of 257 bytes is unknown
+-- An empty line has no reply, and a line of 257 bytes is unknown.
 pub lines_without_a_command : IsTranscript 100 imp
     (codes "undo" ∷ replicate 257 32 ∷ [] ∷ codes "step" ∷ [])
     (codes "refused 10 NothingToUndo\n" ++ codes "unknown\n" ++ codes "turn 1 cycle 1 next 0 alive 1 at 1/1\n")
 unfolding the_machine answer request_of command_request with_arguments alone first_word after_word refusal_text digits
 lines_without_a_command = refl
 
--- of two places beside the last one none is forgotten by two turns
+-- If two places are kept beside the last one, two turns evict none.
 pub two_places_are_kept : IsTranscript 2 imp
     (codes "run 2" ∷ codes "undo" ∷ codes "run 3" ∷ codes "undo" ∷ [])
     (codes "turn 2 cycle 2 next 0 alive 1 at 2/2\n"
@@ -82,11 +83,11 @@ pub two_places_are_kept : IsTranscript 2 imp
 unfolding the_machine answer request_of command_request with_arguments alone one_number first_word after_word number_in parse_digits refusal_text digits
 two_places_are_kept = refl
 
--- JMP.B $0, $0
+-- The cell JMP.B $0, $0.
 abbrev waiting : Cell
 waiting = cell_of Jmp B Direct 0 Direct 0
 
--- three warriors that wait
+-- Three warriors that execute JMP.B $0, $0.
 abbrev three : State
 three = battle_of of_eight (eight (waiting ∷ empty_cell ∷ waiting ∷ empty_cell ∷ waiting ∷ [])) ((0 ∷ []) ∷ (2 ∷ []) ∷ (4 ∷ []) ∷ [])
 
@@ -107,7 +108,7 @@ pub warriors_are_edited : IsTranscript 100 three
 unfolding the_machine answer request_of command_request with_arguments alone one_number two_numbers three_numbers first_word after_word number_in parse_digits queue_text show_text texts warrior_text refusal_text digits
 warriors_are_edited = refl
 
--- nothing behind quit is executed, nor is quit
+-- Neither `quit` nor any line after it is executed.
 pub lines_up_to_quit : until_quit 8 (codes "step" ∷ codes "quit 1" ∷ codes " quit" ∷ codes "undo" ∷ []) ≡ codes "step" ∷ codes "quit 1" ∷ []
 unfolding until_quit request_of command_request with_arguments alone first_word after_word
 lines_up_to_quit = refl

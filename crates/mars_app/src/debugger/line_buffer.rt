@@ -7,7 +7,7 @@ use arrayvec::ArrayVec;
 
 pub const LONGEST_LINE: usize = 256;
 
-/// The unfinished line, up to 256 bytes of it.
+/// The unfinished line, of which at most 256 bytes are stored.
 #[derive(Drop)]
 pub struct LineBuffer {
     bytes: ArrayVec<u8, LONGEST_LINE>,
@@ -26,7 +26,7 @@ impl LineBuffer {
         }
     }
 
-    /// Takes one more byte of the line.
+    /// Appends a byte of the line.
     pub fn push(&mut self, byte: u8)
         ensures { (line : List ℕ) → Holds self.old line → Holds self.new (line ++ byte ∷ []) }
     {
@@ -37,14 +37,14 @@ impl LineBuffer {
         }
     }
 
-    /// Whether no byte of a line was taken.
+    /// Returns whether the line has no byte yet.
     pub fn is_empty(&self) -> bool
         ensures { (line : List ℕ) → Holds self.now line → result ≡ (length line == 0) }
     {
         self.bytes.is_empty()
     }
 
-    /// What the line asks for in a core of that size. The next line begins.
+    /// Returns the request of the line in a core of this size, and clears the buffer for the next line.
     pub fn take_request(&mut self, core_size: u32) -> Request
         requires { 0 < core_size }
         ensures request { (line : List ℕ) → Holds self.old line → result ≡ line_asks core_size line }

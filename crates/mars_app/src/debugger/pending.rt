@@ -1,4 +1,4 @@
-//! Text that waits to be written with what follows it.
+//! Text that waits to be written together with the text after it.
 ghost use Rattle.std.specs.Prelude.{◌≡◌, ℕ, List, Option, [], ◌++◌, OnOk, OnErr};
 ghost use Rattle.std.specs.Io.KnownBytes.{Appends};
 ghost use Rattle.mars_cell.specs.Output.{CutShort};
@@ -9,10 +9,10 @@ use mars_cell::{Line, WriteFault, write_text};
 use std::io::Write;
 use std::marker::Model;
 
-/// How many bytes may wait.
+/// Maximum number of bytes that wait.
 const ROOM: usize = 4096;
 
-/// Text that waits to be written, so that many short lines go out in few writes.
+/// Text that waits to be written, so that many short lines take few writes.
 #[derive(Drop)]
 pub struct PendingText {
     text: ArrayString<ROOM>,
@@ -27,7 +27,7 @@ impl Model for PendingText {
 }
 
 impl PendingText {
-    /// Nothing waits.
+    /// Returns a text without any bytes.
     pub fn new() -> Self
         ensures { result ≡ [] }
     {
@@ -36,7 +36,7 @@ impl PendingText {
         }
     }
 
-    /// A first line waits.
+    /// Returns a text that is a first line.
     pub fn of(line: &Line) -> Self
         ensures { result ≡ line.now.bytes }
     {
@@ -45,7 +45,7 @@ impl PendingText {
         PendingText { text }
     }
 
-    /// Writes all that waits.
+    /// Writes the whole text.
     pub fn write<W: Write>(&mut self, writer: &mut W) -> Result<(), WriteFault>
         ensures ok { OnOk result ((old : Option (List ℕ)) (text : List ℕ) → Waits old (W.contents writer.old) self.old text
             → Appends old (W.contents writer.new) text) }
@@ -62,7 +62,7 @@ impl PendingText {
         }
     }
 
-    /// Puts a line behind what waits, after that was written where there is no room for both.
+    /// Appends a line; writes the text first if there is no capacity for both.
     pub fn push<W: Write>(&mut self, writer: &mut W, line: &Line) -> Result<(), WriteFault>
         ensures ok { OnOk result ((old : Option (List ℕ)) (text : List ℕ) → Waits old (W.contents writer.old) self.old text
             → Waits old (W.contents writer.new) self.new (text ++ line.now.bytes)) }
@@ -79,7 +79,7 @@ impl PendingText {
         Ok(())
     }
 
-    /// Writes all that waits, and a last line behind it.
+    /// Appends a last line and writes the whole text.
     pub fn finish<W: Write>(&mut self, writer: &mut W, line: &Line) -> Result<(), WriteFault>
         ensures ok { OnOk result ((old : Option (List ℕ)) (text : List ℕ) → Waits old (W.contents writer.old) self.old text
             → Appends old (W.contents writer.new) (text ++ line.now.bytes)) }

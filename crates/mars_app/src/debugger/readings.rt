@@ -1,4 +1,4 @@
-//! Writing what the lines answer that change nothing.
+//! The replies to commands that change nothing.
 ghost use Rattle.std.specs.Prelude.{◌≡◌, ◌<◌, ◌≤◌, ◌++◌, codes, OnOk, OnErr};
 ghost use Rattle.std.specs.Io.KnownBytes.{Appends};
 ghost use Rattle.std.specs.List.{flat_map};
@@ -15,7 +15,7 @@ use mars_core::{Battle, Death};
 use mars_session::{Refusal, Standing};
 use std::io::Write;
 
-/// Writes why a reading is refused.
+/// Writes the refusal of a command.
 fn write_refusal<W: Write>(writer: &mut W, refusal: Refusal) -> Result<(), WriteFault>
     ensures ok { OnOk result (Appends (W.contents writer.old) (W.contents writer.new) (refusal_text refusal)) }
     ensures err { OnErr result (CutShort (W.contents writer.old) (W.contents writer.new) (refusal_text refusal)) }
@@ -23,7 +23,7 @@ fn write_refusal<W: Write>(writer: &mut W, refusal: Refusal) -> Result<(), Write
     write_text(writer, refusal_line(refusal).as_str().as_bytes())
 }
 
-/// The line of the cell at an address.
+/// Returns the line of the cell at an address.
 fn cell_line(battle: &Battle, address: u32) -> Line
     requires { address < battle.now.params.core_size }
     ensures { result.bytes ≡ cell_line battle.now.params.core_size address (cell_at battle.now.core address) }
@@ -36,7 +36,7 @@ fn cell_line(battle: &Battle, address: u32) -> Line
     line
 }
 
-/// Writes the lines of so many cells from an address on, around the core.
+/// Writes the lines of `count` cells from `address` on, modulo the core size.
 fn write_cells<W: Write>(
     writer: &mut W,
     battle: &Battle,
@@ -60,10 +60,10 @@ fn write_cells<W: Write>(
     pending.write(writer)
 }
 
-/// The most cells of one list.
+/// Maximum number of cells of one list.
 const MOST_LISTED: u64 = 1_000_000;
 
-/// Writes so many cells from an address on, around the core.
+/// Writes `count` cells from `address` on, modulo the core size, or a refusal.
 #[tactic(auto, unfolding(crate::specs::Debugger::Readings::list_text))]
 pub fn write_list<W: Write>(
     writer: &mut W,
@@ -83,7 +83,7 @@ pub fn write_list<W: Write>(
     write_cells(writer, battle, address, count)
 }
 
-/// A space and an address.
+/// Returns a space and an address.
 fn process_part(address: u32) -> Line
     ensures { result.bytes ≡ process_text address }
 {
@@ -112,7 +112,7 @@ fn write_processes<W: Write>(
     pending.finish(writer, &fixed("\n"))
 }
 
-/// Writes the addresses of a warrior's processes, the front first.
+/// Writes the addresses of a warrior's processes, the front first, or a refusal.
 #[tactic(auto, unfolding(crate::specs::Debugger::Readings::queue_text))]
 pub fn write_queue<W: Write>(
     writer: &mut W,
@@ -128,7 +128,7 @@ pub fn write_queue<W: Write>(
     write_processes(writer, battle, warrior as usize)
 }
 
-/// The death of a warrior, where it died.
+/// Returns the death of a warrior, or `None` if it is alive.
 fn find_death(deaths: &[Death], warrior: usize) -> Option<Death>
     ensures { result ≡ death_of deaths.now warrior }
 {
@@ -138,7 +138,7 @@ fn find_death(deaths: &[Death], warrior: usize) -> Option<Death>
         .find(|death| death.warrior as usize == warrior)
 }
 
-/// Appends how a warrior fares.
+/// Appends the number of a warrior's processes, or the turn of its death.
 fn push_life(line: &mut Line, battle: &Battle, warrior: usize)
     requires { array_string_len line.old < 100 }
     ensures bytes { line.new.bytes ≡ line.old.bytes ++ life_text (queue_of battle.now.queues warrior) (death_of battle.now.deaths warrior) }
@@ -156,7 +156,7 @@ fn push_life(line: &mut Line, battle: &Battle, warrior: usize)
     }
 }
 
-/// The line of a warrior.
+/// Returns the line of a warrior.
 #[tactic(auto, unfolding(crate::specs::Debugger::Readings::warrior_text))]
 fn warrior_line(battle: &Battle, warrior: usize) -> Line
     ensures { result.bytes ≡ warrior_text battle.now warrior }
@@ -167,7 +167,7 @@ fn warrior_line(battle: &Battle, warrior: usize) -> Line
     line
 }
 
-/// Whether the battle is over.
+/// Returns the line that says whether the battle is over.
 fn end_line(battle: &Battle) -> Line
     ensures { result.bytes ≡ end_text battle.now }
 {
@@ -178,7 +178,7 @@ fn end_line(battle: &Battle) -> Line
     }
 }
 
-/// Writes where the session stands, each warrior, and whether the battle is over.
+/// Writes the standing, each warrior, and whether the battle is over.
 #[tactic(auto, unfolding(crate::specs::Debugger::Readings::show_text))]
 pub fn write_show<W: Write>(
     writer: &mut W,

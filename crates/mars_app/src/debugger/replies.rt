@@ -1,11 +1,11 @@
-//! The lines that the debugger answers with.
+//! The lines that the debugger replies.
 ghost use Rattle.std.specs.Prelude.{◌≡◌, ◌≤◌, length};
 ghost use Rattle.mars_app.specs.Debugger.Replies.{standing_text, refusal_text, reply_text};
 
 use mars_cell::{LINE, Line, numbered, push_number};
 use mars_session::{Refusal, Reply, Standing};
 
-/// A text as it is.
+/// Returns a fixed text as a line.
 pub fn fixed(text: &str) -> Line
     requires { length text.now ≤ LINE }
     ensures { result.bytes ≡ text.now }
@@ -15,7 +15,7 @@ pub fn fixed(text: &str) -> Line
     line
 }
 
-/// Where a session stands.
+/// Returns the line of a standing.
 pub fn standing_line(standing: Standing) -> Line
     ensures { result.bytes ≡ standing_text standing }
 {
@@ -33,7 +33,7 @@ pub fn standing_line(standing: Standing) -> Line
     line
 }
 
-/// Why a call was refused.
+/// Returns the line of a refusal.
 #[tactic(auto, unfolding(crate::specs::Debugger::Replies::refusal_text))]
 pub fn refusal_line(refusal: Refusal) -> Line
     ensures { result.bytes ≡ refusal_text refusal }
@@ -62,7 +62,7 @@ pub fn refusal_line(refusal: Refusal) -> Line
     }
 }
 
-/// The line for a call's reply.
+/// Returns the line of a call's reply.
 pub fn reply_line(reply: Reply) -> Line
     ensures { result.bytes ≡ reply_text reply }
 {

@@ -1,4 +1,4 @@
-//! What a line of the debugger asks for.
+//! The request of a line of the debugger.
 ghost use Rattle.std.specs.Prelude.{◌≡◌, ◌<◌};
 ghost use Rattle.mars_app.specs.declared.debugger.request.Command.TheVariants as command;
 ghost use Rattle.mars_app.specs.Debugger.Requests.{command_of, word_of, alone, one_number, two_numbers, three_numbers, with_arguments, request_of};
@@ -7,7 +7,7 @@ use crate::debugger::words::{split_number, split_word};
 use mars_cell::read_cell;
 use mars_session::Call;
 
-/// The words that a line may begin with.
+/// The commands, one for each first word of a line.
 #[derive(Clone, Copy, PartialEq, Eq)]
 pub enum Command {
     Step,
@@ -27,14 +27,14 @@ pub enum Command {
     Quit,
 }
 
-/// What a line asks for.
+/// What a line requests.
 #[derive(Clone, Copy, PartialEq, Eq)]
 pub enum Request {
     Nothing,
     Call(Call),
-    /// An address, and how many cells from there on.
+    /// Address of the first cell, and number of cells.
     List(u64, u64),
-    /// A warrior.
+    /// Warrior.
     Queue(u64),
     Show,
     Quit,
@@ -61,7 +61,7 @@ impl Command {
         Command::Quit,
     ];
 
-    /// The word of the command.
+    /// Returns the name of the command.
     fn word(self) -> &'static str
         ensures { result.now ≡ word_of self }
     {
@@ -85,7 +85,7 @@ impl Command {
     }
 }
 
-/// The command that a word names.
+/// Returns the command with this name.
 fn read_command(word: &[u8]) -> Option<Command>
     ensures { result ≡ command_of word.now }
 {
@@ -95,7 +95,7 @@ fn read_command(word: &[u8]) -> Option<Command>
         .find(|command| command.word().as_bytes() == word)
 }
 
-/// The request, where no word follows.
+/// Returns the request if no word follows.
 #[tactic(auto, unfolding(crate::specs::Debugger::Requests::alone))]
 fn alone(request: Request, rest: &[u8]) -> Option<Request>
     ensures { result ≡ alone request rest.now }
@@ -130,7 +130,7 @@ fn read_three(rest: &[u8]) -> Option<(u64, u64, u64)>
     Some((first, second, third))
 }
 
-/// What an edit asks for: a cell at an address.
+/// Parses the arguments of an edit: an address and a cell.
 #[tactic(auto, unfolding(crate::specs::Debugger::Requests::with_arguments))]
 fn read_edit(rest: &[u8], core_size: u32) -> Option<Request>
     requires { 0 < core_size }
@@ -141,7 +141,7 @@ fn read_edit(rest: &[u8], core_size: u32) -> Option<Request>
     Some(Request::Call(Call::SetCell(address, cell)))
 }
 
-/// What a fill asks for: a cell from an address to another one.
+/// Parses the arguments of a fill: the first and the last address, and a cell.
 #[tactic(auto, unfolding(crate::specs::Debugger::Requests::with_arguments))]
 fn read_fill(rest: &[u8], core_size: u32) -> Option<Request>
     requires { 0 < core_size }
@@ -153,7 +153,7 @@ fn read_fill(rest: &[u8], core_size: u32) -> Option<Request>
     Some(Request::Call(Call::Fill(from, to, cell)))
 }
 
-/// What a command asks for with what follows it on its line.
+/// Parses the arguments of a command.
 #[tactic(auto, unfolding(crate::specs::Debugger::Requests::with_arguments))]
 fn read_arguments(command: Command, rest: &[u8], core_size: u32) -> Option<Request>
     requires { 0 < core_size }
@@ -190,7 +190,7 @@ fn read_arguments(command: Command, rest: &[u8], core_size: u32) -> Option<Reque
     }
 }
 
-/// What the bytes of a line ask for, in a core of that size.
+/// Parses a line in a core of this size.
 #[tactic(auto, unfolding(crate::specs::Debugger::Requests::request_of, crate::specs::Debugger::Requests::command_request))]
 pub fn read_request(line: &[u8], core_size: u32) -> Request
     requires { 0 < core_size }

@@ -12,21 +12,21 @@ fn is_blank(byte: u8) -> bool
     byte <= b' ' && byte != b'\n'
 }
 
-/// Where the first byte is that is no blank.
+/// Returns the index of the first byte that isn't whitespace.
 fn find_word(line: &[u8]) -> Option<usize>
     ensures { result ≡ position (λ b. not (is_blank b)) line.now }
 {
     line.iter().position(|byte| !is_blank(*byte))
 }
 
-/// Where the first blank is.
+/// Returns the index of the first byte that is whitespace.
 fn find_blank(line: &[u8]) -> Option<usize>
     ensures { result ≡ position is_blank line.now }
 {
     line.iter().position(|byte| is_blank(*byte))
 }
 
-/// Where the first word of a line begins, or the line's length.
+/// Returns the index of the first word of a line, or the length of the line.
 fn word_start(line: &[u8]) -> usize
     ensures value { result ≡ index_of (λ b. not (is_blank b)) line.now }
     ensures inside { result ≤ length line.now }
@@ -34,7 +34,7 @@ fn word_start(line: &[u8]) -> usize
     find_word(line).unwrap_or(line.len())
 }
 
-/// Where the word at the front of a line ends.
+/// Returns the end of the word at the start of a line.
 fn word_end(line: &[u8]) -> usize
     ensures value { result ≡ index_of is_blank line.now }
     ensures inside { result ≤ length line.now }
@@ -42,7 +42,7 @@ fn word_end(line: &[u8]) -> usize
     find_blank(line).unwrap_or(line.len())
 }
 
-/// The first word of a line, and what follows it.
+/// Returns the first word of a line, and what follows it.
 #[tactic(auto, unfolding(crate::specs::Debugger::Words::first_word, crate::specs::Debugger::Words::after_word))]
 pub fn split_word(line: &[u8]) -> (&[u8], &[u8])
     ensures word { result.0.now ≡ first_word line.now }
@@ -52,7 +52,7 @@ pub fn split_word(line: &[u8]) -> (&[u8], &[u8])
     line.split_at(word_end(line))
 }
 
-/// The number at the front of a line, and what follows it.
+/// Returns the number that is the first word of a line, and what follows it.
 #[tactic(auto, unfolding(crate::specs::Debugger::Words::number_at))]
 pub fn split_number(line: &[u8]) -> Option<(u64, &[u8])>
     ensures { option_map (λ r. (r.0, r.1.now)) result ≡ number_at line.now }

@@ -1,4 +1,4 @@
-//! Battles that are debugged, by the words of the program.
+//! Battles that are debugged by the program.
 
 use super::{Played, check_played};
 use std::test::Fail;

@@ -1,7 +1,7 @@
-//! Transcripts of the debugger over real sessions, and readers and writers that fail or take little.
+//! Transcripts of the debugger over real sessions, and over readers and writers that fail or take few bytes.
 //!
-//! What owns a session hands it to functions that borrow it, and then to `drop`: where it goes out of scope by itself, each
-//! such body proves anew how a session is dropped.
+//! Functions borrow a session, and then it is passed to `drop`: if it went out of scope implicitly, each such body would prove
+//! again how a session is dropped.
 ghost use Rattle.std.specs.Prelude.{Some, ◌<◌};
 
 use mars_app::debug;
@@ -20,7 +20,7 @@ mod histories;
 mod lines;
 mod no_memory;
 
-/// A reader that gives its bytes in pieces, and then fails or ends.
+/// A reader that returns its bytes in pieces, and then fails or ends.
 #[derive(Drop)]
 struct Pieces<'a> {
     rest: &'a [u8],
@@ -73,16 +73,16 @@ impl Write for Narrow {
 /// A warrior that copies its cell to the next one.
 const IMP: &[u8] = b"ORG 0\nMOV.I $0, $1\n";
 
-/// A warrior that stays where it is.
+/// A warrior that jumps to its own cell.
 const STAY: &[u8] = b"ORG 0\nJMP.B $0, $0\n";
 
-/// A warrior that dies at its first turn.
+/// A warrior that dies in its first turn.
 const DEAD: &[u8] = b"ORG 0\nDAT.F $0, $0\n";
 
-/// The history of most tests.
+/// The history limit of most tests.
 const AMPLE: u64 = 200_000;
 
-/// A tape that starts at a battle.
+/// A tape that can start at a battle.
 trait Start: Tape {
     fn start(alloc: Global, battle: Battle) -> Result<Self, Fail>;
 }
@@ -99,14 +99,14 @@ impl Start for DeltaTape {
     }
 }
 
-/// It keeps 100 places beside the last one.
+/// Keeps 100 places beside the last one.
 impl Start for RingTape {
     fn start(alloc: Global, battle: Battle) -> Result<Self, Fail> {
         Ok(RingTape::new(alloc, battle, 100)?)
     }
 }
 
-/// Load files, and where each starts.
+/// Load files, and the starting position of each.
 #[derive(Clone, Copy)]
 struct Entries<'e> {
     sources: &'e [&'e [u8]],
@@ -138,7 +138,7 @@ fn warriors_of(alloc: Global, params: &Params, sources: &[&[u8]]) -> Result<Vec<
     Ok(warriors)
 }
 
-/// The battle of these load files in a core of 8 cells.
+/// Returns the battle of these load files in a core of 8 cells.
 fn battle_of(rt: &impl Abort, alloc: Global, entries: Entries<'_>) -> Result<Battle, Fail> {
     let params = Params::new(8, 8000, 80000, 8, 8, 1, 1)?;
     let warriors = warriors_of(alloc, &params, entries.sources)?;
@@ -148,7 +148,7 @@ fn battle_of(rt: &impl Abort, alloc: Global, entries: Entries<'_>) -> Result<Bat
     Ok(battle?)
 }
 
-/// A session over the battle of these load files.
+/// Returns a session over the battle of these load files.
 fn session_of<T: Start>(
     rt: &impl Abort,
     alloc: Global,
@@ -159,13 +159,13 @@ fn session_of<T: Start>(
     Ok(Session::new(T::start(alloc, battle)?, limit))
 }
 
-/// The session that the program has, of one imp.
+/// Returns the program's own kind of session, of one imp.
 fn imp_session(rt: &impl Abort, alloc: Global) -> Result<Session<RingTape>, Fail> {
     session_of(rt, alloc, ONE_IMP, AMPLE)
 }
 
-/// A battle's session answers so, in whatever pieces it reads and writes, over each kind of tape. Where places are forgotten
-/// the limit doesn't matter.
+/// Checks the replies of a battle's session over each kind of tape, for reads and writes of various sizes. A tape that evicts
+/// ignores the limit.
 fn gives(
     rt: &impl Abort,
     alloc: Global,
@@ -176,7 +176,7 @@ fn gives(
     gives_over::<RingTape>(rt, alloc, entries, 0, exchange)
 }
 
-/// So it is over each kind of tape that keeps all places, with a limit.
+/// Checks the replies over each kind of tape that keeps all places, with this limit.
 fn gives_within(
     rt: &impl Abort,
     alloc: Global,
@@ -188,7 +188,7 @@ fn gives_within(
     gives_over::<DeltaTape>(rt, alloc, entries, limit, exchange)
 }
 
-/// So it is over one kind of tape.
+/// Checks the replies over one kind of tape.
 fn gives_over<T: Start + Drop>(
     rt: &impl Abort,
     alloc: Global,
@@ -204,7 +204,7 @@ fn gives_over<T: Start + Drop>(
     Ok(())
 }
 
-/// The session answers so in pieces of so many bytes.
+/// Checks the replies of a session for reads and writes of this many bytes.
 fn answers<T: Tape>(
     rt: &impl Abort,
     alloc: Global,
@@ -226,7 +226,7 @@ fn answers<T: Tape>(
     assert!(rt; writer.bytes.as_slice() == exchange.expected, "{size}");
 }
 
-/// The same with one imp.
+/// Checks the replies of a session of one imp.
 fn imp_gives(rt: &impl Abort, alloc: Global, input: &[u8], expected: &str) -> Result<(), Fail> {
     let expected = expected.as_bytes();
     gives(rt, alloc, ONE_IMP, Exchange { input, expected })

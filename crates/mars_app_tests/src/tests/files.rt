@@ -1,4 +1,4 @@
-//! Files of warriors: their sizes, those of the system, load files, and the faults of each.
+//! Files of warriors: their sizes, files of the file system, load files, and the errors of each.
 
 use super::{Played, answer_over, check_fault, check_played, repeat, repeated};
 use mars_app::{FileFault, MemoryFiles, RunFault, SystemFiles, WarriorFiles};
@@ -8,7 +8,7 @@ use std::fs;
 use std::process::Abort;
 use std::test::Fail;
 
-/// A file of so many blanks is refused with this line.
+/// Checks that a file of `count` spaces is rejected with this line.
 fn check_blanks(rt: &impl Abort, alloc: Global, count: usize, line: &[u8]) -> Result<(), Fail> {
     let blanks = vec![in alloc; b' '; count]?;
     let mut files = MemoryFiles::new(alloc);
@@ -28,7 +28,7 @@ fn files_of_as_many_bytes_as_are_allowed(rt: HostRuntime) -> Result<(), Fail> {
     check_blanks(&rt, alloc, 1_048_577, b"mars: blank.red: too large\n")
 }
 
-/// The bytes of a file of the system, which is made for the test and removed after it.
+/// Returns the content of a file of the file system, which is created for the test and removed after it.
 fn read_system_file(
     rt: &HostRuntime,
     name: &str,
@@ -77,7 +77,7 @@ fn load_files(rt: HostRuntime) -> Result<(), Fail> {
     check_played(&rt, rt.alloc(), LOAD_FILES)
 }
 
-/// The load file of this source is this one.
+/// Checks the load file of this source.
 fn check_load_file(
     rt: &impl Abort,
     alloc: Global,
@@ -106,7 +106,7 @@ fn a_load_file_of_more_than_4096_bytes(rt: HostRuntime) -> Result<(), Fail> {
     check_load_file(&rt, alloc, &source, &text)
 }
 
-/// The file was written for a core of 8 cells.
+/// The load file was written for a core of 8 cells.
 const ANOTHER_CORE: &[Played] = &[
     (
         &["--load", "-s", "8", "-l", "1", "-d", "1", "named.load"],

@@ -8,7 +8,7 @@ use std::io::{ErrorKind, Read, Write};
 use std::process::Abort;
 use std::test::Fail;
 
-/// The status of a run over the files of the tests.
+/// Returns the status of a run over the files of the tests.
 fn run_over<R: Read, W: Write, E: Write>(
     alloc: Global,
     words: &[&str],
@@ -21,12 +21,12 @@ fn run_over<R: Read, W: Write, E: Write>(
     status
 }
 
-/// An empty input, and an output.
+/// Returns streams with an empty input and this output.
 fn unread<W: Write>(output: W) -> Streams<&'static [u8], W> {
     Streams { input: b"", output }
 }
 
-/// Counts its writes.
+/// A writer that counts its writes.
 #[derive(Drop)]
 struct Counted {
     bytes: Vec<u8>,
@@ -109,12 +109,12 @@ fn broken_streams(rt: HostRuntime) -> Result<(), Fail> {
     Ok(())
 }
 
-/// A writer that takes so many bytes and then fails.
+/// A writer that takes a number of bytes and then fails.
 #[derive(Drop)]
 struct Full {
     bytes: Vec<u8>,
     room: usize,
-    /// Whether it takes no byte when it is full, in place of a fault.
+    /// Whether it takes no byte when it is full, instead of returning an error.
     idles: bool,
 }
 
@@ -134,7 +134,7 @@ impl Write for Full {
     }
 }
 
-/// Into an empty writer these words write as much of the beginning of the whole as it has room for, and the fault is told.
+/// Checks that a run with these arguments writes as much of its output as the writer has room for, and reports the error.
 fn check_room(
     rt: &impl Abort,
     alloc: Global,
@@ -157,7 +157,7 @@ fn check_room(
     Ok(())
 }
 
-/// Words of which each has the program write.
+/// Arguments of runs that write.
 const WRITING: &[&[&str]] = &[
     &["--help"],
     &["--load", "two.load"],
@@ -189,7 +189,7 @@ fn output_that_breaks_off(rt: HostRuntime) -> Result<(), Fail> {
     Ok(())
 }
 
-/// A reader that gives its bytes two at a time and then fails.
+/// A reader that returns its bytes two at a time and then fails.
 #[derive(Drop)]
 struct CutOff<'a> {
     rest: &'a [u8],
@@ -208,7 +208,7 @@ impl Read for CutOff<'_> {
     }
 }
 
-/// The lines of an input that came whole, without the last LF.
+/// Returns the complete lines of an input, without the last LF.
 fn whole_lines(came: &[u8]) -> &[u8] {
     match came.iter().rposition(|byte| *byte == b'\n') {
         Some(last) => &came[..last],
@@ -216,7 +216,7 @@ fn whole_lines(came: &[u8]) -> &[u8] {
     }
 }
 
-/// Where the read fails behind what came, the lines that came whole are answered.
+/// Checks that the complete lines are executed if the read after `came` fails.
 fn check_came(rt: &impl Abort, alloc: Global, came: &[u8]) -> Result<(), Fail> {
     let expected = answer(alloc, &IMP_DEBUGGED, whole_lines(came))?;
     let mut faults = Vec::new(alloc);

@@ -1,4 +1,4 @@
-//! The words of the program: what is taken, their defaults and ranges, the help.
+//! The arguments of the program: which are accepted, their defaults and ranges, and the help.
 
 use super::{Played, answer, check_fault, check_played, check_well};
 use std::alloc::Global;
@@ -40,7 +40,7 @@ fn bad_words(rt: HostRuntime) -> Result<(), Fail> {
     Ok(())
 }
 
-/// Words, each with a number below its range and one above it.
+/// Options, each with a number below its range and one above it.
 const OUT_OF_RANGE: &[(&str, &str, &str)] = &[
     ("-r", "0", "100001"),
     ("-s", "0", "1048577"),
@@ -65,7 +65,7 @@ fn numbers_out_of_their_ranges(rt: HostRuntime) -> Result<(), Fail> {
     Ok(())
 }
 
-/// The words are taken: the one warrior asserts what they give, and its load file is written.
+/// Checks that the arguments are accepted: the only warrior asserts their values, and its load file is written.
 fn check_taken(rt: &impl Abort, alloc: Global, words: &[&str]) -> Result<(), Fail> {
     let answer = answer(alloc, words, b"")?;
     assert_eq!(rt; answer.status, 0);
@@ -80,7 +80,7 @@ fn check_taken(rt: &impl Abort, alloc: Global, words: &[&str]) -> Result<(), Fai
 }
 
 const DEFAULT_LIMITS: &[Played] = &[
-    // Reading and writing reach round the whole core: half of it on is not folded, one more is.
+    // The limits are the core size: half the core forward is not folded, and one cell more is.
     (
         &["-e", "imp.load"],
         b"edit 0 MOV.I $4000, $4000\nedit 4000 NOP.F $1, $1\nstep\nlist 4000 1\n",
@@ -90,7 +90,7 @@ turn 1 cycle 1 next 0 alive 1 at 3/3
 4000 NOP.F $1, $1
 ",
     ),
-    // So many places are kept beside the last one.
+    // The history keeps 200,000 places beside the last one.
     (
         &["-e", "-c", "300000", "imp.load"],
         b"run 200001\ngoto 0\n",
@@ -242,7 +242,7 @@ fn at_most_sixteen_files(rt: HostRuntime) -> Result<(), Fail> {
     Ok(())
 }
 
-/// The greatest core, the longest listing, and a help that is asked for beside a file.
+/// The largest core, the longest listing, and a help that is requested beside a file.
 const WELL: &[&[&str]] = &[
     &["-e", "-s", "1048576", "imp.load"],
     &[

@@ -1,4 +1,4 @@
-//! Calls on blocks for C.
+//! The functions on blocks that C calls. `include/mars.h` documents them.
 ghost use Rattle.std.specs.Prelude.{◌≡◌, ◌≢◌, ◌+◌, ◌*◌, Ok};
 ghost use Rattle.mars_cell.specs.Parameters.{Parameters};
 ghost use Rattle.mars_cell.specs.ParameterFaults.{checked_parameters};
@@ -26,7 +26,8 @@ use crate::touches::MarsTouched;
 use crate::warriors::MarsWarrior;
 use std::alloc::Global;
 
-/// Returns the maximum length of the block of a battle, in words.
+/// Returns the maximum length of the block of a battle in words, or 0 if the settings and the number of warriors allow no
+/// battle.
 #[unsafe(no_mangle)]
 pub extern "C" fn mars_words(settings: &MarsSettings, warriors: u32) -> usize
     ensures some { (p : Parameters) → checked_parameters (parameters_in settings.now) ≡ Ok p → AreWarriors warriors
@@ -36,7 +37,7 @@ pub extern "C" fn mars_words(settings: &MarsSettings, warriors: u32) -> usize
     words_of(settings, warriors)
 }
 
-/// Writes the battle of a round, as it starts, to a block.
+/// Writes the battle at the start of a round to a block.
 #[unsafe(no_mangle)]
 pub extern "C" fn mars_start(
     alloc: Global,
@@ -59,7 +60,7 @@ pub extern "C" fn mars_start(
     }
 }
 
-/// Makes turns in a block, and records the first of them.
+/// Executes turns of the battle in a block, and records the first ones.
 #[unsafe(no_mangle)]
 pub extern "C" fn mars_play(
     alloc: Global,
@@ -81,7 +82,7 @@ pub extern "C" fn mars_play(
     }
 }
 
-/// Makes an edit in a block.
+/// Makes an edit of the battle in a block.
 #[unsafe(no_mangle)]
 pub extern "C" fn mars_edit(
     alloc: Global,
@@ -100,7 +101,7 @@ pub extern "C" fn mars_edit(
     }
 }
 
-/// Checks that words begin with the block of a battle.
+/// Checks that the words begin with the block of a battle.
 #[unsafe(no_mangle)]
 pub extern "C" fn mars_check(alloc: Global, battle: &[u32], fault: &mut MarsFault) -> u32
     ensures told { result ≡ fault.new.code }

@@ -1,4 +1,4 @@
--- The text of a cell is read again as the cell, by value.
+-- The text of a cell is read back as the cell, with its numbers by value.
 use Rattle.std.proofs.Common.{◌≡◌, refl, ℕ, ℤ, pos, ◌-◌, ◌/◌, ◌^◌, ◌<◌, ◌≤◌, Bool, true, false, List, [], ◌∷◌, ◌++◌, Some, length, sym, ap, ◌∙◌, nat_eq, nat_le, rules, arith, decimal, append_assoc, append-nil}
 use Rattle.std.specs.List.{list_all}
 use Rattle.std.proofs.lemmas.Fmt.{decimal_nonempty, digits_decimal, digits_value-decimal, length-decimal-le}
@@ -37,7 +37,7 @@ digit_joins b e = rw (digit_is_word b e) refl
 digit_shows : (b : ℕ) → is_ascii_digit b ≡ true → is_blank b ≡ false
 digit_shows b e = grind arith
 
--- a sign or a digit takes the digits behind it
+-- A sign or a digit forms one part with the digits after it.
 pub parts_digits : (ds : List ℕ) (b : ℕ) (rest : List ℕ) → joins b ≡ true → is_blank b ≡ false → list_all is_ascii_digit ds ≡ true → begins_word rest ≡ false
     → parts (b ∷ (ds ++ rest)) ≡ (b ∷ ds) ∷ parts rest
 unfolding parts begins_word
@@ -46,7 +46,7 @@ parts_digits (d ∷ ds) b rest joining shows all ends =
     let both = and_parts (is_ascii_digit d) (list_all is_ascii_digit ds) all in
     rw (shows, joining, digit_is_word d both.0) (ap (onto_first b) (parts_digits ds d rest (digit_joins d both.0) (digit_shows d both.0) both.1 ends))
 
--- digits and their value
+-- The bytes `ds` are digits whose value is `n`.
 pub record IsNumeral (n : ℕ) (ds : List ℕ) : Type 0 where
   pub digits : list_all is_ascii_digit ds ≡ true
   pub value : digits_value 10 ds ≡ n
@@ -79,7 +79,7 @@ parse_number_digits minus p ds e some few all = rw (e, lt-ltb 0 (length ds) some
 few_digits : (n : ℕ) → n < 2 ^ 32 → length (decimal n) ≤ 18
 few_digits n h = length-decimal-le 18 n (omega arith) (omega arith) (omega arith)
 
--- a decimal is read as its number
+-- The decimal text of a number is read as the number.
 pub decimal_read : (n : ℕ) → n < 2 ^ 32 → parse_number (decimal n) ≡ Some (signed false n)
 decimal_read n small =
     let d = numeral n (omega arith) in
@@ -91,7 +91,7 @@ minus_read n small =
     let d = numeral n (omega arith) in
     parse_number_digits true (codes "-" ++ decimal n) (decimal n) refl (decimal_nonempty n (omega arith)) (few_digits n small) d.digits ∙ ap (λ v. Some (signed true v)) d.value
 
--- what is printed of a number is read as a number whose residue it is
+-- The text of a number `n` is read as a number whose residue is `n`.
 record ReadsBack (m n : ℕ) : Type 0 where
   number : ℤ
   is_read : parse_number (number_text m n) ≡ Some number
@@ -211,7 +211,7 @@ pub parts_nil : parts [] ≡ []
 unfolding parts
 parts_nil = refl
 
--- the parts of a cell's text
+-- The parts of a cell's text.
 pub cell_parts : (m : ℕ) (c : Cell) → m < 2 ^ 32 → c.a < m → c.b < m → parts (cell_text m c)
     ≡ op_name c.op ∷ codes "." ∷ modifier_name c.modifier ∷ mode_name c.a_mode ∷ number_text m c.a ∷ codes "," ∷ mode_name c.b_mode ∷ number_text m c.b ∷ []
 unfolding begins_word
@@ -252,7 +252,7 @@ operand_read m size o n rest below small =
     let value = by_value-residue m size r.number (pos n) (r.same ∙ sym (residue-plain m n below)) in
     rw (mode_taken o (number_text m n ∷ rest), number_taken (number_text m n) rest r.number r.is_read, value) refl
 
--- the text of a cell of m cells is read, for a core of another size, as the cell by value
+-- The text of a cell of a core of `m` cells is read, for a core of another size, as the cell carried by value.
 pub cell_read : (m size : ℕ) (c : Cell) → m < 2 ^ 32 → FitsCore m c → cell_of m size (parts (cell_text m c)) ≡ Some (carried m size c)
 unfolding cell_of op_at suffix_at modifier_at comma_at
 cell_read m size c small fits =

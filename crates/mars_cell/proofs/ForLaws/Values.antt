@@ -1,5 +1,6 @@
 -- Numbers by value.
--- A file of version 1 counts as written for the core that reads it, so there is one grammar; at equal sizes nothing has changed (`value_is_residue`).
+-- A file of version 1 counts as written for the core that reads it, so both versions share one grammar; at equal sizes values are
+-- plain residues (`value_is_residue`).
 use Rattle.std.proofs.Common.{◌≡◌, refl, ℕ, ℤ, pos, negsuc, ◌/◌, ◌<◌, ◌≤◌, true, false, ◌∙◌, ap, nat_le, arith}
 use Rattle.std.proofs.lemmas.Int.{int_rem_euclid_is, ints}
 use Rattle.std.specs.Prelude.{◌+ℤ◌, ◌-ℤ◌, ◌*◌}
@@ -14,14 +15,14 @@ residue-below : (m : ℕ) (z : ℤ) → 1 ≤ m → residue m z < m
 residue-below m (pos n) some = omega arith
 residue-below m (negsuc n) some = omega arith
 
--- a number of the core is its own residue, and so is the negative number that leads to the same cell
+-- A number below `m` is its own residue modulo `m`, and it is the residue of the negative number that refers to the same cell.
 pub residue-plain : (m n : ℕ) → n < m → residue m (pos n) ≡ n
 residue-plain m n below = mod-eq_of_lt below
 
 pub residue-less : (m n : ℕ) (z : ℤ) → n < m → z +ℤ pos (1 * m) ≡ pos n → residue m z ≡ n
 residue-less m n z below e = ap unsigned_abs (int_rem_euclid_is z (pos m) m 1 n (omega arith) refl e) ∙ mod-eq_of_lt below
 
--- in a core of the size that a number was written for it is taken modulo that size
+-- In a core of the size that a number was written for, the number is taken modulo that size.
 pub by_value-same : (m : ℕ) (z : ℤ) → 1 ≤ m → by_value m m z ≡ residue m z
 unfolding nearest
 by_value-same m z some =
@@ -31,7 +32,7 @@ by_value-same m z some =
       | false ↦ λ e. rw e (residue-less m (residue m z) (pos (residue m z) -ℤ pos m) below (omega (arith, ints)))
     ] refl
 
--- numbers with one residue have one value
+-- Numbers with equal residues have equal values.
 pub by_value-residue : (m size : ℕ) (y z : ℤ) → residue m y ≡ residue m z → by_value m size y ≡ by_value m size z
 unfolding nearest
 by_value-residue m size y z same = rw same refl
@@ -39,6 +40,6 @@ by_value-residue m size y z same = rw same refl
 carried_number-same : (m n : ℕ) → n < m → carried_number m m n ≡ n
 carried_number-same m n below = by_value-same m (pos n) (omega arith) ∙ residue-plain m n below
 
--- in a core of the same size a cell stays as it is
+-- In a core of the same size, a carried cell is unchanged.
 pub carried-same : (m : ℕ) (c : Cell) → FitsCore m c → carried m m c ≡ c
 carried-same m c fits = rw (carried_number-same m c.a fits.a, carried_number-same m c.b fits.b) refl

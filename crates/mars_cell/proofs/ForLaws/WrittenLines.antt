@@ -1,4 +1,4 @@
--- A written load file is read as its warrior, by value.
+-- A load file that was written is read as its warrior, with its numbers by value.
 use Rattle.std.proofs.Common.{◌≡◌, pos, refl, ℕ, suc, ◌+◌, ◌-◌, ◌/◌, ◌<◌, ◌≤◌, ◌^◌, Bool, true, false, ◌&&◌, not, List, [], ◌∷◌, ◌++◌, Some, Ok, length, map, sym, ap, ◌∙◌, nat_eq, nat_le, rules, arith, get_or, one-add, decimal, append_assoc, append-nil}
 use Rattle.std.specs.Prelude.{codes, All, option_map}
 use Rattle.std.specs.List.{list_all, flat_map, starts_with, AllByRecursion}
@@ -36,11 +36,11 @@ use Rattle.mars_cell.proofs.ForLaws.Values.{carried-same}
 
 -- ---- lines
 
--- no byte ends the line
+-- No byte of the line is an LF.
 pub record IsLine (line : List ℕ) : Type 0 where
   pub each : list_all goes_on line ≡ true
 
--- and none begins a comment
+-- The byte `b` neither ends a line nor begins a comment.
 abbrev pub is_plain : ℕ → Bool
 is_plain b = not (nat_eq b 10) && not (nat_eq b 59)
 
@@ -68,7 +68,7 @@ unfolding lines_of
 lines_of-line [] bs h = refl
 lines_of-line (b ∷ line) bs h = let h' = and_parts (goes_on b) (list_all goes_on line) h in rw (no_newline b h'.0, lines_of-line line bs h'.1) refl
 
--- lines that are ended by LF, and hold none, are parted again
+-- Lines without an LF, each terminated by LF, are split into the same lines.
 lines_of-with_newline : (ls : List (List ℕ)) → AllByRecursion IsLine ls → lines_of (flat_map with_newline ls) ≡ ls
 unfolding lines_of
 lines_of-with_newline [] h = refl
@@ -78,7 +78,7 @@ before_comment-plain : (line : List ℕ) → list_all is_plain line ≡ true →
 before_comment-plain [] h = refl
 before_comment-plain (b ∷ line) h = let h' = and_parts (is_plain b) (list_all is_plain line) h in rw (no_comment b h'.0, one-add) (ap (λ l. b ∷ l) (before_comment-plain line h'.1))
 
--- ---- what is written is plain
+-- ---- written lines are plain
 
 digit_is_plain : (b : ℕ) → is_ascii_digit b ≡ true → is_plain b ≡ true
 digit_is_plain b e = grind arith
@@ -143,7 +143,7 @@ text_is_plain xs e = record { each = e }
 operand_is_plain : (m : ℕ) (o : Mode) (n : ℕ) → n < m → m < 2 ^ 32 → IsPlain (operand_text m o n)
 operand_is_plain m o n below small = append_is_plain (text_is_plain (mode_name o) (mode_is_plain o)) (text_is_plain (number_text m n) (number_is_plain m n below small))
 
--- so a cell's text holds no LF and no comment
+-- The text of a cell contains no LF and no `;`.
 pub cell_is_plain : (m : ℕ) (c : Cell) → m < 2 ^ 32 → FitsCore m c → IsPlain (cell_text m c)
 cell_is_plain m c small fits =
     let op_and_dot = append_is_plain (text_is_plain (op_name c.op) (op_is_plain c.op)) (text_is_plain (codes ".") refl) in
@@ -154,7 +154,7 @@ cell_is_plain m c small fits =
 pub origin_is_plain : (n : ℕ) → n < 2 ^ 64 → IsPlain (codes "ORG " ++ decimal n)
 origin_is_plain n h = append_is_plain (text_is_plain (codes "ORG ") refl) (text_is_plain (decimal n) (decimal_is_plain n h))
 
--- ---- what the lines say
+-- ---- the statements of the lines
 
 no_origin : (o : Op) → str_eq_ignore_ascii_case (op_name o) (codes "ORG") ≡ false
 no_origin op.Dat = refl
@@ -192,7 +192,7 @@ no_end op.Slt = refl
 no_end op.Spl = refl
 no_end op.Nop = refl
 
--- a line that begins with an opcode says its cell
+-- A line that begins with an opcode states its cell.
 statement_of-op : (m size : ℕ) (o : Op) (ps : List (List ℕ)) (c : Cell) → cell_of m size (op_name o ∷ ps) ≡ Some c → statement_of m size (op_name o ∷ ps) ≡ Some (statement.Instruction c)
 unfolding statement_of
 statement_of-op m size o ps c e = rw (no_origin o, no_end o, e) refl
@@ -224,9 +224,9 @@ statement_of-origin m size n small =
     ∙ statement_of-org m size (decimal n)
     ∙ ap (option_map (λ n. statement.Origin n)) (decimal_read n small)
 
--- ---- the head
+-- ---- the header
 
--- the core size is read again
+-- A core size is read back: it does not begin with 0.
 no_zero_first : (ds : List ℕ) → 48 < get_or ds 0 0 → starts_with nat_eq ds (codes "0") ≡ false
 no_zero_first [] h = absurd (omega arith)
 no_zero_first (d ∷ ds) h = let other : nat_eq 48 d ≡ false = grind arith in rw other refl
@@ -243,7 +243,7 @@ unfolding size_of
 size_in-decimal m some most =
     rw (no_zero_first (decimal m) (first_decimal m some (omega arith)), parse_digits-decimal m most, le-leb 1 m some, le-leb m largest_core most) refl
 
--- a name is read again
+-- A name is read back: its bytes are printable.
 within : (b : ℕ) → 32 ≤ b → b ≤ 126 → is_within 32 126 b ≡ true
 within b low high = grind arith
 
@@ -257,7 +257,7 @@ name_of-name : (name : List ℕ) → IsName name → name_of name ≡ Some name
 unfolding name_of
 name_of-name name is = rw (le-leb (length name) 60 is.short, each_printed name is.printed) refl
 
--- so the whole head is
+-- The whole header is read back.
 header_of-written : (m : ℕ) (w : WarriorValue) → 1 ≤ m → m ≤ largest_core → IsWarrior w → header_of (load_lines m w) ≡ Ok (record { written = m; name = w.name; author = w.author })
 unfolding header_of
 header_of-written m w some most is = rw (size_in-decimal m some most, name_of-name w.name is.name, name_of-name w.author is.author) refl
@@ -346,7 +346,7 @@ load-written m size longest w most short is few all =
     rw (load, tells_version-written m w, lines_of-written m w most (omega arith) is all', header_of-written m w (some_size m w.cells (omega arith) all) most is)
     (body-written (record { written = m; name = w.name; author = w.author }) size longest 4 w (omega arith) short inside few all')
 
--- in a core of the same size nothing changes
+-- In a core of the same size, carried cells are unchanged.
 each_same : (m : ℕ) (cells : List Cell) → AllByRecursion (FitsCore m) cells → map (carried m m) cells ≡ cells
 each_same m [] all = refl
 each_same m (c ∷ cells) all = rw (carried-same m c all.0, each_same m cells all.1) refl

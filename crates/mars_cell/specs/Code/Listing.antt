@@ -1,4 +1,4 @@
--- What the reader of load files holds, line after line.
+-- The state of the reader of load files, line after line.
 use Rattle.std.specs.Prelude.{◌≡◌, ⊤, ℕ, ℤ, ◌+◌, List, [], ◌∷◌, ◌++◌, Option, None, Some, Result, Ok, Err}
 use Rattle.mars_cell.specs.declared.header.Header.{Header}
 use Rattle.mars_cell.specs.declared.instruction.Cell.{Cell}
@@ -11,18 +11,18 @@ use Rattle.mars_cell.specs.Cells.{FitsCore}
 use Rattle.mars_cell.specs.Header.{HeaderValue}
 use Rattle.mars_cell.specs.Load.{line_statement}
 
--- the head that was read
+-- The specified header of a header that was read.
 abbrev pub header_value : Header → HeaderValue
 header_value h = record { written = h.written; name = h.name.now; author = h.author.now }
 
--- the cell that a statement gives fits a core of m cells
+-- The cell of a statement, if it has one, fits a core of `m` cells.
 abbrev pub StatementFits : ℕ → Statement → Type 0
 StatementFits m statement.Nothing = ⊤
 StatementFits m (statement.Origin n) = ⊤
 StatementFits m (statement.End n) = ⊤
 StatementFits m (statement.Instruction c) = FitsCore m c
 
--- what was read: the cells, the last ORG's number, and END's
+-- What was read so far: the cells, the number of the last ORG, and that of END.
 pub record Listing : Type 0 where
   pub cells : List Cell
   pub origin : Option ℤ
@@ -31,10 +31,12 @@ pub record Listing : Type 0 where
 abbrev pub nothing_read : Listing
 nothing_read = record { cells = []; origin = None; end = None }
 
+-- The listing that a `ReadListing` of the code stands for.
 abbrev pub listing : ReadListing → Listing
 listing r = record { cells = r.cells.items; origin = r.origin; end = r.end }
 
--- reading on from line number k, up to END: what is read in all, or the number of the first bad line
+-- The listing after all lines up to END, or the number of the first invalid line. The first line has the number `k`, and `s` was
+-- read before it.
 unfoldable pub load_from : ℕ → ℕ → ℕ → Listing → List (List ℕ) → Result Listing ℕ
 load_from written m k s [] = Ok s
 load_from written m k s (l ∷ ls) = elim (line_statement written m l) [
@@ -47,7 +49,7 @@ load_from written m k s (l ∷ ls) = elim (line_statement written m l) [
   ]
 ]
 
--- the listing that was read is the defined one, and a bad line is the defined one, unless memory ran out
+-- The result of reading is the defined listing or the number of the defined invalid line, unless an allocation failed.
 abbrev pub ReadsListing : Result ReadListing LoadFault → Result Listing ℕ → Type 0
 ReadsListing (Ok r) read = read ≡ Ok (listing r)
 ReadsListing (Err fault.OutOfMemory) read = ⊤

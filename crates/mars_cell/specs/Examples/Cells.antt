@@ -1,4 +1,4 @@
--- Worked examples: the text of a cell, and what is read as one.
+-- Examples: the text of a cell, and what is read as a cell.
 use Rattle.std.specs.Prelude.{◌≡◌, ℕ, pos, neg_ℤ, None, Some, codes, refl}
 use Rattle.std.specs.Fmt.{digits}
 use Rattle.mars_cell.specs.declared.instruction.Cell.{Cell}
@@ -15,14 +15,14 @@ use Rattle.mars_cell.specs.Parts.{begins_word, joins, parts}
 use Rattle.mars_cell.specs.Text.{cell_text, number_text}
 use Rattle.mars_cell.specs.Words.{mode_of, modifier_of, op_of}
 
--- a cell, written in the order of its text
+-- A cell, with the arguments in the order of its text.
 abbrev pub cell : Op → Modifier → Mode → ℕ → Mode → ℕ → Cell
 cell op modifier a_mode a b_mode b = record { op = op; modifier = modifier; a_mode = a_mode; a = a; b_mode = b_mode; b = b }
 
 abbrev pub nop : Cell
 nop = cell op.Nop modifier.F Direct 0 Direct 0
 
--- the places of tags, as other programs know them
+-- Indices of opcodes, modifiers and modes, which other programs rely on.
 pub tags_have_places :
     (op_index op.Djn ≡ 10)
     × (op_index op.Seq ≡ 11)
@@ -31,7 +31,7 @@ pub tags_have_places :
     × (mode_index BPostincrement ≡ 7)
 tags_have_places = (refl, refl, refl, refl, refl)
 
--- a number up to half the core size is printed as it is, the half too
+-- A number up to half the core size, the half included, is printed as it is.
 pub numbers_are_written :
     (number_text 8 0 ≡ codes "0")
     × (number_text 8 4 ≡ codes "4")
@@ -43,7 +43,8 @@ pub numbers_are_written :
 unfolding digits
 numbers_are_written = (refl, refl, refl, refl, refl, refl, refl)
 
--- a number that was written for a core of 8 or 7 cells is from -3 to 4, or from -3 to 3; its value is taken modulo the size of the core that reads it
+-- A number that was written for a core of 8 cells is from -3 to 4, for one of 7 cells from -3 to 3. Its value is taken modulo the
+-- size of the core that reads it.
 pub numbers_by_value :
     (by_value 8 8000 (pos 7) ≡ 7999)
     × (by_value 8 8000 (neg_ℤ (pos 9)) ≡ 7999)
@@ -60,7 +61,7 @@ pub numbers_by_value :
 unfolding nearest
 numbers_by_value = (refl, refl, refl, refl, refl, refl, refl, refl, refl, refl, refl, refl)
 
--- cells are printed with their modifier and modes; CMP is printed SEQ
+-- A cell is printed with its modifier and modes; CMP is printed as SEQ.
 pub cells_are_written :
     (cell_text 8 (cell op.Mov modifier.I Direct 0 Direct 1) ≡ codes "MOV.I $0, $1")
     × (cell_text 8 (cell op.Seq modifier.B Direct 1 Immediate 2) ≡ codes "SEQ.B $1, #2")
@@ -70,7 +71,7 @@ pub cells_are_written :
 unfolding digits
 cells_are_written = (refl, refl, refl, refl, refl)
 
--- the words of a cell; CMP is SEQ
+-- The names of opcodes, modifiers and modes are read; CMP is SEQ.
 pub words_are_read :
     (op_of (codes "DAT") ≡ Some op.Dat)
     × (op_of (codes "MOV") ≡ Some op.Mov)
@@ -107,7 +108,7 @@ pub words_are_read :
 unfolding op_of modifier_of mode_of
 words_are_read = (refl, refl, refl, refl, refl, refl, refl, refl, refl, refl, refl, refl, refl, refl, refl, refl, refl, refl, refl, refl, refl, refl, refl, refl, refl, refl, refl, refl, refl, refl, refl, refl)
 
--- the modifiers of the standard's table
+-- The default modifiers of the standard's table.
 pub default_modifiers :
     (default_modifier op.Dat Direct Direct ≡ modifier.F)
     × (default_modifier op.Nop Direct Direct ≡ modifier.F)
@@ -162,7 +163,7 @@ pub default_modifiers :
 unfolding default_modifier
 default_modifiers = (refl, refl, refl, refl, refl, refl, refl, refl, refl, refl, refl, refl, refl, refl, refl, refl, refl, refl, refl, refl, refl, refl, refl, refl, refl, refl, refl, refl, refl, refl, refl, refl, refl, refl, refl, refl, refl, refl, refl, refl, refl, refl, refl, refl, refl, refl, refl, refl, refl, refl)
 
--- blanks may stand between all parts; words are read in either case; modes and modifier may be left out
+-- Whitespace may be between all parts, upper and lower case are equal, and the modes and the modifier may be left out.
 pub cells_are_read :
     (read_cell 8 (codes "MOV.I $0, $1") ≡ Some (cell op.Mov modifier.I Direct 0 Direct 1))
     × (read_cell 8 (codes "MOV . I $ 0 , $ 1") ≡ Some (cell op.Mov modifier.I Direct 0 Direct 1))
@@ -177,7 +178,7 @@ pub cells_are_read :
 unfolding parts joins begins_word cell_of op_at suffix_at modifier_at mode_at number_at operand_at comma_at op_of modifier_of mode_of parse_number parse_digits split_sign nearest default_modifier
 cells_are_read = (refl, refl, refl, refl, refl, refl, refl, refl, refl, refl)
 
--- a number is one part, a word ends before a digit, and nothing may follow
+-- A number is one part, a word includes the digits after it, and nothing may follow the second operand.
 pub no_cells :
     (read_cell 8 (codes "MOV - 1, 2") ≡ None)
     × (read_cell 8 (codes "MOV -, 1") ≡ None)

@@ -1,4 +1,4 @@
--- Worked examples: load files.
+-- Examples: load files.
 use Rattle.std.specs.Prelude.{◌≡◌, ℕ, List, [], ◌∷◌, ◌++◌, replicate, Ok, Err, codes, refl}
 use Rattle.std.specs.Fmt.{digits}
 use Rattle.mars_cell.specs.declared.instruction.Op.TheVariants as op
@@ -16,14 +16,14 @@ use Rattle.mars_cell.specs.Words.{mode_of, modifier_of, op_of}
 use Rattle.mars_cell.specs.Written.{load_text}
 use Rattle.mars_cell.specs.Examples.Cells.{cell, nop}
 
--- a warrior that a file of version 1 doesn't name
+-- A warrior that is read from a file of version 1, which has no names.
 abbrev nameless : List Cell → ℕ → WarriorValue
 nameless cells start = record { name = codes "Unknown"; author = codes "Anonymous"; cells = cells; start = start }
 
 abbrev imp_by : List ℕ → List ℕ → ℕ → WarriorValue
 imp_by name author b = record { name = name; author = author; cells = cell op.Mov modifier.I Direct 0 Direct b ∷ []; start = 0 }
 
--- the last ORG counts; END stops, and its number counts only without ORG; comments have no meaning
+-- The last ORG gives the start. Reading stops at END, whose number gives the start only without ORG. Comments are ignored.
 pub files_are_read :
     (load 8 8 (codes "ORG 0\nMOV.I $0, $7\n") ≡ Ok (nameless (cell op.Mov modifier.I Direct 0 Direct 7 ∷ []) 0))
     × (load 8 8 (codes "ORG 0\nORG 1\nNOP 0, 0\nNOP 0, 0\n") ≡ Ok (nameless (nop ∷ nop ∷ []) 1))
@@ -38,7 +38,7 @@ pub files_are_read :
 unfolding parts joins begins_word cell_of op_at suffix_at modifier_at mode_at number_at operand_at comma_at op_of modifier_of mode_of parse_number parse_digits split_sign nearest default_modifier load tells_version body statements lines_of statement_of lone_number end_of
 files_are_read = (refl, refl, refl, refl, refl, refl, refl, refl, refl, refl)
 
--- the first bad line comes before every other fault, also behind the line too many
+-- The first invalid line is reported before every other error, even if it comes after a cell too many.
 pub first_fault :
     (load 8 8 (codes "MOV 0") ≡ Err (fault.Syntax 1))
     × (load 8 8 (codes "NOP 0, 0\nORG0\n") ≡ Err (fault.Syntax 2))
@@ -61,7 +61,7 @@ pub first_fault :
 unfolding parts joins begins_word cell_of op_at suffix_at modifier_at mode_at number_at operand_at comma_at op_of modifier_of mode_of parse_number parse_digits split_sign nearest default_modifier load tells_version body statements lines_of statement_of lone_number end_of
 first_fault = (refl, refl, refl, refl, refl, refl, refl, refl, refl, refl, refl, refl, refl, refl, refl, refl, refl, refl)
 
--- a file of version 2 keeps the names, blanks and `;` included, and its numbers have the values that they had in its own core
+-- A file of version 2 has names, which may contain spaces and `;`, and its numbers have the values that they had in its own core.
 pub files_keep_names :
     (load 8000 8 (codes ";load 2 8\n;name Imp\n;author Dewdney\nORG 0\nMOV.I $0, $7\n") ≡ Ok (imp_by (codes "Imp") (codes "Dewdney") 7999))
     × (load 8000 8 (codes "ORG 0\nMOV.I $0, $7\n") ≡ Ok (imp_by (codes "Unknown") (codes "Anonymous") 7))
@@ -74,7 +74,7 @@ pub files_keep_names :
 unfolding parts joins begins_word cell_of op_at suffix_at modifier_at mode_at number_at operand_at comma_at op_of modifier_of mode_of parse_number parse_digits split_sign nearest default_modifier load tells_version header_of size_of name_of body statements lines_of statement_of lone_number end_of
 files_keep_names = (refl, refl, refl, refl, refl, refl, refl, refl)
 
--- the version comes first, then the first bad line
+-- An error of the version comes first, then the first invalid line.
 pub first_fault_of_a_head :
     (load 8000 8 (codes ";load 3 8000\nNOP 0, 0") ≡ Err fault.Version)
     × (load 8000 8 (codes ";load 1") ≡ Err fault.Version)
@@ -99,7 +99,7 @@ pub first_fault_of_a_head :
 unfolding parts joins begins_word cell_of op_at suffix_at modifier_at mode_at number_at operand_at comma_at op_of modifier_of mode_of parse_number parse_digits split_sign nearest default_modifier load tells_version header_of size_of name_of body statements lines_of statement_of lone_number end_of
 first_fault_of_a_head = (refl, refl, refl, refl, refl, refl, refl, refl, refl, refl, refl, refl, refl, refl, refl, refl, refl, refl, refl, refl)
 
--- a name has at most 60 bytes, from the blank to the tilde
+-- A name has at most 60 bytes, from the space to the tilde.
 pub long_names :
     (load 8000 8 (codes ";load 2 8000\n;name ~\n;author \nMOV 0, 1") ≡ Ok (imp_by (codes "~") [] 1))
     × (load 8000 8 (codes ";load 2 8000\n;name " ++ 127 ∷ codes "\n;author \nMOV 0, 1") ≡ Err (fault.Syntax 2))
@@ -109,7 +109,7 @@ pub long_names :
 unfolding parts joins begins_word cell_of op_at suffix_at modifier_at mode_at number_at operand_at comma_at op_of modifier_of mode_of parse_number parse_digits split_sign nearest default_modifier load tells_version header_of size_of name_of body statements lines_of statement_of lone_number end_of
 long_names = (refl, refl, refl, refl, refl)
 
--- the last line may have no LF; an LF at the end begins no other line
+-- The last line may have no LF; an LF at the end begins no other line.
 pub lines_are_parted :
     (lines_of (codes "step\n\nundo") ≡ codes "step" ∷ [] ∷ codes "undo" ∷ [])
     × (lines_of (codes "step\n") ≡ codes "step" ∷ [])
@@ -117,7 +117,7 @@ pub lines_are_parted :
 unfolding lines_of
 lines_are_parted = (refl, refl, refl)
 
--- the load file of a warrior that bombs the core
+-- The load file of a warrior that bombs the core.
 pub bomber_is_written : load_text 8000 (record {
   name = codes "Bomber ;";
   author = [];

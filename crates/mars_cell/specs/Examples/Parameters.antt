@@ -1,4 +1,4 @@
--- Worked examples: parameters and programs that are taken, and why others are refused.
+-- Examples: parameters and programs that are accepted, and the errors of others.
 use Rattle.std.specs.Prelude.{◌≡◌, ℕ, List, [], ◌∷◌, Ok, Err, refl}
 use Rattle.mars_cell.specs.declared.instruction.Field.TheVariants.{ANumber, BNumber}
 use Rattle.mars_cell.specs.declared.instruction.Cell.{Cell}
@@ -15,7 +15,7 @@ use Rattle.mars_cell.specs.Warriors.{WarriorValue}
 use Rattle.mars_cell.specs.WarriorFaults.{checked_warrior}
 use Rattle.mars_cell.specs.Examples.Cells.{cell, nop}
 
--- core size, processes, cycles, read limit, write limit, longest warrior, least distance
+-- The parameters in order: core size, processes, cycles, read limit, write limit, maximum length, minimum distance.
 abbrev of_sizes : ℕ → ℕ → ℕ → ℕ → ℕ → ℕ → ℕ → Parameters
 of_sizes m p c r w l d = record { core_size = m; processes = p; cycles = c; read_limit = r; write_limit = w; max_length = l; distance = d }
 
@@ -25,7 +25,7 @@ Taken p = checked_parameters p ≡ Ok p
 abbrev Refused : Parameters → ParamFault → Type 0
 Refused p fault = checked_parameters p ≡ Err fault
 
--- the least and the greatest value of each
+-- The minimum and the maximum of each parameter are accepted.
 pub parameters_are_taken :
     Taken (of_sizes 1 1 1 1 1 1 1)
     × Taken (of_sizes 1048576 65536 10000000 1048576 1048576 1048576 1048576)
@@ -33,7 +33,7 @@ pub parameters_are_taken :
     × Taken (of_sizes 8000 8000 80000 1 8000 100 101)
 parameters_are_taken = (refl, refl, refl, refl)
 
--- one below the least value, and one above the greatest
+-- One below the minimum and one above the maximum are rejected.
 pub parameters_are_refused :
     Refused (of_sizes 0 1 1 1 1 1 1) CoreSize
     × Refused (of_sizes 1048577 1 1 1 1 1 1) CoreSize
@@ -51,7 +51,7 @@ pub parameters_are_refused :
     × Refused (of_sizes 8 1 1 8 8 3 9) Distance
 parameters_are_refused = (refl, refl, refl, refl, refl, refl, refl, refl, refl, refl, refl, refl, refl, refl)
 
--- of several the first one is told
+-- If several parameters are out of range, the error is that of the first.
 pub first_fault_of_parameters :
     Refused (of_sizes 0 0 0 0 0 0 0) CoreSize
     × Refused (of_sizes 8 0 0 0 0 0 0) Processes
@@ -63,7 +63,7 @@ first_fault_of_parameters = (refl, refl, refl, refl, refl)
 abbrev program : List Cell → ℕ → WarriorValue
 program cells start = record { name = []; author = []; cells = cells; start = start }
 
--- a warrior has a cell, and starts at one of its cells
+-- A warrior has at least one cell, and starts at one of its cells.
 pub programs_are_judged :
     (checked_warrior (program (nop ∷ nop ∷ []) 1) ≡ Ok (program (nop ∷ nop ∷ []) 1))
     × (checked_warrior (program (nop ∷ nop ∷ []) 2) ≡ Err warrior.BadOrigin)
@@ -71,7 +71,7 @@ pub programs_are_judged :
     × (checked_warrior (program [] 1) ≡ Err warrior.Empty)
 programs_are_judged = (refl, refl, refl, refl)
 
--- a cell of a core in which nothing was laid, and what its two fields are
+-- The cell of an empty core, and its two fields.
 pub cell_of_an_empty_core :
     (empty_cell ≡ cell op.Dat modifier.F Direct 0 Direct 0)
     × (with_field ANumber 3 empty_cell ≡ cell op.Dat modifier.F Direct 3 Direct 0)

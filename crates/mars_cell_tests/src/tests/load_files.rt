@@ -26,7 +26,7 @@ fn a_load_file(rt: HostRuntime) -> Result<(), Fail> {
     Ok(())
 }
 
-/// Load files, with the length and the start of each one's warrior.
+/// Load files, each with the length and the start of its warrior.
 const FILES: [(&[u8], usize, u32); 8] = [
     (b"NOP 0, 0", 1, 0),
     (b"ORG 0\nORG 1\nNOP 0, 0\nNOP 0, 0\n", 2, 1),
@@ -38,7 +38,7 @@ const FILES: [(&[u8], usize, u32); 8] = [
     (b"ORG 000000000000000001\nNOP 0,0\nNOP 0,0", 2, 1),
 ];
 
-/// The length and the start of a load file's warrior.
+/// Returns the length and the start of the warrior of a load file.
 fn length_and_start(alloc: Global, text: &[u8], params: &Params) -> Option<(usize, u32)> {
     let warrior = read_load(alloc, text, params).ok()?;
     let found = (warrior.cells().len(), warrior.start());
@@ -56,12 +56,12 @@ fn loaded(rt: HostRuntime) -> Result<(), Fail> {
     Ok(())
 }
 
-/// The fault of a load file, where it has one.
+/// Returns the error of a load file, if it has one.
 fn load_fault(alloc: Global, text: &[u8], params: &Params) -> Option<LoadFault> {
     read_load(alloc, text, params).err()
 }
 
-/// Each of these load files has its fault.
+/// Checks that each load file has the error next to it.
 fn check_faults(
     rt: &impl Abort,
     alloc: Global,
@@ -103,7 +103,7 @@ const BAD_FILES: [(&[u8], LoadFault); 17] = [
     (b"NOP 0,0\nEND 4294967296", LoadFault::BadOrigin),
 ];
 
-/// Whether a warrior has these texts, and one cell: MOV.I to this number.
+/// Returns whether a warrior has these names and a single cell, `MOV.I $0` to `number`.
 fn is_mover(warrior: &Warrior, name: &str, author: &str, number: u32) -> bool {
     let mov = cell(Op::Mov, Modifier::I, Mode::Direct, 0, Mode::Direct, number);
     is_warrior(warrior, name, author, &[mov], 0)
@@ -205,7 +205,7 @@ const BAD_HEADS: [(&[u8], LoadFault); 24] = [
     ),
 ];
 
-/// The fault of each beginning of a load file.
+/// Checks the error of each prefix of a load file.
 #[test]
 fn beginnings_of_a_load_file(rt: HostRuntime) -> Result<(), Fail> {
     let alloc = rt.alloc();
@@ -214,19 +214,19 @@ fn beginnings_of_a_load_file(rt: HostRuntime) -> Result<(), Fail> {
     assert_eq!(rt; file.len(), 51);
     for length in 0..=51 {
         let fault = match length {
-            // `;load ` is a comment yet
+            // `;load ` without a digit is a comment.
             0..=6 => Some(LoadFault::Empty),
-            // `;load 2 ` tells no core size
+            // `;load 2 ` states no core size.
             7..=8 => Some(LoadFault::Version),
-            // `;load 2 8` does, but `;name` isn't a word with its blank
+            // `;load 2 8` states one, but `;name` lacks its space.
             9..=16 => Some(LoadFault::Syntax(2)),
-            // `;name ` is, but `;author` isn't
+            // `;name ` is complete, but `;author` lacks its space.
             17..=28 => Some(LoadFault::Syntax(3)),
-            // the head is whole, and there is no cell
+            // The header is complete, and there are no cells.
             29..=37 => Some(LoadFault::Empty),
-            // nor is `MOV.I $0, $` one
+            // `MOV.I $0, $` is not a cell.
             38..=48 => Some(LoadFault::Syntax(4)),
-            // `MOV.I $0, $7` is
+            // `MOV.I $0, $7` is a cell.
             _ => None,
         };
         let (front, _) = file.split_at(length);
@@ -238,7 +238,7 @@ fn beginnings_of_a_load_file(rt: HostRuntime) -> Result<(), Fail> {
 const DWARF: &[u8] =
     b";load 2 8000\n;name Dwarf; \n;author A. K. Dewdney\nORG 1\nADD.AB #4, $3\nMOV.I $2, @2\nJMP.B $-2, $0\nDAT.F #0, #0\n";
 
-/// The load file of a dwarf.
+/// Returns the load file of a dwarf.
 fn written(alloc: Global) -> Result<Vec<u8>, Fail> {
     let cells = vec![in alloc;
         cell(Op::Add, Modifier::Ab, Mode::Immediate, 4, Mode::Direct, 3),
@@ -254,7 +254,7 @@ fn written(alloc: Global) -> Result<Vec<u8>, Fail> {
     Ok(text?)
 }
 
-/// Whether a warrior is the dwarf in a core of this size.
+/// Returns whether a warrior is the dwarf in a core of this size.
 fn is_dwarf(warrior: &Warrior, core_size: u32) -> bool
     requires { 2 ≤ core_size }
 {

@@ -1,5 +1,5 @@
-//! Calls that are refused memory. Each test holds whichever one of its requests is refused, since a second try has memory:
-//! checks/memory refuses each in turn.
+//! Calls whose allocations fail. checks/memory lets each allocation of a test fail in turn. Each test must pass
+//! whichever one fails, since a second try has memory.
 ghost use Rattle.std.specs.Prelude.{All, IfOk};
 ghost use Rattle.mars_cell.specs.Cells.{FitsCore};
 
@@ -10,10 +10,10 @@ use std::test::Fail;
 
 const FILE: &[u8] = b";load 2 8\n;name Jumper\n;author A\nORG 1\nNOP.F $0, $0\nJMP.B $-1, $0\n";
 
-/// The same of version 1.
+/// The statements of `FILE` as a file of version 1.
 const NAMELESS: &[u8] = b"ORG 1\nNOP.F $0, $0\nJMP.B $-1, $0\n";
 
-/// The warrior of the file.
+/// Returns the warrior of `FILE`.
 fn jumper(alloc: Global) -> Result<Warrior, Fail>
     ensures { IfOk result (λ warrior. All (FitsCore 8) warrior.cells) }
 {
@@ -24,7 +24,7 @@ fn jumper(alloc: Global) -> Result<Warrior, Fail>
     }
 }
 
-/// Whether a warrior has these names, and the cells and the start of the file's.
+/// Returns whether a warrior has these names, and the cells and the start of `FILE`.
 fn is_jumper(warrior: &Warrior, name: &str, author: &str) -> bool {
     let cells = [
         cell(Op::Nop, Modifier::F, Mode::Direct, 0, Mode::Direct, 0),

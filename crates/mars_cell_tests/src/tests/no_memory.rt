@@ -1,6 +1,6 @@
-//! Calls that take no memory. Each test makes its objects, asks for memory once more, and holds whether that and all that
-//! comes after it is refused or not: checks/memory refuses all requests from each on. Where the objects themselves
-//! are refused, there is nothing to show.
+//! Calls that don't allocate. Each test makes its objects, then makes one request for memory, then makes the calls.
+//! checks/memory lets each request fail in turn, together with all later ones; a test must pass whether its last
+//! request fails or not. If its objects can't be allocated, a test shows nothing.
 ghost use Rattle.std.specs.Prelude.{IfSome, string_bytes};
 ghost use Rattle.mars_cell.specs.Warriors.{IsName};
 
@@ -12,7 +12,7 @@ use mars_cell::{
 use std::alloc::Global;
 use std::test::Fail;
 
-/// Asks for memory, which is the first request of all that are refused.
+/// Allocates, to be the first of the allocations that fail.
 fn ask(alloc: Global) {
     let _asked: Result<Vec<u64>, _> = Vec::with_capacity(alloc, 1);
 }
@@ -42,7 +42,7 @@ fn parameters(rt: HostRuntime) -> Result<(), Fail> {
     Ok(())
 }
 
-/// Cells that do nothing.
+/// Returns `len` cells that do nothing.
 fn idle(alloc: Global, len: usize) -> Option<Vec<Cell>> {
     let mut cells = Vec::with_capacity(alloc, len).ok()?;
     for _ in 0..len {
@@ -51,7 +51,7 @@ fn idle(alloc: Global, len: usize) -> Option<Vec<Cell>> {
     Some(cells)
 }
 
-/// A name.
+/// Returns a name.
 fn ann(alloc: Global) -> Option<String>
     ensures { IfSome result (λ name. IsName (string_bytes name)) }
 {
@@ -61,7 +61,8 @@ fn ann(alloc: Global) -> Option<String>
     }
 }
 
-/// A warrior of Ann's, or why there is none: memory is asked for once its parts are made. None where these are refused.
+/// Returns a warrior of Ann's or the error of making it, with the allocation that may fail just before the call.
+/// Returns `None` if its parts can't be allocated.
 fn anns(alloc: Global, len: usize, start: u32) -> Option<Result<Warrior, WarriorFault>> {
     let (Some(name), Some(author), Some(cells)) = (ann(alloc), ann(alloc), idle(alloc, len)) else {
         return None;
@@ -70,7 +71,7 @@ fn anns(alloc: Global, len: usize, start: u32) -> Option<Result<Warrior, Warrior
     Some(Warrior::new(name, author, cells, start))
 }
 
-/// Whether that came to such a warrior, or to this fault.
+/// Returns whether the result is such a warrior, or this error.
 fn is_told(
     found: &Result<Warrior, WarriorFault>,
     len: usize,

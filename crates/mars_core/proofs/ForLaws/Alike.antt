@@ -1,6 +1,6 @@
--- Instructions at two places, in cores that are alike wherever the first one touches a cell: they do the same.
--- It goes through an execution once, over a map of addresses, what is near, and what has to hold of them (`Corresponds`). A battle that is moved,
--- and a core with other untouched cells, are two instances.
+-- Instructions at two addresses, in cores that are alike wherever the first instruction touches a cell, do the same.
+-- The proof follows an execution once, for a map of addresses, a set of near addresses, and conditions on both (`Corresponds`). A
+-- shifted battle, and a core with other untouched cells, are two instances.
 use Rattle.std.proofs.Common.{◌≡◌, ℕ, ◌<◌, Bool, true, false, cond, List, [], ◌∷◌, length, map, set, refl, ap, sym, ◌∙◌, inl, inr, Option, None, Some, All}
 use Rattle.std.proofs.lemmas.Bool.{cases_eq}
 use Rattle.std.proofs.lemmas.List.{length-set, get_or-set_same, get_or-set_other, map-append}
@@ -26,7 +26,8 @@ use Rattle.mars_core.specs.declared.machine.writes.CellChange.{CellChange}
 use Rattle.mars_core.proofs.Folding.{after_none}
 use Rattle.mars_core.proofs.ForLaws.Listed.{listed, Parts, parts_of, map-listed}
 
--- an address of the second core for each of the first one; those that are near, as all are that the first one touches, are told apart
+-- Each address of the first core has an address `there` in the second. The map is injective on near addresses; all addresses that
+-- the first instruction touches are near.
 pub record Corresponds (p : Parameters) (there : ℕ → ℕ) (Near : ℕ → Type 0) (pc pc' : ℕ) : Type 0 where
   pub one : (a b : ℕ) → Near a → Near b → there a ≡ there b → a ≡ b
   pub inside : (a : ℕ) → Near a → a < p.core_size
@@ -35,18 +36,18 @@ pub record Corresponds (p : Parameters) (there : ℕ → ℕ) (Near : ℕ → Ty
   pub start : pc < p.core_size
   pub start_there : pc' < p.core_size
 
--- the cells near are the same
+-- The near cells are the same in both cores.
 pub record Alike (m : ℕ) (there : ℕ → ℕ) (Near : ℕ → Type 0) (core core' : List Cell) : Type 0 where
   pub size : length core ≡ m
   pub size_there : length core' ≡ m
   pub cells : (a : ℕ) → Near a → cell_at core' (there a) ≡ cell_at core a
 
--- the change of a cell, there
+-- A change of a cell, at the address in the second core.
 abbrev pub changed_there : (ℕ → ℕ) → CellChange → CellChange
 changed_there there change = record change { address = there change.address }
 
 module _ (p : Parameters) (there : ℕ → ℕ) (Near : ℕ → Type 0) (pc pc' : ℕ) (k : Corresponds p there Near pc pc') where
-  -- the same was written, and near
+  -- The same was written in both cores, only at near addresses.
   pub record AlikeWritten (w w' : WrittenCore) : Type 0 where
     pub cores : Alike p.core_size there Near w.core w'.core
     pub changes : w'.changes ≡ map (changed_there there) w.changes
@@ -71,11 +72,11 @@ module _ (p : Parameters) (there : ℕ → ℕ) (Near : ℕ → Type 0) (pc pc' 
     cells = λ b near_b. cell_set core core' a b cell near near_b alike;
   }
 
-  -- the address of the cell that an operand copies
+  -- The address of the cell that an operand copies.
   abbrev copied : Operand → ℕ
   copied operand = address_after p.core_size pc operand.read
 
-  -- both cells that the number of an indirect mode leads to are near
+  -- Both cells to which the number of an indirect mode leads are near.
   abbrev ArePointedNear : ℕ → Type 0
   ArePointedNear n = All Near (address_after p.core_size pc (fold p.core_size p.read_limit n) ∷ pointed_address p pc n ∷ [])
 
@@ -112,7 +113,7 @@ module _ (p : Parameters) (there : ℕ → ℕ) (Near : ℕ → Type 0) (pc pc' 
         rw (at_step (fold p.core_size p.read_limit n) (first_near _ _ pointed), at_step (fold p.core_size p.write_limit n) (second_near _ _ pointed))
         (direct_alike _ _ near)
 
-  -- the same operand
+  -- The evaluations return the same operand.
   record AlikeEvaluation (e e' : Evaluation) : Type 0 where
     pub written : AlikeWritten e.written e'.written
     pub operand : e'.operand ≡ e.operand
@@ -153,7 +154,7 @@ module _ (p : Parameters) (there : ℕ → ℕ) (Near : ℕ → Type 0) (pc pc' 
   some_there true = one_there 1
   some_there false = refl
 
-  -- what is queued is what is queued there
+  -- The addresses that are queued in the second core are those of the first, mapped.
   queued_alike : (op : Op) (modifier : Modifier) (a b target : Cell) (jump : ℕ) → (effect_of p.core_size op modifier a b target pc' jump).queued ≡ map there (effect_of p.core_size op modifier a b target pc jump).queued
   unfolding effect_of division
   queued_alike Dat modifier a b target jump = refl
@@ -196,12 +197,12 @@ module _ (p : Parameters) (there : ℕ → ℕ) (Near : ℕ → Type 0) (pc pc' 
   effect_alike w w' a None near alike = alike
   effect_alike w w' a (Some cell) near alike = written_alike w w' a cell near alike
 
-  -- the execution leaves cores that are alike, and queues the addresses there
+  -- The executions leave cores that are alike, and queue corresponding addresses.
   pub record AlikeExecution (e e' : Execution) : Type 0 where
     pub written : AlikeWritten e.written e'.written
     pub queued : e'.queued ≡ map there e.queued
 
-  -- what is left to do once both operands are evaluated
+  -- The rest of an execution, after both operands are evaluated.
   abbrev finished : ℕ → Cell → Evaluation → Evaluation → Execution
   finished at instruction a b =
       let address = address_after p.core_size at b.operand.write in
@@ -221,7 +222,7 @@ module _ (p : Parameters) (there : ℕ → ℕ) (Near : ℕ → Type 0) (pc pc' 
         queued = queued_alike i.op i.modifier a.operand.copy b.operand.copy target a.operand.read;
       })
 
-  -- what is touched, once both operands are evaluated
+  -- The touched addresses, after both operands are evaluated.
   abbrev touched_by : ℕ → Cell → Evaluation → Evaluation → List ℕ
   touched_by at i a b =
       let m = p.core_size in
@@ -271,7 +272,7 @@ module _ (p : Parameters) (there : ℕ → ℕ) (Near : ℕ → Type 0) (pc pc' 
         rw same_instruction
         (finished_alike i (a_of core pc) (a_of core' pc') (b_of core pc) (b_of core' pc') a_alike.operand b_alike parts.target_is)
 
-    -- and it touches the cells there
+    -- The second execution touches the corresponding cells.
     pub touched_alike : touched p core' pc' ≡ map there (touched p core pc)
     unfolding touched
     touched_alike =

@@ -1,6 +1,7 @@
--- A warrior that keeps to a part of the core which the others leave to it fights alike in all battles.
--- `fights_alike` goes by the turns of the first battle, and hands its recursive call to a lemma by the turns of the second (`meets`), which passes
--- over those of the others until both have their own turn. So neither the clocks nor the numbers of warriors have to be the same.
+-- A warrior that keeps to a part of the core which the other warriors leave to it fights alike in all battles.
+-- `fights_alike` follows the turns of the first battle, and passes its recursive call to a lemma that follows the turns of the
+-- second (`meets`). That lemma skips the turns of the other warriors until both battles are at a turn of the warrior. So neither
+-- the clocks nor the numbers of warriors have to be the same.
 use Rattle.std.proofs.Common.{◌≡◌, ◌≢◌, ℕ, zero, suc, ◌+◌, ◌<◌, Bool, true, false, cond, List, [], length, All, refl, ap, sym, ◌∙◌, subst, arith, inl, inr}
 use Rattle.std.specs.Prelude.{◌==◌, if◌then◌else◌}
 use Rattle.std.specs.List.{AllPass}
@@ -22,7 +23,7 @@ use Rattle.mars_core.proofs.ForLaws.Listed.{All-left, All-right}
 use Rattle.mars_core.proofs.ForLaws.Touched.{Near, itself, both, front_inside, untouched_stays}
 use Rattle.mars_core.proofs.Turns.{turn_valid, same_eq, eq_same, other_eq}
 
--- one process in two cores that are the same in a part that has all that it touches
+-- One process in two cores that are the same in a part that contains all that it touches.
 module _ (p : Parameters) (r : AreInRange p) (part : ℕ → Bool) (q : List ℕ) (core other : List Cell) (fits : IsCore p.core_size core) (fits_other : IsCore p.core_size other) (start : front_of q < p.core_size) (keeps : All (λ a. part a ≡ true) (touched p core (front_of q))) (same : (a : ℕ) → part a ≡ true → cell_at core a ≡ cell_at other a) where
   alike : AlikeExecution p (λ a. a) (Near p r (front_of q) start (λ a. part a ≡ true) core other fits.size fits_other.size keeps same) (front_of q) (front_of q)
       (itself p r (front_of q) start (λ a. part a ≡ true) core other fits.size fits_other.size keeps same) (front_execution p core q) (front_execution p other q)
@@ -42,7 +43,7 @@ module _ (p : Parameters) (r : AreInRange p) (part : ℕ → Bool) (q : List ℕ
             ∙ sym (get_or_past (front_execution p other q).written.core a empty_cell (rw cores.size_there past))
       ]
 
--- the queue of the warrior whose turn it was
+-- The queue of the warrior that had the turn.
 queue_then : (s : State) → s.next < length s.queues → queue_of (turn_of s).queues s.next ≡ queue_after s.params s.core (queue_of s.queues s.next)
 unfolding turn_of executed
 queue_then s h = get_or-set_same s.queues s.next _ [] h
@@ -54,7 +55,7 @@ core_then s = refl
 agrees_back : (part : ℕ → Bool) (w v : ℕ) (s t : State) → AgreesOn part w s v t → AgreesOn part v t w s
 agrees_back part w v s t g = record { params = sym g.params; processes = sym g.processes; cells = λ a h. sym (g.cells a h) }
 
--- both warriors have a turn
+-- The warrior has a turn in both battles.
 pub own_turn : (part : ℕ → Bool) (s t : State) → IsValid s → IsValid t → AgreesOn part s.next s t.next t → AllPass part (touched_in_turn s) → AgreesOn part s.next (turn_of s) t.next (turn_of t)
 own_turn part s t v u g keeps =
     let p = s.params in
@@ -72,7 +73,7 @@ own_turn part s t v u g keeps =
           );
     }
 
--- another one has a turn in the first battle
+-- Another warrior has a turn in the first battle.
 pub other_turn : (part : ℕ → Bool) (w v : ℕ) (s t : State) → w ≢ s.next → AgreesOn part w s v t → ((a : ℕ) → part a ≡ true → cell_at (turn_of s).core a ≡ cell_at s.core a) → AgreesOn part w (turn_of s) v t
 other_turn part w v s t other g left = record {
   params = (shape-turn_of s).params ∙ g.params;
@@ -80,11 +81,11 @@ other_turn part w v s t other g left = record {
   cells = λ a h. left a h ∙ g.cells a h;
 }
 
--- the first turn of several
+-- The first of several turns.
 pub turn_first : (n : ℕ) (s : State) → is_over_of s ≡ false → after_turns (suc n) s ≡ after_turns n (turn_of s)
 turn_first n s over = rw over refl
 
--- the others leave the part alone in the first turn, and in each later one
+-- If another warrior has the turn, it changes no cell of the part.
 abbrev pub LeavesAlone : (ℕ → Bool) → ℕ → State → Type 0
 LeavesAlone part w t = t.next ≢ w → (a : ℕ) → part a ≡ true → cell_at (turn_of t).core a ≡ cell_at t.core a
 
@@ -96,7 +97,7 @@ module _ (part : ℕ → Bool) (w n : ℕ) (s : State) (over : is_over_of s ≡ 
   left_later left k h runs =
       subst (LeavesAlone part w) (turn_first k s over) (left (suc k) (omega (arith, h)) (subst (λ t. is_over_of t ≡ false) (sym (turn_first k s over)) runs))
 
-  -- and the warrior keeps to the part in the first turn, and in each later one
+  -- The warrior keeps to the part in the first turn and in each later one.
   pub keeps_first : KeepsTo part w (suc n) s → s.next ≡ w → AllPass part (touched_in_turn s)
   keeps_first keeps own =
       let mine : (s.next == w) ≡ true = ap (λ v. v == w) own ∙ same_eq w in
@@ -105,7 +106,7 @@ module _ (part : ℕ → Bool) (w n : ℕ) (s : State) (over : is_over_of s ≡ 
   pub keeps_later : KeepsTo part w (suc n) s → KeepsTo part w n (turn_of s)
   keeps_later keeps = All-right (λ a. part a ≡ true) (cond (s.next == w) (touched_in_turn s) []) (touched_in w n (turn_of s)) (rw over at keeps)
 
--- and so in any of them
+-- The warrior keeps to the part in each of its turns.
 keeps_at : (part : ℕ → Bool) (w k n : ℕ) (s : State) → k < n → is_over_of (after_turns k s) ≡ false → (after_turns k s).next ≡ w → KeepsTo part w n s → AllPass part (touched_in_turn (after_turns k s))
 keeps_at part w k zero s h runs own keeps = absurd (omega (arith, h))
 keeps_at part w zero (suc n) s h runs own keeps = keeps_first part w n s runs keeps own
@@ -115,7 +116,7 @@ keeps_at part w (suc k) (suc n) s h runs own keeps =
       | false ↦ λ over runs own. keeps_at part w k n (turn_of s) (omega (arith, h)) runs own (keeps_later part w n s over keeps)
     ] refl runs own
 
--- a turn that is the warrior's counts, and no other
+-- Only the warrior's own turns are counted.
 pub own_counts : (w next n : ℕ) → next ≡ w → cond (next == w) 1 0 + n ≡ suc n
 own_counts w next n e = rw (e, same_eq w) (omega arith)
 
@@ -123,12 +124,12 @@ pub other_counts : (w next n : ℕ) → next ≢ w → cond (next == w) 1 0 + n 
 other_counts w next n other = rw (other_eq next w (λ e. other (sym e))) (omega arith)
 
 module _ (part : ℕ → Bool) (w v : ℕ) where
-  -- another one has a turn in the second battle
+  -- Another warrior has a turn in the second battle.
   other_there : (s t : State) → t.next ≢ v → AgreesOn part w s v t → ((a : ℕ) → part a ≡ true → cell_at (turn_of t).core a ≡ cell_at t.core a) → AgreesOn part w s v (turn_of t)
   other_there s t other g left =
       agrees_back part v w (turn_of t) s (other_turn part v w t s (λ same. other (sym same)) (agrees_back part w v s t g) left)
 
-  -- in the second battle the warrior has no turn
+  -- The warrior has no more turns in the second battle.
   rest : (n : ℕ) (s t : State) → IsValid t → AgreesOn part w s v t → IsLeftTo part v n t → own_turns v n t ≡ 0 → AgreesOn part w s v (after_turns n t)
   rest zero s t u g left none = g
   rest (suc n) s t u g left none =
@@ -144,7 +145,7 @@ module _ (part : ℕ → Bool) (w v : ℕ) where
         ]
       ] refl none
 
-  -- the warrior has its turn in the first battle: it is met by its next turn in the second
+  -- The warrior has its turn in the first battle, and the second battle is followed up to its turn there.
   meets : (m : ℕ) (s : State) → IsValid s → s.next ≡ w → AllPass part (touched_in_turn s)
       → ((n : ℕ) (t : State) → IsValid t → AgreesOn part w (turn_of s) v t → IsLeftTo part v n t → own_turns w m (turn_of s) ≡ own_turns v n t → AgreesOn part w (after_turns m (turn_of s)) v (after_turns n t))
       → (n : ℕ) (t : State) → IsValid t → AgreesOn part w s v t → IsLeftTo part v n t → suc (own_turns w m (turn_of s)) ≡ own_turns v n t
@@ -169,7 +170,7 @@ module _ (part : ℕ → Bool) (w v : ℕ) where
         ]
       ] refl turns
 
-  -- after as many turns of its own, the warrior is alike in both battles
+  -- After equally many turns of its own, the warrior is alike in both battles.
   pub fights_alike : (m n : ℕ) (s t : State) → IsValid s → IsValid t → AgreesOn part w s v t → KeepsTo part w m s → IsLeftTo part w m s → IsLeftTo part v n t → own_turns w m s ≡ own_turns v n t → AgreesOn part w (after_turns m s) v (after_turns n t)
   fights_alike zero n s t valid u g keeps left left_there turns = rest n s t u g left_there (sym turns)
   fights_alike (suc m) n s t valid u g keeps left left_there turns =
@@ -190,7 +191,7 @@ module _ (part : ℕ → Bool) (w v : ℕ) where
         ]
       ] refl turns
 
--- where each warrior keeps to its own cells, nobody else changes one of them
+-- If each warrior keeps to its own cells, no other warrior changes one of them.
 pub own_cells_left : (owner : ℕ → ℕ) (n : ℕ) (s : State) → IsValid s → ((w : ℕ) → w < length s.queues → KeepsTo (λ a. owner a == w) w n s) → (w : ℕ) → IsLeftTo (λ a. owner a == w) w n s
 own_cells_left owner n s valid keeps w k h over other a mine =
     let t = after_turns k s in

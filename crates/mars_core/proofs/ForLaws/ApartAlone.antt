@@ -1,4 +1,4 @@
--- A warrior apart fights as it would alone.
+-- A warrior apart fights as it would without opponents.
 use Rattle.std.proofs.Common.{◌≡◌, ◌≢◌, ℕ, zero, suc, ◌+◌, ◌<◌, ◌≤◌, Bool, true, false, cond, List, [], ◌∷◌, ◌++◌, length, get_or, Option, None, Some, refl, ap, sym, ◌∙◌, subst, arith, inl, inr}
 use Rattle.std.specs.Prelude.{◌⊎◌, ◌==◌, ◌&&◌, ◌||◌, nat_le, if◌then◌else◌}
 use Rattle.std.proofs.lemmas.Bool.{cases_eq, cases_lt}
@@ -21,7 +21,7 @@ use Rattle.mars_core.proofs.Clocks.{live_from_is, somebody}
 use Rattle.mars_core.proofs.Fights.{next_lives}
 use Rattle.mars_core.proofs.Turns.{running, turn_valid, filled_one, same_eq, other_eq}
 
--- a later one has its turn in the same cycle, or a cycle is added
+-- The turn passes to a later warrior in the same cycle, or a cycle is added.
 abbrev StepsOn : Clock → Clock → Type 0
 StepsOn clock after = ((after.cycle ≡ clock.cycle) × (clock.next < after.next)) ⊎ (after.cycle ≡ clock.cycle + 1)
 
@@ -37,7 +37,8 @@ turn_steps s v over on =
     let alive = (running s.params.cycles (turn_of s).cycle (turn_of s).queues after.some on).alive in
     clock_steps (executed s).queues (clock_of s) _ _ refl refl alive
 
--- the lone warrior isn't ahead: it has had a turn more only where the warrior has had its turn of the cycle
+-- The warrior in the battle of its own is not ahead: it has had one more turn only if the warrior has had its turn in the present
+-- cycle.
 abbrev IsNotAhead : ℕ → State → State → Type 0
 IsNotAhead w s t = is_over_of s ≡ false → (s.next ≤ w → t.cycle ≤ s.cycle) × (t.cycle ≤ s.cycle + 1)
 
@@ -70,7 +71,7 @@ one_lives (q ∷ r ∷ qs) one lives = absurd (omega (arith, one))
 lone_runs : (cycles cycle n alive : ℕ) → n ≡ 1 → cycle < cycles → 1 ≤ alive → ((cycle == cycles) || (nat_le 2 n && nat_le alive 1) || (n == 1 && alive == 0)) ≡ false
 lone_runs cycles cycle n alive one less lives = grind (arith, nat_tests)
 
--- the lone warrior has a turn wherever the warrior has one
+-- The battle of its own is not over whenever the warrior has a turn.
 lone_goes_on : (part : ℕ → Bool) (s t : State) → IsValid s → is_over_of s ≡ false → length t.queues ≡ 1 → t.cycle ≤ s.cycle → AgreesOn part s.next s 0 t → is_over_of t ≡ false
 unfolding ends
 lone_goes_on part s t v over one behind g =
@@ -125,7 +126,7 @@ pub undisturbed_alone : (w n : ℕ) (s t : State) → IsValid s → IsValid t �
 undisturbed_alone w n s t v u one early g left =
     fights_alone (is_in (touched_in w n s)) w n s t v u one early g (each_is_in (touched_in w n s)) left
 
--- a warrior that isn't there touches nothing
+-- A warrior that doesn't exist touches nothing.
 nobody_keeps : (part : ℕ → Bool) (w n : ℕ) (s : State) → IsValid s → length s.queues ≤ w → KeepsTo part w n s
 nobody_keeps part w zero s v past = All-nil (λ a. part a ≡ true)
 nobody_keeps part w (suc n) s v past =

@@ -1,4 +1,4 @@
--- Two warriors have their turns by turns, while both live.
+-- Two warriors take turns, as long as both live.
 use Rattle.std.proofs.Common.{◌≡◌, ℕ, zero, suc, ◌+◌, ◌-◌, ◌<◌, ◌≤◌, Bool, false, cond, List, [], ◌∷◌, length, refl, ap, sym, ◌∙◌, subst, arith, inl, inr}
 use Rattle.std.specs.Prelude.{◌≢◌, ◌==◌, ◌&&◌, ◌||◌, nat_le}
 use Rattle.std.proofs.lemmas.Bool.{cases_lt}
@@ -23,7 +23,7 @@ no_deaths : (ds : List Death) → length ds ≡ 0 → ds ≡ []
 no_deaths [] e = refl
 no_deaths (d ∷ ds) e = absurd (omega (arith, e))
 
--- nobody is dead in a battle of two that goes on
+-- No warrior is dead in a battle of two that is not over.
 nobody_died : (s : State) → IsValid s → length s.queues ≡ 2 → is_over_of s ≡ false → s.deaths ≡ []
 unfolding ends
 nobody_died s v two over =
@@ -41,7 +41,7 @@ other_next qs clock live two h =
           rw (live_from_end qs (clock.next + 1) last, live_from_here qs 0 first (live _ first)) (omega (arith, two, last, h))
     ]
 
--- the other one is next
+-- The other warrior is next.
 by_turns : (s : State) → IsValid s → length s.queues ≡ 2 → is_over_of s ≡ false → is_over_of (turn_of s) ≡ false → (turn_of s).next ≡ 1 - s.next
 unfolding turn_of executed
 by_turns s v two over on =
@@ -58,7 +58,7 @@ goes_on n s on k h =
 one_turn : (w n : ℕ) (s : State) → is_over_of s ≡ false → own_turns w (suc n) s ≡ cond (s.next == w) 1 0 + own_turns w n (turn_of s)
 one_turn w n s over = rw over refl
 
--- so each has as many turns in all battles
+-- Each of two warriors has equally many turns in all battles.
 pub turns_of_two : (w n : ℕ) (s t : State) → IsValid s → IsValid t → length s.queues ≡ 2 → length t.queues ≡ 2 → s.next ≡ t.next → GoesOn n s → GoesOn n t → own_turns w n s ≡ own_turns w n t
 turns_of_two w zero s t v u two two_there next on on_there = refl
 turns_of_two w (suc zero) s t v u two two_there next on on_there =

@@ -3,7 +3,7 @@ use Rattle.std.proofs.Common.{◌≡◌, ℕ, List, [], ◌∷◌, ◌++◌, map
 use Rattle.std.proofs.lemmas.List.{map-append}
 use Rattle.std.proofs.lemmas.List.Elements.{All-append, All-cons, All-head, All-nil, All-tail}
 
--- the instruction, what the A-operand goes by and copies, what the B-operand goes by and copies, and the B-target
+-- The touched addresses in order: the instruction, those of the A-operand, those of the B-operand, and the B-target.
 abbrev pub listed : ℕ → List ℕ → ℕ → List ℕ → ℕ → ℕ → List ℕ
 listed pc a_pointed a b_pointed b target = pc ∷ a_pointed ++ a ∷ b_pointed ++ b ∷ target ∷ []
 
@@ -46,7 +46,7 @@ module _ (P : ℕ → Type 0) where
         (All-append P (pc ∷ a_pointed) (a ∷ b_pointed) (All-cons P pc a_pointed k.here k.a_goes) (All-cons P a b_pointed k.a_copies k.b_goes))
         (All-cons P b (target ∷ []) k.b_copies (All-cons P target [] k.target_is (All-nil P)))
 
--- the list of other addresses
+-- Mapping the list maps its parts.
 pub map-listed : (f : ℕ → ℕ) (pc : ℕ) (a_pointed : List ℕ) (a : ℕ) (b_pointed : List ℕ) (b target : ℕ) → map f (listed pc a_pointed a b_pointed b target) ≡ listed (f pc) (map f a_pointed) (f a) (map f b_pointed) (f b) (f target)
 map-listed f pc a_pointed a b_pointed b target =
     map-append f (pc ∷ a_pointed ++ a ∷ b_pointed) (b ∷ target ∷ []) ∙ ap (λ l. l ++ f b ∷ f target ∷ []) (map-append f (pc ∷ a_pointed) (a ∷ b_pointed))

@@ -1,4 +1,4 @@
--- Warriors that start further on stand in the battle that is moved as far.
+-- Shifting all starting positions gives the shifted battle.
 use Rattle.std.proofs.Common.{◌≡◌, ℕ, zero, suc, ◌+◌, true, length, All, inl, inr, ◌%◌, ◌<◌, List, [], ◌∷◌, map, refl, ap, sym, ◌∙◌, arith}
 use Rattle.std.proofs.Common.{replicate}
 use Rattle.std.proofs.Math.Nat.{mod-lt, mod-eq_of_lt, mod-add-mod}
@@ -30,7 +30,7 @@ module _ (p : Parameters) (r : AreInRange p) (k : ℕ) (h : k < p.core_size) whe
   abbrev AreAlike : List Cell → List Cell → Type 0
   AreAlike core core' = Alike m there (λ a. a < m) core core'
 
-  -- the remainder is moved, and so is that of a further one
+  -- If the residue of an address is shifted, so is the residue of an address `d` cells further.
   further : (a a' d : ℕ) → a' % m ≡ there (a % m) → (a' + d) % m ≡ there ((a + d) % m)
   unfolding address_after
   further a a' d e =
@@ -76,7 +76,7 @@ module _ (p : Parameters) (r : AreInRange p) (k : ℕ) (h : k < p.core_size) whe
       let alike = all_laid_alike ws starts _ _ blank_alike in
       one_core p r k h core _ _ alike (moved_alike p r k h core alike.size)
 
-  -- addresses that are loaded are moved, too, and two of them are one where they were
+  -- The loaded addresses are shifted, too, and two of them are equal exactly if they were before.
   abbrev AreInside : List ℕ → Type 0
   AreInside xs = All (λ a. a < m) xs
 

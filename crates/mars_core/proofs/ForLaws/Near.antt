@@ -1,4 +1,4 @@
--- A process writes no further than its write limit reaches, and cells that neither limit reaches do not matter to it.
+-- A process writes only at addresses that its write limit reaches, and cells that neither limit reaches do not matter to it.
 use Rattle.std.proofs.Common.{ap, ◌≡◌, ◌≢◌, ℕ, List, ◌∙◌, ◌+◌, ◌-◌, ◌/◌, ◌%◌, ◌<◌, ◌≤◌, Bool, true, false, All, refl, sym, subst, arith, inl, inr}
 use Rattle.std.specs.Prelude.{◌⊎◌, ◌↔◌, nat_lt, if◌then◌else◌}
 use Rattle.std.proofs.Math.Nat.{mod-eq_of_lt}
@@ -28,7 +28,7 @@ unfolding fold
 fold_near m limit n h = near_either m limit (n % limit) (nat_lt (limit / 2) (n % limit)) refl h
 
 module _ (m limit pc : ℕ) (least : 1 ≤ limit) (most : limit ≤ m) where
-  -- what a folded pointer leads to is reached
+  -- The address to which a folded pointer leads is reached.
   pub pointed_reached : (n : ℕ) → Reaches m limit pc (address_after m pc (fold m limit n))
   pointed_reached n = record {
     distance = fold m limit n;
@@ -37,7 +37,7 @@ module _ (m limit pc : ℕ) (least : 1 ≤ limit) (most : limit ≤ m) where
     address_is = refl;
   }
 
-  -- and so is where the process stands
+  -- The address of the process itself is reached.
   pub here_reached : Reaches m limit pc (address_after m pc 0)
   here_reached = record { distance = 0; inside = omega (arith, least, most); near = inl (omega arith); address_is = refl }
 
@@ -50,7 +50,7 @@ writes_near s v =
     (pointed_reached p.core_size p.write_limit pc v.params.write_least v.params.write_most)
     (here_reached p.core_size p.write_limit pc v.params.write_least v.params.write_most) s.core
 
--- a turn changes no cell that the write limit doesn't reach
+-- A turn changes no cell that the write limit doesn't reach.
 pub far_cell_stays : (s : State) (a : ℕ) → IsValid s → (Reaches s.params.core_size s.params.write_limit (front_of (queue_of s.queues s.next)) a → ⊥) → cell_at (turn_of s).core a ≡ cell_at s.core a
 unfolding turn_of executed turn_record
 far_cell_stays s a v far =
@@ -61,7 +61,7 @@ far_cell_stays s a v far =
     All-weaker (λ (c : CellChange). Reached c.address) (λ (c : CellChange). a ≢ c.address) (λ c near same. far (subst Reached (sym same) near)) changes (writes_near s v) in
     ap (λ core. cell_at core a) (sym (execution_replays s.params s.core pc)) ∙ rewritten_beside changes s.core a beside
 
--- what is touched is reached for reading or for writing
+-- Every touched address is reached for reading or for writing.
 pub touched_reached : (p : Parameters) (core : List Cell) (pc : ℕ) → AreInRange p → pc < p.core_size → All (λ a. Reaches p.core_size p.read_limit pc a ⊎ Reaches p.core_size p.write_limit pc a) (touched p core pc)
 touched_reached p core pc r start =
     let Reached : ℕ → Type 0 = λ a. Reaches p.core_size p.read_limit pc a ⊎ Reaches p.core_size p.write_limit pc a in
@@ -76,7 +76,7 @@ far_cells p core other pc r fits fits_other start same =
     let e = untouched_cells p core other pc r fits fits_other start touched_same in
     (e.0, e.1)
 
--- a pointer below the limit is folded as it is
+-- A pointer below the limit is its own remainder by the limit.
 fold_small : (m limit n : ℕ) → n < limit → fold m limit n ≡ (if nat_lt (limit / 2) n then n + (m - limit) else n)
 unfolding fold
 fold_small m limit n h = rw (mod-eq_of_lt {n = n} {m = limit} h) refl
@@ -89,7 +89,7 @@ back_either : (m limit n d : ℕ) (b : Bool) → nat_lt (limit / 2) n ≡ b → 
 back_either m limit n d true e h is = is
 back_either m limit n d false e h is = absurd (grind (arith, nat_tests))
 
--- a distance that is near is that of a pointer
+-- Every near distance is the folded pointer of some number.
 pointer_of : (m limit d : ℕ) → 1 ≤ limit → limit ≤ m → d < m → IsNear m limit d → (n : ℕ) × (n < m) × (fold m limit n ≡ d)
 pointer_of m limit d least most h (inl ahead) =
     let small : d < limit = omega (arith, ahead, least) in

@@ -1,4 +1,4 @@
--- A battle that stands somewhere else in the core goes on as it would have done here.
+-- A battle that is shifted in the core continues as it would have without the shift.
 use Rattle.std.proofs.Common.{◌≡◌, ◌≢◌, ℕ, zero, suc, ◌+◌, ◌-◌, ◌%◌, ◌<◌, true, false, cond, List, [], ◌∷◌, ◌++◌, length, map, take, drop, refl, ap, sym, ◌∙◌, subst, arith, inl, inr}
 use Rattle.std.specs.Prelude.{◌⊎◌, if◌then◌else◌, option_map}
 use Rattle.std.proofs.Math.Nat.{mod-eq_of_lt, mod-eq-sub-mod, mod-add-mod}
@@ -21,7 +21,7 @@ use Rattle.mars_core.proofs.Fits.{address_inside}
 use Rattle.mars_core.proofs.Turns.{running, turn_valid, filled_length, queue_fits}
 use Rattle.std.proofs.lemmas.List.Elements.{All-get_or}
 
--- a sum of two addresses is brought back at most once
+-- The sum of two addresses exceeds the core at most once.
 wrapped : (m a k : ℕ) → a < m → k < m → (((a + k) % m ≡ a + k) × (a + k < m)) ⊎ ((a + k) % m + m ≡ a + k)
 wrapped m a k h l =
     elim (cases_lt (a + k) m) [
@@ -29,7 +29,7 @@ wrapped m a k h l =
       | inr more ↦ inr (let back = mod-eq-sub-mod more ∙ mod-eq_of_lt {n = a + k - m} {m = m} (omega (arith, h, l)) in omega (arith, back, more))
     ]
 
--- what is queued behind the others
+-- The addresses that are appended to a mapped queue are the mapped ones.
 queued_there : (f : ℕ → ℕ) (limit : ℕ) (q queued : List ℕ) → drop 1 (map f q) ++ take (limit - length (drop 1 (map f q))) (map f queued) ≡ map f (drop 1 q ++ take (limit - length (drop 1 q)) queued)
 queued_there f limit [] queued = take-map f (limit - 0) queued
 queued_there f limit (x ∷ q) queued = rw (length-map q f, take-map f (limit - length q) queued, map-append f q (take (limit - length q) queued)) refl
@@ -38,7 +38,7 @@ module _ (p : Parameters) (r : AreInRange p) (k : ℕ) (h : k < p.core_size) whe
   abbrev m : ℕ
   m = p.core_size
 
-  -- where an address is moved to
+  -- The address to which `a` is shifted.
   abbrev there : ℕ → ℕ
   there a = address_after m a k
 
@@ -53,7 +53,7 @@ module _ (p : Parameters) (r : AreInRange p) (k : ℕ) (h : k < p.core_size) whe
         | inr x ↦ elim (wrapped m b k n h) [ inl y ↦ absurd (omega (arith, x, y.0, y.1, e, l)) | inr y ↦ omega (arith, x, y, e) ]
       ]
 
-  -- each address is moved from one
+  -- Each address is the shifted address of another one.
   origin : (i : ℕ) → i < m → (a : ℕ) × (a < m) × (there a ≡ i)
   unfolding address_after
   origin i l =
@@ -103,7 +103,7 @@ module _ (p : Parameters) (r : AreInRange p) (k : ℕ) (h : k < p.core_size) whe
   unfolding address_after
   step pc d = mod-add-mod (pc + k) m d ∙ ap (λ n. n % m) (omega arith) ∙ sym (mod-add-mod (pc + d) m k)
 
-  -- the clock goes by who lives alone
+  -- The clock depends only on which warriors live.
   first_moved : (qs : List (List ℕ)) → first_live (map (map there) qs) ≡ first_live qs
   first_moved [] = refl
   first_moved ([] ∷ qs) = ap (option_map suc) (first_moved qs)
@@ -130,7 +130,7 @@ module _ (p : Parameters) (r : AreInRange p) (k : ℕ) (h : k < p.core_size) whe
   front_moved [] n = absurd (n refl)
   front_moved (x ∷ q) n = refl
 
-  -- an instruction and the moved one
+  -- An instruction corresponds to the shifted one.
   pub corresponds : (pc : ℕ) → pc < m → Corresponds p there Near pc (address_after m pc k)
   corresponds pc l = record {
     one = one;
@@ -163,7 +163,7 @@ module _ (p : Parameters) (r : AreInRange p) (k : ℕ) (h : k < p.core_size) whe
 advance_moved : (s : State) (k : ℕ) → AreInRange s.params → k < s.params.core_size → (i : ℕ) → advance (moved k s) i ≡ moved k (advance s i)
 advance_moved s k r h i = rw (advanced_moved s.params r k h s.queues (clock_of s) i) refl
 
--- the battle, k cells further
+-- The battle, shifted by `k` cells.
 module _ (s : State) (k : ℕ) (v : IsValid s) (h : k < s.params.core_size) where
   over_moved : is_over_of (moved k s) ≡ is_over_of s
   unfolding ends

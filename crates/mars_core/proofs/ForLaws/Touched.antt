@@ -1,4 +1,4 @@
--- What an execution touches: where it may be, and that nothing else matters to it.
+-- The cells that an execution touches: where they may be, and that no other cells matter to it.
 use Rattle.std.proofs.Common.{◌≡◌, ◌≢◌, ℕ, ◌<◌, List, [], ◌∷◌, length, All, refl, ap, sym, ◌∙◌}
 use Rattle.std.proofs.lemmas.List.{map-id, get_or-set_other}
 use Rattle.std.proofs.lemmas.List.Elements.{All-cons, All-head, All-nil, All-tail, All-weaker}
@@ -23,7 +23,7 @@ use Rattle.mars_core.proofs.Inside.{target_here}
 use Rattle.mars_core.proofs.Rewritten.{execution_replays}
 use Rattle.mars_core.proofs.Turns.{queue_fits}
 
--- where folded pointers lead
+-- `Here` holds for every address to which a folded pointer leads.
 module _ (p : Parameters) (pc : ℕ) (Here : ℕ → Type 0) (start : Here pc) (itself : Here (address_after p.core_size pc 0))
     (read : (n : ℕ) → Here (address_after p.core_size pc (fold p.core_size p.read_limit n)))
     (write : (n : ℕ) → Here (address_after p.core_size pc (fold p.core_size p.write_limit n))) where
@@ -39,7 +39,7 @@ module _ (p : Parameters) (pc : ℕ) (Here : ℕ → Type 0) (start : Here pc) (
   copy_here written Immediate n = itself
   copy_here written mode n = read _
 
-  -- all that is touched is there
+  -- `Here` holds for every touched address.
   pub touched_here : (core : List Cell) → All Here (touched p core pc)
   unfolding touched
   touched_here core =
@@ -62,7 +62,7 @@ module _ (p : Parameters) (r : AreInRange p) (pc : ℕ) (start : pc < p.core_siz
       let inside : (n : ℕ) → address_after p.core_size pc n < p.core_size = λ n. address_inside p.core_size pc n r.core_least in
       touched_here p pc (λ a. a < p.core_size) start (inside 0) (λ n. inside _) (λ n. inside _) core
 
-  -- one instruction in two cores that are the same wherever this holds, as it does of all that is touched in the first
+  -- One instruction in two cores that are the same wherever `Holds` does; it holds for all that is touched in the first core.
   module _ (Holds : ℕ → Type 0) (core other : List Cell) (size : length core ≡ p.core_size) (size_there : length other ≡ p.core_size)
       (holds : All Holds (touched p core pc)) (same : (a : ℕ) → Holds a → cell_at core a ≡ cell_at other a) where
     abbrev pub Near : ℕ → Type 0
@@ -90,7 +90,7 @@ module _ (p : Parameters) (r : AreInRange p) (pc : ℕ) (start : pc < p.core_siz
     pub same_touched : touched p core pc ≡ touched p other pc
     same_touched = sym (touched_alike p (λ a. a) Near pc pc itself core other cores near ∙ map-id (touched p core pc))
 
--- cells that aren't touched don't matter
+-- Cells that are not touched don't matter.
 pub untouched_cells : (p : Parameters) (core other : List Cell) (pc : ℕ) → AreInRange p → IsCore p.core_size core → IsCore p.core_size other → pc < p.core_size → All (λ a. cell_at core a ≡ cell_at other a) (touched p core pc) → ((execution_of p core pc).queued ≡ (execution_of p other pc).queued) × ((execution_of p core pc).written.changes ≡ (execution_of p other pc).written.changes) × (touched p core pc ≡ touched p other pc)
 untouched_cells p core other pc r fits fits_other start all =
     let e = both p r pc start (λ a. cell_at core a ≡ cell_at other a) core other fits.size fits_other.size all (λ a same. same) in (
@@ -99,7 +99,7 @@ untouched_cells p core other pc r fits fits_other start all =
       same_touched p r pc start (λ a. cell_at core a ≡ cell_at other a) core other fits.size fits_other.size all (λ a same. same),
     )
 
--- a cell that none of the changes is at stays
+-- Changes at other addresses leave a cell unchanged.
 pub rewritten_beside : (changes : List CellChange) (core : List Cell) (a : ℕ) → All (λ (c : CellChange). a ≢ c.address) changes → cell_at (rewritten changes core) a ≡ cell_at core a
 rewritten_beside [] core a all = refl
 rewritten_beside (c ∷ changes) core a all =
@@ -112,7 +112,7 @@ front_inside s v = first_inside (queue_of s.queues s.next) (queue_fits s v s.nex
   first_inside [] all = v.params.core_least
   first_inside (a ∷ q) all = All-head (λ a. a < s.params.core_size) a q all
 
--- a turn changes no cell that it doesn't touch
+-- A turn changes no cell that it doesn't touch.
 pub untouched_stays : (s : State) (a : ℕ) → IsValid s → All (λ b. a ≢ b) (touched_in_turn s) → cell_at (turn_of s).core a ≡ cell_at s.core a
 unfolding turn_of executed
 untouched_stays s a v beside =

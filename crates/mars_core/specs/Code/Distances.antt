@@ -1,12 +1,12 @@
--- How the code finds cells on one address: by the distances between the starts.
+-- How the code finds cells with the same address: by the distances between starting positions.
 use Rattle.std.specs.Prelude.{ℕ, ◌+◌, ◌-◌, ◌%◌, Bool, List}
 use Rattle.std.specs.List.{list_any}
 use Rattle.mars_core.specs.Start.{is_in}
 
--- how far it is from one address up to another
+-- The distance from one address forward to another, in a core of `m` cells.
 unfoldable pub distance : ℕ → ℕ → ℕ → ℕ
 distance m from to = (to + (m - from % m)) % m
 
--- two lists have an address in common
+-- The two lists have an address in common.
 unfoldable pub share : List ℕ → List ℕ → Bool
 share xs ys = list_any (λ x. is_in ys x) xs

@@ -1,4 +1,5 @@
--- An imp and a dwarf in a usual battle: for 200 turns neither touches a cell of the other, and each fights as it would alone.
+-- An imp and a dwarf in an ordinary battle: for 200 turns neither touches a cell of the other, and each fights as it would
+-- without an opponent.
 use Rattle.std.specs.Prelude.{◌≡◌, ℕ, zero, suc, ◌/◌, ◌<◌, ◌≤◌, ◌==◌, nat_lt, Bool, true, false, if◌then◌else◌, List, [], ◌∷◌, ◌++◌, take, drop, None, refl}
 use Rattle.std.proofs.Common.{replicate, sym, ◌∙◌}
 use Rattle.std.proofs.Math.Facts.{ltb_yes}
@@ -21,17 +22,17 @@ use Rattle.mars_core.specs.Laws.{UntouchedIsAlone}
 use Rattle.mars_core.specs.Validity.{IsValid}
 use Rattle.mars_core.specs.Examples.{the_machine, cell_of, imp, of_eight, eight, battle_of, lone}
 
--- ADD.AB #4, $3; MOV.I $2, @2; JMP.B $-2, $0; DAT.F #0, #0
+-- `ADD.AB #4, $3`; `MOV.I $2, @2`; `JMP.B $-2, $0`; `DAT.F #0, #0`.
 abbrev dwarf : List Cell
 dwarf =
     cell_of Add Ab Immediate 4 Direct 3 ∷ cell_of Mov I Direct 2 BIndirect 2
     ∷ cell_of Jmp B Direct 7998 Direct 0 ∷ cell_of Dat F Immediate 0 Immediate 0 ∷ []
 
--- the parameters that battles have by default: both limits are the size of the core
+-- The default parameters of battles: both limits are the size of the core.
 abbrev usual : Parameters
 usual = record { core_size = 8000; processes = 8000; cycles = 80000; read_limit = 8000; write_limit = 8000; max_length = 100; distance = 100 }
 
--- the imp's cells, and behind them the dwarf's
+-- The imp's cells, which are followed by the dwarf's.
 abbrev imp_part : List Cell
 imp_part = imp ∷ replicate 199 empty_cell
 
@@ -50,11 +51,11 @@ lone_imp = lone usual (imp_part ++ replicate 7800 empty_cell) (0 ∷ [])
 abbrev lone_dwarf : State
 lone_dwarf = lone usual (replicate 200 empty_cell ++ dwarf_part) (200 ∷ [])
 
--- a warrior of these cells, which starts at the first one
+-- A warrior with these cells, which starts at the first one.
 abbrev warrior : List Cell → WarriorValue
 warrior cells = record { name = []; author = []; cells = cells; start = 0 }
 
--- these are the starts of battles of such warriors
+-- `fight`, `lone_imp` and `lone_dwarf` are the starts of battles of these warriors, and `fight` has no error.
 pub they_start :
     (start_state usual (warrior (imp ∷ []) ∷ warrior dwarf ∷ []) (0 ∷ 200 ∷ []) ≡ fight)
     × (start_fault usual (warrior (imp ∷ []) ∷ warrior dwarf ∷ []) (0 ∷ 200 ∷ []) ≡ None)
@@ -63,12 +64,12 @@ pub they_start :
 unfolding the_machine
 they_start = (refl, refl, refl, refl)
 
--- what each touches in the first four turns
+-- The cells that each warrior touches in the first four turns.
 pub touched_first : (touched_in 0 4 fight ≡ 0 ∷ 0 ∷ 1 ∷ 1 ∷ 1 ∷ 1 ∷ 2 ∷ 2 ∷ []) × (touched_in 1 4 fight ≡ 200 ∷ 200 ∷ 203 ∷ 203 ∷ 201 ∷ 203 ∷ 203 ∷ 203 ∷ 207 ∷ 207 ∷ [])
 unfolding the_machine
 touched_first = (refl, refl)
 
--- in 200 turns neither touches a cell of the other
+-- In 200 turns, neither warrior touches a cell of the other.
 pub each_keeps_to_its_own : (w : ℕ) → w < 2 → KeepsTo (λ address. owner address == w) w 200 fight
 unfolding the_machine
 each_keeps_to_its_own zero h = AllPass-from_list_all (λ address. owner address == 0) (touched_in 0 200 fight) refl
@@ -94,14 +95,14 @@ same_dwarf a mine =
     get_or-append_right imp_part dwarf_part 200 a empty_cell refl behind
     ∙ sym (get_or-append_right (replicate 200 empty_cell) dwarf_part 200 a empty_cell refl behind)
 
--- at the start each is as it is alone
+-- At the start, each warrior is as in a battle of its own.
 pub each_starts_as_alone : AgreesOn (λ address. owner address == 0) 0 fight 0 lone_imp × AgreesOn (λ address. owner address == 1) 1 fight 0 lone_dwarf
 each_starts_as_alone = (
   record { params = refl; processes = refl; cells = same_imp },
   record { params = refl; processes = refl; cells = same_dwarf },
 )
 
--- so by the law each is as it is alone after 100 turns of its own, since battles that start are valid
+-- By the law, after 100 turns of its own each warrior is as in a battle of its own, since battles that start are valid.
 pub each_fights_as_alone : UntouchedIsAlone → IsValid fight → IsValid lone_imp → IsValid lone_dwarf →
     AgreesOn (λ address. owner address == 0) 0 (after_turns 200 fight) 0 (after_turns 100 lone_imp)
     × AgreesOn (λ address. owner address == 1) 1 (after_turns 200 fight) 0 (after_turns 100 lone_dwarf)
@@ -112,7 +113,7 @@ each_fights_as_alone law valid valid_imp valid_dwarf =
       law owner 1 200 fight lone_dwarf valid valid_dwarf refl cycle each_starts_as_alone.1 each_keeps_to_its_own,
     )
 
--- and so it is
+-- Computing the battles confirms it.
 pub each_is_as_alone :
     ((after_turns 200 fight).queues ≡ (100 ∷ []) ∷ (201 ∷ []) ∷ [])
     × ((after_turns 100 lone_imp).queues ≡ (100 ∷ []) ∷ [])
@@ -122,16 +123,16 @@ pub each_is_as_alone :
 unfolding the_machine
 each_is_as_alone = (refl, refl, refl, refl, refl)
 
--- SNE.I $0, $4 changes nothing
+-- `SNE.I $0, $4` changes nothing.
 abbrev reading : State
 reading = battle_of of_eight (eight (cell_of Sne I Direct 0 Direct 4 ∷ [])) ((0 ∷ []) ∷ (4 ∷ []) ∷ [])
 
--- but it reads a cell of the other
+-- `SNE.I $0, $4` reads a cell of the other warrior, so the warrior does not keep to its own cells.
 pub reading_is_touching : KeepsTo (λ address. address / 4 == 0) 0 1 reading → ⊥
 unfolding the_machine
 reading_is_touching keeps = true≢false (sym (keeps 2 0 (ltb_yes tt)))
 
--- a lone warrior that dies at its first turn
+-- A single warrior that dies in its first turn.
 abbrev dying : State
 dying = lone of_eight (eight []) (0 ∷ [])
 

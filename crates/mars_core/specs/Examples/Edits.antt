@@ -1,4 +1,4 @@
--- Edits of cells and processes, and their faults.
+-- Edits of cells and processes, and their errors.
 use Rattle.std.specs.Prelude.{◌≡◌, ℕ, List, [], ◌∷◌, None, Some, refl}
 use Rattle.mars_cell.specs.declared.instruction.Cell.{Cell}
 use Rattle.mars_cell.specs.declared.instruction.Op.TheVariants.{Jmp, Nop}
@@ -12,11 +12,11 @@ use Rattle.mars_core.specs.Examples.{the_machine, cell_of, numbers, sizes, of_ei
 use Rattle.mars_core.specs.declared.battle.edit.Edit.TheVariants.{SetCell, KillProcess, MoveProcess, Spawn}
 use Rattle.mars_core.specs.declared.battle.edit.EditFault.TheVariants.{Address, FieldOutside, NoSuchWarrior, NoSuchProcess, WarriorDead, QueueFull}
 
--- JMP.B $0, $0
+-- `JMP.B $0, $0`.
 abbrev waiting : Cell
 waiting = cell_of Jmp B Direct 0 Direct 0
 
--- three warriors that wait
+-- Three warriors that wait.
 abbrev three : State
 three = battle_of of_eight (eight (waiting ∷ empty_cell ∷ waiting ∷ empty_cell ∷ waiting ∷ [])) ((0 ∷ []) ∷ (2 ∷ []) ∷ (4 ∷ []) ∷ [])
 
@@ -30,7 +30,7 @@ pub kill_of_a_later_warrior_leaves_next : IsEdit three (KillProcess 2 0)
 unfolding the_machine
 kill_of_a_later_warrior_leaves_next = record { state = refl; back = refl; forth = refl }
 
--- two turns, and the kill of the warrior that is next
+-- The battle after two turns and an edit that kills the next warrior.
 abbrev last_killed : State
 last_killed = edited (turn_of (turn_of three)) (KillProcess 2 0)
 
@@ -49,7 +49,7 @@ pub deaths_stand_in_their_order : IsEdit last_killed (KillProcess 0 0)
 unfolding the_machine
 deaths_stand_in_their_order = record { state = refl; back = refl; forth = refl }
 
--- a queue with room for three
+-- A queue with a capacity of three.
 abbrev queue : List ℕ → State
 queue processes = lone (sizes 8 3 8 8) (eight (waiting ∷ [])) processes
 
@@ -95,7 +95,8 @@ pub cell_is_set : IsEdit (queue (0 ∷ [])) (SetCell 1 (cell_of Nop F Direct 7 D
 unfolding the_machine
 cell_is_set = record { state = refl; back = refl; forth = refl }
 
--- the address comes before the cell's numbers, before the warrior, before its process
+-- An error of the address comes before one of the cell's numbers or of the warrior; one of the warrior comes before one of its
+-- process.
 pub first_fault_of_an_edit :
     (edit_fault (queue (0 ∷ [])) (SetCell 8 (numbers 8 8)) ≡ Some Address)
     × (edit_fault (queue (0 ∷ [])) (SetCell 7 (numbers 8 0)) ≡ Some FieldOutside)

@@ -1,4 +1,4 @@
--- How far limits reach, in a core of eight cells, from the last but one.
+-- How far limits reach, in a core of eight cells, from the last cell but one.
 use Rattle.std.specs.Prelude.{refl}
 use Rattle.std.proofs.Common.{inl, inr}
 use Rattle.std.proofs.Math.Facts.{ltb_yes}
@@ -6,7 +6,7 @@ use Rattle.std.proofs.Math.Nat.{le_of_suc-le-suc}
 use Rattle.mars_core.specs.Reach.{Reaches}
 use Rattle.mars_core.specs.Examples.{the_machine}
 
--- a limit of five: two cells each way, round the end of the core
+-- A limit of five reaches two cells in each direction, past the end of the core.
 pub five_cells_are_reached_by_five : Reaches 8 5 6 4 × Reaches 8 5 6 5 × Reaches 8 5 6 6 × Reaches 8 5 6 7 × Reaches 8 5 6 0
 unfolding the_machine
 five_cells_are_reached_by_five = (

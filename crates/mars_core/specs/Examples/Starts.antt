@@ -1,4 +1,4 @@
--- How warriors are laid into the core, and why they can't be.
+-- How warriors are loaded into the core, and why they can't be.
 use Rattle.std.specs.Prelude.{◌≡◌, ℕ, List, [], ◌∷◌, None, Some, refl}
 use Rattle.std.proofs.Common.{replicate}
 use Rattle.mars_cell.specs.declared.instruction.Cell.{Cell}
@@ -11,7 +11,7 @@ use Rattle.mars_core.specs.Start.{start_fault, start_state}
 use Rattle.mars_core.specs.Examples.{the_machine, cell_of, numbers, sizes, of_eight, battle_of}
 use Rattle.mars_core.specs.declared.battle.start.BattleFault.TheVariants.{NoWarrior, TooMany, Overlap, StartOutside, FieldOutside}
 
--- a warrior of these cells, which starts at one of them
+-- A warrior with these cells, which starts at the cell with index `start`.
 abbrev warrior : List Cell → ℕ → WarriorValue
 warrior cells start = record { name = []; author = []; cells = cells; start = start }
 
@@ -21,7 +21,7 @@ nop a = cell_of Nop F Direct a Direct 0
 abbrev jmp : ℕ → Cell
 jmp a = cell_of Jmp B Direct a Direct 0
 
--- three warriors, the first of which lies round the end of the core and starts at its second cell
+-- Three warriors. The first of them extends past the end of the core and starts at its second cell.
 abbrev three : List WarriorValue
 three = warrior (nop 1 ∷ nop 2 ∷ []) 1 ∷ warrior (jmp 1 ∷ jmp 2 ∷ jmp 3 ∷ []) 2 ∷ warrior (numbers 4 4 ∷ []) 0 ∷ []
 
@@ -38,7 +38,7 @@ pub they_overlap_by_one_cell : start_fault of_eight three (7 ∷ 3 ∷ 5 ∷ [])
 unfolding the_machine
 they_overlap_by_one_cell = refl
 
--- overlap is judged round the end of the core, and before the starts
+-- Overlap is checked past the end of the core, and before the starting positions are.
 pub overlap_comes_before_a_start_outside : start_fault of_eight (warrior (nop 0 ∷ []) 0 ∷ warrior (nop 0 ∷ []) 0 ∷ []) (0 ∷ 8 ∷ []) ≡ Some Overlap
 unfolding the_machine
 overlap_comes_before_a_start_outside = refl
@@ -55,7 +55,7 @@ pub field_outside : start_fault of_eight (warrior (nop 8 ∷ []) 0 ∷ []) (7 �
 unfolding the_machine
 field_outside = refl
 
--- the B-number, too, and that of a later warrior
+-- The B-number is checked, too, and so are the numbers of later warriors.
 pub each_field_is_judged :
     (start_fault of_eight (warrior (numbers 0 8 ∷ []) 0 ∷ []) (7 ∷ []) ≡ Some FieldOutside)
     × (start_fault of_eight (warrior (nop 0 ∷ []) 0 ∷ warrior (nop 0 ∷ nop 8 ∷ []) 0 ∷ []) (0 ∷ 1 ∷ []) ≡ Some FieldOutside)

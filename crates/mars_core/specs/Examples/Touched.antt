@@ -1,4 +1,4 @@
--- What instructions read and write, each list in the order in which it happens.
+-- The cells that instructions read and write, in the order in which they do.
 use Rattle.std.specs.Prelude.{◌≡◌, List, [], ◌∷◌, refl}
 use Rattle.std.proofs.Common.{replicate}
 use Rattle.mars_cell.specs.declared.instruction.Cell.{Cell}
@@ -10,36 +10,37 @@ use Rattle.mars_cell.specs.Parameters.{Parameters}
 use Rattle.mars_core.specs.Touched.{touched}
 use Rattle.mars_core.specs.Examples.{the_machine, cell_of, numbers, sizes, of_eight, eight}
 
--- a core of sixteen cells, where reading reaches three cells ahead and two back, and writing five and four
+-- A core of sixteen cells, where reads reach three cells forward and two back, and writes five and four.
 abbrev limited : Parameters
 limited = sizes 16 8 6 10
 
--- with numbers behind and ahead of the instruction at 2
+-- A core with numbers before and after the instruction, which is at address 2.
 abbrev sixteen : Cell → List Cell
 sixteen instruction =
     numbers 5 0 ∷ numbers 0 5 ∷ instruction ∷ empty_cell ∷ empty_cell ∷ empty_cell ∷ empty_cell ∷ numbers 0 8 ∷ replicate 8 empty_cell
 
--- ADD.AB #4, #5: itself alone
+-- `ADD.AB #4, #5` touches only the instruction.
 pub immediate_operands_touch_the_instruction : touched limited (sixteen (cell_of Add Ab Immediate 4 Immediate 5)) 2 ≡ 2 ∷ 2 ∷ 2 ∷ 2 ∷ []
 unfolding the_machine
 immediate_operands_touch_the_instruction = refl
 
--- MOV.I $4, $5: what the A-operand reads, what the B-operand reads, and the B-target; not where the A-operand would write
+-- `MOV.I $4, $5` touches what the A-operand reads, what the B-operand reads, and the B-target; it does not touch the cell where
+-- the A-operand would write.
 pub direct_operands_touch_what_they_copy : touched limited (sixteen (cell_of Mov I Direct 4 Direct 5)) 2 ≡ 2 ∷ 0 ∷ 1 ∷ 7 ∷ []
 unfolding the_machine
 direct_operands_touch_what_they_copy = refl
 
--- MOV.I *4, @5: the cells by which each operand goes, for reading and for writing, and what they lead to
+-- `MOV.I *4, @5` touches the cells by which each operand is indirect, for reading and for writing, and those to which they lead.
 pub indirect_operands_touch_where_they_go : touched limited (sixteen (cell_of Mov I AIndirect 4 BIndirect 5)) 2 ≡ 2 ∷ 0 ∷ 6 ∷ 3 ∷ 1 ∷ 7 ∷ 4 ∷ 5 ∷ []
 unfolding the_machine
 indirect_operands_touch_where_they_go = refl
 
--- MOV.I <1, @1: B goes by the number that A lowered
+-- `MOV.I <1, @1`: the B-operand uses the number that the A-operand decremented.
 pub lowered_number_leads_the_b_operand : touched of_eight (eight (cell_of Mov I BPredecrement 1 BIndirect 1 ∷ numbers 0 4 ∷ [])) 0 ≡ 0 ∷ 1 ∷ 1 ∷ 4 ∷ 1 ∷ 1 ∷ 4 ∷ 4 ∷ []
 unfolding the_machine
 lowered_number_leads_the_b_operand = refl
 
--- MOV.I >1, @1: A goes by the number before it is raised, and B by the one after
+-- `MOV.I >1, @1`: the A-operand uses the number before it is incremented, and the B-operand the number after.
 pub raised_number_leads_the_b_operand : touched of_eight (eight (cell_of Mov I BPostincrement 1 BIndirect 1 ∷ numbers 0 4 ∷ [])) 0 ≡ 0 ∷ 1 ∷ 1 ∷ 5 ∷ 1 ∷ 1 ∷ 6 ∷ 6 ∷ []
 unfolding the_machine
 raised_number_leads_the_b_operand = refl

@@ -1,5 +1,5 @@
-//! A battle as a block of 32-bit words that the caller owns and can store, copy or send. The block holds the whole state of the battle
-//! and nothing else (`specs/Block`).
+//! A battle as a block of 32-bit words that the caller owns and can store, copy or send. The block holds the whole
+//! state of the battle and nothing else (`specs/Block`).
 ghost use Rattle.std.specs.Prelude.{◌≡◌, ◌≢◌, ◌++◌, ◌+◌, ◌*◌, ◌≤◌, All, IfErr, IfOk, drop, if◌then◌else◌, length, sum, true};
 ghost use Rattle.std.specs.List.{concat};
 ghost use Rattle.mars_cell.specs.Parameters.{AreInRange};
@@ -30,14 +30,14 @@ use mars_cell::{ParamFault, Params};
 use std::alloc::Global;
 use thiserror::Error;
 
-/// Length of the header of a block, in words.
+/// The length of the header of a block, in words.
 pub const HEAD_WORDS: usize = 64;
 
-/// First word of a block: the bytes M, A, R and 1, the version of the layout. M is the lowest byte.
+/// The first word of a block: the bytes M, A, R and 1, the version of the layout. M is the lowest byte.
 pub const BLOCK_MARK: u32 = 22_167_885;
 
-/// Why words are not the block of a battle. It is displayed as its number and name. `Battle::read_block` says in which order the errors
-/// are checked.
+/// The reason why words are not the block of a battle. It is displayed as its number and name. [`Battle::read_block`]
+/// states the order in which the errors are checked.
 #[derive(Clone, Copy, Debug, PartialEq, Eq, Error)]
 pub enum BlockFault {
     /// There are fewer words than the header needs, or fewer than the block needs.
@@ -52,10 +52,12 @@ pub enum BlockFault {
     /// The number of warriors is not from 1 to 16.
     #[error("4 Warriors")]
     Warriors,
-    /// The cell at this address has an opcode, modifier or mode that does not exist, or a number outside the core. It is the first such cell.
+    /// The cell at this address has an opcode, modifier or mode that does not exist, or a number outside the core. It
+    /// is the first such cell.
     #[error("5 Cell")]
     Cell(u32),
-    /// The warrior of this index has more processes than the limit, or a process outside the core. It is the first such warrior.
+    /// The warrior with this index has more processes than the limit, or a process outside the core. It is the first
+    /// such warrior.
     #[error("6 Queue")]
     Queue(u32),
     /// The deaths do not name each warrior without a process exactly once, and no other warrior.
@@ -64,7 +66,8 @@ pub enum BlockFault {
     /// The number of turns, the cycle and the next warrior do not agree with each other or with the living warriors.
     #[error("8 Clock")]
     Clock,
-    /// A header word that follows from the others is wrong: the length of the block, whether the battle is over, or an unused zero.
+    /// A header word that follows from the others is wrong: the length of the block, whether the battle is over, or an
+    /// unused zero.
     #[error("9 Head")]
     Head,
     /// An allocation failed.
@@ -170,8 +173,9 @@ impl Battle {
     ///
     /// # Errors
     ///
-    /// `Short` (the header), `Mark`, `Parameters`, `Warriors`, `Short` (the rest), `Deaths` (more than 16), then for each cell and each
-    /// queue in turn `Cell` and `Queue`, then `Deaths`, `Clock` and `Head`. `OutOfMemory` if an allocation fails before that.
+    /// These are checked in order: `Short` (the header), `Mark`, `Parameters`, `Warriors`, `Short` (the rest), `Deaths`
+    /// (more than 16), `Cell`, `Queue`, `Deaths`, `Clock` and `Head`. `OutOfMemory` replaces any error that would have
+    /// been found after the allocation.
     pub fn read_block(alloc: Global, words: &[u32]) -> Result<Battle, BlockFault>
         ensures battle { IfOk result (λ battle. Spells battle words.now) }
         ensures only { IfOk result (λ battle. (s : State) → Spells s words.now → battle ≡ s) }

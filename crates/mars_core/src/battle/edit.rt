@@ -1,4 +1,4 @@
-//! Changes of a battle by hand.
+//! Manual changes of a battle.
 ghost use Rattle.std.specs.Prelude.{◌≡◌, ◌<◌, ◌≤◌, length, IfOk, MatchOption, if◌then◌else◌};
 ghost use Rattle.mars_core.specs.Limits.{most_warriors};
 ghost use Rattle.mars_core.specs.State.{advanced as spec_advanced};
@@ -20,26 +20,30 @@ use arrayvec::ArrayVec;
 use mars_cell::Cell;
 use thiserror::Error;
 
-/// A change of a battle by hand. Its numbers are judged as they are given, however large.
+/// A manual change of a battle.
+///
+/// Addresses and indices are 64-bit and are checked before they are narrowed, so that large values are rejected, not
+/// truncated. A process is given by its place in its warrior's queue; place 0 is the front.
 #[derive(Clone, Copy, Debug, PartialEq, Eq)]
 pub enum Edit {
     /// Writes the cell at the address.
     SetCell(u64, Cell),
-    /// Makes a process of a warrior, the front being place 0, stand at an address: warrior, place, address.
+    /// Moves a process: the warrior, the place in its queue, the new address.
     MoveProcess(u64, u64, u64),
-    /// Takes a process of a warrior out of its queue: warrior, place.
+    /// Removes a process from its queue: the warrior, the place in its queue.
     KillProcess(u64, u64),
-    /// Puts a further process at the end of a warrior's queue: warrior, address.
+    /// Appends a process to a warrior's queue: the warrior, the address.
     Spawn(u64, u64),
 }
 
-/// Why an edit is refused: the first that applies, in the order of their numbers. It is displayed as its number and name.
+/// The reason why an edit is rejected, which is the first that applies, in the order of the numbers. It is displayed as
+/// its number and name.
 #[derive(Clone, Copy, Debug, PartialEq, Eq, Error)]
 pub enum EditFault {
-    /// The address isn't in the core.
+    /// The address is not in the core.
     #[error("1 Address")]
     Address,
-    /// A number of the cell isn't an address in the core.
+    /// A number of the cell is not an address in the core.
     #[error("2 FieldOutside")]
     FieldOutside,
     /// There is no such warrior.
@@ -57,8 +61,9 @@ pub enum EditFault {
 }
 
 impl Battle {
-    /// The first reason for which an edit would be refused, `None` if it would be made. It takes no memory and changes nothing, so
-    /// that a session can refuse a command before it reserves room.
+    /// Returns the error that [`Battle::edit`] would return for this edit, or `None` if it would succeed.
+    ///
+    /// Does not allocate or change the battle, so a session can reject a command before it reserves memory.
     #[tactic(auto, unfolding(crate::specs::Edit::edit_fault))]
     pub fn edit_fault(&self, edit: Edit) -> Option<EditFault>
         ensures value { result ≡ spec_edit_fault self.now edit }
@@ -122,8 +127,13 @@ impl Battle {
         }
     }
 
-    /// Changes the battle by hand, and gives the record of that. It fails with the first fault, as `edit_fault` tells it, and
-    /// then changes nothing. A battle that is over may be edited, too; a dead warrior isn't revived. It takes no memory.
+    /// Executes an edit and returns a record of the changes. Does not allocate.
+    ///
+    /// A battle that is over can be edited. A dead warrior can't be revived.
+    ///
+    /// # Errors
+    ///
+    /// Returns the error of [`Battle::edit_fault`] and changes nothing, if there is one.
     pub fn edit(&mut self, edit: Edit) -> Result<Atom, EditFault>
         ensures answer { MatchOption (spec_edit_fault self.old edit) (result ≡ Ok (edit_record self.old edit))
             (λ fault. result ≡ Err fault) }
@@ -136,7 +146,7 @@ impl Battle {
         Ok(self.make_edit(edit))
     }
 
-    /// An edit that isn't refused.
+    /// Executes an edit that has no error.
     fn make_edit(&mut self, edit: Edit) -> Atom
         requires valid { IsValid self.old }
         requires accepted { spec_edit_fault self.old edit ≡ None }
@@ -225,7 +235,7 @@ impl Battle {
     }
 }
 
-/// An address outside the core.
+/// Returns an error if the address is outside the core.
 fn address_fault(core_size: u32, address: u64) -> Option<EditFault>
     ensures { result ≡ spec_address_fault core_size address }
 {
@@ -236,7 +246,7 @@ fn address_fault(core_size: u32, address: u64) -> Option<EditFault>
     }
 }
 
-/// A cell with a number outside the core.
+/// Returns an error if a number of the cell is outside the core.
 fn cell_fault(core_size: u32, cell: Cell) -> Option<EditFault>
     ensures { result ≡ spec_cell_fault core_size cell }
 {
@@ -247,7 +257,7 @@ fn cell_fault(core_size: u32, cell: Cell) -> Option<EditFault>
     }
 }
 
-/// The clock after a process was taken out of a queue: it advances where its warrior died.
+/// Returns the clock after a process was removed from a queue; it advances if its warrior died.
 fn clock_after_kill(queues: &[ProcessQueue], clock: Clock, died: bool) -> Clock
     requires few { length queues.now ≤ most_warriors }
     requires cycle { clock.cycle ≤ most_cycles }

@@ -1,4 +1,4 @@
-//! A battle goes back and forth over a turn or an edit, by its record.
+//! Stepping back and forth over a turn or an edit, by its record.
 ghost use Rattle.std.specs.Prelude.{◌≡◌};
 ghost use Rattle.mars_core.specs.State.{State};
 ghost use Rattle.mars_core.specs.Leads.{Leads};
@@ -10,8 +10,9 @@ use crate::record::undo::{restore_cells, restore_queue};
 use crate::record::{Atom, cycles_of, turns_of};
 
 impl Battle {
-    /// Goes back over a turn or an edit, whose record leads here from some state: it leaves that state, and there is only
-    /// one. It can't fail, and takes no memory.
+    /// Undoes the turn or edit that `atom` records, restoring the unique state before it.
+    ///
+    /// `atom` must be a record that leads to the present state. Does not fail or allocate.
     pub fn revert(&mut self, atom: &Atom)
         requires { (before : State) × Leads before atom.now self.old }
         ensures { (before : State) → Leads before atom.now self.old → self.new ≡ before }
@@ -24,8 +25,9 @@ impl Battle {
         self.turns -= turns_of(atom.work);
     }
 
-    /// Goes forth again over a turn or an edit, whose record leads from here to some state: it leaves that state, and there
-    /// is only one. It can't fail, and takes no memory.
+    /// Redoes the turn or edit that `atom` records, restoring the unique state after it.
+    ///
+    /// `atom` must be a record that leads from the present state. Does not fail or allocate.
     pub fn apply(&mut self, atom: &Atom)
         requires { (after : State) × Leads self.old atom.now after }
         ensures { (after : State) → Leads self.old atom.now after → self.new ≡ after }

@@ -1,4 +1,4 @@
-//! How a battle starts: what refuses it, warriors in the core, and their first processes.
+//! How a battle starts: the errors, the warriors in the core, and their first processes.
 ghost use Rattle.std.specs.Prelude.{◌≡◌, length, IfOk, IsOk, IfSome, IfErr, MatchOption, nat_lt, ◌+◌, ◌%◌, ◌≤◌, ◌∷◌, [], map, All, true};
 ghost use Rattle.mars_core.specs.Start.{start_fault, start_state, is_inside as spec_is_inside, fields_inside as spec_fields_inside, laid, all_laid, first_processes, overlap};
 ghost use Rattle.std.specs.List.{list_all};
@@ -21,7 +21,8 @@ use mars_cell::{Cell, Params, Warrior};
 use std::alloc::{AllocError, Global};
 use thiserror::Error;
 
-/// Why a battle can't start: the first that applies, in the order of their numbers. It is displayed as its number and name.
+/// The reason why a battle can't start, which is the first that applies, in the order of the numbers. It is displayed
+/// as its number and name.
 #[derive(Clone, Copy, Debug, PartialEq, Eq, Error)]
 pub enum BattleFault {
     /// There is no warrior.
@@ -30,23 +31,27 @@ pub enum BattleFault {
     /// There are more than 16 warriors.
     #[error("2 TooMany")]
     TooMany,
-    /// Two loaded cells have one address, those of a warrior longer than the core among them.
+    /// Two loaded cells have the same address. They may belong to one warrior if it is longer than the core.
     #[error("3 Overlap")]
     Overlap,
-    /// A warrior's start isn't an address in the core.
+    /// A warrior's starting position is not an address in the core.
     #[error("4 StartOutside")]
     StartOutside,
-    /// A number of a cell isn't an address in the core.
+    /// A number of a cell is not an address in the core.
     #[error("5 FieldOutside")]
     FieldOutside,
-    /// Memory was refused.
+    /// An allocation failed.
     #[error("6 OutOfMemory")]
     OutOfMemory,
 }
 
 impl Battle {
-    /// A battle of 1 to 16 warriors, each laid from its address in `starts` on, and beginning with one process at its own
-    /// start. It fails with the first fault; memory is asked for only where there is no other.
+    /// Starts a battle of 1 to 16 warriors, each loaded at its address in `starts` and with one process at its own
+    /// start.
+    ///
+    /// # Errors
+    ///
+    /// Returns the first error in the order of [`BattleFault`]. Memory is allocated only if there is no other error.
     #[tactic(auto, unfolding(crate::specs::Start::start_state))]
     pub fn new(
         alloc: Global,
@@ -80,8 +85,11 @@ impl Battle {
         })
     }
 
-    /// Lays as many warriors out anew, as a new battle of the same parameters would. It fails with the first fault, and then
-    /// changes nothing. It takes no memory.
+    /// Starts a new battle of equally many warriors with the same parameters in this one's memory. Does not allocate.
+    ///
+    /// # Errors
+    ///
+    /// Returns the first error in the order of [`BattleFault`] and changes nothing.
     #[tactic(auto, unfolding(crate::specs::Start::start_state))]
     pub fn restart(&mut self, warriors: &[Warrior], starts: &[u32]) -> Result<(), BattleFault>
         requires starts { length starts.now ≡ length warriors.now }
@@ -103,7 +111,7 @@ impl Battle {
     }
 }
 
-/// The first reason not to start, which takes no memory to find.
+/// Returns the first error for which a battle can't start. Does not allocate.
 fn find_fault(params: &Params, warriors: &[Warrior], starts: &[u32]) -> Option<BattleFault>
     requires { length starts.now ≡ length warriors.now }
     ensures value { result ≡ start_fault params.now warriors.now starts.now }
@@ -128,14 +136,14 @@ fn find_fault(params: &Params, warriors: &[Warrior], starts: &[u32]) -> Option<B
     None
 }
 
-/// Whether each start is an address in the core.
+/// Returns whether each starting position is an address in the core.
 fn starts_inside(core_size: u32, starts: &[u32]) -> bool
     ensures { result ≡ list_all (λ s. nat_lt s core_size) starts.now }
 {
     starts.iter().all(|start| *start < core_size)
 }
 
-/// Whether the numbers of each cell of each warrior are addresses in the core.
+/// Returns whether all numbers of all cells of the warriors are addresses in the core.
 fn fields_inside(core_size: u32, warriors: &[Warrior]) -> bool
     ensures { result ≡ spec_fields_inside core_size warriors.now }
 {
@@ -147,7 +155,7 @@ fn fields_inside(core_size: u32, warriors: &[Warrior]) -> bool
     true
 }
 
-/// Whether the numbers of each cell are addresses in the core.
+/// Returns whether all numbers of the cells are addresses in the core.
 fn cells_inside(core_size: u32, cells: &[Cell]) -> bool
     ensures { result ≡ list_all (spec_is_inside core_size) cells.now }
 {
@@ -156,7 +164,7 @@ fn cells_inside(core_size: u32, cells: &[Cell]) -> bool
         .all(|cell| cell.a < core_size && cell.b < core_size)
 }
 
-/// An empty core, with each warrior laid from its start on.
+/// Returns an empty core with each warrior loaded at its starting position.
 pub fn lay_all(
     alloc: Global,
     params: &Params,
@@ -175,7 +183,7 @@ pub fn lay_all(
     Ok(core)
 }
 
-/// Empties a core, and lays each warrior from its start on.
+/// Empties a core and loads each warrior at its starting position.
 pub fn lay_anew(core: &mut [PackedCell], params: &Params, warriors: &[Warrior], starts: &[u32])
     requires core { length core.old ≡ params.now.core_size }
     requires starts { length starts.now ≡ length warriors.now }
@@ -187,7 +195,8 @@ pub fn lay_anew(core: &mut [PackedCell], params: &Params, warriors: &[Warrior], 
     lay_each(core, params.core_size(), warriors, starts);
 }
 
-/// Empties cells: a first part, and the others as copies of it, since to copy many costs less than to write each.
+/// Empties cells: the first half in the same way, and the rest as a copy of it, since copying many cells costs less than
+/// writing each.
 fn clear(cells: &mut [PackedCell])
     ensures { cells.new ≡ replicate (length cells.old) empty_cell }
 {
@@ -201,7 +210,7 @@ fn clear(cells: &mut [PackedCell])
     others.copy_from_slice(&first[..copied]);
 }
 
-/// Lays each warrior from its start on.
+/// Loads each warrior at its starting position.
 #[tactic(auto, using(crate::proofs::StartState::inside_at))]
 fn lay_each(core: &mut [PackedCell], core_size: u32, warriors: &[Warrior], starts: &[u32])
     requires core { IsCore core_size core.old }
@@ -217,7 +226,7 @@ fn lay_each(core: &mut [PackedCell], core_size: u32, warriors: &[Warrior], start
     }
 }
 
-/// Lays cells from a start on.
+/// Loads cells from `start` on.
 #[tactic(auto, using(crate::proofs::Words::Back::fits_largest))]
 fn lay(core: &mut [PackedCell], core_size: u32, start: u32, cells: &[Cell])
     requires core { IsCore core_size core.old }
@@ -233,7 +242,7 @@ fn lay(core: &mut [PackedCell], core_size: u32, start: u32, cells: &[Cell])
     }
 }
 
-/// The queues of the first processes.
+/// Returns a queue with the first process for each warrior.
 pub fn first_queues(
     alloc: Global,
     params: &Params,
@@ -252,7 +261,7 @@ pub fn first_queues(
     Ok(queues)
 }
 
-/// The queue of a warrior's first process.
+/// Returns a queue with the warrior's first process.
 fn first_queue(
     alloc: Global,
     params: &Params,
@@ -267,7 +276,7 @@ fn first_queue(
     Ok(queue)
 }
 
-/// Leaves in each queue the first process alone.
+/// Replaces the processes of each queue by the warrior's first process.
 pub fn refill_queues(
     params: &Params,
     queues: &mut [ProcessQueue],
@@ -288,7 +297,7 @@ pub fn refill_queues(
     }
 }
 
-/// Where a warrior's first process stands.
+/// Returns the address of the warrior's first process.
 fn first_process(core_size: u32, warrior: &Warrior, start: u32) -> u32
     requires { 1 ≤ core_size }
     ensures { result ≡ (start + warrior.now.start) % core_size }

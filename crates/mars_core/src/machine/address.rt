@@ -3,7 +3,7 @@ ghost use Rattle.std.specs.Prelude.{◌≡◌, ◌<◌, ◌≤◌, false, ◌+�
 ghost use Rattle.mars_cell.specs.Limits.{largest_core};
 ghost use Rattle.mars_core.specs.Addresses.{address_after as spec_address_after, fold, raised as spec_raised, lowered as spec_lowered};
 
-/// The remainder of a number below twice the size of the core: no division is needed.
+/// Returns `number % core_size` without a division, for a number below twice the size of the core.
 #[inline(always)]
 pub fn remainder(core_size: u32, number: u32) -> u32
     requires size { core_size ≤ largest_core }
@@ -11,12 +11,12 @@ pub fn remainder(core_size: u32, number: u32) -> u32
     ensures value { result ≡ number % core_size }
     ensures inside { result < core_size }
 {
-    // By the sign of the difference: of a comparison the compiler makes a subtraction more.
+    // Tests the sign of the difference: for a comparison, the compiler emits one more subtraction.
     let less = number.wrapping_sub(core_size);
     if less >= 0x8000_0000 { number } else { less }
 }
 
-/// The address `distance` cells after another one.
+/// Returns the address `distance` cells after `address`.
 #[inline(always)]
 #[tactic(auto, unfolding(crate::specs::Addresses::address_after))]
 pub fn address_after(core_size: u32, address: u32, distance: u32) -> u32
@@ -29,7 +29,7 @@ pub fn address_after(core_size: u32, address: u32, distance: u32) -> u32
     remainder(core_size, address + distance)
 }
 
-/// The next address.
+/// Returns the next address.
 #[inline(always)]
 #[tactic(auto, unfolding(crate::specs::Addresses::address_after, crate::specs::Addresses::raised))]
 pub fn next_address(core_size: u32, address: u32) -> u32
@@ -41,7 +41,7 @@ pub fn next_address(core_size: u32, address: u32) -> u32
     raised(core_size, address)
 }
 
-/// The address after the next one.
+/// Returns the address after the next one.
 #[inline(always)]
 #[tactic(auto, using(crate::proofs::Folding::after_next))]
 pub fn skip_address(core_size: u32, address: u32) -> u32
@@ -53,7 +53,7 @@ pub fn skip_address(core_size: u32, address: u32) -> u32
     next_address(core_size, next_address(core_size, address))
 }
 
-/// The pointer under a limit, which is the size of the core where the battle isn't limited.
+/// Returns the pointer folded by a limit. Without `LIMITED`, the limit must be the size of the core.
 #[inline(always)]
 #[tactic(auto, using(crate::proofs::Folding::fold_whole), unfolding(crate::specs::Addresses::fold))]
 pub fn folded<const LIMITED: bool>(core_size: u32, limit: u32, pointer: u32) -> u32
@@ -72,7 +72,7 @@ pub fn folded<const LIMITED: bool>(core_size: u32, limit: u32, pointer: u32) -> 
     }
 }
 
-/// The number of an instruction as a pointer under a limit.
+/// Returns the number of an instruction as a pointer folded by a limit.
 #[inline(always)]
 #[tactic(auto, using(crate::proofs::Folding::fold_inside))]
 pub fn folded_number<const LIMITED: bool>(core_size: u32, limit: u32, number: u32) -> u32
@@ -90,7 +90,7 @@ pub fn folded_number<const LIMITED: bool>(core_size: u32, limit: u32, number: u3
     }
 }
 
-/// The pointer under any limit.
+/// Returns the pointer folded by any limit.
 #[tactic(auto, unfolding(crate::specs::Addresses::fold))]
 fn folded_at(core_size: u32, limit: u32, pointer: u32) -> u32
     requires limit_least { 1 ≤ limit }
@@ -106,7 +106,7 @@ fn folded_at(core_size: u32, limit: u32, pointer: u32) -> u32
     }
 }
 
-/// One more, modulo the size of the core.
+/// Returns the number plus one, modulo the size of the core.
 #[inline(always)]
 #[tactic(auto, unfolding(crate::specs::Addresses::raised))]
 pub fn raised(core_size: u32, number: u32) -> u32
@@ -119,7 +119,7 @@ pub fn raised(core_size: u32, number: u32) -> u32
     if next == core_size { 0 } else { next }
 }
 
-/// One less, modulo the size of the core.
+/// Returns the number minus one, modulo the size of the core.
 #[inline(always)]
 #[tactic(auto, unfolding(crate::specs::Addresses::lowered))]
 pub fn lowered(core_size: u32, number: u32) -> u32

@@ -1,4 +1,4 @@
-//! Whose turn it is, in which cycle, and whether the battle is over (the clock of `specs/State`).
+//! The next warrior, the cycle, and whether the battle is over (the clock of `specs/State`).
 ghost use Rattle.std.specs.Prelude.{◌≡◌, ◌==◌, ◌&&◌, ◌+◌, ◌<◌, ◌≤◌, length, ℕ, List, IfSome};
 ghost use Rattle.mars_core.specs.Limits.{most_warriors};
 ghost use Rattle.mars_core.specs.State.{advanced as spec_advanced, live_from, survivors_of, ends, is_empty};
@@ -7,14 +7,14 @@ ghost use Rattle.mars_cell.specs.Limits.{most_cycles};
 
 use crate::queue::ProcessQueue;
 
-/// Whose turn it is, and in which cycle.
+/// The next warrior and the number of completed cycles.
 #[derive(Clone, Copy, PartialEq, Eq)]
 pub struct Clock {
     pub next: u32,
     pub cycle: u32,
 }
 
-/// The clock after a turn: mostly the next warrior lives.
+/// Returns the clock after a turn. In most cases the next warrior lives.
 #[inline(always)]
 #[tactic(auto, using(crate::proofs::Live::advanced_next, crate::proofs::Live::advanced_round))]
 pub fn clock_after_turn(queues: &[ProcessQueue], clock: Clock) -> Clock
@@ -40,7 +40,8 @@ pub fn clock_after_turn(queues: &[ProcessQueue], clock: Clock) -> Clock
     advanced(queues, clock, next)
 }
 
-/// The clock moved to the least live index from `from` on, else to the least one in the next cycle.
+/// Returns the clock moved to the first live warrior from `from` on; if there is none, to the first live warrior of the
+/// next cycle.
 #[tactic(auto, unfolding(crate::specs::State::advanced))]
 pub fn advanced(queues: &[ProcessQueue], clock: Clock, from: usize) -> Clock
     requires few { length queues.now ≤ most_warriors }
@@ -62,7 +63,7 @@ pub fn advanced(queues: &[ProcessQueue], clock: Clock, from: usize) -> Clock
     }
 }
 
-/// The least index from `from` on whose queue isn't empty.
+/// Returns the index of the first queue from `from` on that is not empty.
 #[tactic(auto, using(crate::proofs::Live::queues_live_next, crate::proofs::Live::queues_live_here))]
 pub fn least_live(queues: &[ProcessQueue], from: usize) -> Option<usize>
     ensures value { result ≡ live_from (addresses_of queues.now) from }
@@ -76,7 +77,7 @@ pub fn least_live(queues: &[ProcessQueue], from: usize) -> Option<usize>
     None
 }
 
-/// Whether a battle is over, from the numbers of its warriors and of those that live.
+/// Returns whether a battle is over, from the number of its warriors and the number of live ones.
 #[inline(always)]
 #[tactic(auto, unfolding(crate::specs::State::ends))]
 pub fn is_over(cycles: u32, cycle: u32, warriors: usize, alive: usize) -> bool

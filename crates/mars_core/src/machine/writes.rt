@@ -1,7 +1,7 @@
-//! The notes of writes to the core (`specs/Writes`).
+//! The writes to the core (`specs/Writes`).
 use crate::packed::PackedCell;
 
-/// One write of a cell: its address, and the whole cell before and after, even if they are equal.
+/// One write of a cell: its address, and the whole cell before and after, which may be equal.
 #[derive(Clone, Copy, Debug)]
 pub struct CellChange {
     pub address: u32,
@@ -10,7 +10,7 @@ pub struct CellChange {
 }
 
 impl Default for CellChange {
-    /// Zeros throughout, so that a list of blanks is made and copied as whole words.
+    /// Returns a change of zeros, so that a list of defaults is made and copied as whole words.
     fn default() -> Self {
         CellChange {
             address: 0,

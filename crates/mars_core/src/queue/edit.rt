@@ -1,4 +1,4 @@
-//! What edits and records do with a queue: processes at any place go out and in.
+//! Operations of edits and records on a queue: inserting and removing processes at any place.
 ghost use Rattle.std.specs.Prelude.{◌≡◌, ◌+◌, ◌-◌, ◌<◌, ◌≤◌, ◌∷◌, ◌++◌, length, drop, take, slice_set, slice_index, remove, insert, ◌==◌};
 ghost use Rattle.mars_core.specs.Record.{without_last};
 
@@ -6,7 +6,7 @@ use crate::queue::ProcessQueue;
 use std::mem;
 
 impl ProcessQueue {
-    /// Makes the process at a place stand at another address, and gives the one before.
+    /// Replaces the address of the process at `place`, and returns the previous address.
     pub fn replace(&mut self, place: usize, address: u32) -> u32
         requires { place < length self.old.addresses }
         ensures address { result ≡ slice_index self.old.addresses place }
@@ -18,8 +18,8 @@ impl ProcessQueue {
         }
     }
 
-    /// Takes the process at a place out, and gives the address that it stood at. Only where it stands neither at the front nor
-    /// at the end do others move.
+    /// Removes the process at `place` and returns its address. Other processes are moved in memory only if it is
+    /// neither at the front nor at the end.
     pub fn remove(&mut self, place: usize) -> u32
         requires { place < length self.old.addresses }
         ensures address { result ≡ slice_index self.old.addresses place }
@@ -34,7 +34,7 @@ impl ProcessQueue {
         }
     }
 
-    /// Takes the process at a place out, by the end.
+    /// Removes the process at `place`, after moving it to the end.
     fn take_between(&mut self, place: usize) -> u32
         requires { place < length self.old.addresses }
         ensures address { result ≡ slice_index self.old.addresses place }
@@ -44,7 +44,8 @@ impl ProcessQueue {
         self.take_back()
     }
 
-    /// Puts a process in at a place. There must be room. Only where the place is neither the front nor the end do others move.
+    /// Inserts a process at `place`. The queue must not be full. Other processes are moved in memory only if the place
+    /// is neither the front nor the end.
     pub fn insert(&mut self, place: usize, address: u32)
         requires place { place ≤ length self.old.addresses }
         requires room { length self.old.addresses < self.old.limit }
@@ -59,7 +60,8 @@ impl ProcessQueue {
         }
     }
 
-    /// Puts a process in at a place, by the end. There must be room.
+    /// Inserts a process at `place`, by appending it and moving the processes from the place on to the end. The queue
+    /// must not be full.
     fn put_between(&mut self, place: usize, address: u32)
         requires place { place ≤ length self.old.addresses }
         requires room { length self.old.addresses < self.old.limit }
@@ -70,7 +72,7 @@ impl ProcessQueue {
         self.rotate_from(place, after);
     }
 
-    /// Of the processes from a place on the first `count` go to the end, in one move within the ring's slice.
+    /// Moves the first `count` processes from `place` on to the end, in one move within the slice of the ring.
     fn rotate_from(&mut self, place: usize, count: usize)
         requires { place + count ≤ length self.old.addresses }
         ensures { self.new ≡ record {
@@ -84,7 +86,7 @@ impl ProcessQueue {
         addresses[place..].rotate_left(count);
     }
 
-    /// Takes the process at the end.
+    /// Removes the process at the end and returns its address.
     fn take_back(&mut self) -> u32
         requires { 1 ≤ length self.old.addresses }
         ensures address { result ≡ slice_index self.old.addresses (length self.old.addresses - 1) }
@@ -96,7 +98,7 @@ impl ProcessQueue {
         }
     }
 
-    /// Puts a process at the front. There must be room.
+    /// Inserts a process at the front. The queue must not be full.
     fn push_front(&mut self, address: u32)
         requires { length self.old.addresses < self.old.limit }
         ensures { self.new ≡ record { addresses = address ∷ self.old.addresses; limit = self.old.limit } }
@@ -104,14 +106,14 @@ impl ProcessQueue {
         let _ = self.ring.try_push_front(address);
     }
 
-    /// Takes the process at the end away, where there is one.
+    /// Removes the process at the end, if there is one.
     pub fn drop_back(&mut self)
         ensures { self.new ≡ record { addresses = without_last 1 self.old.addresses; limit = self.old.limit } }
     {
         let _ = self.ring.pop_back();
     }
 
-    /// Takes the last `queued` processes away, and puts one at the front. There must be room.
+    /// Removes the last `queued` processes, and inserts one at the front. There must be capacity for it.
     pub fn put_back(&mut self, queued: usize, address: u32)
         requires queued { queued ≤ length self.old.addresses }
         requires room { length self.old.addresses - queued < self.old.limit }
@@ -122,7 +124,7 @@ impl ProcessQueue {
         self.push_front(address);
     }
 
-    /// Takes the process at the front, and puts these at the end. There must be room.
+    /// Removes the process at the front, and appends the addresses in `queued`. There must be capacity for them.
     pub fn take_round(&mut self, queued: &[u32])
         requires alive { 1 ≤ length self.old.addresses }
         requires room { length (drop 1 self.old.addresses) + length queued.now ≤ self.old.limit }

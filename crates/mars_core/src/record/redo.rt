@@ -1,4 +1,4 @@
-//! What a record makes of the parts of a battle, going forth again.
+//! Applying a record to the parts of a battle.
 ghost use Rattle.std.specs.Prelude.{◌≡◌, ℕ, ◌<◌, length, All, true};
 ghost use Rattle.arrayvec.specs.ArrayVec.{array_vec_len};
 ghost use Rattle.mars_core.specs.Limits.{most_warriors};
@@ -14,7 +14,7 @@ use crate::queue::ProcessQueue;
 use crate::record::{Work, warrior_of};
 use arrayvec::ArrayVec;
 
-/// Writes what each changed cell became, in the order of the changes.
+/// Writes the new cell of each change, in order.
 pub fn rewrite_cells(core: &mut [PackedCell], changes: &[CellChange])
     requires { All (λ (c : Change). c.address < length core.old) changes.now }
     ensures { core.new ≡ rewritten changes.now core.old }
@@ -24,7 +24,8 @@ pub fn rewrite_cells(core: &mut [PackedCell], changes: &[CellChange])
     }
 }
 
-/// Makes the queue that the work changes what it is after it, where the work queues these addresses.
+/// Changes the queue of the work's warrior, if there is one, to what it is after the work, which queues the addresses
+/// in `queued`.
 pub fn renew_queue(queues: &mut [ProcessQueue], work: Work, queued: &[u32])
     requires { (limit : ℕ) × All (λ (q : Contents). q.limit ≡ limit) queues.old
         × HasQueue (spec_warrior_of work) (CanRequeue limit work (length queued.now)) (addresses_of queues.old) }
@@ -38,7 +39,7 @@ pub fn renew_queue(queues: &mut [ProcessQueue], work: Work, queued: &[u32])
     }
 }
 
-/// Makes the queue what it is after the work of its warrior, which queues these addresses.
+/// Changes a queue to what it is after the work of its warrior, which queues the addresses in `queued`.
 fn renew(queue: &mut ProcessQueue, work: Work, queued: &[u32])
     requires { CanRequeue queue.old.limit work (length queued.now) queue.old.addresses }
     ensures { queue.new ≡ record { addresses = queue_after_work work queued.now queue.old.addresses; limit = queue.old.limit } }
@@ -56,7 +57,7 @@ fn renew(queue: &mut ProcessQueue, work: Work, queued: &[u32])
     }
 }
 
-/// Notes the death of the warrior that the work is about, if it died.
+/// Appends the death of the work's warrior if `died`.
 pub fn note_recorded_death(
     deaths: &mut ArrayVec<Death, MOST_WARRIORS>,
     work: Work,

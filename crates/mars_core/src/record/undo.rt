@@ -1,4 +1,4 @@
-//! What a record makes of the parts of a battle, going back.
+//! Undoing a record in the parts of a battle.
 ghost use Rattle.std.specs.Prelude.{◌≡◌, ℕ, ◌<◌, length, All};
 ghost use Rattle.mars_core.specs.Record.{restored, warrior_of as spec_warrior_of, queue_before, with_queue};
 ghost use Rattle.mars_core.specs.Queue.{addresses_of, Queue as Contents};
@@ -10,7 +10,7 @@ use crate::packed::PackedCell;
 use crate::queue::ProcessQueue;
 use crate::record::{Work, warrior_of};
 
-/// Writes back what each changed cell was, the last change first.
+/// Writes back the previous cell of each change, the last change first.
 #[tactic(auto, using(crate::proofs::Inside::restored_step))]
 pub fn restore_cells(core: &mut [PackedCell], changes: &[CellChange])
     requires { All (λ (c : Change). c.address < length core.old) changes.now }
@@ -24,7 +24,8 @@ pub fn restore_cells(core: &mut [PackedCell], changes: &[CellChange])
     }
 }
 
-/// Makes the queue that the work changed what it was before, where the work queued `queued` addresses.
+/// Changes the queue of the work's warrior, if there is one, to what it was before the work, which queued `queued`
+/// addresses.
 pub fn restore_queue(queues: &mut [ProcessQueue], work: Work, queued: usize)
     requires { (limit : ℕ) × All (λ (q : Contents). q.limit ≡ limit) queues.old
         × HasQueue (spec_warrior_of work) (CanRestore limit work queued) (addresses_of queues.old) }
@@ -37,7 +38,7 @@ pub fn restore_queue(queues: &mut [ProcessQueue], work: Work, queued: usize)
     }
 }
 
-/// Makes a queue what it was before the work of its warrior, which queued `queued` addresses.
+/// Changes a queue to what it was before the work of its warrior, which queued `queued` addresses.
 fn restore(queue: &mut ProcessQueue, work: Work, queued: usize)
     requires { CanRestore queue.old.limit work queued queue.old.addresses }
     ensures { queue.new ≡ record { addresses = queue_before work queued queue.old.addresses; limit = queue.old.limit } }

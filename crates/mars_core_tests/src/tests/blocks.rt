@@ -1,4 +1,4 @@
-//! Blocks of words: what is read is what was written, and which error is reported of words that are no block.
+//! Blocks of words: a block that was written is read back, and other words are rejected with the right error.
 
 use super::{battle_of, check_same, make_turns, three_stay};
 use mars_cell::ParamFault;
@@ -7,7 +7,7 @@ use std::alloc::Global;
 use std::process::Abort;
 use std::test::Fail;
 
-/// The block of a battle, and seven words of 7 after it.
+/// Returns the block of a battle, followed by seven words with the value 7.
 fn block_of(alloc: Global, battle: &Battle) -> Result<Vec<u32>, Fail> {
     let len = battle.block_len();
     let mut words = Vec::from_elem(alloc, 7, len + 7)?;
@@ -15,7 +15,7 @@ fn block_of(alloc: Global, battle: &Battle) -> Result<Vec<u32>, Fail> {
     Ok(words)
 }
 
-/// A block is read as the battle that wrote it, and both play on alike.
+/// Checks that a block is read back as the battle that wrote it, and that both continue alike.
 fn check_round_trip(rt: &impl Abort, alloc: Global, battle: &mut Battle) -> Result<(), Fail> {
     let words = block_of(alloc, battle)?;
     let len = battle.block_len();
@@ -46,8 +46,9 @@ fn blocks_are_read_as_they_were_written(rt: HostRuntime) -> Result<(), Fail> {
     check_round_trip(&rt, rt.alloc(), &mut battle)
 }
 
-/// Three warriors of one process each, which may have three, in a core of 8 cells, after 4 turns: what is written into their block
-/// of 91 words, at which places, and the error then. Of two mistakes the one that is checked first is reported.
+/// The battle has three warriors with one process each and a process limit of three, in a core of 8 cells, after 4
+/// turns. Each entry has the words that are changed in its block of 91 words, by index, and the error that results. Of
+/// two mistakes, the one that is checked first is reported.
 const ERRORS: &[(&[(usize, u32)], BlockFault)] = &[
     (&[(0, BLOCK_MARK + 1)], BlockFault::Mark),
     (&[(2, 0)], BlockFault::Parameters(ParamFault::CoreSize)),

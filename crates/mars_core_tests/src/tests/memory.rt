@@ -1,5 +1,5 @@
-//! Calls that are refused memory. Each test holds whichever one of its requests is refused, since a second try has memory:
-//! checks/memory refuses each in turn.
+//! Calls whose allocations fail. checks/memory lets each allocation of a test fail in turn. Each test must pass
+//! whichever one fails, since a second try has memory.
 use super::{check_clock, check_same, params};
 use mars_cell::{Params, Warrior, read_cell};
 use mars_core::{Battle, BattleFault, BlockFault};
@@ -7,7 +7,7 @@ use std::alloc::Global;
 use std::process::Abort;
 use std::test::Fail;
 
-/// Warriors of one cell each in a core of 8 cells.
+/// Returns warriors of one cell each in a core of 8 cells.
 pub fn one_cells(alloc: Global, texts: &[&str]) -> Option<Vec<Warrior>> {
     let mut warriors = Vec::new(alloc);
     for text in texts {
@@ -19,7 +19,7 @@ pub fn one_cells(alloc: Global, texts: &[&str]) -> Option<Vec<Warrior>> {
     Some(warriors)
 }
 
-/// A battle of one that copies itself and one that stays.
+/// Returns a battle of a warrior that copies itself and one that stays.
 pub fn start(alloc: Global, params: &Params) -> Result<Battle, BattleFault> {
     let texts: [&str; 2] = ["MOV.I $0, $1", "JMP.B $0, $0"];
     match one_cells(alloc, &texts) {
@@ -28,7 +28,7 @@ pub fn start(alloc: Global, params: &Params) -> Result<Battle, BattleFault> {
     }
 }
 
-/// The battle goes on for three turns, and both live then.
+/// Checks that the battle continues for three turns, after which both warriors live.
 fn check_goes_on(rt: &impl Abort, battle: &mut Battle) {
     for _turn in 0..3 {
         assert!(rt; battle.turn().is_ok());
@@ -52,7 +52,7 @@ fn a_battle_starts(rt: HostRuntime) -> Result<(), Fail> {
     Ok(())
 }
 
-/// A battle, for which memory is refused at most once.
+/// Returns a battle, if at most one of its allocations fails.
 fn second_start(alloc: Global, params: &Params) -> Option<Battle> {
     start(alloc, params).or_else(|_| start(alloc, params)).ok()
 }
@@ -75,7 +75,7 @@ fn a_battle_is_copied(rt: HostRuntime) -> Result<(), Fail> {
     Ok(())
 }
 
-/// The block of a battle, for which memory is refused at most once.
+/// Returns the block of a battle, if at most one of its allocations fails.
 fn second_block(alloc: Global, battle: &Battle) -> Option<Vec<u32>> {
     let len = battle.block_len();
     let asked: Result<Vec<u32>, _> = Vec::from_elem(alloc, 0, len).or_else(|_| Vec::from_elem(

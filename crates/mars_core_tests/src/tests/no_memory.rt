@@ -1,6 +1,6 @@
-//! Calls that take no memory. Each test makes its objects, asks for memory once more, and holds whether that and all that
-//! comes after it is refused or not: checks/memory refuses all requests from each on. Where the objects themselves
-//! are refused, there is nothing to show.
+//! Calls that don't allocate. Each test makes its objects, then makes one request for memory, then makes the calls.
+//! checks/memory lets each request fail in turn, together with all later ones; a test must pass whether its last
+//! request fails or not. If its objects can't be allocated, a test shows nothing.
 ghost use Rattle.std.specs.Prelude.{◌≡◌, IfSome};
 ghost use Rattle.mars_core.specs.Leads.{Leads};
 
@@ -12,12 +12,12 @@ use std::alloc::Global;
 use std::process::Abort;
 use std::test::Fail;
 
-/// Asks for memory, which is the first request of all that are refused.
+/// Allocates, to be the first of the allocations that fail.
 fn ask(alloc: Global) {
     let _asked: Result<Vec<u64>, _> = Vec::with_capacity(alloc, 1);
 }
 
-/// A turn: the battle before, its record, the battle after, and that once more.
+/// A turn: the battle before it, its record, the battle after it, and a second copy of that.
 #[derive(Drop)]
 struct Made {
     before: Battle,
@@ -26,7 +26,7 @@ struct Made {
     battle: Battle,
 }
 
-/// The first turn of a battle.
+/// Returns the first turn of a battle.
 fn first_turn(alloc: Global, params: &Params) -> Option<Made>
     ensures { IfSome result (λ made. Leads made.before made.atom made.after × (made.battle ≡ made.after)) }
 {
@@ -73,7 +73,7 @@ const EDITS: &[(Edit, Option<EditFault>)] = &[
     (Edit::KillProcess(1, 0), None),
 ];
 
-/// The edits lead to the end of the battle.
+/// Checks that the edits lead to the end of the battle.
 fn check_edits(rt: &impl Abort, battle: &mut Battle) {
     for (edit, fault) in EDITS {
         assert_eq!(rt; battle.edit(*edit).err(), *fault);
@@ -94,7 +94,7 @@ fn edits_of_a_battle(rt: HostRuntime) -> Result<(), Fail> {
     Ok(())
 }
 
-/// Some turns, a run to the last cycle, a restart that is refused, and another round.
+/// Executes some turns, runs the battle to its end, tries a restart that is rejected, and plays another round.
 fn check_rounds(rt: &impl Abort, battle: &mut Battle, warriors: &[Warrior]) -> Result<(), Fail> {
     battle.run(3);
     assert_eq!(rt; battle.turns(), 3);

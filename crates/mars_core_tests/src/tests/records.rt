@@ -1,4 +1,4 @@
-//! Records: back over turns and edits, and forth again.
+//! Records: reverting and applying turns and edits.
 ghost use Rattle.std.specs.Prelude.{◌≡◌, IfOk};
 ghost use Rattle.mars_core.specs.Leads.{Leads};
 
@@ -11,7 +11,7 @@ use std::alloc::Global;
 use std::process::Abort;
 use std::test::Fail;
 
-/// Makes an edit, goes back over it and forth again.
+/// Executes an edit, reverts it and applies it again.
 fn edit_and_back(
     rt: &impl Abort,
     alloc: Global,
@@ -57,7 +57,7 @@ fn a_death_adds_a_cycle_and_takes_it_back(rt: HostRuntime) -> Result<(), Fail> {
     Ok(())
 }
 
-/// Edits of the second of three warriors, who lives on.
+/// Edits of the second of three warriors that it survives.
 const EDITS: &[Edit] = &[
     Edit::Spawn(1, 5),
     Edit::Spawn(1, 6),
@@ -69,7 +69,8 @@ const EDITS: &[Edit] = &[
     Edit::KillProcess(1, 1),
 ];
 
-/// An edit, which leads back and forth, kills its warrior and completes a cycle, or doesn't.
+/// Executes an edit, reverts it and applies it again; checks whether it kills its warrior and whether it completes a
+/// cycle.
 fn check_edit(
     rt: &impl Abort,
     alloc: Global,
@@ -105,7 +106,7 @@ fn edits_back_and_forth(rt: HostRuntime) -> Result<(), Fail> {
     Ok(())
 }
 
-/// A turn, and an edit after it: the battles before, between and after them, and their records.
+/// A turn and an edit after it: the battles before, between and after them, and their records.
 #[derive(Drop)]
 struct Two {
     before: Battle,
@@ -115,7 +116,7 @@ struct Two {
     after: Battle,
 }
 
-/// Makes a turn and an edit, each of which leads back and forth.
+/// Executes a turn and an edit, each of which is reverted and applied again.
 fn make_two(rt: &impl Abort, alloc: Global, battle: &mut Battle, edit: Edit) -> Result<Two, Fail>
     ensures turn { IfOk result (λ two. Leads two.before two.turn two.between) }
     ensures edit { IfOk result (λ two. Leads two.between two.edit two.after) }
@@ -156,7 +157,7 @@ fn two_forth(rt: &impl Abort, battle: &mut Battle, two: &Two)
     go_forth(rt, battle, &two.edit, &two.after);
 }
 
-/// Goes back over four records and forth again, over the second of them twice.
+/// Reverts four records and applies them again, the second of them twice.
 fn four_back_and_forth(rt: &impl Abort, battle: &mut Battle, first: &Two, second: &Two)
     requires first_turn { Leads first.now.before first.now.turn first.now.between }
     requires first_edit { Leads first.now.between first.now.edit first.now.after }
@@ -184,7 +185,7 @@ fn several_back_and_forth(rt: HostRuntime) -> Result<(), Fail> {
     Ok(())
 }
 
-/// The addresses of a warrior's processes.
+/// Returns the addresses of a warrior's processes.
 fn queue_of(alloc: Global, battle: &Battle, warrior: usize) -> Result<Vec<u32>, Fail> {
     let mut queue = Vec::new(alloc);
     for place in 0..battle.queue_len(warrior) {
@@ -195,7 +196,7 @@ fn queue_of(alloc: Global, battle: &Battle, warrior: usize) -> Result<Vec<u32>, 
 
 const FULL: &[(Edit, EditFault)] = &[(Edit::Spawn(0, 3), EditFault::QueueFull)];
 
-/// Kills a process in the midst of the queue, and goes back.
+/// Kills a process in the middle of the queue, and reverts that.
 fn check_killed_process(rt: &impl Abort, alloc: Global, battle: &mut Battle) -> Result<(), Fail> {
     let three = battle.copy(alloc)?;
     let killed = edit_and_back(rt, alloc, battle, Edit::KillProcess(0, 1))?;
@@ -205,7 +206,7 @@ fn check_killed_process(rt: &impl Abort, alloc: Global, battle: &mut Battle) -> 
     Ok(())
 }
 
-/// Moves a process, makes a turn, kills the process at the front, and goes back over all of it.
+/// Moves a process, executes a turn, kills the process at the front, and reverts all of that.
 fn check_three_steps(rt: &impl Abort, alloc: Global, battle: &mut Battle) -> Result<(), Fail> {
     let three = battle.copy(alloc)?;
     let moved = edit_and_back(rt, alloc, battle, Edit::MoveProcess(0, 2, 5))?;
@@ -233,7 +234,7 @@ fn a_queue_back_and_forth(rt: HostRuntime) -> Result<(), Fail> {
     check_three_steps(&rt, alloc, &mut battle)
 }
 
-/// A full queue of so many processes in a core of NOPs, after so many turns.
+/// Returns a battle with a full queue of `processes` processes in a core of NOPs, after `turns` turns.
 fn full_queue(alloc: Global, processes: u32, turns: u32) -> Result<Battle, Fail> {
     let mut battle = battle_of(alloc, (8, processes, 8, 8), &[(0, "NOP.F $0, $0")])?;
     for address in 0..8 {
@@ -246,7 +247,7 @@ fn full_queue(alloc: Global, processes: u32, turns: u32) -> Result<Battle, Fail>
     Ok(battle)
 }
 
-/// The addresses of a queue but for the one at a place.
+/// Returns the addresses of a queue except for the one at `place`.
 fn rest_of_queue(alloc: Global, battle: &Battle, place: usize) -> Result<Vec<u32>, Fail> {
     let mut rest = queue_of(alloc, battle, 0)?;
     if rest.len() <= place {
@@ -256,7 +257,7 @@ fn rest_of_queue(alloc: Global, battle: &Battle, place: usize) -> Result<Vec<u32
     Ok(rest)
 }
 
-/// Kills the process at a place of a full queue, and goes back and forth over that.
+/// Kills the process at a place of a full queue, reverts that and applies it again.
 fn check_killed_at(
     rt: &impl Abort,
     alloc: Global,

@@ -1,4 +1,4 @@
-//! Runs, beside the same turns one by one.
+//! Runs, compared with the same turns executed one by one.
 
 use super::{OF_EIGHT, battle_of, check_clock, check_deaths, check_same, turn};
 use mars_core::{Battle, Death};
@@ -6,7 +6,7 @@ use std::alloc::Global;
 use std::process::Abort;
 use std::test::Fail;
 
-/// Makes so many turns, or as many as are left.
+/// Executes `turns` turns, or as many as are left.
 fn step(battle: &mut Battle, turns: u32) {
     for _ in 0..turns {
         if battle.turn().is_err() {
@@ -15,12 +15,12 @@ fn step(battle: &mut Battle, turns: u32) {
     }
 }
 
-/// Makes turns until the battle is over, at most 1000.
+/// Executes turns until the battle is over, at most 1000.
 fn step_to_end(battle: &mut Battle) {
     step(battle, 1000);
 }
 
-/// Runs a battle to its end, and a copy of it by one turn after another: both end alike, after so many turns.
+/// Runs a battle to its end, and executes the turns of a copy one by one: both must end alike, after `turns` turns.
 fn check_run(rt: &impl Abort, alloc: Global, battle: &mut Battle, turns: u32) -> Result<(), Fail> {
     let mut stepped = battle.copy(alloc)?;
     step_to_end(&mut stepped);
@@ -52,7 +52,7 @@ fn runs_with_deaths(rt: HostRuntime) -> Result<(), Fail> {
     let mut battle = battle_of(rt.alloc(), OF_EIGHT, &cells)?;
     check_run(&rt, rt.alloc(), &mut battle, 5)?;
     check_deaths(&rt, &battle, TWO_DEATHS);
-    // it is over already
+    // The battle is over already.
     check_run(&rt, rt.alloc(), &mut battle, 5)
 }
 
@@ -69,7 +69,7 @@ fn runs_within_limits(rt: HostRuntime) -> Result<(), Fail> {
     check_run(&rt, rt.alloc(), &mut battle, turned.turns())
 }
 
-/// Runs a battle for one, two and more turns, and a copy of it by one turn after another.
+/// Runs a battle for one, two and more turns, and executes the turns of a copy one by one.
 fn check_turns(rt: &impl Abort, alloc: Global, battle: &mut Battle) -> Result<(), Fail> {
     let mut stepped = battle.copy(alloc)?;
     for turns in [1, 0, 2, 1000, 1] {

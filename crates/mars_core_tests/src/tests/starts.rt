@@ -1,4 +1,4 @@
-//! Starts and restarts, and what refuses them.
+//! Starts and restarts, and their errors.
 
 use super::memory::one_cells;
 use super::{
@@ -11,7 +11,7 @@ use std::alloc::Global;
 use std::process::Abort;
 use std::test::Fail;
 
-/// A battle of one-cell warriors doesn't start.
+/// Checks that a battle of warriors of one cell is rejected with this error.
 fn check_start(
     rt: &impl Abort,
     alloc: Global,
@@ -52,7 +52,7 @@ const RESTARTED: &[(u32, &str)] = &[
     (4, "DAT.F $0, $0"),
 ];
 
-/// A restart that is refused changes nothing, and the next one lays the warriors out anew.
+/// Checks that a restart that is rejected changes nothing, and that the next one loads the warriors.
 fn check_restarts(rt: &impl Abort, battle: &mut Battle, warriors: &[Warrior]) -> Result<(), Fail> {
     let outside = Err(BattleFault::StartOutside);
     check_restart(rt, battle, warriors, [0, 9], outside)?;
@@ -74,7 +74,7 @@ fn restarts(rt: HostRuntime) -> Result<(), Fail> {
     check_restarts(&rt, &mut battle, &warriors)
 }
 
-/// A warrior of cells, which starts at one of them.
+/// Returns a warrior with these cells that starts at the cell with index `start`.
 fn several_cells(alloc: Global, texts: &[&str], start: u32) -> Result<Warrior, Fail> {
     let mut cells = Vec::new(alloc);
     for text in texts {
@@ -88,7 +88,7 @@ fn several_cells(alloc: Global, texts: &[&str], start: u32) -> Result<Warrior, F
     Ok(warrior)
 }
 
-/// Cells of warriors, each with the cell at which it starts.
+/// The cells of warriors, each with the index of the cell at which the warrior starts.
 const SEVERAL: &[(&[&str], u32)] = &[
     (&["NOP.F $1, $0", "NOP.F $2, $0"], 1),
     (&["JMP.B $1, $0", "JMP.B $2, $0", "JMP.B $3, $0"], 2),
@@ -106,7 +106,7 @@ const ROUND_THE_END: &[(u32, &str)] = &[
     (7, "NOP.F $1, $0"),
 ];
 
-/// A battle of three warriors, of which the first lies round the end of the core.
+/// Returns a battle of three warriors, the first of which extends past the end of the core.
 fn three_of_several(alloc: Global) -> Result<Battle, Fail> {
     let params = Params::new(8, 8, 10, 8, 8, 3, 3).ok().ok_or("parameters")?;
     let mut warriors = Vec::new(alloc);

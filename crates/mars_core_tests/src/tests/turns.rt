@@ -1,4 +1,4 @@
-//! Turns: operands, limits, opcodes with their modifiers, processes, and who has the next turn.
+//! Turns: operands, limits, opcodes with their modifiers, processes, and which warrior has the next turn.
 
 use super::{OF_EIGHT, Sizes, check_cells, check_queue, lone_battle, turn, turn_and_back};
 use mars_core::Atom;
@@ -9,7 +9,8 @@ use std::test::Fail;
 mod operands;
 mod queues;
 
-/// A turn of a lone warrior: what the core holds before and after it, the queue after it, and how many changes there were.
+/// A turn of a single warrior: the cells of the core before and after it, the queue after it, and the number of
+/// changes.
 struct Case {
     sizes: Sizes,
     before: &'static [(u64, &'static str)],
@@ -18,14 +19,14 @@ struct Case {
     changes: usize,
 }
 
-/// The one process was taken, so its warrior's queue is what was queued.
+/// Checks the record of a turn. The only process was taken, so the queue after the turn is what was queued.
 fn check_record(rt: &impl Abort, atom: &Atom, case: &Case) {
     assert!(rt; atom.queued.as_slice() == case.queue);
     assert_eq!(rt; atom.cells.len(), case.changes);
     assert_eq!(rt; atom.died, case.queue.is_empty());
 }
 
-/// The turn is as its case says. Its record leads back and forth again.
+/// Checks that the turn is as its case says, and that its record leads back and forth again.
 fn check(rt: &impl Abort, alloc: Global, case: &Case) -> Result<(), Fail> {
     let mut battle = lone_battle(alloc, case.sizes, case.before)?;
     let atom = turn_and_back(rt, alloc, &mut battle)?;
@@ -43,7 +44,7 @@ fn check_all(rt: &impl Abort, alloc: Global, cases: &[Case]) -> Result<(), Fail>
 }
 
 const ARITHMETIC: &[Case] = &[
-    // One zero divisor: the other field is written, and the process ends.
+    // One zero divisor: the other field is written, and the process dies.
     Case {
         sizes: OF_EIGHT,
         before: &[
@@ -69,7 +70,7 @@ const ARITHMETIC: &[Case] = &[
         queue: &[1],
         changes: 1,
     },
-    // One field is left.
+    // One field is not zero, so it jumps.
     Case {
         sizes: OF_EIGHT,
         before: &[(0, "DJN.F $3, $1"), (1, "DAT.F $1, $2")],
@@ -125,7 +126,7 @@ const FIELDS_BY_THEIR_MODIFIER: &[Case] = &[
         queue: &[1],
         changes: 1,
     },
-    // The only divisor is zero: nothing is written, and the process ends.
+    // The only divisor is zero: nothing is written, and the process dies.
     Case {
         sizes: OF_EIGHT,
         before: &[(0, "MOD.A $1, $2"), (1, "DAT.F $0, $-3")],
@@ -133,7 +134,7 @@ const FIELDS_BY_THEIR_MODIFIER: &[Case] = &[
         queue: &[],
         changes: 0,
     },
-    // The whole cell, and both numbers alone.
+    // The whole cell is copied, then only both numbers.
     Case {
         sizes: OF_EIGHT,
         before: &[(0, "MOV.I $1, $2"), (1, "ADD.AB #1, <2")],
@@ -228,7 +229,7 @@ const JUMPS_AND_SKIPS: &[Case] = &[
         queue: &[1],
         changes: 0,
     },
-    // CMP is another spelling of SEQ, so the cells are equal.
+    // CMP is another name of SEQ, so the cells are equal.
     Case {
         sizes: OF_EIGHT,
         before: &[

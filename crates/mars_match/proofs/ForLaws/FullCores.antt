@@ -1,11 +1,11 @@
--- Where the warriors' distances together are the whole core, nothing is left to draw.
+-- If the minimum distances of the warriors fill the core, nothing is left to draw.
 use Rattle.std.proofs.Common.{◌≡◌, refl, sym, ◌∙◌, ap, subst, ℕ, zero, suc, ◌+◌, ◌*◌, ◌-◌, ◌%◌, ◌≤◌, List, [], ◌∷◌, arith}
 use Rattle.mars_cell.specs.Parameters.{Parameters}
 use Rattle.mars_match.specs.Placement.{drawn, draws, ascending, spread, room_for, starts_in_order}
 use Rattle.mars_match.specs.Laws.{multiples}
 use Rattle.mars_match.proofs.Ascending.{ascending_zero}
 
--- so many zeros
+-- `n` zeros.
 abbrev zeros : ℕ → List ℕ
 zeros zero = []
 zeros (suc n) = 0 ∷ zeros n

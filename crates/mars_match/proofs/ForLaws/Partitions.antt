@@ -1,4 +1,5 @@
--- A league is its pairs: the rows of a part of the pairs and those of the others add up to the rows of all, and a newcomer changes no pair of the others.
+-- A league is its pairs: the rows of some of the pairs and those of the others add up to the rows of all, and a new
+-- warrior changes no pair of the others.
 use Rattle.std.proofs.Common.{◌≡◌, ◌∙◌, refl, sym, ap, ℕ, ◌+◌, ◌+ℤ◌, Bool, true, false, not, nat_eq, inl, inr, List, [], ◌∷◌, ◌++◌, length, Option, Result, Ok, Err, arith}
 use Rattle.std.specs.List.{filter}
 use Rattle.std.proofs.Math.IntN.{+ℤ_assoc, +ℤ_comm, +ℤ_idl}
@@ -15,7 +16,7 @@ use Rattle.mars_match.specs.Rounds.{table_of}
 use Rattle.mars_match.specs.Tables.{RowValue}
 use Rattle.mars_match.specs.declared.fault.MatchFault.{MatchFault}
 
--- ---- sums
+-- ---- Sums
 
 own_append : (i : ℕ) (xs ys : List PlacedRow) → own_rows i (xs ++ ys) ≡ own_rows i xs ++ own_rows i ys
 own_append i [] ys = refl
@@ -29,7 +30,7 @@ points_append [] ys = sym (+ℤ_idl (all_points ys))
 points_append (x ∷ xs) ys = ap (λ z. x.points +ℤ z) (points_append xs ys) ∙ sym (+ℤ_assoc x.points (all_points xs) (all_points ys))
 
 module _ (w : WarriorValue) (i : ℕ) where
-  -- the sum of the rows of warrior i
+  -- The sum of the rows of warrior `i`.
   abbrev sum : List PlacedRow → RowValue
   sum rows = sum_of_rows w (own_rows i rows)
 
@@ -58,7 +59,7 @@ module _ (w : WarriorValue) (i : ℕ) where
       let losses : (sum placed).losses + ((sum inside).losses + (sum outside).losses) ≡ (sum inside).losses + ((sum placed).losses + (sum outside).losses) = omega arith in
       rw (points, wins, ties, losses) refl
 
-  -- the rows of one match more, inside the part or outside it
+  -- The sums with the rows of one more match, which is inside the part or outside it.
   more_inside : (placed rows inside outside : List PlacedRow) → sum rows ≡ added_rows (sum inside) (sum outside) → sum (placed ++ rows) ≡ added_rows (sum (placed ++ inside)) (sum outside)
   more_inside placed rows inside outside e =
       sum_append placed rows ∙ ap (λ s. added_rows (sum placed) s) e ∙ sum_inside placed inside outside ∙ ap (λ s. added_rows s (sum outside)) (sym (sum_append placed inside))
@@ -67,7 +68,7 @@ module _ (w : WarriorValue) (i : ℕ) where
   more_outside placed rows inside outside e =
       sum_append placed rows ∙ ap (λ s. added_rows (sum placed) s) e ∙ sum_outside placed inside outside ∙ ap (λ s. added_rows (sum inside) s) (sym (sum_append placed outside))
 
--- ---- a part of the pairs
+-- ---- A part of the pairs
 
 given_by : {A B : Type 0} (r : Result A MatchFault) (f : A → Result B MatchFault) (b : B) → (r >>= f) ≡ Ok b → (a : A) × (r ≡ Ok a) × (f a ≡ Ok b)
 given_by (Ok a) f b e = (a, refl, e)
@@ -120,7 +121,7 @@ module _ (p : Parameters) (f : Scanned) (fixed : Option ℕ) (n seed : ℕ) (is_
             }
       ])
 
--- ---- a newcomer
+-- ---- A new warrior
 
 pairs_kept : (i j k : ℕ) (one newcomer : WarriorValue) (others : List WarriorValue) → k ≡ j + length others →
     filter (λ pair. not (is_of k pair)) (pairs_with i one j (others ++ newcomer ∷ [])) ≡ pairs_with i one j others

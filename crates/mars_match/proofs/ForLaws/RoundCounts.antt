@@ -1,4 +1,4 @@
--- Wins, ties and losses of a warrior are the rounds that it was in.
+-- The wins, ties and losses of a warrior add up to the rounds in which it took part.
 use Rattle.std.proofs.Common.{◌≡◌, refl, sym, ◌∙◌, ap, ℕ, zero, suc, ◌+◌, ◌*◌, ◌-◌, ◌<◌, ◌≤◌, Bool, true, false, cond, nat_eq, List, [], ◌∷◌, ◌++◌, length, inl, inr, Option, None, Some, Result, Ok, Err, All, arith}
 use Rattle.std.specs.Prelude.{count_by, not, ◌&&◌, ◌==◌, if◌then◌else◌}
 use Rattle.std.specs.List.{list_all}
@@ -17,9 +17,9 @@ use Rattle.mars_match.specs.Leagues.{Pair, PlacedRow, pairs_with, all_pairs, pla
 use Rattle.mars_match.specs.Laws.{rounds_of}
 use Rattle.mars_match.specs.declared.fault.MatchFault.{MatchFault}
 
--- ---- a match
+-- ---- A match
 
--- a round is won, tied or lost
+-- Each round is a win, a tie or a loss.
 one_of : (lived alone : Bool) → cond (lived && alone) 1 0 + cond (lived && not alone) 1 0 + cond (not lived) 1 0 ≡ 1
 one_of true true = refl
 one_of true false = refl
@@ -36,7 +36,7 @@ counts i (o ∷ os) = omega (
   sum_by-cons (λ o. cond (has_lost i o) 1 0) o os,
 )
 
--- a fact about what a step gives, from that step and the one that it came from
+-- If two steps succeed together, each of them succeeds.
 given_by : {A B : Type 0} (r : Result A MatchFault) (f : A → Result B MatchFault) (b : B) → (r >>= f) ≡ Ok b → (a : A) × (r ≡ Ok a) × (f a ≡ Ok b)
 given_by (Ok a) f b e = (a, refl, e)
 given_by (Err x) f b e = absurd (cc)
@@ -66,7 +66,7 @@ rows_count : (i : ℕ) (warriors : List WarriorValue) (all : List Outcome) → A
 rows_count i [] all = All-nil (λ row. rounds_of row ≡ length all)
 rows_count i (w ∷ ws) all = All-cons (λ row. rounds_of row ≡ length all) (row_of w i all) (rows_from (i + 1) ws all) (counts i all) (rows_count (i + 1) ws all)
 
--- the rows of a table are those of so many ended rounds
+-- The rows of a table are those of `n` outcomes.
 table_rows : (p : Parameters) (warriors : List WarriorValue) (f : Scanned) (fixed : Option ℕ) (n seed : ℕ) (rows : List RowValue) →
     table_of p warriors f fixed n seed ≡ Ok rows → (all : List Outcome) × (length all ≡ n) × (rows_from 0 warriors all ≡ rows)
 unfolding table_of
@@ -81,14 +81,14 @@ each_round p warriors f fixed n seed rows e =
     let t = table_rows p warriors f fixed n seed rows e in
     rw t.1 at (rw t.2 at (rows_count 0 warriors t.0))
 
--- ---- a league
+-- ---- A league
 
--- the rounds that the rows of warrior i tell of
+-- The number of rounds that the rows of warrior `i` count.
 played : ℕ → List PlacedRow → ℕ
 played i [] = 0
 played i (x ∷ xs) = (if x.place == i then rounds_of x.row else 0) + played i xs
 
--- the matches of warrior i among pairs
+-- The number of matches of warrior `i` among pairs.
 matches : ℕ → List Pair → ℕ
 matches i [] = 0
 matches i (x ∷ xs) = (if x.first == i then 1 else 0) + (if x.second == i then 1 else 0) + matches i xs
@@ -117,7 +117,7 @@ sum_is w i (x ∷ xs) = elim (cases_Bool (nat_eq x.place i)) [
   | inr other ↦ rw other (omega (arith, sum_is w i xs))
 ]
 
--- a pair's rows tell of the rounds of its match
+-- The rows of a pair count the rounds of its match.
 pair_played : (i n : ℕ) (x : Pair) (a b : RowValue) → rounds_of a ≡ n → rounds_of b ≡ n →
     played i (placed_rows (x.first ∷ x.second ∷ []) (a ∷ b ∷ [])) ≡ n * ((if x.first == i then 1 else 0) + (if x.second == i then 1 else 0))
 unfolding played
@@ -152,7 +152,7 @@ module _ (p : Parameters) (f : Scanned) (fixed : Option ℕ) (n seed : ℕ) wher
         all_played i xs others.0 others.1,
       ))
 
--- ---- how many matches
+-- ---- The number of matches
 
 before_none : (i k : ℕ) (w : WarriorValue) (j : ℕ) (ws : List WarriorValue) → i < j → i < k → matches i (pairs_with k w j ws) ≡ 0
 unfolding matches
@@ -162,7 +162,7 @@ before_none i k w j (x ∷ xs) h g =
     let first : nat_eq k i ≡ false = grind (arith, g) in
     rw (first, second) (omega (arith, before_none i k w (j + 1) xs (omega (arith, h)) g))
 
--- the one warrior meets each of the others
+-- The first warrior plays each of the others.
 own_matches : (i : ℕ) (w : WarriorValue) (j : ℕ) (ws : List WarriorValue) → i < j → matches i (pairs_with i w j ws) ≡ length ws
 unfolding matches
 own_matches i w j [] h = refl
@@ -179,7 +179,7 @@ behind_none i k w j (x ∷ xs) h g l =
     let first : nat_eq k i ≡ false = grind (arith, l) in
     rw (first, second) (omega (arith, behind_none i k w (j + 1) xs (omega (arith, h)) (omega (arith, g)) l))
 
--- and each of those meets him once
+-- Each of the others plays the first warrior once.
 met_once : (i k : ℕ) (w : WarriorValue) (j : ℕ) (ws : List WarriorValue) → k < j → j ≤ i → i < j + length ws → matches i (pairs_with k w j ws) ≡ 1
 unfolding matches
 met_once i k w j [] h g l = absurd (omega (arith, g, l))
@@ -211,7 +211,7 @@ meets_all i k (w ∷ ws) h l = elim (cases_Bool (nat_eq k i)) [
       omega (arith, matches-append i (pairs_with k w (k + 1) ws) (all_pairs (k + 1) ws), met_once i k w (k + 1) ws (omega arith) apart (omega (arith, l)), meets_all i (k + 1) ws apart (omega (arith, l)))
 ]
 
--- ---- all rows
+-- ---- All rows
 
 sums_count : (m : ℕ) (rows : List PlacedRow) (i : ℕ) (ws : List WarriorValue) → ((j : ℕ) → i ≤ j → j < i + length ws → played j rows ≡ m) → All (λ row. rounds_of row ≡ m) (sums_from i ws rows)
 sums_count m rows i [] each = All-nil (λ row. rounds_of row ≡ m)

@@ -1,4 +1,4 @@
--- Those who survive by the fates of a match are those who live by its outcomes.
+-- The fates and the outcomes of a match have the same survivors.
 use Rattle.std.proofs.Common.{◌≡◌, ◌∙◌, refl, sym, ap, ℕ, zero, suc, ◌+◌, ◌-◌, ◌*◌, ◌%◌, ◌≤◌, false, inl, inr, List, [], ◌∷◌, ◌++◌, length, map, drop, get_or, Option, None, Some, Result, Ok, Err, arith, nat_le}
 use Rattle.std.specs.List.{flat_map}
 use Rattle.std.proofs.lemmas.Bool.{cases_Bool}
@@ -20,7 +20,7 @@ use Rattle.mars_match.specs.declared.placement.PlaceFault.{PlaceFault}
 use Rattle.mars_match.proofs.Ends.{room_started, unless_ok}
 use Rattle.mars_match.proofs.Rotations.{length-rotated}
 
--- ---- as many starts as warriors
+-- ---- As many starts as warriors
 
 length-inserted : (x : ℕ) (ys : List ℕ) → length (inserted x ys) ≡ length ys + 1
 length-inserted x [] = refl
@@ -63,7 +63,7 @@ placed_length : (p : Parameters) (fixed : Option ℕ) (w seed left : ℕ) (start
 placed_length p (Some position) w seed left starts some fits e = let same = ap (λ (placed : List ℕ × ℕ). placed.0) (ok_same _ _ _ refl e) in rw (← same, fits.0) refl
 placed_length p None w seed left starts some fits e = drawn_length (place_fault p w seed) p w seed _ left starts some e
 
--- ---- a round
+-- ---- A round
 
 survived_from : (s : State) (first i : ℕ) (starts : List ℕ) → i + length starts ≡ length (in_load_order first s) → map (λ (f : Fate). f.survived) (fates_from s first i starts) ≡ drop i (in_load_order first s)
 survived_from s first i [] many = sym (drop_all i (in_load_order first s) (omega (arith, many)))

@@ -1,4 +1,4 @@
--- What the code keeps from round to round, and from match to match: it serves the proof alone.
+-- What the code retains from round to round and from match to match. Only the proofs use these definitions.
 use Rattle.std.specs.Prelude.{◌≡◌, ℕ, ◌+◌, ℤ, pos, List, Option, None, Some, IfSome, Ok, slice_index_or}
 use Rattle.redcode_text.specs.Tokens.{Scanned}
 use Rattle.redcode_asm.specs.Formula.{score_of}
@@ -6,11 +6,11 @@ use Rattle.mars_match.specs.Code.Lineups.{HasRoom}
 use Rattle.mars_match.specs.declared.matches.Matches.{Matches}
 use Rattle.mars_match.specs.declared.setup.Setup.{Setup}
 
--- what each survivor gets is right, where it is known: that of s survivors stands at place s-1
+-- Each known score is the value of the formula. The score for `s` survivors has the index `s - 1`.
 abbrev pub AreScores : Scanned → ℕ → List (Option ℤ) → Type 0
 AreScores formula warriors scores = (i : ℕ) (score : ℤ) → slice_index_or scores i None ≡ Some score → score_of formula (pos warriors) (pos (i + 1)) ≡ Ok score
 
--- a battle in whose memory one of so many warriors can start, and right scores
+-- The retained battle has memory for `warriors` warriors, and the retained scores are right.
 pub record IsKept (setup : Setup) (warriors : ℕ) (matches : Matches) : Type 0 where
   pub room : IfSome matches.last (λ battle. HasRoom setup.params warriors battle.value)
   pub scores : AreScores setup.plan.formula warriors matches.scores

@@ -1,4 +1,4 @@
--- How the code adds the matches of a league up as they end: it serves the proof alone.
+-- How the code adds the matches of a league to the tallies. Only the proofs use these definitions.
 use Rattle.std.specs.Prelude.{ℕ, zero, suc, ◌+◌, ◌+ℤ◌, List, [], ◌∷◌, Option, Result, Ok}
 use Rattle.mars_cell.specs.Parameters.{Parameters}
 use Rattle.mars_cell.specs.Warriors.{WarriorValue}
@@ -10,12 +10,12 @@ use Rattle.mars_match.specs.Leagues.{Pair, pairs_with, PlacedRow, placed_rows}
 use Rattle.mars_match.specs.declared.fault.MatchFault.{MatchFault}
 use Rattle.mars_match.specs.declared.table.Tally.{Tally}
 
--- the first of the warriors, which is warrior i, with each after it
+-- The pairs of the first of the warriors, which is warrior `i`, with each warrior after it.
 abbrev pub pairs_of_first : ℕ → List WarriorValue → List Pair
 pairs_of_first i [] = []
 pairs_of_first i (one ∷ others) = pairs_with i one (i + 1) others
 
--- two tallies added
+-- The sum of two tallies.
 abbrev pub joined : Tally → Tally → Tally
 joined t more = record {
   points = t.points +ℤ more.points;
@@ -24,22 +24,23 @@ joined t more = record {
   losses = t.losses + more.losses;
 }
 
--- the sums of a row
+-- The tally of a row.
 abbrev pub sums : RowValue → Tally
 sums row = record { points = row.points; wins = row.wins; ties = row.ties; losses = row.losses }
 
--- the tallies with more for warrior i
+-- The tallies with `more` added to the tally of warrior `i`.
 abbrev pub joined_at : ℕ → Tally → List Tally → List Tally
 joined_at i more [] = []
 joined_at zero more (t ∷ tallies) = joined t more ∷ tallies
 joined_at (suc i) more (t ∷ tallies) = t ∷ joined_at i more tallies
 
--- the tallies with rows, one after the other
+-- The tallies with rows added, one after another.
 abbrev pub with_rows : List PlacedRow → List Tally → List Tally
 with_rows [] tallies = tallies
 with_rows (placed ∷ rows) tallies = with_rows rows (joined_at placed.place (sums placed.row) tallies)
 
--- the tallies after the matches of pairs, each of n rounds and from the same seed; the fault of the first pair that has one
+-- The tallies after the matches of `pairs`, of `n` rounds each, which all begin with `seed`; or the error of the first
+-- match that has one.
 abbrev pub after_matches : Parameters → Scanned → Option ℕ → ℕ → ℕ → List Pair → List Tally → Result (List Tally) MatchFault
 after_matches p formula fixed n seed [] tallies = Ok tallies
 after_matches p formula fixed n seed (pair ∷ pairs) tallies =

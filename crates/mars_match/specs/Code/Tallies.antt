@@ -1,4 +1,4 @@
--- How the code adds the rounds up as they end: it serves the proof alone.
+-- How the code adds rounds to the tallies. Only the proofs use these definitions.
 use Rattle.std.specs.Prelude.{ℕ, zero, suc, ◌+◌, ◌*◌, ◌≤◌, ◌^◌, ℤ, pos, ◌+ℤ◌, ◌≤ℤ◌, neg_ℤ, Bool, not, ◌&&◌, ◌==◌, if◌then◌else◌, List, [], ◌∷◌, length, Option, Result, Ok}
 use Rattle.mars_cell.specs.Parameters.{Parameters}
 use Rattle.mars_cell.specs.Warriors.{WarriorValue}
@@ -15,11 +15,11 @@ use Rattle.mars_match.specs.declared.table.Tally.{Tally}
 abbrev pub no_rounds : Tally
 no_rounds = record { points = pos 0; wins = 0; ties = 0; losses = 0 }
 
--- how a round ended, whose battle is over and in which warrior `first` had the first turn
+-- The outcome of a round, from its battle, which is over and in which warrior `first` had the first turn.
 abbrev pub outcome_by : ℕ → State → ℤ → Outcome
 outcome_by first s score = record { lived = in_load_order first s; score = score }
 
--- a tally with one more round, by whether its warrior lived, and whether alone
+-- The tally after one more round. `lived` is true if its warrior survived, `alone` if it was the only survivor.
 abbrev pub added_if : Bool → Bool → ℤ → Tally → Tally
 added_if lived alone score t = record {
   points = t.points +ℤ (if lived then score else pos 0);
@@ -28,16 +28,16 @@ added_if lived alone score t = record {
   losses = t.losses + (if not lived then 1 else 0);
 }
 
--- the tally of warrior i, with one more round
+-- The tally of warrior `i` after one more round.
 abbrev pub added : Outcome → ℕ → Tally → Tally
 added outcome i t = added_if (has_lived i outcome) (how_many outcome.lived == 1) outcome.score t
 
--- the tallies from warrior i on, with one more round
+-- The tallies from warrior `i` on after one more round.
 abbrev pub all_added : Outcome → ℕ → List Tally → List Tally
 all_added outcome i [] = []
 all_added outcome i (t ∷ tallies) = added outcome i t ∷ all_added outcome (i + 1) tallies
 
--- the tallies after n more rounds
+-- The tallies after `n` more rounds, from round `k` on.
 abbrev pub tallied : Parameters → List WarriorValue → Scanned → Option ℕ → ℕ → ℕ → ℕ → List Tally → Result (List Tally) MatchFault
 tallied p warriors formula fixed zero k seed tallies = Ok tallies
 tallied p warriors formula fixed (suc n) k seed tallies =
@@ -45,19 +45,20 @@ tallied p warriors formula fixed (suc n) k seed tallies =
     round_outcome p warriors formula placed.0 k >>= λ outcome.
     tallied p warriors formula fixed n (k + 1) placed.1 (all_added outcome 0 tallies)
 
--- the most rounds of a match
+-- The maximum number of rounds of a match.
 abbrev pub most_rounds : ℕ
 most_rounds = 4294967295
 
--- the rounds of 65,536 matches, which no warrior of a league has more of against those that follow it
+-- The number of rounds of 65,536 matches. No warrior of a league has more rounds against the warriors after it.
 abbrev pub most_row : ℕ
 most_row = 281474976645120
 
--- those of as many matches as a league of 65,536 warriors may have had before one of them: 4,294,967,294
+-- The number of rounds of 4,294,967,294 matches. It bounds the rounds that a league of 65,536 warriors has before any of
+-- its matches.
 abbrev pub most_before : ℕ
 most_before = 18446744060824649730
 
--- a tally of at most k rounds
+-- The tally is one of at most `k` rounds.
 pub record IsOf (k : ℕ) (t : Tally) : Type 0 where
   pub low : neg_ℤ (pos (k * 2 ^ 63)) ≤ℤ t.points
   pub high : t.points ≤ℤ pos (k * 2 ^ 63)
@@ -65,7 +66,7 @@ pub record IsOf (k : ℕ) (t : Tally) : Type 0 where
   pub ties : t.ties ≤ k
   pub losses : t.losses ≤ k
 
--- the row of a warrior with its tally
+-- The row of a warrior with the given tally.
 abbrev pub row_with : WarriorValue → Tally → RowValue
 row_with warrior t = record { name = warrior.name; author = warrior.author; points = t.points; wins = t.wins; ties = t.ties; losses = t.losses }
 
@@ -74,6 +75,6 @@ rows_with [] tallies = []
 rows_with (w ∷ warriors) [] = []
 rows_with (w ∷ warriors) (t ∷ tallies) = row_with w t ∷ rows_with warriors tallies
 
--- what a candidate got so far, and its tally of a match more
+-- The sum of a candidate, with the tally of one more match added.
 abbrev pub summed : Sum → Tally → Sum
 summed sum t = record { points = sum.points +ℤ t.points; wins = sum.wins + t.wins; ties = sum.ties + t.ties; losses = sum.losses + t.losses }

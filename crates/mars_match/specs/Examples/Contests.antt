@@ -1,4 +1,4 @@
--- Worked examples: leagues.
+-- Examples: leagues.
 use Rattle.std.specs.Prelude.{None, ◌≡◌, ℕ, pos, List, [], ◌∷◌, ◌++◌, map, Ok, Err, codes, refl}
 use Rattle.mars_match.specs.Placement.{drawn, starts_of, next_seed}
 use Rattle.mars_cell.specs.Warriors.{WarriorValue}
@@ -26,7 +26,7 @@ use Rattle.mars_match.specs.declared.placement.PlaceFault.TheVariants.{BadSeed}
 use Rattle.mars_match.specs.Examples.Listings.{row_of, imp, stay, dead}
 use Rattle.mars_match.specs.Examples.Placements.{sizes}
 
--- fewer than two warriors play nothing, and so no seed is too small
+-- A league of fewer than two warriors has no match, so even an invalid seed is no error.
 pub league_of_none : (formula : Scanned) → league_of (sizes 8000 100) [] formula None 1 0 ≡ Ok []
 unfolding league_of
 league_of_none formula = refl
@@ -38,7 +38,7 @@ league_of_one w formula = refl
 pub pairs_of_three : (a b c : WarriorValue) → map {B = ℕ × ℕ} (λ pair. (pair.first, pair.second)) (all_pairs 0 (a ∷ b ∷ c ∷ [])) ≡ (0, 1) ∷ (0, 2) ∷ (1, 2) ∷ []
 pairs_of_three a b c = refl
 
--- the rows of warrior 1, in the order of the matches
+-- The rows of warrior 1, in the order of the matches.
 pub rows_of_one_warrior : own_rows 1 (placed_rows (0 ∷ 1 ∷ []) (imp ∷ stay ∷ []) ++ placed_rows (0 ∷ 2 ∷ []) (imp ∷ dead ∷ []) ++ placed_rows (1 ∷ 2 ∷ []) (stay ∷ dead ∷ [])) ≡ stay ∷ stay ∷ []
 rows_of_one_warrior = refl
 
@@ -63,7 +63,7 @@ pub league_of_three : league_of (sizes 4 2) all_three by_default None 1 1 ≡ Ok
 unfolding league_of table_of starts_of drawn next_seed survivors_of_round end_of start_state overlap scanned value_of tree_within turn_of executed accepted execution_of effect_of evaluated direct_operand address_after fold raised lowered write_cell advanced ends
 league_of_three = refl
 
--- no seed but one from 1 on
+-- A seed of 0 is an error.
 pub league_without_seed : league_of (sizes 4 2) all_three by_default None 1 0 ≡ Err (fault.Place BadSeed)
 unfolding league_of table_of
 league_without_seed = refl

@@ -1,4 +1,4 @@
--- Worked examples: the text of a table.
+-- Examples: the text of a table.
 use Rattle.std.specs.Prelude.{◌≡◌, ℕ, ℤ, pos, negsuc, List, [], ◌∷◌, ◌++◌, true, false, codes, refl}
 use Rattle.std.specs.Fmt.{digits}
 use Rattle.mars_match.specs.Tables.{RowValue}
@@ -32,7 +32,7 @@ pub by_points : results_text (dead ∷ imp ∷ stay ∷ []) true ≡
 unfolding results_text row_line digits
 by_points = refl
 
--- points wider than their places push the line to the right
+-- Points that are wider than their column shift the line to the right.
 pub wide_points : results_text (row_of (codes "A") [] (negsuc 9223372036854775807) 1000000 0 0 ∷ []) false ≡
     codes "  points   wins   ties losses  warrior\n"
     ++ codes "-9223372036854775808 1000000      0      0  A by \n"

@@ -1,10 +1,10 @@
--- Worked examples: where warriors are placed, and the seed that is left.
+-- Examples: starting positions, and the seed that is left.
 use Rattle.std.specs.Prelude.{◌≡◌, ℕ, [], ◌∷◌, None, Some, refl}
 use Rattle.mars_cell.specs.Parameters.{Parameters}
 use Rattle.mars_match.specs.Placement.{drawn, starts_of, next_seed, place_fault}
 use Rattle.mars_match.specs.declared.placement.PlaceFault.TheVariants.{NoRoom, BadSeed}
 
--- a core of m cells, with the least distance d
+-- A core of `m` cells with the minimum distance `d`.
 abbrev pub sizes : ℕ → ℕ → Parameters
 sizes m d = record {
   core_size = m;
@@ -32,7 +32,7 @@ pub seed_after_three : next_seed 3 1 ≡ 1622650073
 unfolding next_seed drawn
 seed_after_three = refl
 
--- there is one place alone, whatever the seed
+-- If there is only one possible position, the seed has no effect.
 pub one_place_alone : starts_of (sizes 200 100) 2 5 ≡ 0 ∷ 100 ∷ []
 unfolding starts_of drawn
 one_place_alone = refl
@@ -49,7 +49,7 @@ seed_zero = refl
 pub seed_too_great : place_fault (sizes 8000 100) 1 2147483647 ≡ Some BadSeed
 seed_too_great = refl
 
--- the least and the greatest seed
+-- The minimum and the maximum seed.
 pub seeds_in_range : (place_fault (sizes 8000 100) 1 1 ≡ None) × (place_fault (sizes 8000 100) 1 2147483646 ≡ None)
 seeds_in_range = (refl, refl)
 
@@ -77,12 +77,12 @@ pub seed_after_four : next_seed 4 1 ≡ 1144108930
 unfolding next_seed drawn
 seed_after_four = refl
 
--- the draws modulo 7,701 are 4,215 and 6, and start 2 is exchanged with itself
+-- The draws modulo 7,701 are 4,215 and 6, and start 2 is exchanged with itself.
 pub draws_are_put_in_order : starts_of (sizes 8000 100) 3 3 ≡ 0 ∷ 106 ∷ 4415 ∷ []
 unfolding starts_of drawn
 draws_are_put_in_order = refl
 
--- in order the starts are 0, 4717, 4945 and 6720: start 3 is exchanged with start 2, and then start 2 with start 1
+-- In order, the starts are 0, 4717, 4945 and 6720. Start 3 is exchanged with start 2, and then start 2 with start 1.
 pub exchanges_begin_with_the_last : starts_of (sizes 8000 100) 4 4 ≡ 0 ∷ 6720 ∷ 4717 ∷ 4945 ∷ []
 unfolding starts_of drawn
 exchanges_begin_with_the_last = refl

@@ -1,4 +1,4 @@
--- Worked examples: populations.
+-- Examples: populations.
 use Rattle.std.specs.Prelude.{◌≡◌, ℕ, None, pos, List, [], ◌∷◌, Result, Ok, Err, codes, refl}
 use Rattle.mars_cell.specs.Warriors.{WarriorValue}
 use Rattle.mars_cell.specs.declared.instruction.Op.TheVariants.{Dat}
@@ -24,27 +24,27 @@ use Rattle.mars_match.specs.declared.table.Sum.{Sum}
 use Rattle.mars_match.specs.Examples.Placements.{sizes}
 use Rattle.mars_match.specs.Examples.Rounds.{one_cell, stay, dead}
 
--- one round of one cycle in a core of four cells, by a formula
+-- The sums of candidates for matches of one round and one cycle in a core of four cells, scored by `formula`.
 abbrev sums_by : List ℕ → List WarriorValue → List WarriorValue → Result (List Sum) MatchFault
 sums_by formula opponents candidates = population_of (sizes 4 2) (elim (formula_of formula) [ Ok f ↦ f | Err e ↦ record { tokens = []; names = [] } ]) None 1 1 opponents candidates
 
--- DAT.F $4, $0 is of a larger core
+-- DAT.F $4, $0 belongs to a larger core.
 abbrev too_far : WarriorValue
 too_far = one_cell Dat F 4 0
 
--- a tie and a win, and two losses: the rows of the opponents count for nobody
+-- One candidate has a tie and a win, the other one two losses. The rows of the opponents are not counted.
 pub candidates_are_summed : sums_by (codes "(W*W-1)/S") (stay ∷ dead ∷ []) (stay ∷ dead ∷ [])
     ≡ Ok (record { points = pos 4; wins = 1; ties = 1; losses = 0 } ∷ record { points = pos 0; wins = 0; ties = 0; losses = 2 } ∷ [])
 unfolding table_of starts_of drawn next_seed survivors_of_round end_of start_state overlap scanned value_of tree_within turn_of executed accepted execution_of effect_of evaluated direct_operand address_after fold advanced ends
 candidates_are_summed = refl
 
--- The first candidate loses to the first opponent, and its match with the second has a fault. So has that of the second candidate with the first
--- opponent, where both live, but it comes later.
+-- The first candidate loses to the first opponent, and its match with the second opponent has an error. So has the match
+-- of the second candidate with the first opponent, in which both survive, but that match comes later.
 pub first_match_is_told : sums_by (codes "1/(S-2)") (stay ∷ too_far ∷ []) (dead ∷ stay ∷ []) ≡ Err (fault.Battle FieldOutside)
 unfolding table_of starts_of drawn next_seed survivors_of_round end_of start_state overlap scanned value_of tree_within turn_of executed accepted execution_of effect_of evaluated direct_operand address_after fold advanced ends
 first_match_is_told = refl
 
--- each row fits, and the sum of two doesn't
+-- Each row fits 64 bits, but the sum of two rows does not.
 pub sums_are_judged : sums_by (codes "4611686018427387904") (stay ∷ stay ∷ []) (stay ∷ []) ≡ Err (fault.Score Range)
 unfolding table_of starts_of drawn next_seed survivors_of_round end_of start_state overlap scanned value_of tree_within turn_of executed accepted execution_of effect_of evaluated direct_operand address_after fold advanced ends
 sums_are_judged = refl

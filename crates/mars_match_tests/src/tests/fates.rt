@@ -1,4 +1,4 @@
-//! How warriors fare in each round.
+//! The fate of each warrior in each round.
 ghost use Rattle.std.specs.Prelude.{◌≡◌, IfOk, None};
 
 use super::{BY_DEFAULT, DEAD, STAY, one_cells, sizes};
@@ -34,7 +34,8 @@ fn each_warrior_has_a_fate_in_each_round(rt: HostRuntime) -> Result<(), Fail> {
         .ok()
         .ok_or("fates")?;
     assert!(rt; fates.len() == 6);
-    // Ten cycles of two turns, and the turn of the dead warrior: its second in round 0, its first in round 1.
+    // Ten cycles of two turns, and the turn of the warrior that dies: the second turn of round 0, the first turn of
+    // round 1.
     assert!(rt; fates[0].survived && fates[0].turns == 21 && fates[0].start == 0);
     assert!(rt; !fates[1].survived && fates[1].turns == 2);
     assert!(rt; fates[2].survived && fates[2].turns == 21);

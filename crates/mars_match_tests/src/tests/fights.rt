@@ -1,4 +1,4 @@
-//! Rounds: who survives.
+//! Rounds: which warriors survive.
 ghost use Rattle.std.specs.Prelude.{◌-◌, Some};
 
 use super::{DEAD, STAY, TOO_MANY, fought, one_cells, sizes};
@@ -9,7 +9,7 @@ use std::alloc::Global;
 use std::process::Abort;
 use std::test::Fail;
 
-/// These warriors survive a round.
+/// Checks which warriors survive a round.
 fn check_fight(
     rt: &impl Abort,
     alloc: Global,
@@ -25,7 +25,7 @@ fn check_fight(
     Ok(())
 }
 
-/// Rounds of these warriors, each with those that survive it.
+/// Checks which warriors survive, for several rounds of the same warriors.
 fn check_fights(
     rt: &impl Abort,
     alloc: Global,
@@ -39,7 +39,7 @@ fn check_fights(
     Ok(())
 }
 
-/// Each writes an empty cell over the other, so the first to move survives.
+/// Each warrior overwrites the other one with an empty cell, so the first to move survives.
 const DUEL: &[&str] = &["MOV.I $1, $4", "MOV.I $1, $4"];
 
 const FIRST_MOVERS: &[(u32, &[bool])] = &[
@@ -71,7 +71,7 @@ fn fights_of_three(rt: HostRuntime) -> Result<(), Fail> {
     checked
 }
 
-/// The fight of the first of these warriors, all at one address, is refused.
+/// Checks that the fight of the first few of these warriors, all at one address, is an error.
 fn check_refused_fight(
     rt: &impl Abort,
     alloc: Global,

@@ -12,7 +12,7 @@ use std::alloc::Global;
 use std::process::Abort;
 use std::test::Fail;
 
-/// The table of a league, or its fault.
+/// The table of a league, or its error.
 fn league_held(
     alloc: Global,
     params: &Params,
@@ -53,7 +53,7 @@ fn several_leagues(rt: HostRuntime) -> Result<(), Fail> {
     checked
 }
 
-/// Fewer than two warriors play nothing, so no seed is too small.
+/// A league of fewer than two warriors has no match, so even an invalid seed is no error.
 #[test]
 fn leagues_without_a_pair(rt: HostRuntime) -> Result<(), Fail> {
     let plan = (1, 0, None, BY_DEFAULT);
@@ -65,7 +65,7 @@ fn leagues_without_a_pair(rt: HostRuntime) -> Result<(), Fail> {
     checked
 }
 
-/// Where the second stands, and the results of a league of two.
+/// Positions of the second warrior, and the results of a league of two.
 const POSITIONS: &[(Option<u32>, &str)] = &[
     (
         Some(200),
@@ -90,14 +90,15 @@ fn check_positions(rt: &impl Abort, alloc: Global, both: &[Warrior]) -> Result<(
 
 #[test]
 fn a_league_of_two_at_a_fixed_position(rt: HostRuntime) -> Result<(), Fail> {
-    // The first lowers the field by which the second jumps where it stands 200 cells on, and nowhere else.
+    // The first warrior decrements the field by which the second one jumps, if that is 200 cells ahead of it, and not
+    // otherwise.
     let both = one_cells(rt.alloc(), 8000, &["JMP.B $0, <200", "JMP.B @0, $0"])?;
     let checked = check_positions(&rt, rt.alloc(), both.as_slice());
     drop(both);
     checked
 }
 
-/// A league of warriors of one cell each comes to this.
+/// Checks the result of a league of warriors of one cell each.
 fn check_league_of(
     rt: &impl Abort,
     alloc: Global,
@@ -113,8 +114,9 @@ fn check_league_of(
 
 #[test]
 fn sums_of_leagues(rt: HostRuntime) -> Result<(), Fail> {
-    // A pair of which one lives gives it the greatest number, one of which both live takes it from both. The sum of the
-    // first is beyond 64 bits after two matches, and zero in the end. Of two that die the one with the second turn lives.
+    // The formula gives the only survivor of a pair the maximum number, and two survivors its negative. The first
+    // warrior's sum doesn't fit 64 bits after two matches, and is zero in the end. If both of a pair would die, the one
+    // with the second turn survives.
     let plan = (1, 1, None, "9223372036854775807*(3-2*S)");
     let expected =
         "       0      2      2      0  Test by \n       0      0      0      4  Test by \n9223372036854775807      1      0      3  Test by \n       0      2      2      0  Test by \n       0      2      2      0  Test by \n";
@@ -124,8 +126,8 @@ fn sums_of_leagues(rt: HostRuntime) -> Result<(), Fail> {
     check_league_of(&rt, rt.alloc(), &[STAY, DEAD, DEAD], plan, range)
 }
 
-/// Where both live the formula divides by zero. Where one lives in both rounds alone its points are too great. Of two that
-/// die each lives in one round.
+/// The formula divides by zero if both survive. If one is the only survivor of both rounds, its points don't fit. If
+/// both would die, each survives one round.
 const NEITHER: &str = "9223372036854775807/(2-S)";
 
 const REFUSED_LEAGUES: &[(&[&str], u32, MatchFault)] = &[

@@ -37,7 +37,7 @@ fn several_matches(rt: HostRuntime) -> Result<(), Fail> {
     Ok(())
 }
 
-/// Warriors of one cell each, and the results of one round of theirs.
+/// Warriors of one cell each, and the results of one round.
 const DEFAULT_SCORES: &[(&[&str], &str)] = &[
     (
         &[STAY, DEAD],
@@ -61,7 +61,7 @@ const DEFAULT_SCORES: &[(&[&str], &str)] = &[
     ),
 ];
 
-/// One round of warriors of one cell each comes to these results.
+/// Checks the results of one round of warriors of one cell each.
 fn check_score(
     rt: &impl Abort,
     alloc: Global,
@@ -84,13 +84,13 @@ fn default_scores(rt: HostRuntime) -> Result<(), Fail> {
     Ok(())
 }
 
-/// A win pays six eighths of what is past 64 bits, a tie takes three.
+/// A win gives six eighths of 2^63 points, a tie minus three eighths.
 const OPPOSITE: &str = "3458764513820540928*(5-3*S)";
 
 #[test]
 fn exact_sums(rt: HostRuntime) -> Result<(), Fail> {
-    // In a battle of one cycle the first kills the second only where it has the first turn. After three rounds its
-    // points are beyond 64 bits, after four they aren't.
+    // In a battle of one cycle, the first warrior kills the second one only if it has the first turn. Its points don't
+    // fit 64 bits after three rounds, but do after four.
     let params = Params::new(8, 8, 1, 8, 8, 1, 1).ok().ok_or("parameters")?;
     let duel = one_cells(rt.alloc(), 8, &["MOV.I $1, $4", STAY])?;
     let expected =
@@ -104,7 +104,7 @@ fn exact_sums(rt: HostRuntime) -> Result<(), Fail> {
     Ok(())
 }
 
-/// How many warriors, their plan, and the fault of their match.
+/// The number of warriors, their plan, and the error of their match.
 const REFUSED_MATCHES: &[(usize, Plans, MatchFault)] = &[
     (
         0,
@@ -138,7 +138,7 @@ const REFUSED_MATCHES: &[(usize, Plans, MatchFault)] = &[
     ),
 ];
 
-/// Each match of the first of these warriors is refused.
+/// Checks that each match of the first few of these warriors is an error.
 fn check_refused_matches(rt: &impl Abort, alloc: Global, all: &[Warrior]) -> Result<(), Fail> {
     let params = Params::new(1700, 8, 1, 8, 8, 1, 100)
         .ok()

@@ -1,5 +1,5 @@
-//! Calls that are refused memory. Each test holds whichever one of its requests is refused, since a second try has memory:
-//! checks/memory refuses each in turn.
+//! Calls whose allocations fail. Each test tries the call again if memory runs out, so it passes whichever allocation
+//! fails. checks/memory lets each allocation fail in turn.
 ghost use Rattle.std.specs.Prelude.{◌≡◌, ◌≤◌, IfOk, None, length};
 
 use super::{BY_DEFAULT, DEAD, STAY, fought, sizes};
@@ -16,7 +16,7 @@ use std::test::Fail;
 
 const IMP: &str = "MOV.I $0, $1";
 
-/// Whether a fault is want of memory.
+/// Whether an error means that memory ran out.
 fn is_of_memory(fault: MatchFault) -> bool {
     matches!(
         fault,
@@ -26,7 +26,7 @@ fn is_of_memory(fault: MatchFault) -> bool {
     )
 }
 
-/// Warriors of one cell each in a core of 8000 cells, where there is memory.
+/// Warriors of one cell each in a core of 8000 cells, if there is memory for them.
 fn one_cells(alloc: Global, texts: &[&str]) -> Option<Vec<Warrior>> {
     let mut warriors = Vec::new(alloc);
     for text in texts {
@@ -39,7 +39,7 @@ fn one_cells(alloc: Global, texts: &[&str]) -> Option<Vec<Warrior>> {
     Some(warriors)
 }
 
-/// The same, with a second try.
+/// Warriors of one cell each in a core of 8000 cells; tries again if memory runs out.
 fn warriors_of(alloc: Global, texts: &[&str]) -> Result<Vec<Warrior>, Fail> {
     match one_cells(alloc, texts) {
         Some(warriors) => Ok(warriors),
@@ -47,7 +47,7 @@ fn warriors_of(alloc: Global, texts: &[&str]) -> Result<Vec<Warrior>, Fail> {
     }
 }
 
-/// So many rounds with the first seed, anywhere, with a second try.
+/// The setup of `count` rounds with the first seed and no fixed position; tries again if memory runs out.
 fn setup_of(alloc: Global, count: u32) -> Result<Setup, Fail>
     ensures { IfOk result (λ setup. setup.plan.fixed ≡ None) }
 {
@@ -92,7 +92,7 @@ fn warriors_are_placed(rt: HostRuntime) -> Result<(), Fail> {
     Ok(())
 }
 
-/// These warriors survive the second round of three.
+/// Checks which warriors survive the second round of three.
 fn check_fight(rt: &impl Abort, alloc: Global, warriors: &[Warrior]) -> Result<(), Fail> {
     let params = sizes(8000, 100)?;
     let starts = [0, 100, 200];
@@ -117,7 +117,7 @@ fn a_round_is_fought(rt: HostRuntime) -> Result<(), Fail> {
     checked
 }
 
-/// The table of a match, with a second try.
+/// The table of a match; tries again if memory runs out.
 fn table_of_rounds(
     rt: &impl Abort,
     alloc: Global,
@@ -135,7 +135,7 @@ fn table_of_rounds(
     }
 }
 
-/// The fates of a match, with a second try.
+/// The fates of a match; tries again if memory runs out.
 fn fates_of_rounds(
     rt: &impl Abort,
     alloc: Global,
@@ -166,7 +166,7 @@ fn fates_are_told(rt: HostRuntime) -> Result<(), Fail> {
     Ok(())
 }
 
-/// The table of a league, with a second try.
+/// The table of a league; tries again if memory runs out.
 fn table_of_league(
     rt: &impl Abort,
     alloc: Global,
@@ -231,7 +231,7 @@ fn a_league_is_fought(rt: HostRuntime) -> Result<(), Fail> {
     checked
 }
 
-/// What the first two of some warriors get against the others, with a second try.
+/// The sums of the first two of some warriors against the others; tries again if memory runs out.
 fn sums_of_two(
     rt: &impl Abort,
     alloc: Global,

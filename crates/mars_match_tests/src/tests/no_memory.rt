@@ -1,6 +1,6 @@
-//! Calls that take no memory. Each test makes its objects, asks for memory once more, and holds whether that and all that
-//! comes after it is refused or not: checks/memory refuses all requests from each on. Where the objects themselves
-//! are refused, there is nothing to show. The calls of the crates below stand here too.
+//! Calls that don't allocate. Each test creates its objects, allocates one more time, and passes whether or not that
+//! allocation and all later ones fail: checks/memory lets all allocations from each one on fail. If the objects
+//! themselves can't be allocated, there is nothing to check. Calls of the crates below are tested here, too.
 use super::{BY_DEFAULT, LEAGUE, Narrow, row};
 use mars_cell::{Mode, Modifier, Op, Params, Warrior, WriteFault, default_modifier, read_cell};
 use mars_match::{Table, write_results};
@@ -9,12 +9,12 @@ use redcode_text::ExprFault;
 use std::alloc::Global;
 use std::test::Fail;
 
-/// Asks for memory, which is the first request of all that are refused.
+/// Allocates once. This is the first allocation that may fail.
 fn ask(alloc: Global) {
     let _asked: Result<Vec<u64>, _> = Vec::with_capacity(alloc, 1);
 }
 
-/// The rows of `LEAGUE`.
+/// The table with the rows of `LEAGUE`.
 fn league_table(alloc: Global) -> Option<Table> {
     let mut rows = Vec::with_capacity(alloc, 3).ok()?;
     for row in [

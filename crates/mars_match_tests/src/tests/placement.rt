@@ -1,4 +1,4 @@
-//! Where warriors are laid, and what refuses that.
+//! The starting positions of warriors, and the errors of placing them.
 ghost use Rattle.std.specs.Prelude.{◌-◌, Some};
 
 use super::sizes;

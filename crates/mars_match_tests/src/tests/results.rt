@@ -8,7 +8,7 @@ use std::alloc::Global;
 use std::process::Abort;
 use std::test::Fail;
 
-/// A writer with room for all takes these results.
+/// Checks that a writer with enough room accepts these results.
 fn check_results(rt: &impl Abort, table: &Table, sorted: bool, writer: Narrow, expected: &str) {
     let (text, done) = written(table, sorted, writer);
     assert_eq!(rt; done, Ok(()));
@@ -57,7 +57,7 @@ fn wide_results(rt: HostRuntime) -> Result<(), Fail> {
     Ok(())
 }
 
-/// Where a writer fails at each of its bytes, it has taken just so many of them.
+/// Checks that a writer that fails at any byte has accepted exactly the bytes before it.
 fn check_failing(
     rt: &impl Abort,
     alloc: Global,

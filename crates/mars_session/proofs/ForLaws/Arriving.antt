@@ -1,4 +1,5 @@
--- Turns up to a cycle end in it, or where the battle is over: each turn that leaves somebody alive moves the clock on.
+-- After turns up to a cycle, the battle is in that cycle or is over: each turn after which a warrior is alive advances the
+-- clock.
 use Rattle.std.proofs.Common.{◌≡◌, ℕ, zero, suc, ◌+◌, ◌-◌, ◌*◌, ◌<◌, ◌≤◌, ◌≢◌, Bool, true, false, List, [], ◌∷◌, length, drop, Option, None, Some, refl, ap, sym, ◌∙◌, subst, arith, add-one, nat_eq, nat_lt, eq-eqb, inl, inr, if◌then◌else◌}
 use Rattle.std.specs.Prelude.{Result, Ok, Err, ◌⊎◌, ◌==◌, ◌||◌, ◌&&◌, nat_le, option_map, IsTrue}
 use Rattle.std.proofs.lemmas.Bool.{or_parts, eqb-false, ltb-false, ltb-true, leb-false}
@@ -15,7 +16,7 @@ use Rattle.mars_session.specs.declared.calls.Refusal.TheVariants.{Count, Over, C
 use Rattle.mars_session.specs.Commands.{command_limit, States, turns_until, in_cycle, stops_at, until_bound, until_states}
 use Rattle.mars_session.specs.Laws.{last_state, UntilArrives}
 
--- a live index is one of a queue
+-- The index of a live queue is an index of a queue.
 below_suc : (n : ℕ) (o : Option ℕ) (k : ℕ) → ((j : ℕ) → o ≡ Some j → j < n) → option_map suc o ≡ Some k → k < suc n
 below_suc n None k f e = absurd (cc)
 below_suc n (Some j) k f e =
@@ -36,7 +37,7 @@ live_shifted queues i (Some j) k f e =
 live_at : (queues : List (List ℕ)) (i k : ℕ) → live_from queues i ≡ Some k → (i ≤ k) × (k < length queues)
 live_at queues i k e = live_shifted queues i (first_live (drop i queues)) k (λ j f. first_live_below (drop i queues) j f) e
 
--- where there is no live index, nobody lives
+-- If no queue has a live index, no warrior is alive.
 none_under : (f : ℕ → ℕ) (o : Option ℕ) → option_map f o ≡ None → o ≡ None
 none_under f None e = refl
 none_under f (Some k) e = absurd (cc)
@@ -54,7 +55,7 @@ unfolding ends
 over_when_nobody cycles cycle queues l e =
     over_by (nat_eq cycle cycles) (length queues) (survivors_of queues) l (nobody_lives queues (none_under (λ j. 0 + j) (first_live queues) e))
 
--- how far a clock is, with so many warriors
+-- The distance of a clock from the start in turns, with `w` warriors.
 abbrev distance : ℕ → Clock → ℕ
 distance w clock = clock.cycle * w + clock.next
 
@@ -66,14 +67,14 @@ next_cycle cycle w next k l =
     let more : (cycle + 1) * w ≡ cycle * w + w = rw (add-one cycle) (suc-mul cycle w) in
     rw more (omega (arith, l))
 
--- the next clock, by the live indices that were found
+-- If a live index was found, the next clock has advanced.
 clock_moved : (w : ℕ) (clock : Clock) (o z : Option ℕ) → clock.next < w → ((k : ℕ) → o ≡ Some k → (clock.next + 1 ≤ k) × (k < w)) → ((k : ℕ) → z ≡ Some k → k < w)
     → ((moved_clock clock o z).next < w) × ((z ≡ None) ⊎ (distance w clock + 1 ≤ distance w (moved_clock clock o z)))
 clock_moved w clock (Some k) z l f g = ((f k refl).1, inr (farther (clock.cycle * w) clock.next k (f k refl).0))
 clock_moved w clock None (Some k) l f g = (g k refl, inr (next_cycle clock.cycle w clock.next k l))
 clock_moved w clock None None l f g = (l, inl refl)
 
--- after a turn the battle is over, or its clock has moved on
+-- After a turn the battle is over, or its clock has advanced.
 record TurnMoves (w : ℕ) (s t : State) : Type 0 where
   next : t.next < w
   further : (is_over_of t ≡ true) ⊎ (s.cycle * w + s.next + 1 ≤ t.cycle * w + t.next)
@@ -96,7 +97,7 @@ turn_moves w s q l =
       further = over_or _ _ _ (λ none. over_when_nobody s.params.cycles _ e.queues (omega (arith, size, l)) none) moved.1;
     }
 
--- a clock that is far enough has reached the cycle
+-- A clock that is far enough has reached the cycle.
 reached_by : (w c k next : ℕ) (b : Bool) → nat_lt k c ≡ b → next < w → c * w ≤ k * w + next → c ≤ k
 reached_by w c k next true e l far =
     let below : k < c = ltb-true k c e in
@@ -113,7 +114,7 @@ or_right : (a b : Bool) → b ≡ true → (a || b) ≡ true
 or_right true b e = refl
 or_right false b e = e
 
--- the turns stop here, or go on
+-- The turns stop here, or continue.
 stop_or_go : (c : ℕ) (s t : State) (ts : List State) (b : Bool) → in_cycle c s ≡ b → (b ≡ false → in_cycle c (last_state t ts) ≡ true)
     → in_cycle c (last_state s (if b then [] else (t ∷ ts))) ≡ true
 stop_or_go c s t ts true e h = e
@@ -140,7 +141,7 @@ arrive w c (suc n) s q l u far =
     let moves = turn_moves w s q l in
     arrive w c n t ((shape-turn_of s).warriors ∙ q) moves.next (omega (arith, (cycle-turn_of s).1, u, differs)) (still_far w c n s t parts.0 far moves.further))
 
--- the states of the turns end there
+-- The states that a command reaches end in the cycle, or with the battle over.
 abbrev Arrives : ℕ → Result States Refusal → Type 0
 Arrives c (Err r) = Unit {0}
 Arrives c (Ok states) = IsTrue (in_cycle c (last_state states.0 states.1))
@@ -149,7 +150,7 @@ arrives_if : (c : ℕ) (b : Bool) (x y : Result States Refusal) → (b ≡ true 
 arrives_if c true x y h k = h refl
 arrives_if c false x y h k = k refl
 
--- the first turn uses one of the turns that the bound allows
+-- The first turn uses up one of the turns that the bound allows.
 first_far : (w c : ℕ) (s t : State) → 1 ≤ w → s.cycle < c → (is_over_of t ≡ true) ⊎ (s.cycle * w + s.next + 1 ≤ t.cycle * w + t.next)
     → (is_over_of t ≡ true) ⊎ (c * w ≤ t.cycle * w + t.next + ((c - s.cycle) * w - 1))
 first_far w c s t l u (inl over) = inl over

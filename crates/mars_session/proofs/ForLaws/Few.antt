@@ -1,4 +1,5 @@
--- Undo and redo where the oldest places are forgotten: they go as they would among all places, as long as no forgotten one is met.
+-- Undo and redo if the oldest places are evicted: they find the same places as if all were kept, as long as they do not need an
+-- evicted one.
 use Rattle.std.proofs.Common.{◌≡◌, ℕ, zero, suc, ◌+◌, ◌-◌, ◌≤◌, Bool, true, false, List, [], ◌∷◌, length, map, take, replicate, Option, Some, None, Result, Ok, Err, refl, ap, sym, ◌∙◌, arith, ◌⊎◌, inl, inr, if◌then◌else◌}
 use Rattle.std.specs.Prelude.{option_and_then, IsOk, IsErr, IsTrue}
 use Rattle.std.specs.List.{list_all}
@@ -23,7 +24,7 @@ if_yes m x y e = rw e refl
 if_no : (m : Bool) (x y : Option History) → m ≡ false → (if m then x else y) ≡ y
 if_no m x y e = rw e refl
 
--- what undo finds among all places, among the nearest
+-- Undo finds the same place if only the places up to the target and the `j` nearest ones before it are kept.
 record Undoes (j : ℕ) (before : List Place) (p : Place) (after : List Place) (to : History) : Type 0 where
   fewer : length to.before ≤ length before
   found : marked_before (take (j + (length before - length to.before)) before) p after ≡ Some (retained (Some j) to)
@@ -47,7 +48,7 @@ undoes j (b ∷ before) p after to e =
         let one : j + (length (b ∷ before) - length to.before) ≡ suc (j + (length before - length to.before)) = omega (arith, next.fewer) in
         record { fewer = omega (arith, next.fewer); found = rw one found }
 
--- and so for redo
+-- Redo finds the same place if only the `j` nearest places before `p` are kept.
 record Redoes (j : ℕ) (before : List Place) (p : Place) (after : List Place) (to : History) : Type 0 where
   more : length before ≤ length to.before
   found : marked_after (take j before) p after ≡ Some (retained (Some (j + (length to.before - length before))) to)
@@ -70,7 +71,7 @@ redoes j before p (a ∷ after) to e =
         let one : suc j + (length to.before - length (p ∷ before)) ≡ j + (length to.before - length before) = omega (arith, next.more) in
         record { more = omega (arith, next.more); found = found ∙ (rw one at next.found) }
 
--- many undos
+-- `n` undos lead to the same place if only the places up to it and the `j` nearest ones before it are kept.
 record ManyUndone (n j : ℕ) (h to : History) : Type 0 where
   fewer : position_of to ≤ position_of h
   found : times n undo (retained (Some (j + (position_of h - position_of to))) h) ≡ Some (retained (Some j) to)
@@ -91,7 +92,7 @@ many_undone (suc n) j h to e = by_first (undo h) refl e (λ k f. many_undone n j
         let step : undo (retained (Some (j + (position_of h - position_of to))) h) ≡ Some (retained (Some (j + (position_of k - position_of to))) k) = rw sum at one.found in
         record { fewer = omega (arith, next.fewer, one.fewer); found = ap (option_and_then (times n undo)) step ∙ next.found }
 
--- many redos
+-- `n` redos lead to the same place if only the `j` nearest places before `h` are kept.
 record ManyRedone (n j : ℕ) (h to : History) : Type 0 where
   more : position_of h ≤ position_of to
   found : times n redo (retained (Some j) h) ≡ Some (retained (Some (j + (position_of to - position_of h))) to)
@@ -111,7 +112,7 @@ many_redone (suc n) j h to e = by_first (redo h) refl e (λ i k f. many_redone n
         let sum : j + (position_of k - position_of h) + (position_of to - position_of k) ≡ j + (position_of to - position_of h) = omega (arith, next.more, one.more) in
         record { more = omega (arith, next.more, one.more); found = ap (option_and_then (times n redo)) one.found ∙ (rw sum at next.found) }
 
--- histories that differ in forgotten places alone
+-- The histories differ only in evicted places.
 record Same (k : ℕ) (h whole : History) : Type 0 where
   state : h.present.state ≡ whole.present.state
   before : take k h.before ≡ take k whole.before
@@ -125,7 +126,7 @@ same_append_all : (k : ℕ) (p : Place) (x y : List Place) (ss : List State) →
 same_append_all k p x y [] e = ap (λ (b : List Place). record { before = b; present = p; after = [] }) e
 same_append_all k p x y (s ∷ ss) e = same_append_all k (record { state = s; mark = false }) (p ∷ x) (p ∷ y) ss (same_fewer k p x y e)
 
--- an accepted command leads to the same places that are kept
+-- An accepted command leads to the same kept places from both histories.
 same_accepted : (k : ℕ) (h whole : History) (s : State) (ss : List State) → Same k h whole → retained (Some k) (after_command h s ss) ≡ retained (Some k) (after_command whole s ss)
 same_accepted k h whole s ss same =
     rw same.state (ap marked (same_append_all k (record { state = whole.present.state; mark = true }) h.before whole.before (s ∷ ss) same.before))
@@ -135,7 +136,7 @@ take_twice zero xs = refl
 take_twice (suc k) [] = refl
 take_twice (suc k) (x ∷ xs) = ap (λ (ps : List Place). x ∷ ps) (take_twice k xs)
 
--- the end is what is kept of a history without forgotten places, from which so many undos and redos lead back and on
+-- `end` is what is kept of a history without evictions, in which `count` undos and redos lead back and forward again.
 record ReachedWhole (k count total : ℕ) (start end : History) : Type 0 where
   whole : History
   undone : Undone count start whole
@@ -145,7 +146,7 @@ record ReachedWhole (k count total : ℕ) (start end : History) : Type 0 where
 abbrev FewReached : ℕ → ℕ → ℕ → History → History → History → Type 0
 FewReached k count total h start end = ((count ≡ 0) × (end ≡ h)) ⊎ ReachedWhole k count total start end
 
--- a call is accepted, and the others follow
+-- If the first call is accepted, the claim follows from that for the other calls.
 one_whole : (k n count total : ℕ) (start new end : History) (s : State) (ss : List State) → n ≡ suc (length ss) → new ≡ retained (Some k) (after_command start s ss)
     → FewReached k count total new (after_command start s ss) end → ReachedWhole k (suc count) (n + total) start end
 one_whole k n count total start new end s ss c e (inl none) =
@@ -165,13 +166,13 @@ one_whole k n count total start new end s ss c e (inr r) =
       is = r.is;
     }
 
--- a call is refused, and the others follow
+-- If the first call is refused, the claim follows from that for the other calls.
 none_whole : (k n count total : ℕ) (h start end : History) → FewReached k count total h start end → FewReached k count (n + total) h start end
 none_whole k n count total h start end (inl none) = inl none
 none_whole k n count total h start end (inr r) = inr (record { whole = r.whole; undone = r.undone; within = omega (arith, r.within); is = r.is })
 
 module _ (k limit : ℕ) where
-  -- one call more, before the others
+  -- One more call before the others.
   one_few : (m : Retention) (n total : ℕ) (r : Result Standing Refusal) (others : List (Result Standing Refusal)) (h start new end : History) → m.most ≡ Some k → Same k h start
       → (IsOk r → Accepted m n h new) → (IsErr r → new ≡ h)
       → ((next : History) → Same k new next → FewReached k (accepted_count others) total new next end) → FewReached k (accepted_count (r ∷ others)) (n + total) h start end

@@ -25,17 +25,17 @@ use Rattle.mars_core.specs.Validity.{IsValid}
 use Rattle.mars_session.proofs.Undoing.{after_append_all, same_most, stays_never}
 use Rattle.mars_session.proofs.ForLaws.Valid.{follows_valid}
 
--- each state follows the one before it
+-- Each state follows the one before it.
 abbrev Chain : State → List State → Type 0
 Chain s [] = Unit {0}
 Chain s (t ∷ ts) = Follows s t × Chain t ts
 
--- the states of a command follow one another
+-- The states that a command reaches follow one another.
 abbrev Reached : State → Result States Refusal → Type 0
 Reached s (Err r) = Unit {0}
 Reached s (Ok states) = Follows s states.0 × Chain states.0 states.1
 
--- what holds in both cases
+-- A property of both branches holds for the conditional.
 reached_if : (s : State) (b : Bool) (x y : Result States Refusal) → (b ≡ true → Reached s x) → (b ≡ false → Reached s y) → Reached s (if b then x else y)
 reached_if s true x y h k = h refl
 reached_if s false x y h k = k refl
@@ -102,7 +102,7 @@ fill_reached from to cell s =
     reached_unless s (edit_fault s (edits.SetCell to cell)) states
     (λ none. (inr (e, fault_below s from to cell l none, refl), fills_chain (to - from) (from + 1) to cell one (omega (arith, l)) (fault_kept s e to cell ∙ none)))))
 
--- the first place
+-- The first place of a history.
 first_place : List Place → Place → Place
 first_place [] p = p
 first_place (b ∷ before) p = first_place before b
@@ -115,7 +115,7 @@ first_rewound (b ∷ before) p after = first_rewound before b (p ∷ after)
 first_marked : (before : List Place) (p : Place) (after : List Place) → (first_place before p).mark ≡ true → (rewound_from before p after).present.mark ≡ true
 first_marked before p after e = ap (λ (q : Place). q.mark) (first_rewound before p after) ∙ e
 
--- a history whose places follow one another up to the present one, and whose first place is marked
+-- The places up to the present one follow one another, and the first place is marked.
 record Begun (h : History) : Type 0 where
   before : FollowsAll h.before h.present.state
   first : (first_place h.before h.present).mark ≡ true
@@ -139,7 +139,7 @@ begun_append_all h (s ∷ ss) b c = begun_append_all (append h s) ss (begun_appe
 tape_begun : (h : History) → IsTape h → Begun h
 tape_begun h t = record { before = t.steps.before; first = ap (λ (p : Place). p.mark) (sym (first_rewound h.before h.present h.after)) ∙ t.first }
 
--- where nothing follows, and the present place is marked
+-- If no place follows, and the present place is marked, the history is a tape.
 begun_tape : (h : History) → Begun h → h.after ≡ [] → h.present.mark ≡ true → IsTape h
 begun_tape h b none m = record {
   steps = record { before = b.before; after = rw none tt };
@@ -154,7 +154,7 @@ accepted_tape h s ss t f c =
     begun_tape (marked k) (begun_marked k (begun_append_all (append (cut (marked h)) s) ss (begun_append (cut (marked h)) s start f) c))
     (after_append_all (append (cut (marked h)) s) ss refl) refl
 
--- the places up to the present one follow one another, once more are appended
+-- After appending states, the places up to the present one still follow one another.
 before_append_all : (h : History) (ss : List State) → FollowsAll h.before h.present.state → Chain h.present.state ss → FollowsAll (append_all h ss).before (append_all h ss).present.state
 before_append_all h [] b c = b
 before_append_all h (s ∷ ss) b c = before_append_all (append h s) ss (c.0, b) c.1
@@ -163,7 +163,7 @@ valid_here : (before : List Place) (s : State) → FollowsAll before s → IsVal
 valid_here [] s v = v
 valid_here (b ∷ before) s f = follows_valid turn_valid edit_valid b.state s f.0 (valid_here before b.state f.1)
 
--- so do those that are kept
+-- The places that are kept still follow one another.
 before_kept : (k : ℕ) (before : List Place) (s : State) → FollowsAll before s → FollowsAll (take k before) s
 before_kept zero before s f = valid_here before s f
 before_kept (suc k) [] s f = f
@@ -185,13 +185,13 @@ accepted_few k h s ss t f c =
       within = rw none (omega (arith, few_kept k end.before));
     }
 
--- what accepted commands and moves keep
+-- What accepted commands and moves preserve.
 record Keeps (m : Retention) (P : History → Type 0) : Type 0 where
   accepts : (h : History) (s : State) (ss : List State) → P h → Follows h.present.state s → Chain s ss → P (retained m.most (after_command h s ss))
   back : (b : Place) (before : List Place) (p : Place) (after : List Place) → P (record { before = b ∷ before; present = p; after = after }) → P (record { before = before; present = b; after = p ∷ after })
   on : (before : List Place) (p a : Place) (after : List Place) → P (record { before = before; present = p; after = a ∷ after }) → P (record { before = p ∷ before; present = a; after = after })
 
--- what was found has it
+-- The history that a move found has the property `P`.
 abbrev Found : (History → Type 0) → Option History → Type 0
 Found P None = Unit {0}
 Found P (Some to) = P to

@@ -1,4 +1,4 @@
--- Every call keeps the places within the limit: no command reaches more states than its bound.
+-- Every call keeps the number of places within the limit, because no command reaches more states than its bound.
 use Rattle.std.proofs.Common.{◌≡◌, ℕ, zero, suc, ◌+◌, ◌-◌, ◌<◌, ◌≤◌, ◌≢◌, Bool, true, false, List, [], ◌∷◌, length, Option, None, Some, refl, ap, subst, arith, nat_eq, nat_lt, inl, inr, if◌then◌else◌}
 use Rattle.std.specs.Prelude.{Result, Ok, Err, ◌||◌, ◌&&◌, nat_le}
 use Rattle.std.proofs.lemmas.Bool.{or_parts, eqb-false, ltb-false, leb-false}
@@ -24,7 +24,7 @@ use Rattle.mars_session.proofs.Undoing.{after_append_all, position_append_all}
 use Rattle.mars_session.proofs.Walking.{same_last, rewound_again}
 use Rattle.mars_session.proofs.Places.{SameStart, undo_start, redo_start, goto_start}
 
--- a command reaches at most so many states
+-- A command reaches at most `bound` states.
 abbrev Within : ℕ → Result States Refusal → Type 0
 Within bound (Err r) = Unit {0}
 Within bound (Ok states) = suc (length states.1) ≤ bound
@@ -118,7 +118,7 @@ moved_limit : (limit : ℕ) (h : History) (r : Refusal) (o : Option History) →
 moved_limit limit h r None same l = l
 moved_limit limit h r (Some to) same l = omega (arith, same_last to h same, l)
 
--- all places of a tape have some warrior
+-- Each place of a tape has at least one warrior.
 follows_some : (s t : State) → Follows s t → 1 ≤ length s.queues → 1 ≤ length t.queues
 follows_some s t (inl h) l = rw h.1 (omega (arith, l, (shape-turn_of s).warriors))
 follows_some s t (inr h) l = rw h.2 (omega (arith, l, (shape-edited s h.0).warriors))

@@ -1,6 +1,6 @@
--- What scripts of undos and redos make of the end of a script of commands.
--- A law over scripts comes from one over moves by cases on whether a call was accepted (`one_reached`), and undo and redo share a lemma that takes
--- what `outcome` is of the call (`all_moved`).
+-- Scripts of undos and redos from the end of a script of commands.
+-- A law about scripts follows from one about moves, by cases on whether a call was accepted (`one_reached`). Undo and redo
+-- share a lemma that takes the `outcome` of the call (`all_moved`).
 use Rattle.std.proofs.Common.{◌≡◌, ℕ, zero, suc, Bool, List, [], ◌∷◌, map, replicate, Option, Some, None, Result, Ok, Err, refl, ap, sym, ◌∙◌, ◌⊎◌, inl, inr}
 use Rattle.std.specs.Prelude.{option_and_then, IsOk, IsErr, IsTrue, is_ok}
 use Rattle.std.specs.List.{list_all}
@@ -27,7 +27,7 @@ calls_are_scripts old new (call ∷ calls) (reply ∷ replies) h =
     let rest = rw h.1.1 at others.0 in
     (rw (h.1.0, rest) refl, others.1 ∙ h.1.1)
 
--- a refusal leaves the history, and what is kept of it
+-- A refused call changes neither the history nor the retention.
 abbrev Stays : Retention → History → Outcome → Type 0
 Stays m h o = IsErr o.reply → (o.history ≡ h) × (o.retention ≡ m)
 
@@ -50,11 +50,11 @@ kind_stays m limit (Move refusal move) poor h e = moved_stays m h (refusal m h) 
 pub refusals_change_nothing : RefusalsChangeNothing
 refusals_change_nothing m limit call poor h e = kind_stays m limit (kind_of call) poor h e
 
--- none of the calls was accepted and the history is as before, or as many undos and redos lead back and on
+-- Either no call was accepted and the history is unchanged, or `count` undos and redos lead back and forward again.
 abbrev Reached : ℕ → History → History → Type 0
 Reached count h end = ((count ≡ 0) × (end ≡ h)) ⊎ Undone count h end
 
--- where none of the calls after an accepted command was accepted, the end is where that stands
+-- If no call after an accepted command was accepted, the end is the history after that command.
 pub none_after : (n : ℕ) (h end : History) (s : State) (ss : List State) → n ≡ 0 → end ≡ after_command h s ss → Undone n (after_command h s ss) end
 none_after n h end s ss z e =
     let here : Option History = Some (after_command h s ss) in
@@ -65,7 +65,7 @@ some_after : (n : ℕ) (h end : History) (s : State) (ss : List State) → Reach
 some_after n h end s ss (inl none) = one_undone n h end s ss (none_after n h end s ss none.0 none.1)
 some_after n h end s ss (inr undone) = one_undone n h end s ss undone
 
--- one call more, before the others
+-- One more call before the others.
 one_reached : (n : ℕ) (r : Result Standing Refusal) (others : List (Result Standing Refusal)) (h k end : History) → (IsOk r → Accepted never n h k) → (IsErr r → k ≡ h)
     → Reached (accepted_count others) k end → Reached (accepted_count (r ∷ others)) h end
 one_reached n (Ok standing) others h k end accepts keeps reached =
@@ -85,7 +85,7 @@ script_reached limit (call ∷ calls) poor h c =
     (λ ok. accepted_call never limit call (first poor) h commands.0 ok) (λ err. (refusals_change_nothing never limit call (first poor) h err).0)
     (script_reached limit calls (rest poor) one.history commands.1))
 
--- n calls of a move are accepted and lead to the end
+-- `n` calls of a move are accepted and lead to `end`.
 pub record Leads (m : Retention) (limit n : ℕ) (call : Call) (poor : List Bool) (h end : History) : Type 0 where
   pub accepted : IsTrue (list_all is_ok (script m limit (replicate n call) poor h).replies)
   pub retention : (script m limit (replicate n call) poor h).retention ≡ m

@@ -1,4 +1,4 @@
--- Where places are forgotten, no call is refused for want of room or of memory.
+-- If the tape evicts places, no call is refused because of the limit or of memory.
 use Rattle.std.proofs.Common.{◌≡◌, ℕ, ◌+◌, ◌-◌, Bool, true, false, [], Option, None, Some, Result, Ok, Err, refl, ap, sym, ◌∙◌, nat_eq, nat_lt, if◌then◌else◌}
 use Rattle.std.specs.Prelude.{nat_le, ◌||◌}
 use Rattle.mars_cell.specs.declared.instruction.Cell.{Cell}
@@ -20,7 +20,7 @@ use Rattle.mars_session.specs.Commands.{command_limit, States, turns_until, stop
 use Rattle.mars_session.specs.Script.{outcome, command_outcome, move_outcome, no_undo}
 use Rattle.mars_session.specs.Laws.{NeverFull}
 
--- room or memory is wanting
+-- The refusal is `JournalFull` or `OutOfMemory`.
 abbrev wants : Refusal → Bool
 wants (JournalFull room) = true
 wants OutOfMemory = true
@@ -30,7 +30,7 @@ abbrev is_wanting : Result Standing Refusal → Bool
 is_wanting (Ok standing) = false
 is_wanting (Err r) = wants r
 
--- why the states of a command are refused
+-- A command's own refusal is neither `JournalFull` nor `OutOfMemory`.
 abbrev IsJudged : Result States Refusal → Type 0
 IsJudged (Ok states) = Unit {0}
 IsJudged (Err r) = wants r ≡ false

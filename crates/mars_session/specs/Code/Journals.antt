@@ -1,4 +1,5 @@
--- A tape of one battle and the records between its places, as a history. The first place's mark stands beside the records.
+-- A tape of one battle and the records between its places, as a history. Each record is stored with the mark of the place that
+-- it leads to; the mark of the first place is stored separately.
 use Rattle.std.specs.Prelude.{◌≡◌, ℕ, zero, suc, ◌+◌, ◌-◌, ◌≤◌, Bool, false, List, [], ◌∷◌, length, slice_index_or}
 use Rattle.mars_core.specs.State.{State}
 use Rattle.mars_core.specs.Leads.{Leads}
@@ -8,7 +9,7 @@ use Rattle.mars_core.specs.declared.record.Work.TheVariants as work
 use Rattle.mars_session.specs.Limits.{longest_history}
 use Rattle.mars_session.specs.History.{Place, History, first_turns, last_turns}
 
--- what a list of records and marks has past its end
+-- The entry that reading past the end of the list returns.
 abbrev pub no_entry : Atom × Bool
 no_entry = (
   record {
@@ -23,27 +24,28 @@ no_entry = (
   false,
 )
 
+-- The entry at index `n`: the record that leads from place `n` to the next one, and the mark of the next one.
 abbrev pub entry_at : List (Atom × Bool) → ℕ → Atom × Bool
 entry_at es i = slice_index_or es i no_entry
 
--- the mark of place n: each place after the first has its mark beside the record that leads to it
+-- The mark of place `n`. Each place after the first has its mark beside the record that leads to it.
 abbrev pub mark_at : Bool → List (Atom × Bool) → ℕ → Bool
 mark_at first es zero = first
 mark_at first es (suc n) = (entry_at es n).1
 
--- the places before the state s of place n, the nearest first
+-- The places before place `n`, whose state is `s`, the nearest first.
 abbrev pub journal_before : Bool → List (Atom × Bool) → ℕ → State → List Place
 journal_before first es zero s = []
 journal_before first es (suc n) s =
     record { state = reverted (entry_at es n).0 s; mark = mark_at first es n } ∷ journal_before first es n (reverted (entry_at es n).0 s)
 
--- n places after the state s of place from
+-- The `n` places after place `from`, whose state is `s`.
 abbrev pub journal_after : List (Atom × Bool) → ℕ → ℕ → State → List Place
 journal_after es from zero s = []
 journal_after es from (suc n) s =
     record { state = applied (entry_at es from).0 s; mark = (entry_at es from).1 } ∷ journal_after es (from + 1) n (applied (entry_at es from).0 s)
 
--- the history of a battle of the state s at place at
+-- The history of a tape whose battle has the state `s` and is at place `at`.
 abbrev pub journal_history : Bool → List (Atom × Bool) → ℕ → State → History
 journal_history first es at s = record {
   before = journal_before first es at s;
@@ -51,30 +53,30 @@ journal_history first es at s = record {
   after = journal_after es at (length es - at) s;
 }
 
--- the records lead to s, the state of place n
+-- The first `n` records lead to `s`, the state of place `n`.
 abbrev pub LeadHere : List (Atom × Bool) → ℕ → State → Type 0
 LeadHere es zero s = Unit {0}
 LeadHere es (suc n) s =
     Leads (reverted (entry_at es n).0 s) (entry_at es n).0 s × LeadHere es n (reverted (entry_at es n).0 s)
 
--- n records lead on from s, the state of place from
+-- The `n` records from index `from` on lead from `s`, the state of place `from`, to the states after it.
 abbrev pub LeadOn : List (Atom × Bool) → ℕ → ℕ → State → Type 0
 LeadOn es from zero s = Unit {0}
 LeadOn es from (suc n) s =
     Leads s (entry_at es from).0 (applied (entry_at es from).0 s) × LeadOn es (from + 1) n (applied (entry_at es from).0 s)
 
--- each record leads from its place to the next
+-- Each record leads from its place to the next one, and place `at` has the state `s`.
 pub record IsJournal (es : List (Atom × Bool)) (at : ℕ) (s : State) : Type 0 where
   pub inside : at ≤ length es
   pub here : LeadHere es at s
   pub on : LeadOn es at (length es - at) s
 
--- the numbers are the turns of the first and of the last place
+-- `from` and `to` are the numbers of turns of the first and the last place.
 pub record HasEnds (h : History) (from to : ℕ) : Type 0 where
   pub first : from ≡ first_turns h
   pub last : to ≡ last_turns h
 
--- so it is where at most a number of records are kept
+-- A journal of at most `most` records.
 pub record IsRing (es : List (Atom × Bool)) (most at : ℕ) (s : State) : Type 0 where
   pub journal : IsJournal es at s
   pub some : 1 ≤ most

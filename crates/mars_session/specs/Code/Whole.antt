@@ -1,15 +1,15 @@
--- A tape of whole copies, as a history.
+-- A tape of whole copies of the battle, as a history.
 use Rattle.std.specs.Prelude.{◌≡◌, ℕ, zero, suc, ◌+◌, ◌-◌, ◌<◌, ◌≤◌, false, List, [], ◌∷◌, length, slice_index_or}
 use Rattle.mars_core.specs.State.{State}
 use Rattle.mars_core.specs.Shape.{SameShape}
 use Rattle.mars_session.specs.declared.snapshots.Snapshot.{Snapshot}
 use Rattle.mars_session.specs.History.{Place, History}
 
--- a copy, as a place
+-- A copy as a place.
 abbrev pub place_of : Snapshot → Place
 place_of k = record { state = k.battle; mark = k.mark }
 
--- a state of nothing
+-- A state without cells and warriors.
 abbrev pub no_state : State
 no_state = record {
   params = record { core_size = 0; processes = 0; cycles = 0; read_limit = 0; write_limit = 0; max_length = 0; distance = 0 };
@@ -21,39 +21,41 @@ no_state = record {
   deaths = [];
 }
 
--- what a list has past its end
+-- The copy that reading past the end of the list returns.
 abbrev pub nowhere : Snapshot
 nowhere = record { battle = no_state; mark = false }
 
+-- The copy at index `i`.
 abbrev pub snapshot_at : List Snapshot → ℕ → Snapshot
 snapshot_at ks i = slice_index_or ks i nowhere
 
--- the first n copies, the last of them first
+-- The first `n` copies as places, the last of them first.
 abbrev pub before_of : List Snapshot → ℕ → List Place
 before_of ks zero = []
 before_of ks (suc n) = place_of (snapshot_at ks n) ∷ before_of ks n
 
--- n copies from an index on
+-- `n` copies from the index `from` on, as places.
 abbrev pub after_of : List Snapshot → ℕ → ℕ → List Place
 after_of ks from zero = []
 after_of ks from (suc n) = place_of (snapshot_at ks from) ∷ after_of ks (from + 1) n
 
--- the first len copies are the places, and at is the present one
+-- The history of a tape whose first `len` copies are its places, with the present one at `at`.
 abbrev pub whole_history : List Snapshot → ℕ → ℕ → History
 whole_history ks at len = record { before = before_of ks at; present = place_of (snapshot_at ks at); after = after_of ks (at + 1) (len - (at + 1)) }
 
--- how many turns the copy at an index has
+-- The number of turns of the copy at index `i`.
 abbrev pub turns_at : List Snapshot → ℕ → ℕ
 turns_at ks i = (snapshot_at ks i).battle.turns
 
--- the present place is one of the places, whose turns rise by at most one each, and each copy can be made over each other
+-- The present place is one of the `len` places, turns rise by at most one from place to place, and all copies have the same
+-- shape, so that each can be overwritten by each other.
 pub record IsWhole (ks : List Snapshot) (at len : ℕ) : Type 0 where
   pub present : at < len
   pub copies : len ≤ length ks
   pub rises : (i : ℕ) → i + 1 < len → (turns_at ks i ≤ turns_at ks (i + 1)) × (turns_at ks (i + 1) ≤ turns_at ks i + 1)
   pub shapes : (i j : ℕ) → i < length ks → j < length ks → SameShape (snapshot_at ks i).battle (snapshot_at ks j).battle
 
--- further copies of the one at an index were added at the end
+-- Copies of the battle at index `at` were added at the end of the list.
 pub record IsGrown (old new : List Snapshot) (at : ℕ) : Type 0 where
   pub longer : length old ≤ length new
   pub kept : (k : ℕ) → k < length old → snapshot_at new k ≡ snapshot_at old k

@@ -1,18 +1,18 @@
--- Calls where two places are kept beside the last one.
+-- Calls if two places are kept beside the last one.
 use Rattle.std.specs.Prelude.{[], ◌∷◌, Err, refl}
 use Rattle.mars_core.specs.Examples.{the_machine}
 use Rattle.mars_session.specs.declared.calls.Call.TheVariants.{Step, Run, Undo, Redo, Goto}
 use Rattle.mars_session.specs.declared.calls.Refusal.TheVariants.{NothingToUndo, NothingToRedo, NotInHistory, Forgotten}
 use Rattle.mars_session.specs.Examples.{stands, IsToldKeeping}
 
--- what a command drops after the present place isn't forgotten
+-- A place that a command drops after the present one does not count as evicted.
 pub nothing_is_forgotten : IsToldKeeping 2
     (Step ∷ Undo ∷ Run 2 ∷ Undo ∷ Undo ∷ [])
     (stands 1 1 1 ∷ stands 0 0 1 ∷ stands 2 2 2 ∷ stands 0 0 2 ∷ Err NothingToUndo ∷ [])
 unfolding the_machine
 nothing_is_forgotten = refl
 
--- the first place that is left isn't marked
+-- The first place that is left is not marked.
 pub a_run_of_more_places : IsToldKeeping 2
     (Run 3 ∷ Undo ∷ Goto 0 ∷ Goto 1 ∷ Step ∷ Undo ∷ Undo ∷ Redo ∷ [])
     (stands 3 2 2 ∷ Err Forgotten ∷ Err (NotInHistory 1 3) ∷ stands 1 0 2 ∷ stands 2 1 1 ∷ stands 1 0 1 ∷ Err Forgotten ∷ stands 2 1 1 ∷ [])
@@ -25,7 +25,7 @@ pub commands_one_after_another : IsToldKeeping 2
 unfolding the_machine
 commands_one_after_another = refl
 
--- a place keeps its mark where it becomes the first
+-- A place keeps its mark if it becomes the first one.
 pub the_first_place_is_marked : IsToldKeeping 2
     (Step ∷ Run 2 ∷ Undo ∷ Undo ∷ Redo ∷ Redo ∷ [])
     (stands 1 1 1 ∷ stands 3 2 2 ∷ stands 1 0 2 ∷ Err Forgotten ∷ stands 3 2 2 ∷ Err NothingToRedo ∷ [])

@@ -1,4 +1,4 @@
--- Calls where all places are kept.
+-- Calls if all places are kept.
 use Rattle.std.specs.Prelude.{◌≡◌, false, true, [], ◌∷◌, Err, refl}
 use Rattle.mars_core.specs.Examples.{the_machine}
 use Rattle.mars_session.specs.declared.calls.Call.TheVariants.{Step, Run, Until, Kill, Undo, Redo, Goto}
@@ -38,7 +38,8 @@ pub refused_calls : IsToldWithin 100
 unfolding the_machine
 refused_calls = refl
 
--- where memory is wanting, a run is refused that needs more places than follow, and nothing is lost; one that doesn't is made
+-- If an allocation fails, a run that needs more places than follow is refused, and nothing is lost. A run that needs no more
+-- than follow is executed.
 pub want_of_memory : (script never 100 (Step ∷ Step ∷ Undo ∷ Undo ∷ Run 3 ∷ Redo ∷ Redo ∷ Goto 0 ∷ Run 2 ∷ []) (false ∷ false ∷ false ∷ false ∷ true ∷ false ∷ false ∷ false ∷ true ∷ []) (beginning imp)).replies
     ≡ stands 1 1 1 ∷ stands 2 2 2 ∷ stands 1 1 2 ∷ stands 0 0 2 ∷ Err OutOfMemory ∷ stands 1 1 2 ∷ stands 2 2 2 ∷ stands 0 0 2 ∷ stands 2 2 2 ∷ []
 unfolding the_machine

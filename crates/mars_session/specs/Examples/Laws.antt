@@ -1,4 +1,4 @@
--- Worked examples: commands that are undone one by one, and done again.
+-- Examples of commands that are undone one by one, and redone.
 use Rattle.std.specs.Prelude.{◌≡◌, false, List, [], ◌∷◌, Some, replicate, refl}
 use Rattle.mars_core.specs.Examples.{the_machine}
 use Rattle.mars_session.specs.declared.calls.Call.{Call}
@@ -9,11 +9,11 @@ use Rattle.mars_session.specs.Retention.{Retention, never}
 use Rattle.mars_session.specs.Script.{Scripted, script}
 use Rattle.mars_session.specs.Examples.{imp}
 
--- a step and a run of two turns
+-- A step and a run of two turns.
 abbrev calls : List Call
 calls = Step ∷ Run 2 ∷ []
 
--- what they leave, by what is kept, and the history after two undos behind them
+-- The result of these commands with the retention `m`, and the history after two undos.
 abbrev done : Retention → Scripted
 done m = script m 100 calls [] (beginning imp)
 
@@ -24,7 +24,7 @@ pub two_commands_are_undone : GoesBackAndOn never 100 2 [] [] (beginning imp) (b
 unfolding the_machine
 two_commands_are_undone = record { undone = refl; retention = refl; state = refl; redone = refl; same = refl }
 
--- they append three places together; where as many are kept, it is so
+-- The commands append three places together. If three places are kept, they can be undone and redone.
 abbrev three : Retention
 three = record { most = Some 3; forgotten = false }
 
@@ -36,7 +36,7 @@ pub kept_commands_are_undone : GoesBackAndOn (done three).retention 100 2 [] [] 
 unfolding the_machine
 kept_commands_are_undone = record { undone = refl; retention = refl; state = refl; redone = refl; same = refl }
 
--- with two the first undo is refused at the place that was forgotten
+-- If only two places are kept, the second undo would need a place that was evicted, so the commands cannot be undone.
 pub forgotten_commands_are_not : let two : Retention = record { most = Some 2; forgotten = false } in
     GoesBackAndOn (done two).retention 100 2 [] [] (beginning imp) (back two) (done two).history → ⊥
 unfolding the_machine

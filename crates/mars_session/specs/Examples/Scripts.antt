@@ -1,4 +1,4 @@
--- Calls one after another, each of which finds what the one before it left, and the room that a tape has for places.
+-- Calls one after another, each executed on the session that the previous one left, and the room of a tape.
 use Rattle.std.specs.Prelude.{◌≡◌, ℕ, [], ◌∷◌, Err, refl}
 use Rattle.std.proofs.Common.{arith}
 use Rattle.mars_core.specs.Examples.{the_machine}
@@ -9,11 +9,11 @@ use Rattle.mars_session.specs.Retention.{never}
 use Rattle.mars_session.specs.Script.{EachAnswers, SessionValue, script}
 use Rattle.mars_session.specs.Examples.{imp, stands}
 
--- a session of the imp that stands at a history, over a tape that has room for so many places
+-- A session of the imp with the history `h`, over a tape with room for `room` places.
 abbrev session : History → ℕ → SessionValue
 session h room = record { state = record { history = h; limit = 100; retention = never }; room = room }
 
--- the history once the imp made so many turns
+-- The history after the imp executed `n` turns.
 abbrev after_steps : ℕ → History
 after_steps n = (script never 100 (Run n ∷ []) [] (beginning imp)).history
 
@@ -27,12 +27,12 @@ the_second_step_follows_the_first =
     let undone = session (script never 100 (Step ∷ Undo ∷ []) [] (beginning imp)).history 100 in
     (stepped, (refl, refl, λ e. cc), (undone, (refl, refl, λ e. cc), (undone, (refl, refl, λ e. cc), (stepped, (refl, refl, λ e. cc), refl))))
 
--- memory may be wanting where the tape has less room than the call needs
+-- An allocation may fail if the tape has less room than the call needs.
 pub a_step_that_finds_no_room : EachAnswers (session (beginning imp) 0) (Step ∷ []) (Err OutOfMemory ∷ []) (session (beginning imp) 0)
 unfolding the_machine
 a_step_that_finds_no_room = (session (beginning imp) 0, (refl, refl, λ e. omega arith), refl)
 
--- and not where it has as much
+-- No allocation fails if the tape has as much room as the call needs.
 pub a_step_that_finds_room : (new : SessionValue) → EachAnswers (session (beginning imp) 1) (Step ∷ []) (Err OutOfMemory ∷ []) new → ⊥
 unfolding the_machine
 a_step_that_finds_room new answers = let less = answers.1.2 refl in omega (arith, less)
@@ -43,6 +43,6 @@ each_call_has_a_reply old new answers = answers
 pub each_reply_has_a_call : (old new : SessionValue) → EachAnswers old [] (Err NothingToUndo ∷ []) new → ⊥
 each_reply_has_a_call old new answers = answers
 
--- calls leave the session that the last of them left
+-- An empty list of calls leaves the session as it was.
 pub no_call_leaves_the_session : (old new : SessionValue) → EachAnswers old [] [] new → new ≡ old
 no_call_leaves_the_session old new answers = answers

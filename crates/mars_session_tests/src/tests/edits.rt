@@ -35,7 +35,7 @@ fn two_kills_end_the_battle(rt: HostRuntime) -> Result<(), Fail> {
     stayers_give(&rt, rt.alloc(), TWO_KILLS_END_THE_BATTLE)
 }
 
-/// The queue of a warrior that stands where it is, after each edit, a turn and each undo.
+/// The queue of a warrior that executes JMP.B $0, $0, after each edit, a turn and each undo.
 const EDITED_QUEUE: &[Check] = &[
     Check::Gives(Call::Spawn(0, 1), at!(0, 0, 0, 1, 1, 1)),
     Check::Gives(Call::Spawn(0, 2), at!(0, 0, 0, 1, 2, 2)),
@@ -71,7 +71,7 @@ fn queue_after_edits(rt: HostRuntime) -> Result<(), Fail> {
     check_edited_queue::<RingTape>(&rt, alloc)
 }
 
-/// A warrior whose queue is full, in a core of jumps to the next cell, after so many turns.
+/// A session of a warrior with a full queue, in a core of jumps to the next cell, after a number of turns.
 fn full_queue<T: Start>(
     rt: &impl Abort,
     alloc: Global,
@@ -91,7 +91,7 @@ fn full_queue<T: Start>(
     Ok(session)
 }
 
-/// The first warrior's queue holds these addresses but for the one at a place.
+/// Checks that the first warrior's queue has these addresses, except the one at index `killed`.
 fn check_rest<T: Tape>(rt: &impl Abort, session: &Session<T>, queue: &[u32], killed: usize) {
     assert_eq!(rt;
         session.battle().queue_len(0),
@@ -107,7 +107,7 @@ fn check_rest<T: Tape>(rt: &impl Abort, session: &Session<T>, queue: &[u32], kil
     }
 }
 
-/// The process at a place of the first warrior's queue is killed, and comes back there.
+/// Checks that killing a process of the first warrior removes it from the queue, and that undo restores it there.
 fn check_kill<T: Tape>(rt: &impl Abort, session: &mut Session<T>, queue: &[u32], killed: usize) {
     assert!(rt; session.kill(0, killed as u64).is_ok());
     check_rest(rt, session, queue, killed);
@@ -115,7 +115,7 @@ fn check_kill<T: Tape>(rt: &impl Abort, session: &mut Session<T>, queue: &[u32],
     check_queue(rt, session, queue);
 }
 
-/// So it is at each place of a full queue.
+/// Checks that each process of a full queue can be killed and restored by undo.
 fn check_each_kill<T: Tape>(
     rt: &impl Abort,
     alloc: Global,
@@ -131,7 +131,7 @@ fn check_each_kill<T: Tape>(
     Ok(())
 }
 
-/// So it is in full queues of 1, 2 and 5 processes, after 0 to 5 turns each.
+/// Checks kills in full queues of 1, 2 and 5 processes, after 0 to 5 turns each.
 fn check_kills<T: Start + Drop>(rt: &impl Abort, alloc: Global) -> Result<(), Fail> {
     for processes in [1, 2, 5] {
         for turns in 0..6 {
@@ -150,7 +150,7 @@ fn each_killed_process_comes_back(rt: HostRuntime) -> Result<(), Fail> {
     check_kills::<RingTape>(&rt, alloc)
 }
 
-/// A fill sets one cell after another, from the first to the last.
+/// Checks that a fill sets one cell after another, from the first to the last.
 fn check_filled(rt: &impl Abort, alloc: Global) -> Result<(), Fail> {
     let mut session = Session::new(lone_tape::<DeltaTape>(alloc, 8, &[IDLE])?, 100);
     assert!(rt; session.fill(2, 4, IDLE).is_ok());

@@ -1,4 +1,4 @@
-//! A tape that forgets the oldest places.
+//! A tape that evicts the oldest places.
 ghost use Rattle.std.specs.Prelude.{◌≤◌};
 ghost use Rattle.mars_session.specs.Limits.{longest_history};
 
@@ -9,7 +9,7 @@ use std::alloc::Global;
 use std::process::Abort;
 use std::test::Fail;
 
-/// The imp, over a tape that keeps so many places beside the last one.
+/// A session of the imp over a tape that keeps `most` places beside the last one.
 fn forgetful_imp(alloc: Global, most: usize) -> Result<Session<RingTape>, Fail>
     requires some { 1 ≤ most }
     requires few { most ≤ longest_history }
@@ -19,7 +19,7 @@ fn forgetful_imp(alloc: Global, most: usize) -> Result<Session<RingTape>, Fail>
     Ok(Session::new(tape, 0))
 }
 
-/// The calls give these replies to the imp where two places are kept beside the last one.
+/// Checks the replies of the imp if two places are kept beside the last one.
 fn two_kept_give(rt: &impl Abort, alloc: Global, calls: &[(Call, Reply)]) -> Result<(), Fail> {
     gives(
         rt,
@@ -54,7 +54,7 @@ const RUN_OF_MORE_PLACES_THAN_ARE_KEPT: &[(Call, Reply)] = &[
     (Call::Redo, imp_at!(2, 1, 1)),
 ];
 
-/// The first place that is left isn't marked, so undo doesn't stop there.
+/// The first place that is left is not marked, so undo does not stop there.
 #[test]
 fn run_of_more_places_than_are_kept(rt: HostRuntime) -> Result<(), Fail> {
     two_kept_give(&rt, rt.alloc(), RUN_OF_MORE_PLACES_THAN_ARE_KEPT)
@@ -86,7 +86,7 @@ const FIRST_PLACE_KEEPS_ITS_MARK: &[(Call, Reply)] = &[
     (Call::Undo, Err(Refusal::Forgotten)),
 ];
 
-/// A mark stays with its place, also where that becomes the first.
+/// A place keeps its mark, also if it becomes the first one.
 #[test]
 fn first_place_keeps_its_mark(rt: HostRuntime) -> Result<(), Fail> {
     two_kept_give(&rt, rt.alloc(), FIRST_PLACE_KEEPS_ITS_MARK)
@@ -103,7 +103,7 @@ const KEPT_PLACES_COME_BACK: &[Check] = &[
     Check::Cell(7, IDLE),
 ];
 
-/// Cells and queues that were forgotten don't come back; those that are kept do.
+/// Undo restores the cells and queues of the places that are kept, but never those of evicted places.
 #[test]
 fn kept_places_come_back(rt: HostRuntime) -> Result<(), Fail> {
     let mut session = forgetful_imp(rt.alloc(), 1)?;

@@ -1,4 +1,4 @@
-//! Commands, undo, redo and goto among all places.
+//! Commands, undo, redo and goto if all places are kept.
 ghost use Rattle.std.specs.Prelude.{◌≡◌, false};
 
 use super::poor_tape::PoorTape;
@@ -88,7 +88,8 @@ const COVERED_RUN: &[(Call, Reply)] = &[
     (Call::Step, Err(Refusal::OutOfMemory)),
 ];
 
-/// Once a run has made room for five places, every request for memory is refused, and three places that follow need none.
+/// Checks that a run over three places that follow succeeds without an allocation, once an earlier run has reserved room for
+/// five places.
 fn check_covered_run<T: Start + Drop>(rt: &impl Abort, alloc: Global) -> Result<(), Fail>
     requires { T.FORGETS ≡ false }
 {
@@ -124,13 +125,14 @@ const HISTORY_OF_TWO_PLACES: &[(Call, Reply)] = &[
     (Call::Step, imp_at!(1, 1, 1)),
 ];
 
-/// The room is what is left behind the present place, not behind the last one.
+/// The room is counted from the present place, not from the last one.
 #[test]
 fn history_of_two_places(rt: HostRuntime) -> Result<(), Fail> {
     limited_imp_gives(&rt, rt.alloc(), 2, HISTORY_OF_TWO_PLACES)
 }
 
-/// A lone warrior dies in its first turn: one place is made, whatever was asked for, but room is judged by what was.
+/// A single warrior dies in its first turn: only one place is appended, but the room is checked for the number of turns
+/// requested.
 const AN_EARLY_END: &[(Call, Reply)] = &[
     (Call::Run(3), Err(Refusal::JournalFull(2))),
     (Call::Until(3), Err(Refusal::JournalFull(2))),
@@ -175,7 +177,7 @@ fn goto_finds_the_first_of_equal_turns(rt: HostRuntime) -> Result<(), Fail> {
     imp_gives(&rt, rt.alloc(), GOTO_FINDS_THE_FIRST_OF_EQUAL_TURNS)
 }
 
-/// Turns, and how many places a goto to them goes over, one after the other.
+/// Numbers of turns, and how many places a goto to each of them passes, one goto after another.
 const WAYS: &[(u64, u64)] = &[
     (20, 32),
     (40, 20),
@@ -187,7 +189,7 @@ const WAYS: &[(u64, u64)] = &[
     (51, 0),
 ];
 
-/// A goto goes over so many places. It is refused past 50 turns.
+/// Checks how many places a goto passes. It is refused for more than 50 turns.
 fn check_goto<T: Tape>(rt: &impl Abort, session: &mut Session<PoorTape<T>>, turns: u64, way: u64) {
     let before = session.tape().walked();
     let reply = session.goto(turns);
@@ -195,7 +197,7 @@ fn check_goto<T: Tape>(rt: &impl Abort, session: &mut Session<PoorTape<T>>, turn
     assert_eq!(rt; session.tape().walked(), before.saturating_add(way));
 }
 
-/// How many places a goto goes over: those on the way, and at most one more there and back. A refused one goes nowhere.
+/// Checks how many places gotos pass: those on the way, and at most one more there and back. A refused goto passes none.
 fn check_way<T: Start + Drop>(rt: &impl Abort, alloc: Global) -> Result<(), Fail>
     requires { T.FORGETS ≡ false }
 {

@@ -1,5 +1,5 @@
-//! Calls that are refused memory, over each kind of tape. Each test holds whichever one of its requests is refused, since a
-//! second try has memory: checks/memory refuses each in turn.
+//! Calls whose allocations fail, over each kind of tape. Each test holds whichever one of its allocations fails, since the
+//! second try succeeds; checks/memory lets each allocation fail in turn.
 use super::{BLANK, COPIER, IDLE, check_call, check_reply, check_same, check_standing};
 use mars_cell::{Params, Warrior};
 use mars_core::Battle;
@@ -8,7 +8,7 @@ use std::alloc::Global;
 use std::process::Abort;
 use std::test::Fail;
 
-/// A tape that starts at a battle, or hands it back.
+/// A tape that can start at a battle, or returns the battle if an allocation fails.
 pub trait Begin: Tape + Drop {
     fn begin(alloc: Global, battle: Battle) -> Result<Self, Battle>;
 }
@@ -40,12 +40,12 @@ pub fn battle(alloc: Global) -> Option<Battle> {
     Battle::new(alloc, &params, &[warrior], &[0]).ok()
 }
 
-/// The imp's battle, for which memory is refused at most once.
+/// The imp's battle, if at most one allocation fails.
 fn second_battle(alloc: Global) -> Option<Battle> {
     battle(alloc).or_else(|| battle(alloc))
 }
 
-/// The imp's tape. One that is refused gives the battle back, and starts at it then.
+/// The imp's tape. If the first try fails, it starts at the battle that was returned.
 pub fn tape<T: Begin>(alloc: Global) -> Option<T> {
     match T::begin(alloc, second_battle(alloc)?) {
         Err(battle) => T::begin(alloc, battle).ok(),
@@ -58,12 +58,12 @@ fn session<T: Begin>(alloc: Global) -> Option<Session<T>> {
     Some(Session::new(tape(alloc)?, 100))
 }
 
-/// Whether a reply is want of memory. A tape that forgets never has it, so there such a reply is no excuse.
+/// Returns whether a reply is `OutOfMemory`. A tape that evicts never has this reply, so there it is a failure of the test.
 pub fn is_refused<T: Tape>(reply: Reply) -> bool {
     !T::FORGETS && reply == Err(Refusal::OutOfMemory)
 }
 
-/// A call's reply, once it has memory.
+/// Returns a call's reply, from a second try if an allocation failed.
 fn second_reply<T: Tape>(session: &mut Session<T>, call: Call) -> Reply {
     let reply = session.call(call);
     if is_refused::<T>(reply) {
@@ -72,7 +72,7 @@ fn second_reply<T: Tape>(session: &mut Session<T>, call: Call) -> Reply {
     reply
 }
 
-/// Five turns, and back to the third place.
+/// A session after five turns, back at place 2.
 pub fn with_future<T: Begin>(alloc: Global) -> Option<Session<T>> {
     let mut session = session(alloc)?;
     second_reply(&mut session, Call::Run(5)).ok()?;
@@ -80,7 +80,7 @@ pub fn with_future<T: Begin>(alloc: Global) -> Option<Session<T>> {
     Some(session)
 }
 
-/// A call to two sessions gives the same reply.
+/// Checks that a call has the same reply over two sessions.
 fn check_same_reply<T: Tape>(
     rt: &impl Abort,
     one: &mut Session<T>,
@@ -90,7 +90,7 @@ fn check_same_reply<T: Tape>(
     check_reply(rt, one.call(call), other.call(call));
 }
 
-/// Two sessions stand at the same place, of the same cells, queues and counters, between the same marked places.
+/// Checks that two sessions are at the same place, with the same cells, queues, counters and marked places around it.
 fn check_same_place<T: Tape>(rt: &impl Abort, one: &mut Session<T>, other: &mut Session<T>) {
     check_standing(rt, one, Ok(other.standing()));
     check_same(rt, one.battle(), other.battle());
@@ -100,7 +100,7 @@ fn check_same_place<T: Tape>(rt: &impl Abort, one: &mut Session<T>, other: &mut 
     }
 }
 
-/// Two sessions stand at the same place of the same history, of at most 20 places without edits.
+/// Checks that two sessions are at the same place of the same history, of at most 20 places without edits.
 pub fn check_same_sessions<T: Tape>(rt: &impl Abort, one: &mut Session<T>, other: &mut Session<T>) {
     let start = one.standing();
     check_same_place(rt, one, other);
@@ -112,7 +112,8 @@ pub fn check_same_sessions<T: Tape>(rt: &impl Abort, one: &mut Session<T>, other
     check_call(rt, other, Call::Goto(start.turns), Ok(start));
 }
 
-/// A call's reply, once it has memory. Refused it, the session is as its twin, which the call wasn't made to.
+/// Returns a call's reply, from a second try if an allocation failed. After the failure, the session must be equal to its twin,
+/// over which the call was not executed.
 fn reply_of<T: Tape>(
     rt: &impl Abort,
     session: &mut Session<T>,
@@ -127,7 +128,7 @@ fn reply_of<T: Tape>(
     reply
 }
 
-/// A tape that is refused gives the battle back as it was.
+/// Checks that a tape returns the battle unchanged if an allocation fails.
 fn check_beginning<T: Begin>(rt: &impl Abort, alloc: Global) -> Result<(), Fail> {
     let battle = second_battle(alloc).ok_or("battle")?;
     let twin = second_battle(alloc).ok_or("twin")?;
@@ -144,7 +145,7 @@ fn a_tape_begins(rt: HostRuntime) -> Result<(), Fail> {
     check_beginning::<RingTape>(&rt, rt.alloc())
 }
 
-/// The commands in the midst of a history of five turns, each with its reply.
+/// The commands in the middle of a history of five turns, each with its reply.
 pub const ALL_COMMANDS: &[(Call, Reply)] = &[
     (Call::Step, imp_at!(3, 3, 3)),
     (Call::Run(9), imp_at!(11, 11, 11)),
@@ -156,7 +157,7 @@ pub const ALL_COMMANDS: &[(Call, Reply)] = &[
     (Call::Spawn(0, 6), imp_at!(2, 3, 3)),
 ];
 
-/// A command in the midst of a history: refused, it changes nothing, and keeps the future.
+/// Checks a command in the middle of a history: if it is refused, it changes nothing and keeps the places that follow.
 fn check_command<T: Begin>(
     rt: &impl Abort,
     alloc: Global,
@@ -192,7 +193,7 @@ fn commands_over_a_ring(rt: HostRuntime) -> Result<(), Fail> {
     check_commands::<RingTape>(&rt, rt.alloc())
 }
 
-/// The first command of all: refused, it leaves the one place.
+/// Checks the very first command: if it is refused, the history still has only its first place.
 fn check_first_run<T: Begin>(rt: &impl Abort, alloc: Global) -> Result<(), Fail> {
     let mut session: Session<T> = session(alloc).ok_or("session")?;
     let mut twin: Session<T> = self::session(alloc).ok_or("twin")?;
@@ -216,7 +217,7 @@ const CALLS: &[Call] = &[
     Call::Step,
 ];
 
-/// A list of one reply, for which memory is refused at most once.
+/// A list of one reply, if at most one allocation fails.
 fn second_list(alloc: Global) -> Result<Vec<Reply>, Fail> {
     let mut out = Vec::new(alloc);
     if out.push(imp_at!(2, 2, 5)).is_err() {
@@ -225,7 +226,8 @@ fn second_list(alloc: Global) -> Result<Vec<Reply>, Fail> {
     Ok(out)
 }
 
-/// The replies to the calls, once they have memory. Refused it, the session is as its twin, and nothing is replied.
+/// Returns the replies to the calls, from a second try if there was no memory for them. After the failure, the session must be
+/// equal to its twin, and there is no new reply.
 fn call_all<T: Tape>(
     rt: &impl Abort,
     session: &mut Session<T>,
@@ -240,7 +242,7 @@ fn call_all<T: Tape>(
     Ok(())
 }
 
-/// The twin gives the replies that stand after the first, but for want of memory.
+/// Checks the replies after the first one against those of the twin, except for `OutOfMemory`.
 fn check_replies<T: Tape>(rt: &impl Abort, twin: &mut Session<T>, out: &[Reply]) {
     assert_eq!(rt; out.len(), CALLS.len() + 1);
     check_reply(rt, out[0], imp_at!(2, 2, 5));
@@ -251,7 +253,7 @@ fn check_replies<T: Tape>(rt: &impl Abort, twin: &mut Session<T>, out: &[Reply])
     }
 }
 
-/// A list of calls: no memory for the replies leaves all as it was, and a call without memory is as if it weren't there.
+/// Checks a list of calls: without memory for the replies nothing changes, and a call that runs out of memory changes nothing.
 fn check_list<T: Begin>(rt: &impl Abort, alloc: Global) -> Result<(), Fail> {
     let mut session: Session<T> = with_future(alloc).ok_or("session")?;
     let mut twin: Session<T> = with_future(alloc).ok_or("twin")?;

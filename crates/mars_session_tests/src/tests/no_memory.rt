@@ -1,6 +1,6 @@
-//! Calls that take no memory. Each test makes its objects, asks for memory once more, and holds whether that and all that
-//! comes after it is refused or not: checks/memory refuses all requests from each on. Where the objects themselves
-//! are refused, there is nothing to show.
+//! Calls that do not allocate. Each test creates its objects, allocates again, and holds whether that allocation and all
+//! later ones fail or not; checks/memory lets all allocations from each one on fail. If the objects themselves cannot be
+//! allocated, the test checks nothing.
 use super::memory::{
     ALL_COMMANDS, Begin, battle, check_same_sessions, is_refused, tape, with_future,
 };
@@ -10,12 +10,12 @@ use std::alloc::Global;
 use std::process::Abort;
 use std::test::Fail;
 
-/// Asks for memory, which is the first request of all that are refused.
+/// Allocates once. In some runs this is the first allocation that fails.
 fn ask(alloc: Global) {
     let _asked: Result<Vec<u64>, _> = Vec::with_capacity(alloc, 1);
 }
 
-/// Commands in the midst of a history that need no more places than follow.
+/// Commands in the middle of a history that need no more places than follow.
 const COVERED: &[(Call, Reply)] = &[
     (Call::Step, imp_at!(3, 3, 3)),
     (Call::Run(3), imp_at!(5, 5, 5)),
@@ -27,7 +27,7 @@ const COVERED: &[(Call, Reply)] = &[
     (Call::Spawn(0, 6), imp_at!(2, 3, 3)),
 ];
 
-/// Each command in the midst of a history takes no memory.
+/// Checks that each command in the middle of a history does not allocate.
 fn check_covered<T: Begin>(rt: &impl Abort, alloc: Global, commands: &[(Call, Reply)]) {
     for (call, reply) in commands {
         let Some(mut session) = with_future::<T>(alloc) else {
@@ -52,7 +52,7 @@ fn each_command_over_a_ring(rt: HostRuntime) -> Result<(), Fail> {
     Ok(())
 }
 
-/// Moves to places, and to none.
+/// Moves to places, and moves without a target.
 const MOVES: &[(Call, Reply)] = &[
     (Call::Undo, imp_at!(0, 0, 5)),
     (Call::Undo, Err(Refusal::NothingToUndo)),
@@ -80,7 +80,7 @@ fn moves_over_each_tape(rt: HostRuntime) -> Result<(), Fail> {
     Ok(())
 }
 
-/// A run that is refused leaves the session as it was.
+/// Checks that a run that is refused leaves the session as it was.
 fn check_refused_run<T: Begin>(rt: &impl Abort, alloc: Global) {
     let (Some(mut session), Some(mut twin)) = (with_future::<T>(alloc), with_future::<T>(alloc))
     else {
@@ -103,7 +103,7 @@ fn a_refused_run(rt: HostRuntime) -> Result<(), Fail> {
     Ok(())
 }
 
-/// How many places a tape has room for without memory, up to 100.
+/// Returns how many places a tape has room for without allocating, up to 100.
 fn room_of<T: Tape>(tape: &mut T) -> u64 {
     let mut room = 0;
     for n in 1..101 {
@@ -114,7 +114,7 @@ fn room_of<T: Tape>(tape: &mut T) -> u64 {
     room
 }
 
-/// A run that is refused leaves the tape's room as it was: at least the three places that follow.
+/// Checks that a run that is refused leaves the tape's room as it was: at least the three places that follow.
 fn check_room<T: Begin>(rt: &impl Abort, alloc: Global) {
     let Some(session) = with_future::<T>(alloc) else {
         return;
@@ -139,7 +139,7 @@ fn room_after_a_refused_run(rt: HostRuntime) -> Result<(), Fail> {
     Ok(())
 }
 
-/// A session begins at its tape's one place.
+/// Checks that a session begins at its tape's only place.
 fn check_beginning<T: Begin>(rt: &impl Abort, alloc: Global) {
     let Some(tape) = tape::<T>(alloc) else {
         return;

@@ -1,4 +1,4 @@
-//! A tape that is refused memory after so many growths, and counts the places that it goes over.
+//! A tape whose allocations fail after a number of them, and which counts the places that it passes.
 ghost use Rattle.std.proofs.Common.{refl, rules};
 ghost use Rattle.std.specs.Prelude.{◌≡◌, ◌≤◌, false};
 ghost use Rattle.mars_session.specs.History.{following, cut, back, forward};
@@ -9,7 +9,7 @@ use mars_session::Tape;
 use std::alloc::{AllocError, Global};
 use std::marker::Model;
 
-/// A tape that forgets nothing, to which `room` places may still be appended, and which may grow so many times.
+/// A tape that keeps all places, has room for `room` more, and may grow a number of times.
 #[derive(Drop)]
 pub struct PoorTape<T: Tape> {
     tape: T,
@@ -30,7 +30,7 @@ impl<T: Tape> Model for PoorTape<T> {
     ghost invariant = { λ t. (following (T.history t.tape) ≤ t.room) × (t.room ≤ T.room t.tape) × (T.FORGETS ≡ false) };
 }
 
-/// How many places follow the present one.
+/// Returns the number of places after the present one.
 fn places_after<T: Tape>(tape: &T) -> u64
     ensures value { result ≡ following (T.history tape.now) }
     ensures covered { result ≤ T.room tape.now }
@@ -39,7 +39,7 @@ fn places_after<T: Tape>(tape: &T) -> u64
 }
 
 impl<T: Tape> PoorTape<T> {
-    /// The tape, with room for what follows alone, and so many growths to come.
+    /// Wraps a tape, with room for only the places that follow, and `growths` allocations that succeed.
     pub fn new(tape: T, growths: u64) -> PoorTape<T>
         requires { T.FORGETS ≡ false }
         ensures { result.history ≡ T.history tape }
@@ -53,7 +53,7 @@ impl<T: Tape> PoorTape<T> {
         }
     }
 
-    /// How many places it went back and on, all in all.
+    /// Returns how many steps back and forward it took in total.
     pub fn walked(&self) -> u64 {
         self.walked
     }

@@ -27,21 +27,21 @@ macro_rules! cell {
     };
 }
 
-/// A turn of a lone warrior, and what it leaves.
+/// A turn of a single warrior, and its result.
 struct Turn {
     core_size: u32,
     processes: u32,
-    /// The cells from address 0 on, before the turn and after it.
+    /// Cells from address 0 on, before the turn and after it.
     before: &'static [Cell],
     after: &'static [Cell],
     queue: &'static [u32],
     reply: Reply,
-    /// How many changes of cells its record has.
+    /// Number of changes of cells in its record.
     changes: usize,
 }
 
 const TURNS: &[Turn] = &[
-    // One number of the executing cell is lowered by its mode, and the other is added to.
+    // The mode decrements one number of the executing cell, and the opcode adds to the other.
     Turn {
         core_size: 8,
         processes: 8,
@@ -65,7 +65,7 @@ const TURNS: &[Turn] = &[
         reply: imp_at!(1, 1, 1),
         changes: 2,
     },
-    // A number is lowered by its mode, and then by the opcode.
+    // The mode and then the opcode decrement the same number.
     Turn {
         core_size: 8,
         processes: 8,
@@ -95,7 +95,7 @@ const TURNS: &[Turn] = &[
         reply: imp_at!(1, 1, 1),
         changes: 2,
     },
-    // One cell is written three times: lowered and raised by the modes, and then its other number by the opcode.
+    // One cell is written three times: the modes decrement and increment it, and then the opcode writes its other number.
     Turn {
         core_size: 8,
         processes: 8,
@@ -125,7 +125,8 @@ const TURNS: &[Turn] = &[
         reply: imp_at!(1, 1, 1),
         changes: 3,
     },
-    // A cell is copied on itself, and so is the number that the modes lower and raise: all stays, and the record has each write.
+    // A cell is copied to itself, and the modes decrement and increment the same number. The core stays the same, but the
+    // record has each write.
     Turn {
         core_size: 8,
         processes: 8,
@@ -173,7 +174,7 @@ const TURNS: &[Turn] = &[
         reply: at!(1, 0, 0, 0, 1, 1),
         changes: 1,
     },
-    // 0 is lowered to the greatest number.
+    // 0 is decremented to the core size minus 1.
     Turn {
         core_size: 8,
         processes: 8,
@@ -186,7 +187,7 @@ const TURNS: &[Turn] = &[
         reply: imp_at!(1, 1, 1),
         changes: 1,
     },
-    // A split for which there is just room.
+    // A split for which the queue has just enough room.
     Turn {
         core_size: 8,
         processes: 2,
@@ -222,7 +223,7 @@ const TURNS: &[Turn] = &[
     },
 ];
 
-/// A tape at the battle of the warrior alone, before its turn.
+/// A tape at the battle of the single warrior, before its turn.
 fn tape_before<T: Start>(alloc: Global, turn: &Turn) -> Result<T, Fail> {
     let longest = u32::try_from(turn.before.len()).ok().ok_or("length")?;
     let params = params_of(turn.core_size, turn.processes, longest)?;
@@ -230,7 +231,7 @@ fn tape_before<T: Start>(alloc: Global, turn: &Turn) -> Result<T, Fail> {
     T::start(alloc, battle_in(alloc, &params, &warriors, &[0])?)
 }
 
-/// The cells from address 0 on are these, and the warrior's processes stand there.
+/// Checks the cells from address 0 on, and the processes of the warrior.
 fn check_state<T: Tape>(
     rt: &impl Abort,
     session: &Session<T>,
@@ -245,7 +246,7 @@ fn check_state<T: Tape>(
     Ok(())
 }
 
-/// The turn leads from one state to the other; undo and redo lead back and on.
+/// Checks that the turn leads from one state to the other, and that undo and redo lead back and forward.
 fn check_steps<T: Tape>(
     rt: &impl Abort,
     session: &mut Session<T>,
@@ -259,7 +260,7 @@ fn check_steps<T: Tape>(
     check_state(rt, session, turn.after, turn.queue)
 }
 
-/// So it is over a tape of this kind.
+/// Checks a turn, its undo and its redo over one kind of tape.
 fn check_turn<T: Start + Drop>(rt: &impl Abort, alloc: Global, turn: &Turn) -> Result<(), Fail> {
     let mut session = Session::new(tape_before::<T>(alloc, turn)?, 100);
     let checked = check_steps(rt, &mut session, turn);
@@ -278,14 +279,14 @@ fn one_turn(mut tape: DeltaTape) -> Result<DeltaTape, Fail> {
     Ok(tape)
 }
 
-/// The turn's record has so many changes.
+/// Checks the number of changes in the turn's record.
 fn check_record(rt: &impl Abort, alloc: Global, turn: &Turn) -> Result<(), Fail> {
     let tape = one_turn(tape_before(alloc, turn)?)?;
     assert_eq!(rt; tape.atom(0).ok_or("a record")?.cells.len(), turn.changes);
     Ok(())
 }
 
-/// Over each kind of tape a turn, its undo and its redo give the same replies and states.
+/// Over each kind of tape a turn, its undo and its redo have the same replies and states.
 #[test]
 fn turns_back_and_forth(rt: HostRuntime) -> Result<(), Fail> {
     let alloc = rt.alloc();
@@ -298,7 +299,7 @@ fn turns_back_and_forth(rt: HostRuntime) -> Result<(), Fail> {
     Ok(())
 }
 
-/// A full queue takes the first address of a split alone.
+/// A split with a full queue queues only its first address.
 const SPLIT_OF_A_FULL_QUEUE: &[Check] = &[
     Check::Gives(Call::Step, imp_at!(1, 1, 1)),
     Check::Queue(&[1]),
@@ -314,7 +315,7 @@ fn check_split<T: Start + Drop>(rt: &impl Abort, alloc: Global) -> Result<(), Fa
     Ok(())
 }
 
-/// Its record has that address alone.
+/// Checks that the record of this split has only that address.
 fn check_split_record(rt: &impl Abort, alloc: Global) -> Result<(), Fail> {
     let tape = one_turn(lone_tape(alloc, 1, &[SPLIT])?)?;
     let record = tape.atom(0).ok_or("a record")?;

@@ -1,4 +1,4 @@
-//! What is refused, and that it changes nothing.
+//! Which calls are refused, and that a refused call changes nothing.
 ghost use Rattle.std.specs.Prelude.{◌≡◌, false};
 
 use super::{
@@ -14,7 +14,7 @@ use std::test::Fail;
 /// A cell whose A-number is outside a core of 8 cells.
 const OUTSIDE: Cell = direct!(Op::Dat, Modifier::F, 8, 0);
 
-/// A cell whose B-number is.
+/// A cell whose B-number is outside a core of 8 cells.
 const OUTSIDE_BY_B: Cell = direct!(Op::Dat, Modifier::F, 0, 8);
 
 const REFUSED_RUN: [(Call, Reply); 5] = [
@@ -30,7 +30,7 @@ const TWO_REDOS: &[(Call, Reply)] = &[
     (Call::Redo, imp_at!(2, 2, 2)),
 ];
 
-/// A run that is refused for memory leaves cells and queues, and both steps are still there to be redone.
+/// Checks that a run that runs out of memory leaves cells and queues, and that both steps can still be redone.
 fn check_refused_run<T: Start + Drop>(rt: &impl Abort, alloc: Global) -> Result<(), Fail>
     requires { T.FORGETS ≡ false }
 {
@@ -62,7 +62,7 @@ const REFUSALS_IN_ORDER: &[(Call, Reply)] = &[
     (Call::Until(0), Err(Refusal::Over)),
 ];
 
-/// The first refusal that applies is the one that is given: of a dead warrior, and of a battle that is over.
+/// The first refusal that applies is returned, for a dead warrior and for a battle that is over.
 #[test]
 fn refusals_in_order(rt: HostRuntime) -> Result<(), Fail> {
     stayers_give(&rt, rt.alloc(), REFUSALS_IN_ORDER)
@@ -107,7 +107,7 @@ fn numbers_past_every_limit(rt: HostRuntime) -> Result<(), Fail> {
 
 const CHANGED: Cell = direct!(Op::Nop, Modifier::F, 1, 0);
 
-/// Of the calls, the one that is accepted alone changes a cell.
+/// Calls of which only the accepted one changes a cell.
 const ONE_EDIT: &[Check] = &[
     Check::Cell(7, BLANK),
     Check::Cell(0, COPIER),

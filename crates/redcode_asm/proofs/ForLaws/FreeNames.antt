@@ -1,4 +1,4 @@
--- Names are free: a program with its names spelled otherwise gives the same warrior.
+-- Names are free: a program with other names that mean the same is assembled to the same warrior.
 use Rattle.std.proofs.Common.{◌≡◌, refl, ◌∙◌, ap, ℕ, ◌+◌, pos, ◌&&◌, ◌||◌, true, false, List, [], ◌∷◌, length, nat_lt, is_some, Option, Some, None, Result, Ok}
 use Rattle.std.specs.Prelude.{not, filter, option_map, ◌-ℤ◌}
 use Rattle.mars_cell.specs.declared.instruction.Modifier.{Modifier}
@@ -16,11 +16,11 @@ use Rattle.redcode_asm.specs.Assembly.{Placed, asserts_hold, as_start, at_line, 
 use Rattle.redcode_asm.specs.Laws.{SaysTheSame}
 
 module _ (ps : Predefined) (s : ProgramValue) (names : List (List ℕ)) (same : (n : ℕ) → SaysTheSame ps (name_at s.names n) (name_at names n)) where
-  -- the program with the other names
+  -- The program with the other names.
   abbrev other : ProgramValue
   other = record s { names = names }
 
-  -- ---- lines
+  -- ---- Lines
 
   org-same : (o : Option ℕ) → is_org s.names o ≡ is_org names o
   org-same None = refl
@@ -45,7 +45,7 @@ module _ (ps : Predefined) (s : ProgramValue) (names : List (List ℕ)) (same : 
   instructions-same : instructions s ≡ instructions other
   instructions-same = λ i. filter (λ p. instruction-same p.line.operation p.line.rest i) (placed-same i)
 
-  -- ---- values
+  -- ---- Values
 
   known-same : (index n : ℕ) → known_value ps s index n ≡ known_value ps other index n
   known-same index n = (same n).value index
@@ -53,7 +53,7 @@ module _ (ps : Predefined) (s : ProgramValue) (names : List (List ℕ)) (same : 
   value-same : (origin index n : ℕ) → name_value ps s origin index n ≡ name_value ps other origin index n
   value-same origin index n = λ i. value_or (option_map (λ j. pos j -ℤ pos origin) (label_among (placed-same i) n)) (known-same index n i)
 
-  -- ---- cells
+  -- ---- Cells
 
   opcode-same : (o : Option ℕ) → opcode_of s.names o ≡ opcode_of names o
   opcode-same None = refl
@@ -79,7 +79,7 @@ module _ (ps : Predefined) (s : ProgramValue) (names : List (List ℕ)) (same : 
   cells-same m [] = refl
   cells-same m (p ∷ is) = λ i. at_line p.line.number (cell-same m p i) >>= λ c. cells-same m is i >>= λ cs. Ok (c ∷ cs)
 
-  -- ---- the start
+  -- ---- The start
 
   at-same : (count : ℕ) (p : Placed) (ts : List Token) → start_at ps s count p ts ≡ start_at ps other count p ts
   at-same count p ts = λ i. value_in (λ n. value-same 0 p.index n i) ts >>= as_start count
@@ -98,7 +98,7 @@ module _ (ps : Predefined) (s : ProgramValue) (names : List (List ℕ)) (same : 
       by-same count (last_where (λ l. is_org s.names l.operation) (placed s)) (last_where (λ l. is_end s.names l.operation) (placed s))
       ∙ (λ i. start_by ps other count (last_where (λ l. org-same l.operation i) (placed-same i)) (last_where (λ l. end-same l.operation i) (placed-same i)))
 
-  -- ---- asserts, and the whole
+  -- ---- Asserts, and the whole
 
   asserts-same : (all : List Assert) → asserts_hold ps s all ≡ asserts_hold ps other all
   asserts-same [] = refl

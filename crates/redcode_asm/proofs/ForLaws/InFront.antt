@@ -1,4 +1,4 @@
--- An instruction in front moves nothing.
+-- An instruction in front of a program moves nothing.
 use Rattle.std.proofs.Common.{◌≡◌, ◌≢◌, ◌∙◌, ℕ, ◌+◌, ◌==◌, pos, ℤ, Bool, true, false, cond, List, [], ◌∷◌, map, Option, Some, None, Ok, refl, ap, sym, arith, codes}
 use Rattle.std.specs.Prelude.{filter, option_map, ◌-ℤ◌}
 use Rattle.std.specs.List.{list_any}
@@ -11,14 +11,14 @@ use Rattle.redcode_text.specs.Lines.{Line, Predefined, name_at, is_instruction, 
 use Rattle.redcode_asm.specs.Assembly.{Placed, at_line, cell_from, cell_of, cells_of, index_after, instructions, known_value, label_among, name_value, opcode_of, placed, placed_from, replaced, split_modifier, value_or}
 use Rattle.redcode_asm.specs.Laws.{with_line_in_front}
 
--- a line, and an index, with one more instruction before it
+-- A line whose index is 1 greater.
 abbrev moved : Placed → Placed
 moved p = record { index = p.index + 1; line = p.line }
 
 abbrev moved_index : Option ℕ → Option ℕ
 moved_index o = option_map (λ i. i + 1) o
 
--- ---- lists
+-- ---- Lists
 
 placed-moved : (names : List (List ℕ)) (index : ℕ) (ls : List Line) → placed_from names (index + 1) ls ≡ map moved (placed_from names index ls)
 placed-moved names index [] = refl
@@ -51,7 +51,7 @@ label-moved (p ∷ rest) n = go (list_any (λ m. m == n) p.line.labels) (label-m
     go true h = refl
     go false h = h
 
--- ---- names
+-- ---- Names
 
 not-equal : (a b : List ℕ) → a ≢ b → bytes_eq b a ≡ false
 not-equal a b apart = go (bytes_eq b a) refl
@@ -60,13 +60,13 @@ not-equal a b apart = go (bytes_eq b a) refl
     go false e = e
     go true e = absurd (apart (sym ((bytes_eq-Decides b a).0 e)))
 
--- a distance between two indices that moved
+-- The distance between two indices is unchanged if both are 1 greater.
 distance-moved : (o : Option ℕ) (index : ℕ) (known : Option ℤ)
     → value_or (option_map (λ j. pos j -ℤ pos (index + 1)) (moved_index o)) known ≡ value_or (option_map (λ j. pos j -ℤ pos index) o) known
 distance-moved None index known = refl
 distance-moved (Some j) index known = let e : pos (j + 1) -ℤ pos (index + 1) ≡ pos j -ℤ pos index = omega (arith, ints) in ap Some e
 
--- ---- a program with a line in front
+-- ---- A program with a line in front
 
 module _ (ps : Predefined) (s : ProgramValue) (l : Line) (unlabelled : l.labels ≡ []) (is : is_instruction s.names l.operation l.rest ≡ true) (free : (n : ℕ) → name_at s.names n ≢ codes "CURLINE") where
   abbrev front : ProgramValue

@@ -1,4 +1,4 @@
--- The load file of an assembled warrior is read as the warrior.
+-- The load file of an assembled warrior is read as that warrior.
 use Rattle.std.proofs.Common.{◌≡◌, ◌∙◌, refl, ap, subst, ℕ, ◌<◌, ◌≤◌, ℤ, pos, negsuc, List, [], ◌∷◌, length, drop, All, Bool, true, false, cond, nat_lt, Option, Some, None, Result, Ok, Err, arith}
 use Rattle.std.proofs.lemmas.List.{length-drop}
 use Rattle.std.proofs.lemmas.List.Elements.{All-nil, All-cons}
@@ -26,7 +26,7 @@ use Rattle.redcode_asm.specs.declared.fault.AsmProblem.TheVariants.{BadOrigin}
 use Rattle.redcode_asm.specs.Assembly.{Placed, as_start, assembly, asserts_hold, at_line, cell_from, cell_of, cell_with, cells_of, end_operand, end_start, given_operands, instructions, last_where, length_checked, name_value, none_past, not_empty, opcode_of, operand_value, org_start, placed, predefined, replaced, split_mode, split_modifier, start_at, start_by, start_of, text_read, value_in, warrior_of}
 use Rattle.redcode_asm.proofs.Counts.{cells-counted}
 
--- a result comes from that of each step
+-- If two steps succeed together, each of them succeeds.
 given_by : {A B E : Type 0} (r : Result A E) (f : A → Result B E) (b : B) → (r >>= f) ≡ Ok b → (a : A) × (r ≡ Ok a) × (f a ≡ Ok b)
 given_by (Ok a) f b e = (a, refl, e)
 given_by (Err x) f b e = absurd (cc)
@@ -35,7 +35,7 @@ on_line : {A : Type 0} (n : ℕ) (r : Result A AsmProblem) (a : A) → at_line n
 on_line n (Ok x) a e = let same : x ≡ a = cc in ap (λ y. Ok y) same
 on_line n (Err x) a e = absurd (cc)
 
--- ---- cells
+-- ---- Cells
 
 residue-below : (m : ℕ) (z : ℤ) → 1 ≤ m → residue m z < m
 residue-below m (pos n) some = omega arith
@@ -77,7 +77,7 @@ cells-fit ps m source (p ∷ is) cells some e =
     let same : c.0 ∷ cs.0 ≡ cells = cc in
     subst (All (FitsCore m)) same (All-cons (FitsCore m) c.0 cs.0 (cell-fits ps m source p c.0 some (on_line p.line.number (cell_of ps m source p) c.0 c.1)) (cells-fit ps m source is cs.0 some cs.1))
 
--- ---- length and start
+-- ---- Length and start
 
 past-none : (is : List Placed) → none_past is ≡ Ok tt → length is ≡ 0
 past-none [] e = refl
@@ -113,9 +113,9 @@ by-below ps source count None (Some p) n some e =
     end-below ps source count p ts.0 n some ts.2
 by-below ps source count None None n some e = let same : 0 ≡ n = cc in omega (arith, some, same)
 
--- ---- the whole
+-- ---- The whole
 
--- what reading back asks of a warrior
+-- The conditions under which a warrior's load file is read back.
 record CanBeRead (p : Parameters) (w : WarriorValue) : Type 0 where
   pub warrior : IsWarrior w
   pub few : length w.cells ≤ p.max_length

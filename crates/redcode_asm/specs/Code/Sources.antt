@@ -1,4 +1,4 @@
--- Lines, operands and cells as the code holds them.
+-- Lines, operands and cells as the code represents them.
 use Rattle.std.specs.Prelude.{◌++◌, ℕ, List, Result, Ok, filter, option_map}
 use Rattle.mars_cell.specs.declared.instruction.Cell.{Cell}
 use Rattle.mars_cell.specs.Warriors.{WarriorValue}
@@ -14,18 +14,18 @@ use Rattle.redcode_asm.specs.declared.places.Place.{Place}
 abbrev pub operands_in : OperandSlices → Operands
 operands_in slices = record { a = option_map (λ tokens. tokens.now) slices.a; b = option_map (λ tokens. tokens.now) slices.b }
 
--- a line as the code holds it
+-- The line and the index that the code's `Place` represents.
 abbrev pub placed_of : Place → Placed
 placed_of place = record { index = place.index; line = line_of place.line.now }
 
--- cells, and those of a result behind them
+-- `cells` followed by the cells of the result `rest`.
 abbrev pub behind_cells : List Cell → Result (List Cell) AsmFault → Result (List Cell) AsmFault
 behind_cells cells rest = rest >>= λ more. Ok (cells ++ more)
 
--- the cells of the instructions among lines, of which the first has so many instructions before it
+-- The cells of the instructions among `ls`. `index` instructions precede the first of the lines.
 abbrev pub cells_among : Predefined → ℕ → ProgramValue → ℕ → List Line → Result (List Cell) AsmFault
 cells_among ps m source index ls = cells_of ps m source (filter (λ p. is_instruction source.names p.line.operation p.line.rest) (placed_from source.names index ls))
 
--- the warrior of a program with these cells
+-- The warrior with the given cells and start, and with the name and the author of `source`.
 abbrev pub warrior_from : ProgramValue → List Cell → ℕ → WarriorValue
 warrior_from source cells start = record { name = source.name; author = source.author; cells = cells; start = start }

@@ -1,4 +1,4 @@
--- Worked examples: formulas and their values.
+-- Examples: score formulas and their values.
 use Rattle.std.specs.Prelude.{◌≡◌, ◌++◌, ℕ, List, ℤ, pos, Result, Ok, Err, codes, replicate, refl}
 use Rattle.redcode_text.specs.declared.fault.ExprFault.{ExprFault}
 use Rattle.redcode_text.specs.declared.fault.ExprFault.TheVariants.{Syntax, Unknown, DivideByZero, Range}
@@ -6,11 +6,11 @@ use Rattle.redcode_text.specs.Expression.{value_of, tree_within}
 use Rattle.redcode_text.specs.Tokens.{scanned}
 use Rattle.redcode_asm.specs.Formula.{formula_of, score_of}
 
--- the value of the formula of a text
+-- The value of the formula `t` for `w` warriors and `s` survivors.
 abbrev pub scored : List ℕ → ℕ → ℕ → Result ℤ ExprFault
 scored t w s = elim (formula_of t) [ Ok f ↦ score_of f (pos w) (pos s) | Err e ↦ Err e ]
 
--- the default formula, and formulas that have no value
+-- The default formula, and formulas without a value.
 pub row_scores :
     (scored (codes "(W*W-1)/S") 2 1 ≡ Ok (pos 3))
     × (scored (codes "(W*W-1)/S") 2 2 ≡ Ok (pos 1))
@@ -22,7 +22,7 @@ pub row_scores :
 unfolding scanned value_of tree_within
 row_scores = (refl, refl, refl, refl, refl, refl, refl)
 
--- texts that are no formulas
+-- Texts that are not formulas.
 pub row_no_formulas :
     (scored (codes "1+") 2 1 ≡ Err Syntax)
     × (scored (codes "") 2 1 ≡ Err Syntax)
@@ -33,7 +33,7 @@ pub row_no_formulas :
 unfolding scanned value_of tree_within
 row_no_formulas = (refl, refl, refl, refl, refl, refl)
 
--- the names are judged with the text, and a text has at most 256 bytes
+-- Only the names W and S, in upper case, are allowed, and a text has at most 256 bytes.
 pub texts_are_judged :
     (formula_of (codes "w") ≡ Err Unknown)
     × (formula_of (codes "S+s") ≡ Err Unknown)

@@ -1,4 +1,4 @@
--- Worked examples: load files of sources.
+-- Examples: load files of sources.
 use Rattle.std.specs.Prelude.{◌≡◌, Ok, Err, codes, refl}
 use Rattle.std.specs.Fmt.{digits}
 use Rattle.mars_cell.specs.Grammar.{default_modifier}
@@ -10,7 +10,7 @@ use Rattle.redcode_asm.specs.Assembly.{assembly}
 use Rattle.redcode_asm.specs.LoadFiles.{assembled_load}
 use Rattle.redcode_asm.specs.Examples.Warriors.{parameters}
 
--- the load file names the warrior and its author as the source does, or as nobody
+-- The load file has the name and the author that the source gives, or else Unknown and Anonymous.
 pub sources_as_load_files :
     (assembled_load (parameters 8000) 1 2 (codes ";name Dwarf\n;author A. K. Dewdney\nADD #4, 3\nMOV 2, @2\nJMP -2\nDAT #0, #0\n")
     ≡ Ok (codes ";load 2 8000\n;name Dwarf\n;author A. K. Dewdney\nORG 0\nADD.AB #4, $3\nMOV.I $2, @2\nJMP.B $-2, $0\nDAT.F #0, #0\n"))

@@ -1,4 +1,4 @@
--- Worked examples: which names may be spelled otherwise.
+-- Examples: names that may be replaced by other names.
 use Rattle.std.specs.Prelude.{codes, refl}
 use Rattle.mars_cell.specs.Words.{op_of, modifier_of}
 use Rattle.redcode_text.specs.Lines.{Predefined}
@@ -9,7 +9,7 @@ use Rattle.redcode_asm.specs.Laws.{SaysTheSame}
 abbrev ps : Predefined
 ps = predefined (parameters 8000) 2 3
 
--- a label may have any name, and an opcode, a modifier and a pseudo-opcode either case
+-- A label may have any name. Opcodes, modifiers and pseudo-opcodes may be written in either case, and CMP as SEQ.
 pub free_names : SaysTheSame ps (codes "loop") (codes "start") × SaysTheSame ps (codes "mov") (codes "MOV") × SaysTheSame ps (codes "x") (codes "X")
     × SaysTheSame ps (codes "org") (codes "Org") × SaysTheSame ps (codes "cmp") (codes "seq")
 unfolding op_of modifier_of
@@ -21,7 +21,7 @@ free_names = (
   record { opcode = refl; modifier = refl; org = refl; end = refl; value = λ n. refl },
 )
 
--- but an opcode isn't a label, nor another opcode, and neither is END, nor a predefined name
+-- An opcode may not be replaced by a label or by another opcode. The same holds for a modifier, END and a predefined name.
 pub names_that_say_something : (SaysTheSame ps (codes "mov") (codes "loop") → ⊥) × (SaysTheSame ps (codes "mov") (codes "add") → ⊥)
     × (SaysTheSame ps (codes "ab") (codes "ba") → ⊥) × (SaysTheSame ps (codes "end") (codes "loop") → ⊥) × (SaysTheSame ps (codes "org") (codes "end") → ⊥)
     × (SaysTheSame ps (codes "ROUNDS") (codes "WARRIORS") → ⊥) × (SaysTheSame ps (codes "CURLINE") (codes "loop") → ⊥)

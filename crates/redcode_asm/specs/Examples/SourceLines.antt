@@ -1,4 +1,4 @@
--- Worked examples: sources and where their instructions stand.
+-- Examples: sources, with the line and the labels of each instruction.
 use Rattle.std.specs.Prelude.{◌≡◌, ℕ, List, Result, Ok, Err, codes, refl}
 use Rattle.std.specs.Fmt.{digits}
 use Rattle.mars_cell.specs.Grammar.{default_modifier}
@@ -13,8 +13,9 @@ use Rattle.redcode_asm.specs.SourceLines.{source_lines}
 abbrev lines : List ℕ → Result (List ℕ) AsmFault
 lines source = source_lines (parameters 8000) 1 2 source
 
--- a line of a loop in each round, with joins done; labels of an ORG, and on lines of their own, the last of no instruction; a line for each
--- line of an EQU name, whose labels are the first one's
+-- A line in a FOR loop yields one line per iteration, with its `&` joins done. The labels of an ORG and labels on lines of
+-- their own belong to the next instruction, and are dropped after the last one. An EQU name that is used as an operation
+-- yields one line for each line of its definition, and the first one has the labels.
 pub lines_of_instructions :
     (lines (codes ";name x\ni FOR 2\nx&i DAT i, 0\nROF\n") ≡ Ok (codes "3 x01\n3 x02\n"))
     × (lines (codes "a ORG 1\n\nb:\nc: D NOP\nNOP\nlast") ≡ Ok (codes "4 a b c D\n5\n"))

@@ -1,4 +1,4 @@
--- Worked examples: sources and the warriors that they are assembled to.
+-- Examples: sources and the warriors that they are assembled to.
 use Rattle.std.specs.Prelude.{◌≡◌, ℕ, List, [], ◌∷◌, ◌++◌, map, Result, Ok, Err, codes, refl}
 use Rattle.std.specs.Fmt.{digits}
 use Rattle.mars_cell.specs.Grammar.{default_modifier}
@@ -22,7 +22,7 @@ text (l ∷ ls) = l ++ 10 ∷ text ls
 abbrev pub parameters : ℕ → Parameters
 parameters m = record { core_size = m; processes = 8; cycles = 10; read_limit = m; write_limit = m; max_length = 4; distance = 4 }
 
--- the start and the text of each cell
+-- The start of a warrior and the text of each of its cells, or the error.
 abbrev pub Listing : Type 0
 Listing = Result (ℕ × List (List ℕ)) AsmFault
 
@@ -37,7 +37,7 @@ assembled ls = listed 8000 (assembly (parameters 8000) 2 3 (text ls))
 abbrev pub fault : ℕ → AsmProblem → Listing
 fault n p = Err (record { line = n; problem = p })
 
--- modifiers and modes that aren't written
+-- Default modifiers and modes.
 pub row_defaults :
     (assembled (codes "ADD #4, 3" ∷ codes "MOV 2, @2" ∷ codes "JMP -2" ∷ codes "DAT #0, #0" ∷ []) ≡ Ok (0, codes "ADD.AB #4, $3" ∷ codes "MOV.I $2, @2" ∷ codes "JMP.B $-2, $0" ∷ codes "DAT.F #0, #0" ∷ []))
     × (assembled (codes "DAT 5" ∷ codes "SPL 2" ∷ codes "CMP 1, #2" ∷ codes "nop" ∷ []) ≡ Ok (0, codes "DAT.F $0, $5" ∷ codes "SPL.B $2, $0" ∷ codes "SEQ.B $1, #2" ∷ codes "NOP.F $0, $0" ∷ []))
@@ -45,24 +45,24 @@ pub row_defaults :
 unfolding assembly expansion value_of tree_within digits default_modifier op_of modifier_of
 row_defaults = (refl, refl, refl)
 
--- each mode by its byte, and NOP's one operand
+-- Every mode, and NOP with one operand.
 pub modes_are_read :
     (assembled (codes "MOV #1, $2" ∷ codes "MOV *1, @2" ∷ codes "MOV {1, <2" ∷ codes "MOV }1, >2" ∷ []) ≡ Ok (0, codes "MOV.AB #1, $2" ∷ codes "MOV.I *1, @2" ∷ codes "MOV.I {1, <2" ∷ codes "MOV.I }1, >2" ∷ []))
     × (assembled (codes "NOP 5" ∷ []) ≡ Ok (0, codes "NOP.F $5, $0" ∷ []))
 unfolding assembly expansion value_of tree_within digits default_modifier op_of modifier_of
 modes_are_read = (refl, refl)
 
--- parameters that all differ
+-- Parameters with different values, except that both limits are the core size.
 abbrev others : Parameters
 others = record { core_size = 80; processes = 7; cycles = 11; read_limit = 80; write_limit = 80; max_length = 3; distance = 5 }
 
--- the predefined names
+-- The values of the predefined names.
 pub names_are_predefined : listed 80 (assembly others 2 9 (text (codes "DAT CORESIZE-1, MAXPROCESSES" ∷ codes "DAT MAXCYCLES, MAXLENGTH" ∷ codes "DAT MINDISTANCE, ROUNDS*10+WARRIORS" ∷ [])))
     ≡ Ok (0, codes "DAT.F $-1, $7" ∷ codes "DAT.F $11, $3" ∷ codes "DAT.F $5, $29" ∷ [])
 unfolding assembly expansion value_of tree_within digits default_modifier op_of modifier_of
 names_are_predefined = refl
 
--- operations and operands that aren't there
+-- Unknown operations and modifiers, and missing operands.
 pub row_operations :
     (assembled (codes "JMP" ∷ []) ≡ fault 1 Operand)
     × (assembled (codes "STP 1, 2" ∷ []) ≡ fault 1 Operation)
@@ -81,7 +81,7 @@ pub row_operations :
 unfolding assembly expansion value_of tree_within digits default_modifier op_of modifier_of
 row_operations = (refl, refl, refl, refl, refl, refl, refl, refl, refl, refl, refl, refl, refl, refl)
 
--- labels count from their instruction, EQU names may stand before their definition
+-- Labels are relative to their instruction, and an EQU name may be used before its definition.
 pub row_names :
     (assembled (codes "FOR 0" ∷ codes "this is prose" ∷ codes "ROF" ∷ codes "i FOR 2" ∷ codes "x&i DAT i, 0" ∷ codes "ROF" ∷ codes "DAT x02, x01" ∷ []) ≡ Ok (0, codes "DAT.F $1, $0" ∷ codes "DAT.F $2, $0" ∷ codes "DAT.F $-1, $-2" ∷ []))
     × (assembled (codes "FOR 0" ∷ codes "this is prose" ∷ codes "ROF" ∷ codes "i FOR 2" ∷ codes "x&i DAT i, 0" ∷ codes "DAT x02, x01" ∷ []) ≡ fault 4 (Text UnclosedFor))
@@ -96,7 +96,7 @@ pub row_names :
 unfolding assembly expansion value_of tree_within digits default_modifier op_of modifier_of
 row_names = (refl, refl, refl, refl, refl, refl, refl, refl, refl, refl)
 
--- the last ORG counts, else the operand of END
+-- The last ORG has precedence over the operand of END.
 pub row_starts :
     (assembled (codes "ORG 4" ∷ codes "NOP" ∷ codes "NOP" ∷ codes "ORG b" ∷ codes "b NOP" ∷ codes "END 1" ∷ []) ≡ Ok (2, codes "NOP.F $0, $0" ∷ codes "NOP.F $0, $0" ∷ codes "NOP.F $0, $0" ∷ []))
     × (assembled (codes "NOP" ∷ codes "b NOP" ∷ codes "END b" ∷ codes "NOP 1x" ∷ []) ≡ Ok (1, codes "NOP.F $0, $0" ∷ codes "NOP.F $0, $0" ∷ []))
@@ -109,7 +109,7 @@ pub row_starts :
 unfolding assembly expansion value_of tree_within digits default_modifier op_of modifier_of
 row_starts = (refl, refl, refl, refl, refl, refl, refl, refl)
 
--- instructions, then the length, then the start, then the asserts
+-- The order of the errors: instructions, length, start, asserts.
 pub row_order :
     (assembled (codes ";assert 0" ∷ codes "ORG 9" ∷ codes "NOP" ∷ codes "NOP" ∷ codes "NOP" ∷ codes "NOP" ∷ codes "NOP" ∷ codes "NOP x" ∷ []) ≡ fault 8 (Expression Unknown))
     × (assembled (codes ";assert 0" ∷ codes "ORG 9" ∷ codes "NOP" ∷ codes "NOP" ∷ codes "NOP" ∷ codes "NOP" ∷ codes "NOP" ∷ codes "NOP 1" ∷ []) ≡ fault 7 TooLong)
@@ -122,14 +122,14 @@ pub row_order :
 unfolding assembly expansion value_of tree_within digits default_modifier op_of modifier_of
 row_order = (refl, refl, refl, refl, refl, refl, refl, refl)
 
--- an assert holds where it isn't 0, by EQU names that may stand behind it; each has to
+-- An assert holds if its value is not 0. It may use EQU names that are defined after it, and every assert must hold.
 pub asserts_are_judged :
     (assembled (codes ";assert 2" ∷ codes ";assert -1" ∷ codes ";assert x" ∷ codes "NOP" ∷ codes "x EQU 1" ∷ []) ≡ Ok (0, codes "NOP.F $0, $0" ∷ []))
     × (assembled (codes ";assert 1" ∷ codes ";assert x-1" ∷ codes "NOP" ∷ codes "x EQU 1" ∷ []) ≡ fault 2 AssertFailed)
 unfolding assembly expansion value_of tree_within digits default_modifier op_of modifier_of
 asserts_are_judged = (refl, refl)
 
--- in a core of one cell every number is 0
+-- In a core of one cell every number is 0.
 pub row_small_core :
     (listed 1 (assembly (parameters 1) 1 1 (text (codes ";assert CORESIZE==8000" ∷ codes "ADD.F }0, {0" ∷ []))) ≡ fault 1 AssertFailed)
     × (listed 1 (assembly (parameters 1) 1 1 (text (codes "ADD.F }5, {-7" ∷ []))) ≡ Ok (0, codes "ADD.F }0, {0" ∷ []))

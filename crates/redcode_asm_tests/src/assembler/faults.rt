@@ -1,4 +1,4 @@
-//! Faults and their order, at each beginning of a source, and as they are displayed.
+//! Errors and their order for every prefix of a source, and how errors are displayed.
 use super::{
     Beginnings, COPIES, Faulty, LOOPS, SYNTAX, UNKNOWN, check_faults, check_listing, core_of,
     fault_of, short_warriors,
@@ -150,7 +150,7 @@ const BEGINNINGS_OF_COPIES: Beginnings = &[
     (100, None),
 ];
 
-/// Each beginning of the source has its fault.
+/// Checks that each prefix of the source has its error.
 fn check_beginnings(
     rt: &impl Abort,
     alloc: Global,

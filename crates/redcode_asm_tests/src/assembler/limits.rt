@@ -1,4 +1,4 @@
-//! The limits of a source, at their value and one past it.
+//! The limits of a source, at their value and one beyond.
 use crate::assembler::{UNKNOWN, check_faults, check_listing, core_of, fault_of};
 use redcode_asm::{AsmFault, AsmProblem};
 use redcode_text::{ExprFault, TextProblem};
@@ -6,7 +6,7 @@ use std::alloc::Global;
 use std::process::Abort;
 use std::test::Fail;
 
-/// A text, so many copies of another, and an end.
+/// A text, then `count` copies of `part`, then an end.
 fn repeated(
     alloc: Global,
     front: &[u8],
@@ -22,7 +22,7 @@ fn repeated(
     Ok(text)
 }
 
-/// `e0 EQU 1`, each next name twice the one before, up to this one, and a DAT of the last.
+/// `e0 EQU 1`, then names up to number `last`, each twice the previous one, then a DAT of the last one.
 fn doublings(alloc: Global, last: usize) -> Result<Vec<u8>, Fail> {
     let mut text = Vec::from_slice(alloc, b"e0 EQU 1\n")?;
     for number in 0..last {
@@ -33,7 +33,7 @@ fn doublings(alloc: Global, last: usize) -> Result<Vec<u8>, Fail> {
     Ok(text)
 }
 
-/// `e0 EQU 1`, each next name the one before, up to this one, and a DAT of the last.
+/// `e0 EQU 1`, then names up to number `last`, each equal to the previous one, then a DAT of the last one.
 fn chain(alloc: Global, last: usize) -> Result<Vec<u8>, Fail> {
     let mut text = Vec::from_slice(alloc, b"e0 EQU 1\n")?;
     for number in 0..last {
@@ -94,7 +94,8 @@ fn nested_names(rt: HostRuntime) -> Result<(), Fail> {
     Ok(())
 }
 
-/// A text, how many copies of another follow it, and an end; and where the fault of such a source is, if it has one.
+/// A text, a part, how many copies of the part follow the text, and an end; then the line of the error and the error,
+/// if the source has one.
 type Repeated = (
     &'static [u8],
     &'static [u8],
@@ -103,7 +104,7 @@ type Repeated = (
     Option<(usize, AsmProblem)>,
 );
 
-/// Each of these sources has its fault, or none.
+/// Checks that each source has its error, or none.
 fn check_repeated(rt: &impl Abort, alloc: Global, rows: &[Repeated]) -> Result<(), Fail> {
     let params = core_of(8000)?;
     for (front, part, count, end, expected) in rows {
@@ -153,8 +154,8 @@ fn most_signs(rt: HostRuntime) -> Result<(), Fail> {
     listed
 }
 
-/// Sources without an instruction, of as many lines or tokens as may be read, and of one more. Those that come of an EQU name
-/// count, too, and those of asserts; a fault has the line of the use.
+/// Sources without an instruction that have exactly as many lines or tokens as may be read, or one more. The lines and
+/// tokens of an EQU definition count at each use, and so do those of asserts. The error has the line of the use.
 const LINES_AND_TOKENS_OF_NAMES: [Repeated; 6] = [
     (
         b"x EQU\n\n",

@@ -1,5 +1,5 @@
-//! Calls that are refused memory. Each test holds whichever one of its requests is refused, since a second try has memory:
-//! checks/memory refuses each in turn.
+//! Calls whose allocations fail. Each test tries the call again if memory runs out, so it passes whichever allocation
+//! fails. checks/memory lets each allocation fail in turn.
 use mars_cell::{Params, Warrior};
 use redcode_asm::{AsmFault, AsmProblem, Formula, FormulaFault, assemble, assemble_load};
 use std::alloc::Global;
@@ -9,7 +9,7 @@ use std::test::Fail;
 const SOURCE: &[u8] =
     b";redcode\n;name Four\n;assert MAXLENGTH >= 4\nstep EQU 4\ni FOR 2\nx&i ADD.AB #step, i+last\nROF\nlast JMP x01\nDAT x02, -1\nEND last\n";
 
-/// Whether a warrior has the name, the start and the numbers of the source's.
+/// Whether a warrior has the name, the start and the numbers that the source gives.
 fn is_four(warrior: &Warrior) -> bool {
     let mut numbers = [(0, 0); 4];
     for (pair, cell) in numbers.iter_mut().zip(warrior.cells()) {
@@ -64,7 +64,7 @@ fn a_load_file_is_made(rt: HostRuntime) -> Result<(), Fail> {
     Ok(())
 }
 
-/// The default formula, with a second try where memory is wanting.
+/// Reads the default formula, and tries again if memory runs out.
 fn formula(alloc: Global) -> Result<Formula, FormulaFault> {
     let text = b"(W*W-1)/S";
     match Formula::new(alloc, text) {

@@ -1,4 +1,4 @@
--- What holds of a result where it is a value.
+-- Properties of a result, if it is a value.
 use Rattle.std.proofs.Common.{◌+◌, ◌-◌, ℕ, false, List, length, drop, Result, Ok, Err}
 use Rattle.std.specs.Prelude.{⊤}
 use Rattle.redcode_text.specs.Results.{◌>>=◌}
@@ -10,7 +10,7 @@ use Rattle.redcode_text.specs.Lines.{Predefined, Reading, WithTokens, before_com
 use Rattle.redcode_text.specs.Source.{SourceRow}
 use Rattle.redcode_text.specs.Tokens.{tokens}
 
--- where it is a value, this holds of it
+-- The property `P` holds of a result's value, if there is a value.
 abbrev pub Alone : {A E : Type 0} → (A → Type 0) → Result A E → Type 0
 Alone P (Ok a) = P a
 Alone P (Err e) = ⊤
@@ -24,7 +24,7 @@ pub no-matter : {A E : Type 0} (r : Result A E) → Alone (λ (a : A). ⊤) r
 no-matter (Ok a) = tt
 no-matter (Err e) = tt
 
--- a head, from its tokens on
+-- The header of a loop, from its tokens on.
 abbrev pub headed : Predefined → ℕ → WithTokens → Result Head TextProblem
 headed ps at r =
     name_in_front (kinds (tokens_before at r.0)) >>= λ counter.
@@ -32,7 +32,7 @@ headed ps at r =
     count_of ps r.1 (tokens_after at r.0) >>= λ count.
     Ok (record { counter = counter_name r.1 counter; count = count; reading = record (r.1) { equate_grows = false } })
 
--- what holds of a reading, whatever its names, its tokens and EQU lines add, holds of it behind a head
+-- A property that doesn't depend on names, counted tokens and EQU lines still holds after the header of a loop was read.
 pub head-alone : (ps : Predefined) (row : SourceRow) (st : Reading) (P : Reading → Type 0) → ((a : Reading) (names : List (List ℕ)) (n : ℕ) → P a → P (record a { names = names; tokens_read = n }))
     → ((a : Reading) → P a → P (record a { equate_grows = false })) → Alone P (line_read st) → Alone (λ (h : Head). P h.reading) (head_line ps row st)
 head-alone ps row st P more grows read =

@@ -1,4 +1,4 @@
--- What stands behind the line that ends a source has no effect.
+-- What follows the line that ends a source has no effect.
 use Rattle.std.proofs.Common.{◌≡◌, ◌∙◌, refl, ap, sym, ℕ, ◌+◌, Bool, true, false, ◌||◌, List, [], ◌∷◌, ◌++◌, length, Result, Ok, Err}
 use Rattle.std.specs.Prelude.{⊤, codes, ◌==◌}
 use Rattle.std.specs.List.{list_any, onto_first}
@@ -13,9 +13,9 @@ use Rattle.redcode_text.specs.Source.{SourceRow, Items, Nothing, Plain, Loop, Lo
 use Rattle.redcode_text.specs.Tokens.{at_line}
 use Rattle.redcode_text.proofs.Kept.{Kept, rof-ended}
 
--- ---- rows
+-- ---- Rows
 
--- the lines of some bytes that end a line are followed by those of the rest
+-- Bytes that end in LF have at least one line.
 some-line : (before : List ℕ) → (first : List ℕ) × (rest : List (List ℕ)) × (lines_of (before ++ 10 ∷ []) ≡ first ∷ rest)
 some-line [] = ([], [], refl)
 some-line (b ∷ bs) = go (b == 10) (some-line bs)
@@ -41,7 +41,8 @@ pub any-rows : (number at : ℕ) (lines : List (List ℕ)) → list_any begins_r
 any-rows number at [] = refl
 any-rows number at (l ∷ lines) = ap (λ b. has_directive (codes "redcode") l || b) (any-rows (number + 1) (at + length l + 1) lines)
 
--- rows, and those of further lines
+-- The rows of more lines are the rows of the first lines, followed by others, which include a `;redcode` exactly if
+-- the added lines do.
 rows-append : (number at : ℕ) (before after : List (List ℕ)) →
     (rest : List SourceRow) × (rows_from number at (before ++ after) ≡ rows_from number at before ++ rest) × (list_any begins_redcode rest ≡ list_any (has_directive (codes "redcode")) after)
 rows-append number at [] after = (rows_from number at after, refl, any-rows number at after)
@@ -72,9 +73,9 @@ module _ (rest : List SourceRow) (none : list_any begins_redcode rest ≡ false)
       go true some = from-append rows some
       go false some = refl
 
--- ---- trees
+-- ---- Trees
 
--- the second items begin as the first do, up to where those are over or can't be read
+-- The second items begin like the first ones, up to where the first ones end or can't be read.
 Begins : Items → Items → Type 0
 Begins Nothing more = ⊤
 Begins (Plain row rest) more = (others : Items) × (more ≡ Plain row others) × Begins rest others
@@ -98,7 +99,8 @@ begins-lone rof (Loop head body end rest) more b = (then_lone rof b.0, ap (then_
 begins-lone rof (source.UnclosedFor row rest) more b = tt
 begins-lone rof (LoneRof row rest) more b = tt
 
--- rows and more rows, paired: what stands before a ROF that waits is the same, and what stands behind the last begins the other
+-- The pairing of rows is compared with the pairing of more rows: the items before a waiting ROF are the same, and
+-- after the last waiting ROF the items of more rows begin like the others.
 Extends : Items → List (SourceRow × Items) → Items → List (SourceRow × Items) → Type 0
 Extends here [] more others = Begins here more
 Extends here (w ∷ waiting) more others = (here ≡ more) × (behind : Items) × (rest : List (SourceRow × Items)) × (others ≡ (w.0, behind) ∷ rest) × Extends w.1 waiting behind rest
@@ -140,7 +142,7 @@ begins-tree here more [] [] e = e
 begins-tree here more [] (o ∷ others) e = begins-lone o.0 here more e
 begins-tree here more (w ∷ waiting) others e = rw (e.3, ← e.0) (begins-itself (then_lone w.0 here))
 
--- ---- reading
+-- ---- Reading
 
 pub unpaired-refused : (n : ℕ) (problem : TextProblem) (st read : Reading) → at_line n (unpaired_line problem st) ≡ Ok read → ⊥
 unpaired-refused n problem st read = go (line_read st)
@@ -150,7 +152,7 @@ unpaired-refused n problem st read = go (line_read st)
     go (Err x) e = cc
 
 module _ (read : Reading) (ends : read.ended ≡ true) where
-  -- where the first reads up to an end, the second reads the same
+  -- If the first items are read up to an END, the second ones have the same result.
   abbrev Same : Result Reading TextFault → Result Reading TextFault → Type 0
   Same r s = r ≡ Ok read → s ≡ Ok read
 
@@ -189,7 +191,7 @@ module _ (read : Reading) (ends : read.ended ≡ true) where
   reads-same ps (source.UnclosedFor row rest) more b st going e = absurd (unpaired-refused row.number UnclosedFor st read e)
   reads-same ps (LoneRof row rest) more b st going e = absurd (unpaired-refused row.number RofAlone st read e)
 
--- ---- the whole
+-- ---- The whole source
 
 begins-source : (before after : List ℕ) → list_any (has_directive (codes "redcode")) (lines_of after) ≡ false → Begins (tree_of (before ++ 10 ∷ [])) (tree_of (before ++ 10 ∷ after))
 unfolding ExtendsPair

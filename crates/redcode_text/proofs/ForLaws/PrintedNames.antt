@@ -1,4 +1,4 @@
--- The name and the author of a program can be printed.
+-- The name and the author of a program are printable.
 use Rattle.std.proofs.Common.{◌≡◌, ℕ, zero, suc, ◌+◌, ◌-◌, ◌≤◌, List, [], ◌∷◌, ◌++◌, length, drop, map, reverse, Bool, true, false, Option, Some, None, Result, Ok, Err, subst, arith, nat_le, nat_lt}
 use Rattle.std.specs.Prelude.{⊤, codes, ◌||◌}
 use Rattle.std.proofs.lemmas.List.{length-take}
@@ -19,7 +19,7 @@ use Rattle.redcode_text.specs.Tokens.{Scanned, at_line, tokens}
 use Rattle.redcode_text.proofs.ForLaws.Alone.{Alone, head-alone}
 use Rattle.redcode_text.proofs.Printing.{all-printed, is-printed}
 
--- ---- names
+-- ---- Names
 
 value-printed : (text : List ℕ) → IsPrinted (directive_value text)
 value-printed text =
@@ -29,9 +29,9 @@ value-printed text =
       printed = All-take (λ b. (32 ≤ b) × (b ≤ 126)) 60 all (all-printed (reverse (without_blanks (reverse (without_blanks text)))));
     }
 
--- ---- lines
+-- ---- Lines
 
--- the name and the author so far can be printed
+-- The name and the author so far are printable.
 abbrev pub ArePrinted : Reading → Type 0
 ArePrinted st = IsPrinted st.name × IsPrinted st.author
 
@@ -75,7 +75,7 @@ counted-keeps ts st p = go (nat_lt limit (st.tokens_read + length ts))
     go true = tt
     go false = p
 
--- a step that keeps them
+-- A step keeps the name and the author printable.
 abbrev Steady : Step → Type 0
 Steady step = (st : Reading) → ArePrinted st → Keeps (step st)
 
@@ -122,7 +122,7 @@ tokens-keep ps RofLine row (t ∷ ts) st p = ordinary-keeps ps row.number 32 (t 
 tokens-keep ps (ForLine at) row (t ∷ ts) st p = ordinary-keeps ps row.number 32 (t ∷ ts) st p
 tokens-keep ps OtherLine row (t ∷ ts) st p = ordinary-keeps ps row.number 32 (t ∷ ts) st p
 
--- a text in place of another, unless it is empty
+-- A text that replaces another one, unless it is empty, is printable if both are.
 given-printed : (text old : List ℕ) → IsPrinted text → IsPrinted old → IsPrinted (unless_empty text old)
 given-printed [] old t o = o
 given-printed (b ∷ bs) old t o = t
@@ -157,7 +157,7 @@ rof-keeps row st p = go (line_read st) (line-keeps st p)
     go (Ok a) q = keeps-row a row 0 (λ r. Ok (record (r.1) { equate_grows = false })) q (λ r s. s)
     go (Err e) q = tt
 
--- ---- loops
+-- ---- Loops
 
 abbrev HeadKeeps : {E : Type 0} → Result Head E → Type 0
 HeadKeeps r = Alone (λ (h : Head). ArePrinted h.reading) r
@@ -165,7 +165,7 @@ HeadKeeps r = Alone (λ (h : Head). ArePrinted h.reading) r
 head-keeps : (ps : Predefined) (row : SourceRow) (st : Reading) → ArePrinted st → HeadKeeps (head_line ps row st)
 head-keeps ps row st p = head-alone ps row st ArePrinted (λ a names n q. q) (λ a q. q) (line-keeps st p)
 
--- ---- the whole
+-- ---- The whole source
 
 after-keeps : (r : Result Reading TextFault) (g : Reading → Result Reading TextFault) → Keeps r → ((a : Reading) → ArePrinted a → Keeps (g a)) → Keeps (r >>= g)
 after-keeps (Ok a) g q h = h a q

@@ -1,6 +1,6 @@
--- The shape of an expression is that of a tree, and its fault that of the first token that makes none.
--- The fault of a shape: from any state there is an end (`begun`), so the tokens before the first refusal begin an expression, and with the one that is
--- refused they don't; nothing has to be counted.
+-- The shape of an expression is that of a tree, and its error is that of the first misplaced token. Each state of the
+-- shape can be continued to an end (`begun`). So the tokens before the first error can be continued to an expression, and
+-- with the token that has the error they can't. Nothing has to be counted.
 use Rattle.std.proofs.Common.{◌≡◌, ◌∙◌, refl, ap, sym, subst, ℕ, zero, suc, ◌+◌, ◌-◌, ◌<◌, pos, List, [], ◌∷◌, ◌++◌, length, append-nil, append_assoc, add-one, Bool, true, false, ◌&&◌, ◌==◌, cond, eqb, leb, ◌⊎◌, inl, inr, ⊎_elim, Result, Ok, Err, arith}
 use Rattle.std.proofs.lemmas.Bool.Decides.{nat_tests}
 use Rattle.redcode_text.specs.Results.{◌>>=◌}
@@ -25,7 +25,7 @@ at opened signs after = record { opened = opened; signs = signs; after_operand =
 abbrev IsOk : Result (Unit {0}) ExprFault → Type 0
 IsOk r = r ≡ Ok tt
 
--- ---- a tree within its limits
+-- ---- A tree within its limits
 
 below : (n : ℕ) → n < 64 → leb 64 n ≡ false
 below n h = grind (arith, nat_tests, h)
@@ -37,7 +37,7 @@ guard-ok false e q f h = (refl, h)
 passed : (n : ℕ) → leb 64 n ≡ false → n < 64
 passed n h = grind (arith, nat_tests, h)
 
--- an operator after an operand
+-- The check of a shape accepts a binary operator after an operand.
 operator : (s : Sign) (o n : ℕ) (rest : List TokenKind) → 0 < precedence s → shape (at o n true) (token.Sign s ∷ rest) ≡ shape (at o 0 false) rest
 operator CloseParen o n rest h = absurd (omega (arith, h))
 operator s o n rest h =
@@ -65,7 +65,7 @@ closing o n rest =
     let back : (o + 1) - 1 ≡ o = omega arith in
     ap (λ b. cond b (Err Syntax) (Ok (at ((o + 1) - 1) 0 true)) >>= λ q. shape q rest) some ∙ ap (λ k. shape (at k 0 true) rest) back
 
--- a tree is passed over as one operand
+-- The check of a shape accepts a tree within its limits like one operand.
 fits : (t : Tree) (o n : ℕ) (rest : List TokenKind) → IsLevelled t → IsWithin o n t → shape (at o n false) (spelling t ++ rest) ≡ shape (at o 0 true) rest
 fits (Numeral v) o n rest l w = refl
 fits (Named v) o n rest l w = refl
@@ -82,7 +82,7 @@ fits (Binary a s b) o n rest l w =
     ∙ fits b o 0 rest l.4 w.1
 fits Missing o n rest l w = absurd l
 
--- a tree of the right shape is within its limits
+-- A tree whose shape is accepted is within its limits.
 within : (t : Tree) (o n : ℕ) (rest : List TokenKind) → IsLevelled t → IsOk (shape (at o n false) (spelling t ++ rest)) → IsWithin o n t
 within (Numeral v) o n rest l h = tt
 within (Named v) o n rest l h = tt
@@ -111,9 +111,9 @@ spells xs h =
     let fine = ap (shape start) (append-nil (spelling t.tree) ∙ t.spelled) ∙ h in
     (ap spelling is ∙ t.spelled, subst IsLevelled (sym is) t.levelled, subst (IsWithin 0 0) (sym is) (within t.tree 0 0 [] t.levelled fine))
 
--- ---- the first fault
+-- ---- The first error
 
--- the same as IsBegun, from any state on
+-- From the state `p` on, the tokens can be continued to an end.
 abbrev Begun : ShapeState → List TokenKind → Type 0
 Begun p xs = (rest : List TokenKind) × IsOk (shape p (xs ++ rest))
 
@@ -126,7 +126,7 @@ unfolding closes
 closed zero n = refl
 closed (suc o) n = ap (λ k. shape (at k n true) (token.Sign CloseParen ∷ closes o)) (sym (add-one o)) ∙ closing o n (closes o) ∙ closed o 0
 
--- from any state on there is an end
+-- Every state can be continued to an end.
 begun : (p : ShapeState) → Begun p []
 begun p = go p.opened p.signs p.after_operand
   where
@@ -134,7 +134,7 @@ begun p = go p.opened p.signs p.after_operand
     go o n true = (closes o, closed o n)
     go o n false = (Number (pos 0) ∷ closes o, closed o 0)
 
--- what a token's own fault tells
+-- The kind of a token's error: `Depth` or `Syntax`, and the reason for it.
 abbrev Told : ShapeState → TokenKind → ExprFault → Type 0
 Told p x f = ((f ≡ Depth) × (leads_operand x ≡ true) × Begun p (Number (pos 0) ∷ [])) ⊎ ((f ≡ Syntax) × (leads_operand x ≡ true → Begun p (Number (pos 0) ∷ []) → ⊥))
 
@@ -145,7 +145,7 @@ guard-err false e f q h = cc
 deep : (o n : ℕ) (x : TokenKind) (f : ExprFault) → f ≡ Depth → leads_operand x ≡ true → Told (at o n false) x f
 deep o n x f is leads = inl (is, leads, (closes o, closed o 0))
 
--- after an operand none can stand
+-- No operand may follow an operand.
 no-operand : (o n : ℕ) (x : TokenKind) (f : ExprFault) → f ≡ Syntax → Told (at o n true) x f
 no-operand o n x f is = inr (is, λ leads b. cc)
 
@@ -165,7 +165,7 @@ told o n false (token.Sign Bang) f h = deep o n (token.Sign Bang) f (guard-err (
 told o n false (token.Sign OpenParen) f h = deep o n (token.Sign OpenParen) f (guard-err (leb 64 o) Depth f (at (o + 1) 0 false) h) refl
 told o n false (token.Sign s) f h = wrong o n (token.Sign s) f (cc) refl
 
--- the same as Misplaced, from any state on
+-- A misplaced token, from the state `p` on.
 record Placed (p : ShapeState) (xs : List TokenKind) (f : ExprFault) : Type 0 where
   before : List TokenKind
   token : TokenKind

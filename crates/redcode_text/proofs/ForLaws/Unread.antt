@@ -1,4 +1,4 @@
--- What the text of a source means, apart from how it is read.
+-- The meaning of a source's text, independent of how it is read.
 use Rattle.std.proofs.Common.{◌≡◌, ◌∙◌, refl, ℕ, suc, zero, List, [], ◌∷◌, ◌++◌, Bool, true, false, ◌||◌, Option, Result, Ok, Err, IfOk, ap, sym}
 use Rattle.std.specs.List.{list_any}
 use Rattle.redcode_text.specs.Results.{◌>>=◌}
@@ -9,7 +9,7 @@ use Rattle.redcode_text.specs.Source.{SourceRow, Items, Loop, begins_redcode, fr
 use Rattle.redcode_text.specs.Lines.{Reading, Predefined, unless_ended}
 use Rattle.redcode_text.specs.Expansion.{Head, flat, head_line, rounds}
 
--- ---- before the first `;redcode`
+-- ---- Before the first `;redcode`
 
 any-behind-by : (b c d : Bool) → (d ≡ true → c ≡ true) → d ≡ true → (b || c) ≡ true
 any-behind-by true c d h e = refl
@@ -38,7 +38,7 @@ read-behind before rows none some =
     ∙ from-behind before rows none
     ∙ sym (read-by (list_any begins_redcode rows) (from_redcode rows) rows some)
 
--- ---- in no round
+-- ---- In a loop without iterations
 
 no-rounds-by : (counter : Option (List ℕ)) (count : ℕ) (f g : Reading → Result Reading TextFault) (st : Reading) → count ≡ 0
     → rounds f counter 1 count st ≡ rounds g counter 1 count st

@@ -1,4 +1,5 @@
--- How an expression that has the shape of one is evaluated from the left, with what waits on a stack.
+-- The evaluation of an expression from left to right, with a stack of the operators and parentheses that wait. The expression
+-- has a valid shape.
 use Rattle.std.specs.Prelude.{ℕ, List, [], ◌∷◌, ◌++◌, ◌<◌, ◌≤◌, map, slice_range, Bool, true, false, ℤ, Option, Result, Ok, Err, if◌then◌else◌, nat_le}
 use Rattle.redcode_text.specs.Results.{◌>>=◌}
 use Rattle.redcode_text.specs.declared.token.TokenKind.{TokenKind}
@@ -14,24 +15,26 @@ use Rattle.redcode_text.specs.declared.expression.evaluation.Pending.TheVariants
 use Rattle.redcode_text.specs.Code.Progress.{Progress}
 use Rattle.redcode_text.specs.Expression.{precedence, unary, binary, known, kinds}
 
--- a value with an operator that waits for its right side, or a parenthesis with the unary signs before it
+-- An entry of the stack: a value and an operator that waits for its right operand, or an open parenthesis and the unary
+-- operators before it.
 pub data Waiting : Type 0 where
   Left : ℤ → Sign → Waiting
   Opened : List TokenKind → Waiting
 
--- the value behind these unary signs
+-- The value of the unary operators `xs` applied to `v`.
 abbrev pub signed : List TokenKind → ℤ → Result ℤ ExprFault
 signed [] v = Ok v
 signed (token.Sign s ∷ xs) v = signed xs v >>= λ w. unary s w
 signed (_ ∷ xs) v = signed xs v
 
--- the value, once all is applied that waits and binds at least as tightly
+-- The value after all operators on top of the stack are applied that have at most the precedence `k`, with the stack that
+-- is left.
 abbrev pub reduced : ℕ → List Waiting → ℤ → Result (ℤ × List Waiting) ExprFault
 reduced k [] v = Ok (v, [])
 reduced k (Left u s ∷ stack) v = if nat_le (precedence s) k then (binary s u v >>= λ w. reduced k stack w) else Ok (v, Left u s ∷ stack)
 reduced k (Opened signs ∷ stack) v = Ok (v, Opened signs ∷ stack)
 
--- the reading so far; `value` is the last operand's where one stands directly before
+-- The state of the evaluation. `after` is true directly after an operand, and `value` is that operand's value.
 pub record State : Type 0 where
   pub stack : List Waiting
   pub signs : List TokenKind
@@ -47,7 +50,7 @@ has v stack = record { stack = stack; signs = []; value = v; after = true }
 abbrev pub operand : State → ℤ → Result State ExprFault
 operand st n = signed st.signs n >>= λ v. Ok (has v st.stack)
 
--- how loose an operator may be to be applied before this sign
+-- The loosest precedence of the waiting operators that are applied before the operator or parenthesis `s`.
 abbrev pub reach : Sign → ℕ
 reach CloseParen = 5
 reach s = precedence s
@@ -73,9 +76,9 @@ abbrev pub run : (ℕ → Option ℤ) → State → List TokenKind → Result �
 run names st [] = reduced 5 st.stack st.value >>= λ r. Ok r.0
 run names st (x ∷ xs) = move names st x >>= λ next. run names next xs
 
--- ---- what the code holds
+-- ---- The state of the code
 
--- what an entry of the code's stack stands for, among these tokens
+-- The entry that an entry of the code's stack represents. The code stores the place of unary operators in the tokens `ts`.
 abbrev pub waiting : List Token → Pending → Waiting
 waiting ts (Value v s) = Left v s
 waiting ts (Open from to) = Opened (kinds (slice_range ts from to))
@@ -83,35 +86,35 @@ waiting ts (Open from to) = Opened (kinds (slice_range ts from to))
 abbrev pub waiting_all : List Token → List Pending → List Waiting
 waiting_all ts stack = map (waiting ts) stack
 
--- the signs of each parenthesis lie among the first n tokens
+-- The unary operators before each open parenthesis are among the first `n` tokens.
 abbrev pub AreInside : ℕ → List Pending → Type 0
 AreInside n [] = Unit {0}
 AreInside n (Value v s ∷ stack) = AreInside n stack
 AreInside n (Open from to ∷ stack) = (from ≤ to) × (to ≤ n) × AreInside n stack
 
--- the top of the stack is looser than k
+-- The operator on top of the stack, if it is one, is looser than `k`, so that it is not applied.
 abbrev pub StaysAt : ℕ → List Pending → Type 0
 StaysAt k [] = Unit {0}
 StaysAt k (Value v s ∷ stack) = k < precedence s
 StaysAt k (Open from to ∷ stack) = Unit {0}
 
--- no parenthesis is the latest
+-- The top of the stack is not an open parenthesis.
 abbrev pub IsNoOpen : List Pending → Type 0
 IsNoOpen [] = Unit {0}
 IsNoOpen (Value v s ∷ stack) = Unit {0}
 IsNoOpen (Open from to ∷ stack) = ⊥
 
--- what the code holds before the token at a place
+-- The state that the code's state represents before the token at the index `at`.
 abbrev pub seen : List Token → ℕ → Progress → State
 seen ts at r = record { stack = waiting_all ts r.stack; signs = kinds (slice_range ts r.first_sign at); value = r.value; after = r.after_operand }
 
--- what waits is looser below, with this many parentheses open
+-- The waiting operator on top of the stack, if it is one, is looser than `k`.
 abbrev pub IsLooser : ℕ → List Waiting → Type 0
 IsLooser k [] = Unit {0}
 IsLooser k (Left u s ∷ stack) = k < precedence s
 IsLooser k (Opened signs ∷ stack) = Unit {0}
 
--- what follows applies each operator that waits and is no looser than k
+-- The next token, if there is one, applies each waiting operator that is no looser than `k`.
 abbrev pub Follows : ℕ → List TokenKind → Type 0
 Follows k [] = Unit {0}
 Follows k (token.Sign s ∷ xs) = k ≤ reach s

@@ -1,4 +1,4 @@
--- What a comment line says, as the code keeps it.
+-- The meaning of a comment line, as the code represents it.
 use Rattle.std.specs.Prelude.{ℕ, ◌+◌, ◌++◌, ◌&&◌, List, [], ◌∷◌, Option, Some, None, Result, Ok, codes, drop, length, map, nat_eq, reverse, take, if◌then◌else◌}
 use Rattle.std.specs.List.{starts_with}
 use Rattle.std.specs.Str.{str_to_ascii_lowercase}
@@ -10,11 +10,11 @@ use Rattle.redcode_text.specs.declared.source.directives.Comment.TheVariants.{Na
 use Rattle.redcode_text.specs.Lines.{Reading, longest_name, printable, row_tokens, unless_empty}
 use Rattle.redcode_text.specs.Source.{SourceRow, blank_len, ends_word, without_blanks}
 
--- a text without the blanks at both ends
+-- A text without the whitespace at both ends.
 abbrev pub trimmed : List ℕ → List ℕ
 trimmed text = reverse (without_blanks (reverse (without_blanks text)))
 
--- the value of `;name` or `;author` with such a text
+-- The value of `;name` or `;author`, from a text without whitespace at both ends.
 abbrev pub printed_value : List ℕ → List ℕ
 printed_value text = take longest_name (map printable text)
 
@@ -24,19 +24,20 @@ with_name_text text st = record st { name = unless_empty (printed_value text) st
 abbrev pub with_author_text : List ℕ → Reading → Reading
 with_author_text text st = record st { author = unless_empty (printed_value text) st.author }
 
--- an assert whose expression begins at this place of its row
+-- The step that adds an assert, whose expression starts at the byte `at` of its row.
 abbrev pub assert_at : SourceRow → ℕ → Reading → Result Reading TextProblem
 assert_at row at st =
     row_tokens row at st >>= λ r.
     Ok (record (r.1) { asserts = r.1.asserts ++ record { number = row.number; current_line = r.1.instructions; tokens = r.0 } ∷ [] })
 
--- where the text behind these first bytes of a directive begins, where a line is that directive
+-- The offset of the text after `directive`, if the line has it as a whole word. `directive` is in lower case and includes
+-- the `;`.
 abbrev pub text_found : List ℕ → List ℕ → Option ℕ
 text_found directive bytes =
     if starts_with nat_eq (str_to_ascii_lowercase (without_blanks bytes)) directive && ends_word (drop (blank_len bytes + length directive) bytes)
     then Some (blank_len bytes + length directive) else None
 
--- what a comment says: the text of `;name` or `;author`, without the blanks at both ends, or where the expression of an assert begins
+-- The meaning of a comment: a name or an author, without whitespace at both ends, or the offset of an assert's expression.
 pub data Said : Type 0 where
   NameSaid : List ℕ → Said
   AuthorSaid : List ℕ → Said
@@ -49,7 +50,7 @@ said_of (Author text) = AuthorSaid text.now
 said_of (Assert at) = AssertSaid at
 said_of Other = NothingSaid
 
--- where the expression of an assert begins
+-- The offset of an assert's expression.
 abbrev pub assert_place : Comment → ℕ
 assert_place (Assert at) = at
 assert_place comment = 0
@@ -69,7 +70,7 @@ name_or bytes other None = other
 abbrev pub author_said : List ℕ → Said
 author_said bytes = author_or bytes (assert_or_nothing (text_found (semicolon ∷ codes "assert") bytes)) (text_found (semicolon ∷ codes "author") bytes)
 
--- what a line says
+-- The meaning of a line.
 abbrev pub said : List ℕ → Said
 said bytes = name_or bytes (author_said bytes) (text_found (semicolon ∷ codes "name") bytes)
 

@@ -1,4 +1,4 @@
--- The open loops as the code holds them: a counter is an index among the names.
+-- The open loops as the code represents them: a counter is an index into the names.
 use Rattle.std.specs.Prelude.{ℕ, ◌<◌, List, [], ◌∷◌, length, map, reverse, Option, None, option_map}
 use Rattle.std.specs.List.{All}
 use Rattle.std.specs.Option.{ForSome}
@@ -9,18 +9,18 @@ use Rattle.redcode_text.specs.Tokens.{OpenLoop}
 abbrev pub open_loop : List (List ℕ) → code.OpenLoop → OpenLoop
 open_loop names l = record { counter = option_map (name_at names) l.counter; round = l.round }
 
--- the innermost is the last in the code, and the first here
+-- The open loops, innermost first. The code stores the innermost loop last.
 abbrev pub open_loops : List (List ℕ) → List code.OpenLoop → List OpenLoop
 open_loops names loops = map (open_loop names) (reverse loops)
 
--- a counter is among the names
+-- The counter, if there is one, is the index of a name.
 abbrev pub IsThere : List (List ℕ) → Option ℕ → Type 0
 IsThere names counter = ForSome counter (λ n. n < length names)
 
 abbrev pub AreThere : List (List ℕ) → List code.OpenLoop → Type 0
 AreThere names loops = All (λ l. IsThere names l.counter) loops
 
--- the counter of the innermost loop
+-- The counter of the innermost loop.
 abbrev pub innermost_counter : List OpenLoop → Option (List ℕ)
 innermost_counter [] = None
 innermost_counter (l ∷ ls) = l.counter

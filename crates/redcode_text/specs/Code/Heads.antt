@@ -1,4 +1,4 @@
--- The head of a loop as the code holds it.
+-- The header of a loop as the code represents it.
 use Rattle.std.specs.Prelude.{option_map}
 use Rattle.redcode_text.specs.declared.reader.repeat.head.Head as code
 use Rattle.redcode_text.specs.Expansion.{Head}

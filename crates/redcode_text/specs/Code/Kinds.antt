@@ -1,4 +1,4 @@
--- The kinds of lines as the code holds them.
+-- The kinds of lines as the code represents them.
 use Rattle.std.specs.Prelude.{◌≡◌, ℕ, ◌≤◌, List, length}
 use Rattle.redcode_text.specs.declared.source.row.LineKind as code
 use Rattle.redcode_text.specs.declared.source.row.LineKind.TheVariants as line
@@ -10,13 +10,13 @@ kind_of (line.For at) = ForLine at
 kind_of (line.Equ at) = EquLine at
 kind_of line.Other = OtherLine
 
--- where the word FOR or EQU of a line stands
+-- The offset of the word FOR or EQU in a line.
 abbrev pub word_place : code.LineKind → ℕ
 word_place (line.For at) = at
 word_place (line.Equ at) = at
 word_place kind = 0
 
--- this is the kind of a line
+-- `kind` is the kind of the line, and its offset is inside the line.
 pub record IsKind (kind : code.LineKind) (bytes : List ℕ) : Type 0 where
   pub is : kind_of kind ≡ line_kind bytes
   pub inside : word_place kind ≤ length bytes

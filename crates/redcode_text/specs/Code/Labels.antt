@@ -1,15 +1,15 @@
--- A set of names beside those that it stands for.
+-- A set of names, and the names that it represents.
 use Rattle.std.specs.Prelude.{◌≡◌, ℕ, List, Bool, ◌==◌}
 use Rattle.std.specs.List.{list_any}
 
--- whether a name is among these
+-- `n` is among the names.
 abbrev pub has : List ℕ → ℕ → Bool
 has names n = list_any (λ m. m == n) names
 
--- the same names, in any order and number
+-- Both lists have the same names, in any order and any number.
 abbrev pub HasSame : List ℕ → List ℕ → Type 0
 HasSame names others = (n : ℕ) → has names n ≡ has others n
 
--- these names are the labels of the lines
+-- The names are the labels of the lines.
 abbrev pub AreLabels : {X : Type 0} → (X → List ℕ) → List ℕ → List X → Type 0
 AreLabels labels names lines = (n : ℕ) → has names n ≡ list_any (λ l. has (labels l) n) lines

@@ -11,26 +11,27 @@ use Rattle.redcode_text.specs.Code.Pairs.{here_from}
 use Rattle.redcode_text.specs.Source.{Items, Plain, SourceRow, ForLine, line_kind}
 use Rattle.redcode_text.specs.Tokens.{at_line}
 
--- one loop, apart from what follows it
+-- The step that reads one loop, without what follows it.
 abbrev pub one_loop : Predefined → SourceRow → Items → SourceRow → Reading → Result Reading TextFault
 one_loop ps head body rof st =
     at_line head.number (head_line ps head st) >>= λ h.
     rounds (flat ps body) h.counter 1 h.count h.reading >>= λ a.
     unless_ended a (λ b. at_line rof.number (rof_line rof b))
 
--- each row lies within a source
+-- Each row is inside the source: its end fits 64 bits.
 abbrev pub RowsFit : List code.SourceRow → Type 0
 RowsFit rows = (i : ℕ) (d : code.SourceRow) → i < length rows → (get_or rows i d).at + length (get_or rows i d).bytes.now < 2 ^ 64
 
--- the items from a place on are read up to the place next, or there is a fault
+-- Reading the items from row `at` on reaches the row `next`, or there is an error. `before` and `after` are what has been
+-- read.
 abbrev pub ReadTo : Predefined → List code.SourceRow → ℕ → Reading → Reading → Result ℕ TextFault → Type 0
 ReadTo ps rows at before after (Ok next) = (at < next) × (next ≤ length rows) × (flat ps (here_from rows at) before ≡ unless_ended after (flat ps (here_from rows next)))
 ReadTo ps rows at before after (Err fault) = FailsAt fault.problem fault (flat ps (here_from rows at) before)
 
--- the word FOR of the row at a place
+-- The row `at` is a FOR line, whose word FOR is at the offset `word_at`.
 abbrev pub IsFor : List code.SourceRow → ℕ → ℕ → Type 0
 IsFor rows at word_at = (d : code.SourceRow) → (ForLine word_at ≡ line_kind (get_or rows at d).bytes.now) × (word_at ≤ length (get_or rows at d).bytes.now)
 
--- the row at a place is neither FOR nor ROF
+-- The row `at` is neither a FOR nor a ROF line.
 abbrev pub IsPlain : List code.SourceRow → ℕ → Type 0
 IsPlain rows at = (d : code.SourceRow) → here_from rows at ≡ Plain (row_of (get_or rows at d)) (here_from rows (at + 1))

@@ -1,23 +1,23 @@
--- Where the items of a source end, as places among its rows.
+-- Where the items of a source end, as indices of rows.
 use Rattle.std.specs.Prelude.{◌≡◌, ℕ, ◌+◌, ◌<◌, ◌≤◌, List, length, drop, map, slice_index}
 use Rattle.redcode_text.specs.declared.source.row.SourceRow as code
 use Rattle.redcode_text.specs.Code.Rows.{row_of}
 use Rattle.redcode_text.specs.Source.{Items, Nothing, Pairing, paired}
 
--- what the rows from a place on pair to
+-- The pairing of the rows from row `i` on.
 abbrev pub paired_from : List code.SourceRow → ℕ → Pairing
 paired_from rows i = paired (map row_of (drop i rows))
 
 abbrev pub here_from : List code.SourceRow → ℕ → Items
 here_from rows i = (paired_from rows i).here
 
--- the items from i on end at j: at the end, or at a ROF
+-- The items from row `i` on end at row `j`, which is a ROF or the end of the source.
 pub record EndsAt (rows : List code.SourceRow) (i j : ℕ) : Type 0 where
   pub from : i ≤ j
   pub within : j ≤ length rows
   pub at_end : here_from rows j ≡ Nothing
   pub waiting : (paired_from rows i).waiting ≡ (paired_from rows j).waiting
 
--- for each place the end of the items that begin behind it
+-- `ends` has for each row the end of the items that start after it.
 abbrev pub AreEnds : List code.SourceRow → List ℕ → Type 0
 AreEnds rows ends = (i : ℕ) → i < length rows → EndsAt rows (i + 1) (slice_index ends i)

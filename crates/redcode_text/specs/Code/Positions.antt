@@ -1,4 +1,4 @@
--- The same as Climbing, over what the code itself holds.
+-- The evaluation of `Climbing`, on the state of the code.
 use Rattle.std.specs.Prelude.{◌≡◌, ℕ, List, [], ◌∷◌, ◌+◌, ◌-◌, ◌<◌, ◌≤◌, length, slice_range, true, false, ℤ, Option, Result, Ok, Err, if◌then◌else◌, nat_le}
 use Rattle.redcode_text.specs.Results.{◌>>=◌}
 use Rattle.redcode_text.specs.declared.token.Token.{Token}
@@ -21,7 +21,7 @@ reduced_on k [] v = Ok (v, [])
 reduced_on k (Value u s ∷ stack) v = if nat_le (precedence s) k then (binary s u v >>= λ w. reduced_on k stack w) else Ok (v, Value u s ∷ stack)
 reduced_on k (Open from to ∷ stack) v = Ok (v, Open from to ∷ stack)
 
--- what is returned, with what the stack is then
+-- The code returned the value or the error of `read`, which also has the stack that is left.
 abbrev pub GivesOn : {A B : Type 0} → B → Result A ExprFault → Result (A × B) ExprFault → Type 0
 GivesOn stack (Ok v) read = read ≡ Ok (v, stack)
 GivesOn stack (Err e) read = read ≡ Err e
@@ -54,17 +54,17 @@ abbrev pub after_on : List Token → ℕ → Progress → Sign → Result Progre
 after_on ts at r CloseParen = closed_on ts at r
 after_on ts at r s = operated at s r
 
--- the reading after one more token
+-- The state after one more token.
 abbrev pub advance : (ℕ → Option ℤ) → List Token → ℕ → Progress → TokenKind → Result Progress ExprFault
 advance names ts at r (Number n) = taken ts at r n
 advance names ts at r (Name n) = known (names n) >>= λ v. taken ts at r v
 advance names ts at r (token.Sign s) = if r.after_operand then after_on ts at r s else Ok (before_on at r s)
 
--- the value of a reading that has taken all tokens
+-- The value of a state in which all tokens have been read.
 abbrev pub finished : Progress → Result ℤ ExprFault
 finished r = reduced_on 5 r.stack r.value >>= λ x. Ok x.0
 
--- the value once all tokens are read
+-- The value after the remaining tokens have been read.
 abbrev pub run_on : (ℕ → Option ℤ) → List Token → ℕ → Progress → List Token → Result ℤ ExprFault
 run_on names ts at r [] = finished r
 run_on names ts at r (t ∷ rest) = advance names ts at r t.kind >>= λ q. run_on names ts (at + 1) q rest
@@ -74,13 +74,14 @@ StaysBelow k [] = Unit {0}
 StaysBelow k (Value v s ∷ stack) = k < precedence s
 StaysBelow k (Open from to ∷ stack) = Unit {0}
 
--- each waiting operator is tighter than the one below it, and n parentheses are open
+-- Each waiting operator is tighter than the one below it, and `n` parentheses are open.
 abbrev pub IsOrdered : List Pending → ℕ → Type 0
 IsOrdered [] n = n ≡ 0
 IsOrdered (Value v s ∷ stack) n = (0 < precedence s) × StaysBelow (precedence s) stack × IsOrdered stack n
 IsOrdered (Open from to ∷ stack) n = (0 < n) × IsOrdered stack (n - 1)
 
--- the reading before the token at n stands at this state of the shape; each token read let at most one more wait
+-- The code's state `r` before the token `n` corresponds to the state `p` of the shape. The stack has at most one entry for
+-- each token read.
 pub record Stands (n : ℕ) (r : Progress) (p : ShapeState) : Type 0 where
   pub ordered : IsOrdered r.stack p.opened
   pub opened : p.opened ≤ most_parens

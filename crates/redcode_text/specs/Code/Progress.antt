@@ -1,8 +1,9 @@
--- How far the evaluation of an expression has come, whatever places its stack has.
+-- The progress of the evaluation of an expression, independent of the size of its stack.
 use Rattle.std.specs.Prelude.{ℕ, ℤ, List, Bool}
 use Rattle.redcode_text.specs.declared.expression.evaluation.Pending.{Pending}
 
--- what waits, where the unary signs directly before begin, and the operand directly before, if one stands there
+-- The stack, the index of the first unary operator directly before the present token, and the operand before it, if there
+-- is one.
 pub record Progress : Type 0 where
   pub stack : List Pending
   pub first_sign : ℕ

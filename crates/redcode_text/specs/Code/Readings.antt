@@ -1,4 +1,4 @@
--- All that has been read, as the code holds it.
+-- Everything that has been read, as the code represents it.
 use Rattle.std.specs.Prelude.{List, drop, map, string_bytes, take}
 use Rattle.redcode_text.specs.declared.reader.ordinary.Parts as parts
 use Rattle.redcode_text.specs.declared.reader.Reading as code
@@ -24,6 +24,6 @@ reading_of r =
       ended = r.ended;
     }
 
--- the parts of a line, by their places among its tokens
+-- The parts of a line, which the code represents by indices of its tokens.
 abbrev pub parts_at : List Token → parts.Parts → Parts
 parts_at ts p = record { labels = p.labels.items; label_tokens = take p.labels_end ts; operation = p.operation; rest = drop p.rest_at ts }

@@ -1,4 +1,4 @@
--- The rows of a source as the code holds them.
+-- The rows of a source as the code represents them.
 use Rattle.redcode_text.specs.declared.source.row.SourceRow as code_row
 use Rattle.redcode_text.specs.Source.{SourceRow}
 

@@ -1,4 +1,4 @@
--- The open loops that stand beside the names of a source.
+-- The open loops, whose counters are among the names of a source.
 use Rattle.std.specs.Prelude.{List}
 use Rattle.redcode_text.specs.declared.lexer.source_names.SourceNames as code
 use Rattle.redcode_text.specs.Code.Counters.{open_loops}

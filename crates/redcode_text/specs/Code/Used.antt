@@ -1,24 +1,24 @@
--- The lines that take the place of an EQU name, as the code makes them.
+-- The lines that replace an EQU name, as the code builds them.
 use Rattle.std.specs.Prelude.{ℕ, zero, suc, List, [], ◌∷◌, ◌++◌, Option, unwrap_or}
 use Rattle.redcode_text.specs.Results.{◌>>=◌}
 use Rattle.redcode_text.specs.declared.token.Token.{Token}
 use Rattle.redcode_text.specs.Lines.{Reading, Step, line_read, operation_lines, tokens_counted}
 
--- these tokens before the first line, and those behind the last
+-- The lines of an EQU name with the tokens `before` put before the first line and the tokens `behind` after the last.
 abbrev pub used : List Token → List (List Token) → List Token → List (List Token)
 used before [] behind = (before ++ behind) ∷ []
 used before (l ∷ []) behind = ((before ++ l) ++ behind) ∷ []
 used before (l ∷ m ∷ ls) behind = (before ++ l) ∷ used [] (m ∷ ls) behind
 
--- what goes before the line at a place
+-- The tokens that are put before the line `at`: `ts` before the first line, none before the others.
 abbrev pub before_line : List Token → ℕ → List Token
 before_line ts zero = ts
 before_line ts (suc at) = []
 
--- the lines of an operation that is an EQU name
+-- The lines of an operation, if it is an EQU name.
 abbrev pub lines_under : Reading → Option ℕ → List (List Token)
 lines_under st operation = unwrap_or (operation_lines st operation) []
 
--- one of these lines, by the same rules as an ordinary line
+-- The step that reads one of these lines, by the rules for an ordinary line.
 abbrev pub read_one : (List Token → Step) → List Token → Step
 read_one ordinary l st = line_read st >>= tokens_counted l >>= ordinary l

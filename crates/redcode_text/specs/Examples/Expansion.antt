@@ -1,4 +1,4 @@
--- Worked examples: sources and what they expand to.
+-- Examples: sources and what they expand to.
 use Rattle.std.specs.Prelude.{◌≡◌, ℕ, List, [], ◌∷◌, ◌++◌, length, map, pos, Option, Some, None, Result, Ok, Err, codes, refl}
 use Rattle.std.specs.Fmt.{digits}
 use Rattle.redcode_text.specs.declared.token.TokenKind.{TokenKind}
@@ -20,7 +20,7 @@ text (l ∷ ls) = l ++ 10 ∷ text ls
 abbrev pub predefined : Predefined
 predefined = (codes "CORESIZE", pos 8000) ∷ []
 
--- what a token shows, apart from where it stands
+-- What an example shows of a token: it leaves out where the token is.
 pub data Shown : Type 0 where
   N : ℕ → Shown
   W : List ℕ → Shown
@@ -58,7 +58,7 @@ fault n p = Err (record { line = n; problem = p })
 abbrev pub comma : Shown
 comma = Mark (token.Sign Comma)
 
--- a loop that is skipped, and a loop with its counter in joins and as a word
+-- A loop that is skipped, and a loop whose counter is used in joins and as a word.
 pub row_loops : lines (codes "FOR 0" ∷ codes "this is prose" ∷ codes "ROF" ∷ codes "i FOR 2" ∷ codes "x&i DAT i, 0" ∷ codes "ROF" ∷ codes "DAT x02, x01" ∷ [])
     ≡ Ok (line 5 (codes "x01" ∷ []) (codes "DAT") (N 1 ∷ comma ∷ N 0 ∷ [])
     ∷ line 5 (codes "x02" ∷ []) (codes "DAT") (N 2 ∷ comma ∷ N 0 ∷ [])
@@ -67,7 +67,7 @@ pub row_loops : lines (codes "FOR 0" ∷ codes "this is prose" ∷ codes "ROF" �
 unfolding expansion value_of tree_within digits
 row_loops = refl
 
--- a loop in another: the counter of the outer one has its value before, in and after the inner one
+-- Nested loops: the counter of the outer loop has its value before, inside and after the inner loop.
 pub row_nested : lines (codes "i FOR 2" ∷ codes "x&i NOP" ∷ codes "j FOR 2" ∷ codes "DAT i, j" ∷ codes "ROF" ∷ codes "y&i NOP" ∷ codes "ROF" ∷ [])
     ≡ Ok (line 2 (codes "x01" ∷ []) (codes "NOP") []
     ∷ line 4 [] (codes "DAT") (N 1 ∷ comma ∷ N 1 ∷ [])
@@ -81,7 +81,7 @@ pub row_nested : lines (codes "i FOR 2" ∷ codes "x&i NOP" ∷ codes "j FOR 2" 
 unfolding expansion value_of tree_within digits
 row_nested = refl
 
--- a FOR without its ROF is refused where it is read, a ROF without its FOR too
+-- A FOR without a ROF is an error when it is read, and so is a ROF without a FOR.
 pub row_unpaired :
     (lines (codes "FOR 0" ∷ codes "this is prose" ∷ codes "ROF" ∷ codes "i FOR 2" ∷ codes "x&i DAT i, 0" ∷ codes "DAT x02, x01" ∷ []) ≡ fault 4 UnclosedFor)
     × (lines (codes "DAT 0" ∷ codes "ROF" ∷ []) ≡ fault 2 RofAlone)
@@ -92,7 +92,7 @@ row_unpaired = (refl, refl, refl)
 abbrev pub line_count : List (List ℕ) → ℕ
 line_count ls = elim (lines ls) [ Ok shown ↦ length shown | Err e ↦ 0 ]
 
--- counts: a value from 0 to 10,000 of numbers, predefined names and EQU names that stand before it
+-- Counts: from 0 to 10,000, in terms of numbers, predefined names and EQU names defined before.
 pub row_counts :
     (line_count (codes "i FOR 100" ∷ codes "DAT i" ∷ codes "ROF" ∷ []) ≡ 100)
     × (lines (codes "FOR -1" ∷ codes "ROF" ∷ []) ≡ fault 1 BadCount)
@@ -105,7 +105,7 @@ pub row_counts :
 unfolding expansion value_of tree_within digits
 row_counts = (refl, refl, refl, refl, refl, refl, refl, refl)
 
--- EQU lines
+-- EQU lines.
 pub row_equates :
     (lines (codes "CORESIZE EQU 1" ∷ []) ≡ fault 1 Duplicate)
     × (lines (codes "DAT 0" ∷ codes " EQU 1" ∷ []) ≡ fault 2 BadToken)
@@ -118,7 +118,7 @@ pub row_equates :
 unfolding expansion value_of tree_within digits
 row_equates = (refl, refl, refl, refl, refl, refl, refl, refl)
 
--- the word of the line decides which kind it is, also where its token is the number of a counter
+-- The word in the line decides its kind, even if the word's token is the number of a counter.
 pub row_words :
     (lines (codes "EQU FOR 1" ∷ codes "x EQU 5" ∷ codes "x" ∷ codes "ROF" ∷ []) ≡ Ok (line 3 [] [] (N 5 ∷ []) ∷ []))
     × (lines (codes "i FOR 1" ∷ codes "MOV.i 5&i, i" ∷ codes "ROF" ∷ []) ≡ Ok (line 2 [] (codes "MOV") (Mark (token.Sign Dot) ∷ N 1 ∷ N 501 ∷ comma ∷ N 1 ∷ []) ∷ []))
@@ -129,7 +129,7 @@ pub row_words :
 unfolding expansion value_of tree_within digits
 row_words = (refl, refl, refl, refl, refl, refl)
 
--- ordinary lines: labels up to an operation, and what else stands first
+-- Ordinary lines: labels up to an operation, and lines that start with something else.
 pub row_ordinary :
     (lines (codes "a: b CORESIZE NOP" ∷ []) ≡ fault 1 Duplicate)
     × (lines (codes "a" ∷ codes "b a NOP" ∷ []) ≡ fault 2 Duplicate)
@@ -150,7 +150,7 @@ abbrev told : List (List ℕ) → Result Told TextFault
 unfolding expansion
 told ls = elim (expansion predefined (text ls)) [ Ok st ↦ Ok (record { name = st.name; author = st.author; asserts = map (λ a. (a.number, a.current_line, map (shown_token st.names) (kinds a.tokens))) st.asserts }) | Err e ↦ Err e ]
 
--- directives: names with their defaults, asserts with the number of instructions before them
+-- Directives: names with their defaults, and asserts with the number of instructions before them.
 row_directives :
     (told (codes "NOP" ∷ []) ≡ Ok (record { name = codes "Unknown"; author = codes "Anonymous"; asserts = [] }))
     × (told (codes ";name  Imp ;x " ∷ codes " ;AUTHOR A." ∷ codes ";name" ∷ codes ";names y" ∷ codes ";name;y" ∷ []) ≡ Ok (record { name = codes "Imp ;x"; author = codes "A."; asserts = [] }))

@@ -1,4 +1,4 @@
--- Worked examples: the values of expressions.
+-- Examples: the values of expressions.
 use Rattle.std.specs.Prelude.{◌≡◌, ℕ, zero, suc, List, [], ◌∷◌, ◌++◌, ℤ, pos, negsuc, Option, None, Some, Result, Ok, Err, refl}
 use Rattle.redcode_text.specs.declared.token.TokenKind.{TokenKind}
 use Rattle.redcode_text.specs.declared.token.TokenKind.TheVariants.{Number, Name}
@@ -15,7 +15,7 @@ n k = Number (pos k)
 abbrev s : Sign → TokenKind
 s x = token.Sign x
 
--- the name 0 stands for 5, and no other for anything
+-- The name 0 has the value 5, and no other name has a value.
 abbrev names : ℕ → Option ℤ
 names zero = Some (pos 5)
 names (suc k) = None
@@ -27,7 +27,7 @@ abbrev times : ℕ → TokenKind → List TokenKind
 times zero x = []
 times (suc k) x = x ∷ times k x
 
--- operators of one level group to the left, tighter ones first; division truncates towards zero
+-- Operators of one level group to the left, and tighter ones come first. Division truncates towards zero.
 pub row_values :
     (eval (n 2 ∷ s Plus ∷ n 3 ∷ s Star ∷ n 4 ∷ s Percent ∷ n 5 ∷ []) ≡ Ok (pos 4))
     × (eval (n 10 ∷ s Minus ∷ n 3 ∷ s Minus ∷ n 2 ∷ []) ≡ Ok (pos 5))
@@ -40,7 +40,7 @@ pub row_values :
 unfolding value_of tree_within
 row_values = (refl, refl, refl, refl, refl, refl, refl, refl)
 
--- each level against its neighbour, and each operator of the comparisons both ways
+-- Each level next to its neighbour, and each comparison with both results.
 pub levels_and_comparisons :
     (eval (n 7 ∷ s Plus ∷ n 3 ∷ s Percent ∷ n 2 ∷ []) ≡ Ok (pos 8))
     × (eval (n 1 ∷ s Equal ∷ n 2 ∷ s Less ∷ n 1 ∷ []) ≡ Ok (pos 1))
@@ -57,7 +57,7 @@ pub levels_and_comparisons :
 unfolding value_of tree_within
 levels_and_comparisons = (refl, refl, refl, refl, refl, refl, refl, refl, refl, refl, refl, refl)
 
--- the least and the greatest value; both sides are evaluated
+-- The smallest and the largest value. Both operands are evaluated.
 pub values_are_checked :
     (eval (s Minus ∷ n 9223372036854775807 ∷ s Minus ∷ n 1 ∷ []) ≡ Ok (negsuc 9223372036854775807))
     × (eval (s Minus ∷ n 9223372036854775807 ∷ s Minus ∷ n 2 ∷ []) ≡ Err Range)
@@ -70,7 +70,7 @@ pub values_are_checked :
 unfolding value_of tree_within
 values_are_checked = (refl, refl, refl, refl, refl, refl, refl, refl)
 
--- the shape comes first, then the values from the left
+-- An error of the shape comes first, then the errors of the values from left to right.
 pub row_faults :
     (eval (n 9223372036854775807 ∷ s Plus ∷ n 1 ∷ []) ≡ Err Range)
     × (eval (s OpenParen ∷ s Minus ∷ n 9223372036854775807 ∷ s Minus ∷ n 1 ∷ s CloseParen ∷ s Percent ∷ s Minus ∷ n 1 ∷ []) ≡ Err Range)
@@ -82,7 +82,7 @@ pub row_faults :
 unfolding value_of tree_within
 row_faults = (refl, refl, refl, refl, refl, refl, refl)
 
--- 64 parentheses and 64 signs are allowed, one more of either isn't
+-- 64 parentheses and 64 unary operators are allowed, and one more of either is not.
 pub row_limits :
     (eval (times 64 (s OpenParen) ++ n 1 ∷ times 64 (s CloseParen)) ≡ Ok (pos 1))
     × (eval (times 65 (s OpenParen) ++ n 1 ∷ times 65 (s CloseParen)) ≡ Err Depth)

@@ -1,4 +1,4 @@
--- Worked examples: the tokens of a line.
+-- Examples: the tokens of a line.
 use Rattle.std.specs.Prelude.{◌≡◌, ℕ, List, [], ◌∷◌, pos, None, Some, Result, Ok, Err, refl, codes}
 use Rattle.std.specs.Fmt.{digits}
 use Rattle.redcode_text.specs.declared.token.TokenKind.{TokenKind}
@@ -17,23 +17,23 @@ n k = Number (pos k)
 abbrev s : Sign → TokenKind
 s x = token.Sign x
 
--- what a text says: its tokens and its names
+-- The tokens and names of a text.
 abbrev said : Result Scanned TextProblem → Result (List TokenKind × List (List ℕ)) TextProblem
 said (Ok r) = Ok (kinds r.tokens, r.names)
 said (Err e) = Err e
 
--- tokens and names outside loops
+-- The tokens and names of a text outside loops.
 abbrev read : List ℕ → Result (List TokenKind × List (List ℕ)) TextProblem
 read bs = said (tokens [] 1 0 100 [] bs)
 
--- the loops of `i`, in round 1, and `j`, in round 12, are open
+-- Three open loops: the one of `i` in iteration 1, one without a counter, and the one of `j` in iteration 12.
 abbrev loops : List OpenLoop
 loops = record { counter = Some (codes "i"); round = 1 } ∷ record { counter = None; round = 3 } ∷ record { counter = Some (codes "j"); round = 12 } ∷ []
 
 abbrev read_inside : List ℕ → Result (List TokenKind × List (List ℕ)) TextProblem
 read_inside bs = said (tokens loops 1 0 100 [] bs)
 
--- each kind of token
+-- Every kind of token.
 pub row_kinds :
     (read (codes "DAT x_1, -007") ≡ Ok (Name 0 ∷ Name 1 ∷ s Comma ∷ s Minus ∷ n 7 ∷ [], codes "DAT" ∷ codes "x_1" ∷ []))
     × (read (codes "x y x Y") ≡ Ok (Name 0 ∷ Name 1 ∷ Name 0 ∷ Name 2 ∷ [], codes "x" ∷ codes "y" ∷ codes "Y" ∷ []))
@@ -43,7 +43,7 @@ pub row_kinds :
 unfolding digits
 row_kinds = (refl, refl, refl, refl, refl)
 
--- the longest token is taken
+-- The longest possible token is read.
 pub row_longest :
     (read (codes "<==") ≡ Err BadToken)
     × (read (codes "===!==") ≡ Err BadToken)
@@ -53,7 +53,7 @@ pub row_longest :
 unfolding digits
 row_longest = (refl, refl, refl, refl, refl)
 
--- what begins no token
+-- Texts that are not tokens.
 pub row_bad :
     (read (codes "9223372036854775808") ≡ Err BadToken)
     × (read (codes "1x") ≡ Err BadToken)
@@ -69,7 +69,7 @@ pub row_bad :
 unfolding digits
 row_bad = (refl, refl, refl, refl, refl, refl, refl, refl, refl, refl, refl)
 
--- joins and counters
+-- Joins and counters.
 pub row_joins :
     (read_inside (codes "x&i") ≡ Ok (Name 0 ∷ [], codes "x01" ∷ []))
     × (read_inside (codes "x&i&j") ≡ Ok (Name 0 ∷ [], codes "x0112" ∷ []))
@@ -86,7 +86,7 @@ pub row_joins :
 unfolding digits
 row_joins = (refl, refl, refl, refl, refl, refl, refl, refl, refl, refl, refl, refl)
 
--- at most so many tokens; a bad one too many is bad
+-- There is a maximum number of tokens. A bad token beyond it is reported as bad.
 pub row_room :
     (said (tokens [] 1 0 2 [] (codes "a b")) ≡ Ok (Name 0 ∷ Name 1 ∷ [], codes "a" ∷ codes "b" ∷ []))
     × (said (tokens [] 1 0 1 [] (codes "a b")) ≡ Err TooLong)
@@ -95,7 +95,7 @@ pub row_room :
 unfolding digits
 row_room = (refl, refl, refl, refl)
 
--- where the tokens stand
+-- The positions of the tokens.
 pub row_places :
     scanned (codes " ab+ 12") ≡ Ok (record {
       tokens =

@@ -1,4 +1,4 @@
-//! The value of an expression that has the shape of one, from the left, with what waits on a stack.
+//! The value of an expression with a valid shape, computed from left to right with a stack.
 ghost use Rattle.std.specs.Prelude.{◌≡◌, ℕ, ℤ, List, [], ◌∷◌, ◌<◌, ◌≤◌, length, IfSome, IfNone, Ok, false, slice_get};
 ghost use Rattle.redcode_text.specs.Code.Climbing.{signed, AreInside, StaysAt, IsNoOpen};
 ghost use Rattle.redcode_text.specs.Expression.{precedence, kinds};
@@ -11,12 +11,12 @@ use crate::token::{Sign, Token, TokenKind};
 use arrayvec::ArrayVec;
 use std::marker::Model;
 
-/// What waits for the rest of an expression.
+/// An entry of the stack: it waits for the rest of the expression.
 #[derive(Clone, Copy)]
 enum Pending {
-    /// An open parenthesis, and where the unary signs before it begin and end among the tokens.
+    /// An open parenthesis, with the range of token indices of the unary operators before it.
     Open(usize, usize),
-    /// A value, and the operator that waits for its right side.
+    /// A value, and the operator that waits for its right operand.
     Value(i64, Sign),
 }
 
@@ -26,7 +26,7 @@ impl Default for Pending {
     }
 }
 
-/// What waits, the latest first, of at most `N` entries. All `N` places are written when it is made.
+/// A stack of at most `N` entries, the latest on top. All `N` entries are written when it is created.
 #[derive(Drop)]
 struct Stack<const N: usize> {
     entries: ArrayVec<Pending, N>,
@@ -57,7 +57,7 @@ impl<const N: usize> Stack<N> {
         self.entries.push(entry);
     }
 
-    /// Takes the latest value, where its operator is no looser than `reach`.
+    /// Pops the value on top if its operator is no looser than `reach`.
     fn pop_value(&mut self, reach: u8) -> Option<(i64, Sign)>
         ensures taken { IfSome result (λ top. self.old ≡ Pending.Value top.0 top.1 ∷ self.new) }
         ensures tight { IfSome result (λ top. precedence top.1 ≤ reach) }
@@ -75,7 +75,7 @@ impl<const N: usize> Stack<N> {
         Some((value, sign))
     }
 
-    /// Takes the latest, where it is an open parenthesis.
+    /// Pops the entry on top if it is an open parenthesis.
     fn pop_open(&mut self) -> Option<(usize, usize)>
         ensures taken { IfSome result (λ top. self.old ≡ Pending.Open top.0 top.1 ∷ self.new) }
         ensures none { IfNone result (IsNoOpen self.old) }
@@ -87,7 +87,7 @@ impl<const N: usize> Stack<N> {
     }
 }
 
-/// The value behind a run of unary signs.
+/// Applies a run of unary operators to a value, the last one first.
 fn apply_signs(run: &[Token], value: i64) -> Result<i64, ExprFault>
     ensures { result ≡ signed (kinds run.now) value }
 {
@@ -101,13 +101,13 @@ fn apply_signs(run: &[Token], value: i64) -> Result<i64, ExprFault>
     }
 }
 
-/// The reading of an expression from the left, in which at most `N` values and parentheses wait.
+/// The evaluation of an expression from left to right, with a stack of at most `N` entries.
 #[derive(Drop)]
 pub struct Evaluator<const N: usize> {
     stack: Stack<N>,
-    /// Where the unary signs directly before begin among the tokens.
+    /// The index of the first of the unary operators directly before the present token.
     first_sign: usize,
-    /// The value of the operand directly before, if one stands there.
+    /// The value of the operand directly before the present token, if `after_operand` is true.
     value: i64,
     after_operand: bool,
 }
@@ -166,7 +166,7 @@ impl<const N: usize> Evaluator<N> {
         self.after_operand = false;
     }
 
-    /// The value, where all tokens were taken.
+    /// Returns the value, after all tokens were taken.
     pub fn finish(&mut self) -> Result<i64, ExprFault>
         ensures { result ≡ finished self.old }
     {
@@ -207,7 +207,7 @@ impl<const N: usize> Evaluator<N> {
         }
     }
 
-    /// Takes an operator after an operand.
+    /// Takes a binary operator after an operand.
     fn operate(&mut self, at: usize, sign: Sign) -> Result<(), ExprFault>
         requires fits { at < usize.MAX }
         requires room { (w : ℤ) (stack : List Pending)
@@ -241,7 +241,7 @@ impl<const N: usize> Evaluator<N> {
     }
 }
 
-/// The value, once everything is applied that waits and is no looser than `reach`.
+/// Applies all waiting operators that are no looser than `reach`, and returns the value.
 fn reduce_on<const N: usize>(stack: &mut Stack<N>, value: i64, reach: u8) -> Result<i64, ExprFault>
     ensures value { GivesOn stack.new result (reduced_on reach stack.old value) }
     ensures inside { (n : ℕ) → AreInside n stack.old → AreInside n stack.new }

@@ -5,7 +5,7 @@ ghost use Rattle.redcode_text.specs.Expression.{binary, precedence, unary};
 use crate::fault::ExprFault;
 use crate::token::Sign;
 
-/// The precedence of an operator between two operands: 1 binds tightest, 5 loosest; 0 for any other sign.
+/// Returns the precedence of a binary operator: 1 binds tightest, 5 loosest; 0 for any other sign.
 pub fn precedence(sign: Sign) -> u8
     ensures { result ≡ precedence sign }
 {
@@ -24,7 +24,7 @@ pub fn precedence(sign: Sign) -> u8
     }
 }
 
-/// The value of an operator between two values.
+/// Applies a binary operator.
 pub fn apply_binary(sign: Sign, left: i64, right: i64) -> Result<i64, ExprFault>
     ensures { result ≡ binary sign left right }
 {
@@ -56,7 +56,7 @@ pub fn apply_binary(sign: Sign, left: i64, right: i64) -> Result<i64, ExprFault>
     }
 }
 
-/// The value of a sign before a value.
+/// Applies a unary operator.
 pub fn apply_unary(sign: Sign, value: i64) -> Result<i64, ExprFault>
     ensures { result ≡ unary sign value }
 {

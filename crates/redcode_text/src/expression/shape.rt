@@ -1,4 +1,4 @@
-//! The shape of an expression: operands and operators in turn, parentheses closed.
+//! The shape of an expression: operands and operators alternate, and parentheses are closed.
 ghost use Rattle.std.specs.Prelude.{◌≡◌};
 ghost use Rattle.redcode_text.specs.Expression.{after_sign, before_sign, kinds, next_state, shape, start};
 
@@ -7,18 +7,18 @@ use crate::fault::ExprFault;
 use crate::limits::{MAX_PARENS, MAX_SIGNS};
 use crate::token::{Sign, Token, TokenKind};
 
-/// What has been read of a shape.
+/// The state of the check of a shape.
 #[derive(Clone, Copy)]
 pub struct ShapeState {
-    /// How many parentheses are open.
+    /// The number of open parentheses.
     pub opened: usize,
-    /// How many unary signs stand directly before.
+    /// The number of unary operators directly before the present token.
     pub signs: usize,
-    /// Whether an operand stands directly before.
+    /// Whether an operand is directly before the present token.
     pub after_operand: bool,
 }
 
-/// The state after one more token, or the fault of that token.
+/// Returns the state after one more token, or the error of that token.
 fn step(state: ShapeState, kind: TokenKind) -> Result<ShapeState, ExprFault>
     ensures { result ≡ next_state state kind }
 {
@@ -43,7 +43,7 @@ fn step(state: ShapeState, kind: TokenKind) -> Result<ShapeState, ExprFault>
     }
 }
 
-/// The state after a sign where an operand is wanted.
+/// Returns the state after a sign where an operand is expected.
 fn step_before_operand(state: ShapeState, sign: Sign) -> Result<ShapeState, ExprFault>
     ensures { result ≡ before_sign state sign }
 {
@@ -72,7 +72,7 @@ fn step_before_operand(state: ShapeState, sign: Sign) -> Result<ShapeState, Expr
     }
 }
 
-/// The state after a sign where an operator is wanted.
+/// Returns the state after a sign where a binary operator is expected.
 fn step_after_operand(state: ShapeState, sign: Sign) -> Result<ShapeState, ExprFault>
     ensures { result ≡ after_sign state sign }
 {
@@ -96,7 +96,11 @@ fn step_after_operand(state: ShapeState, sign: Sign) -> Result<ShapeState, ExprF
     })
 }
 
-/// Whether the tokens have the shape of an expression, or the fault of the first that can't go on.
+/// Checks that tokens have the shape of an expression. Does not allocate.
+///
+/// # Errors
+///
+/// Returns the error of the first token that can't continue the expression, or `Syntax` if the expression ends too early.
 pub fn check_shape(tokens: &[Token]) -> Result<(), ExprFault>
     ensures { result ≡ shape start (kinds tokens.now) }
 {

@@ -8,13 +8,13 @@ use crate::names::NameTable;
 /// An open loop.
 #[derive(Clone, Copy)]
 pub struct OpenLoop {
-    /// Its counter, by its index among the names, if it has one.
+    /// The index of its counter among the names, if it has one.
     pub counter: Option<usize>,
-    /// The number of its round, from 1.
+    /// The number of the iteration, from 1.
     pub round: u32,
 }
 
-/// The round of the loop, the last first, whose counter has this name. There are at most 32.
+/// Returns the iteration of the innermost loop whose counter has this name. At most 32 loops are open.
 pub fn find_round(names: &NameTable, loops: &[OpenLoop], name: &[u8]) -> Option<u32>
     ensures { result ≡ round_of (open_loops names.now loops.now) name.now }
 {

@@ -1,4 +1,4 @@
-//! The names of a source that is being read, and the loops that are open.
+//! The names of a source that is being read, and the open loops.
 ghost use Rattle.std.specs.Prelude.{◌≡◌, ◌∷◌, length, drop, option_map, [], IfOk, OnOk, IsAscii};
 ghost use Rattle.redcode_text.specs.Code.Counters.{AreThere, IsThere, innermost_counter};
 ghost use Rattle.redcode_text.specs.Lines.{name_at};
@@ -8,7 +8,8 @@ use crate::lexer::open_loops::{OpenLoop, find_round};
 use crate::names::NameTable;
 use std::alloc::{AllocError, Global};
 
-/// The names of a source that is being read, and the open loops, whose counters are among them; the innermost last.
+/// The names of a source that is being read, and the open loops, innermost last. The counters of the loops are among the
+/// names.
 #[derive(Drop)]
 pub struct SourceNames {
     pub table: NameTable,
@@ -19,7 +20,7 @@ pub struct SourceNames {
 impl SourceNames {
     ghost use Rattle.redcode_text.specs.Code.SourceLoops.{loops_of};
 
-    /// No name and no loop.
+    /// Returns an empty list of names, without open loops.
     pub fn new(alloc: Global) -> Self
         ensures table { result.table ≡ [] }
         ensures loops { loops_of result ≡ [] }
@@ -30,7 +31,7 @@ impl SourceNames {
         }
     }
 
-    /// The names without the loops.
+    /// Returns the names, without the loops.
     pub fn into_table(self) -> NameTable
         ensures { result ≡ self.table }
     {
@@ -38,7 +39,7 @@ impl SourceNames {
         table
     }
 
-    /// The index of a name; it is added where it is new.
+    /// Returns the index of a name, which is added if it is new.
     pub fn index_of(&mut self, alloc: Global, name: &[u8]) -> Result<usize, AllocError>
         requires ascii { IsAscii name.now }
         ensures index { IfOk result (λ n. n ≡ name_index self.old.table name.now) }
@@ -46,21 +47,22 @@ impl SourceNames {
         ensures loops { OnOk result (loops_of self.new ≡ loops_of self.old) }
     {
         let Ok(index) = self.table.index_of(alloc, name) else {
-            // the names may have changed, and where memory is wanting nothing more is read
+            // The names may have changed, so the counters may not be among them. Nothing more is read after memory ran
+            // out.
             self.loops.clear();
             return Err(AllocError);
         };
         Ok(index)
     }
 
-    /// How many loops are open.
+    /// Returns the number of open loops.
     pub fn depth(&self) -> usize
         ensures { result ≡ length (loops_of self.now) }
     {
         self.loops.len()
     }
 
-    /// One more loop is open, the innermost now.
+    /// Opens a loop, which becomes the innermost one.
     pub fn open_loop(&mut self, counter: Option<usize>, round: u32) -> Result<(), AllocError>
         requires there { IsThere self.old.table counter }
         ensures loops { OnOk result (loops_of self.new
@@ -71,7 +73,7 @@ impl SourceNames {
         Ok(())
     }
 
-    /// Closes the innermost loop, and gives its counter.
+    /// Closes the innermost loop, and returns its counter.
     pub fn close_loop(&mut self) -> Option<usize>
         ensures counter { option_map (name_at self.new.table) result ≡ innermost_counter (loops_of self.old) }
         ensures there { IsThere self.new.table result }
@@ -84,7 +86,7 @@ impl SourceNames {
         }
     }
 
-    /// The round of the loop whose counter has this name.
+    /// Returns the iteration of the innermost loop whose counter has this name.
     pub fn round_of(&self, name: &[u8]) -> Option<u32>
         ensures { result ≡ round_of (loops_of self.now) name.now }
     {

@@ -15,7 +15,7 @@ use crate::token::{Spelled, TokenKind};
 use itoa::Buffer;
 use std::alloc::{AllocError, Global};
 
-/// The number that decimal digits spell, where it is below 2^64.
+/// Returns the value of decimal digits, if it is below 2^64.
 fn number_of(digits: &[u8]) -> Option<u64>
     requires { list_all is_ascii_digit digits.now ≡ true }
     ensures { MatchOption result (2 ^ 64 ≤ digits_value 10 digits.now) (λ n. n ≡ digits_value 10 digits.now) }
@@ -29,7 +29,7 @@ fn number_of(digits: &[u8]) -> Option<u64>
     Some(number)
 }
 
-/// The token of a number.
+/// Returns the token of a number.
 fn number_kind(digits: &[u8]) -> Result<TokenKind, TextProblem>
     requires { list_all is_ascii_digit digits.now ≡ true }
     ensures { result ≡ number_kind (digits_value 10 digits.now) }
@@ -40,7 +40,7 @@ fn number_kind(digits: &[u8]) -> Result<TokenKind, TextProblem>
     }
 }
 
-/// A word that is no counter.
+/// Returns the token of a word that isn't a counter.
 fn plain_word(
     alloc: Global,
     names: &mut SourceNames,
@@ -68,7 +68,7 @@ fn plain_word(
     }
 }
 
-/// A word with its joins done, which `len` bytes spell.
+/// Returns the token of a word after its joins were replaced. The word has `len` bytes in the source.
 fn joined_word(
     alloc: Global,
     names: &mut SourceNames,
@@ -89,7 +89,7 @@ fn joined_word(
     }
 }
 
-/// Puts the digits of a round behind a word.
+/// Appends the digits of an iteration's number to a word.
 fn push_round(word: &mut Vec<u8>, round: u32) -> Result<(), AllocError>
     ensures digits { OnOk result (word.new.items ≡ word.old.items ++ round_digits round) }
     ensures ascii { IsAscii word.old.items → OnOk result (IsAscii word.new.items) }
@@ -102,7 +102,7 @@ fn push_round(word: &mut Vec<u8>, round: u32) -> Result<(), AllocError>
     Ok(())
 }
 
-/// A word with the digits of counters in place of its joins.
+/// Replaces each join of a word by the digits of its counter.
 fn join_word(alloc: Global, names: &SourceNames, word: &[u8]) -> Result<Vec<u8>, TextProblem>
     requires { IsAscii word.now }
     ensures value { Gives (λ w. w.items) result (joined (loops_of names.now) word.now) }
@@ -126,7 +126,7 @@ fn join_word(alloc: Global, names: &SourceNames, word: &[u8]) -> Result<Vec<u8>,
     Ok(joined)
 }
 
-/// The token of a word as it is written.
+/// Returns the token of a word as it is written in the source.
 pub fn read_word(
     alloc: Global,
     names: &mut SourceNames,

@@ -1,37 +1,37 @@
-//! The names that have values before anything is read.
+//! The predefined names.
 ghost use Rattle.std.specs.Prelude.{◌≡◌, map};
 ghost use Rattle.redcode_text.specs.Views.{predefined_of};
 ghost use Rattle.redcode_text.specs.Lines.{predefined_value, with_current_line};
 
-/// The values of the predefined names, but for CURLINE.
+/// The values of the predefined names, except for CURLINE.
 #[derive(Clone, Copy, Debug)]
 pub struct PredefinedNames {
-    /// CORESIZE
+    /// CORESIZE, the number of cells.
     pub core_size: i64,
-    /// MAXPROCESSES
+    /// MAXPROCESSES, the maximum number of processes of a warrior.
     pub max_processes: i64,
-    /// MAXCYCLES
+    /// MAXCYCLES, the maximum number of cycles of a battle.
     pub max_cycles: i64,
-    /// MAXLENGTH, the longest warrior
+    /// MAXLENGTH, the maximum length of a warrior.
     pub max_length: i64,
-    /// MINDISTANCE
+    /// MINDISTANCE, the minimum distance between warriors.
     pub min_distance: i64,
-    /// ROUNDS
+    /// ROUNDS, the number of rounds.
     pub rounds: i64,
-    /// WARRIORS
+    /// WARRIORS, the number of warriors.
     pub warriors: i64,
-    /// VERSION
+    /// VERSION.
     pub version: i64,
 }
 
-/// A name, and what it stands for.
+/// A name and its value.
 #[derive(Clone, Copy)]
 struct NamedValue<'a> {
     name: &'a str,
     value: i64,
 }
 
-/// What a name stands for, among these.
+/// Returns the value of a name among `values`.
 fn value_among(values: &[NamedValue<'_>], name: &[u8]) -> Option<i64>
     ensures { result ≡ predefined_value (map (λ v. (v.name.now, v.value)) values.now) name.now }
 {
@@ -52,7 +52,7 @@ fn named(name: &str, value: i64) -> NamedValue<'_>
 }
 
 impl PredefinedNames {
-    /// The predefined names, but for CURLINE.
+    /// Returns the predefined names with their values, except for CURLINE.
     fn table(&self) -> [NamedValue<'static>; 8]
         ensures { map (λ v. (v.name.now, v.value)) result ≡ predefined_of self.now }
     {
@@ -68,14 +68,14 @@ impl PredefinedNames {
         ]
     }
 
-    /// The value of a predefined name.
+    /// Returns the value of a predefined name, except for CURLINE.
     fn value(&self, name: &[u8]) -> Option<i64>
         ensures { result ≡ predefined_value (predefined_of self.now) name.now }
     {
         value_among(&self.table(), name)
     }
 
-    /// The value of a predefined name, where CURLINE has this one.
+    /// Returns the value of a predefined name. `current_line` is the value of CURLINE.
     pub fn value_at(&self, current_line: u32, name: &[u8]) -> Option<i64>
         ensures { result ≡ predefined_value (with_current_line (predefined_of self.now) current_line) name.now }
     {

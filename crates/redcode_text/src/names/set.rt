@@ -7,7 +7,7 @@ use indexmap::IndexSet;
 use std::alloc::{AllocError, Global};
 use std::marker::Model;
 
-/// Names, by their indices. Whether one is there takes the same time for all.
+/// A set of names, by their indices. A look-up takes constant time.
 #[derive(Drop)]
 pub struct NameSet {
     names: IndexSet<usize>,
@@ -21,7 +21,7 @@ impl Model for NameSet {
     ghost view = { λ s. s.names.keys };
 }
 
-/// Puts names into a set that has room for them.
+/// Inserts names into a set that has enough capacity.
 fn insert_each(set: &mut IndexSet<usize>, names: &[usize])
     requires { length names.now ≤ spare set.old }
     ensures { HasSame set.new.keys (set.old.keys ++ names.now) }
@@ -34,7 +34,7 @@ fn insert_each(set: &mut IndexSet<usize>, names: &[usize])
 }
 
 impl NameSet {
-    /// No name.
+    /// Returns an empty set.
     pub fn new(alloc: Global) -> Self
         ensures { result ≡ [] }
     {
@@ -43,14 +43,14 @@ impl NameSet {
         }
     }
 
-    /// Whether a name is there.
+    /// Returns whether a name is in the set.
     pub fn contains(&self, name: usize) -> bool
         ensures { result ≡ has self.now name }
     {
         self.names.contains(&name)
     }
 
-    /// Adds a name.
+    /// Inserts a name.
     pub fn insert(&mut self, name: usize) -> Result<(), AllocError>
         ensures { OnOk result (HasSame self.new (self.old ++ name ∷ [])) }
     {
@@ -60,7 +60,7 @@ impl NameSet {
         }
     }
 
-    /// Adds names, or none of them.
+    /// Inserts all names, or none of them if memory runs out.
     pub fn insert_all(&mut self, names: &[usize]) -> Result<(), AllocError>
         ensures ok { OnOk result (HasSame self.new (self.old ++ names.now)) }
         ensures err { OnErr result (self.new ≡ self.old) }

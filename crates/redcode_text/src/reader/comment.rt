@@ -1,4 +1,4 @@
-//! Comment lines, among them directives.
+//! Comment lines, which include directives.
 ghost use Rattle.std.specs.Prelude.{◌≡◌, ◌≤◌, ◌<◌, ◌+◌, ◌^◌, length, Ok};
 ghost use Rattle.redcode_text.specs.Code.Comments.{assert_at, with_author_text, with_name_text};
 ghost use Rattle.redcode_text.specs.Code.Readings.{reading_of};
@@ -14,7 +14,7 @@ use crate::source::row::SourceRow;
 use std::alloc::Global;
 
 impl Reading {
-    /// Reads a comment line: `;name`, `;author`, `;assert`, or nothing.
+    /// Reads a comment line: `;name`, `;author`, `;assert`, or a comment without a meaning.
     pub fn read_comment(&mut self, alloc: Global, row: SourceRow<'_>) -> Result<(), TextProblem>
         requires fits { row.at + length row.bytes.now < 2 ^ 64 }
         ensures value { Gives (λ _. reading_of self.new) result (comment_line (row_of row.entry) (reading_of self.old)) }
@@ -27,7 +27,7 @@ impl Reading {
         }
     }
 
-    /// Takes the text of `;name`, without the blanks at both ends.
+    /// Sets the name from the text of `;name` without whitespace at both ends.
     fn take_name(&mut self, alloc: Global, text: &[u8]) -> Result<(), TextProblem>
         ensures value { Gives (λ _. reading_of self.new) result (Ok (with_name_text text.now (reading_of self.old))) }
     {
@@ -38,7 +38,7 @@ impl Reading {
         Ok(())
     }
 
-    /// Takes the text of `;author`, without the blanks at both ends.
+    /// Sets the author from the text of `;author` without whitespace at both ends.
     fn take_author(&mut self, alloc: Global, text: &[u8]) -> Result<(), TextProblem>
         ensures value { Gives (λ _. reading_of self.new) result (Ok (with_author_text text.now (reading_of self.old))) }
     {
@@ -49,7 +49,7 @@ impl Reading {
         Ok(())
     }
 
-    /// Reads the expression of an assert, which begins at a place of a row.
+    /// Reads the expression of an assert, which starts at an offset of a row.
     fn read_assert(
         &mut self,
         alloc: Global,

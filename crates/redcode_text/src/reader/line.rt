@@ -16,7 +16,7 @@ use crate::token::Token;
 use std::alloc::Global;
 
 impl Reading {
-    /// Reads the tokens of an EQU line, whose word EQU begins at this byte of the source.
+    /// Reads the tokens of an EQU line, whose word EQU is at the offset `at` in the source.
     pub fn read_equ(
         &mut self,
         alloc: Global,
@@ -42,7 +42,7 @@ impl Reading {
         Ok(())
     }
 
-    /// Reads the tokens of a line of this kind, which isn't FOR or ROF.
+    /// Reads the tokens of a line of this kind, which is neither FOR nor ROF.
     fn read_kind(
         &mut self,
         alloc: Global,

@@ -1,4 +1,4 @@
-//! Ordinary lines: their labels, operation and rest, and the lines of EQU names in their place.
+//! Ordinary lines: their labels, operation and other tokens, and the lines of EQU names that replace them.
 ghost use Rattle.std.specs.Prelude.{◌≡◌, ◌≤◌, drop, length, take, IfOk, ◌<◌, ◌+◌, [], ◌∷◌, ◌++◌, map, option_map, vec_len, Ok, OnErr, OnOk};
 ghost use Rattle.redcode_text.specs.Views.{predefined_of};
 ghost use Rattle.redcode_text.specs.Code.Readings.{parts_at, reading_of};
@@ -16,20 +16,20 @@ use crate::reader::used_lines::used_line;
 use crate::token::{Sign, Token, TokenKind};
 use std::alloc::{AllocError, Global};
 
-/// The parts of a line, by their places among its tokens.
+/// The parts of a line, as indices of its tokens.
 #[derive(Drop)]
 pub struct Parts {
-    /// The labels, by their indices among the names.
+    /// The labels, as indices into the names.
     pub labels: Vec<usize>,
-    /// Where the labels with their colons end.
+    /// The index after the last label and its colon.
     pub labels_end: usize,
-    /// The operation, by its index among the names, if there is one.
+    /// The operation, as an index into the names, if there is one.
     pub operation: Option<usize>,
-    /// Where the rest begins.
+    /// The index of the first of the remaining tokens.
     pub rest_at: usize,
 }
 
-/// How many of the tokens are a colon in front: one or none.
+/// Returns the number of colons at the start of the tokens that belong to a label: 0 or 1.
 fn colons(tokens: &[Token]) -> usize
     ensures value { split_colon tokens.now ≡ (take result tokens.now, drop result tokens.now) }
     ensures within { result ≤ length tokens.now }
@@ -41,14 +41,14 @@ fn colons(tokens: &[Token]) -> usize
 }
 
 impl Reading {
-    /// Whether a name may be a label of a line that has these labels so far.
+    /// Returns whether a name may be a label on a line that has `labels` so far.
     fn may_label(&self, names: &PredefinedNames, labels: &NameSet, name: usize) -> bool
         ensures { result ≡ may_label (predefined_of names.now) (reading_of self.now) labels.now name }
     {
         !(self.is_label(name) || self.is_predefined(names, name) || labels.contains(name))
     }
 
-    /// The parts of a line, whose labels are put into this empty set too.
+    /// Splits a line into its parts, and inserts its labels into the given empty set.
     fn parts_with(
         &self,
         alloc: Global,
@@ -98,7 +98,7 @@ impl Reading {
         })
     }
 
-    /// The parts of a line.
+    /// Splits a line into its parts.
     pub fn parts_of(
         &self,
         alloc: Global,
@@ -113,7 +113,7 @@ impl Reading {
     }
 }
 
-/// Adds a line to the lines, and its labels to the labels of all lines.
+/// Appends a line to the lines, and its labels to the labels of all lines.
 fn add_labelled(lines: &mut Vec<Line>, labels: &mut NameSet, line: Line) -> Result<(), AllocError>
     requires { AreLabels (λ l. l.labels.items) labels.old lines.old.items }
     ensures known { AreLabels (λ l. l.labels.items) labels.new lines.new.items }
@@ -128,7 +128,7 @@ fn add_labelled(lines: &mut Vec<Line>, labels: &mut NameSet, line: Line) -> Resu
 }
 
 impl Reading {
-    /// A line whose operation is no EQU name.
+    /// Adds a line whose operation isn't an EQU name.
     fn add_line(&mut self, line: Line) -> Result<(), TextProblem>
         requires { vec_len self.old.lines < self.old.lines_read }
         ensures equates { self.new.equates ≡ self.old.equates }
@@ -151,7 +151,7 @@ impl Reading {
     }
 }
 
-/// An operation that is an EQU name, with the tokens on both sides of it.
+/// An operation that is an EQU name, with the tokens before and after it.
 #[derive(Clone, Copy)]
 struct Operation<'a> {
     name: Option<usize>,
@@ -159,7 +159,7 @@ struct Operation<'a> {
     behind: &'a [Token],
 }
 
-/// A copy of tokens as those of a line of this number, so that a fault of one that comes from EQU has the line of its use.
+/// Copies tokens and gives them a line number, so that an error in a token that comes from EQU has the line of its use.
 fn on_line(alloc: Global, number: usize, tokens: &[Token]) -> Result<Vec<Token>, TextProblem>
     ensures { Gives (λ made. made.items) result (Ok (on_line number tokens.now)) }
 {
@@ -176,7 +176,7 @@ fn on_line(alloc: Global, number: usize, tokens: &[Token]) -> Result<Vec<Token>,
 }
 
 impl Reading {
-    /// The lines of an operation that is an EQU name.
+    /// Returns the lines of the definition of an operation that is an EQU name.
     fn operation_lines(&self, operation: Option<usize>) -> Option<&[Vec<Token>]>
         ensures { option_map (λ lines. map (λ line. line.items) lines.now) result ≡ operation_lines (reading_of self.now) operation }
     {
@@ -186,7 +186,7 @@ impl Reading {
         }
     }
 
-    /// The lines of an operation that is an EQU name; none where it isn't.
+    /// Returns the lines of the definition of an operation that is an EQU name, or no lines if it isn't.
     fn lines_under(&self, operation: Option<usize>) -> &[Vec<Token>]
         ensures { map (λ line. line.items) result.now ≡ lines_under (reading_of self.now) operation }
     {
@@ -196,7 +196,7 @@ impl Reading {
         }
     }
 
-    /// A line in its parts, whose operation is no EQU name.
+    /// Adds a line, given in parts, whose operation isn't an EQU name.
     fn add_ordinary(
         &mut self,
         alloc: Global,
@@ -223,8 +223,9 @@ impl Reading {
         })
     }
 
-    /// Reads the tokens of an ordinary line of this number. Where its operation is an EQU name, the lines of that name
-    /// take its place; they may nest so deep.
+    /// Reads the tokens of an ordinary line with this number.
+    ///
+    /// If its operation is an EQU name, the lines of that name replace it; these may nest `depth` deep.
     #[cycle(ordinary)]
     pub fn read_ordinary(
         &mut self,
@@ -277,7 +278,7 @@ impl Reading {
         self.read_ordinary(alloc, names, number, depth, line)
     }
 
-    /// Reads the lines that take the place of an EQU name, each as an ordinary line, up to END. Each is made when it is read.
+    /// Reads the lines that replace an EQU name, each as an ordinary line, up to END. Each line is built when it is read.
     #[cycle(ordinary)]
     fn read_used(
         &mut self,

@@ -1,4 +1,4 @@
-//! The items of a source, with the rounds of its loops.
+//! The items of a source, with the iterations of its loops.
 ghost use Rattle.std.specs.Prelude.{◌≡◌, ◌+◌, ◌<◌, ◌≤◌, ◌^◌, false, length, map, option_map, slice_index, IfOk, OnOk};
 ghost use Rattle.redcode_text.specs.Expansion.{flat, head_line, rof_line, rounds, unpaired_line};
 ghost use Rattle.redcode_text.specs.declared.limits.TheConstants.{MAX_LOOPS};
@@ -27,7 +27,7 @@ use crate::source::{end_from, ends_of};
 use std::alloc::Global;
 
 impl Reading {
-    /// Reads the line of a ROF, whose tokens mean nothing.
+    /// Reads a ROF line, whose tokens have no meaning.
     pub fn read_rof(&mut self, alloc: Global, row: SourceRow<'_>) -> Result<(), TextProblem>
         requires fits { row.at + length row.bytes.now < 2 ^ 64 }
         ensures value { Gives (λ _. reading_of self.new) result (rof_line (row_of row.entry) (reading_of self.old)) }
@@ -43,7 +43,7 @@ impl Reading {
     }
 }
 
-/// Reads the row at a place, which is neither FOR nor ROF, and gives the next place.
+/// Reads the row at an index, which is neither FOR nor ROF, and returns the next index.
 fn read_row(
     alloc: Global,
     names: &PredefinedNames,
@@ -64,7 +64,7 @@ fn read_row(
     }
 }
 
-/// Reads the row of a FOR.
+/// Reads a FOR row.
 fn read_for_row(
     alloc: Global,
     names: &PredefinedNames,
@@ -87,7 +87,7 @@ fn read_for_row(
     }
 }
 
-/// Reads the row of a ROF.
+/// Reads a ROF row.
 fn read_rof_row(alloc: Global, row: SourceRow<'_>, reading: &mut Reading) -> Result<(), TextFault>
     requires fits { row.at + length row.bytes.now < 2 ^ 64 }
     ensures loops { OnOk result (loops_of reading.new.names ≡ loops_of reading.old.names) }
@@ -100,7 +100,7 @@ fn read_rof_row(alloc: Global, row: SourceRow<'_>, reading: &mut Reading) -> Res
     }
 }
 
-/// Refuses a FOR without its ROF, or a ROF without its FOR, which is this problem.
+/// Counts the line of a FOR without its ROF, or of a ROF without its FOR, and returns its error `problem`.
 fn refuse_unpaired(
     row: SourceRow<'_>,
     problem: TextProblem,
@@ -115,17 +115,18 @@ fn refuse_unpaired(
     }
 }
 
-/// The rows of a source, and where the loop of each FOR ends.
+/// The rows of a source, and the end of the loop of each FOR.
 #[derive(Clone, Copy)]
 struct PairedRows<'a> {
     rows: &'a [SourceRow<'a>],
-    /// The index of the row that ends the items behind each row: their ROF, or the length where none ends them.
+    /// For each row, the index of the row that ends the items after it: their ROF, or the number of rows if none ends
+    /// them.
     ends: &'a [usize],
     ghost same_length: { length ends.now ≡ length rows.now },
     ghost fit: { RowsFit rows.now },
 }
 
-/// Reads the items from `first` on, up to the ROF that ends them, END or the end.
+/// Reads the items from `first` on, up to the ROF that ends them, to END or to the end of the source.
 #[cycle(items)]
 fn read_items(
     alloc: Global,
@@ -161,7 +162,7 @@ fn read_items(
     Ok(())
 }
 
-/// Reads the loop whose FOR is at a place, and says where the items behind its ROF begin.
+/// Reads the loop whose FOR is at an index, and returns the index of the row after its ROF.
 #[cycle(items)]
 fn read_loop(
     alloc: Global,
@@ -190,7 +191,7 @@ fn read_loop(
     Ok(last + 1)
 }
 
-/// Reads the items from `first` on as often as the head of their loop says, up to END.
+/// Reads the items from `first` on as many times as the header of their loop says, up to END.
 #[cycle(items)]
 fn read_rounds(
     alloc: Global,

@@ -1,4 +1,4 @@
-//! The lines that take the place of an EQU name, each made when it is read.
+//! The lines that replace an EQU name, each built when it is read.
 ghost use Rattle.std.specs.Prelude.{◌≡◌, ◌≤◌, ◌-◌, ◌++◌, [], get_or, length, map, Ok};
 ghost use Rattle.redcode_text.specs.Code.Problems.{Gives};
 ghost use Rattle.redcode_text.specs.Code.Used.{before_line, used};
@@ -7,7 +7,7 @@ use crate::fault::TextProblem;
 use crate::token::Token;
 use std::alloc::Global;
 
-/// Tokens, and others behind them.
+/// Returns the tokens of `front`, followed by those of `back`.
 fn joined(alloc: Global, front: &[Token], back: &[Token]) -> Result<Vec<Token>, TextProblem>
     ensures { Gives (λ made. made.items) result (Ok (front.now ++ back.now)) }
 {
@@ -20,14 +20,15 @@ fn joined(alloc: Global, front: &[Token], back: &[Token]) -> Result<Vec<Token>, 
     }
 }
 
-/// What goes before the line at a place among those of an EQU name: these tokens before the first, nothing before the others.
+/// Returns the tokens that precede the line at an index in an EQU definition: `before` for the first line, none for the
+/// others.
 fn before_line(before: &[Token], at: usize) -> &[Token]
     ensures { result.now ≡ before_line before.now at }
 {
     if at == 0 { before } else { &[] }
 }
 
-/// The last of the lines that take the place of an EQU name.
+/// Returns the last of the lines that replace an EQU name.
 fn last_line(
     alloc: Global,
     before: &[Token],
@@ -46,8 +47,8 @@ fn last_line(
     }
 }
 
-/// One of the lines that take the place of an EQU name: labels go before the first, and the tokens behind the name after the
-/// last.
+/// Returns one of the lines that replace an EQU name. Labels precede the first line, and the tokens after the name follow
+/// the last line.
 pub fn used_line(
     alloc: Global,
     before: &[Token],

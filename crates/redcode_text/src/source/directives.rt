@@ -1,4 +1,4 @@
-//! Directives: comments that say something.
+//! Directives: comments with a meaning.
 ghost use Rattle.std.specs.Prelude.{◌≡◌, ◌≤◌, ◌<◌, ◌+◌, length, map, reverse, string_bytes, take, true, nat_eq, IfOk, IfSome, Ok};
 ghost use Rattle.std.specs.List.{starts_with};
 ghost use Rattle.std.specs.Str.{str_to_ascii_lowercase};
@@ -13,7 +13,7 @@ use crate::fault::TextProblem;
 use crate::limits::MAX_NAME;
 use std::alloc::Global;
 
-/// Whether a line begins, behind blanks, with these bytes in either case.
+/// Returns whether a line begins, after whitespace, with `directive`, in either case.
 pub fn has_directive(directive: &[u8], bytes: &[u8]) -> bool
     requires { str_to_ascii_lowercase directive.now ≡ directive.now }
     ensures value { result ≡ starts_with nat_eq (str_to_ascii_lowercase (without_blanks bytes.now)) directive.now }
@@ -26,7 +26,8 @@ pub fn has_directive(directive: &[u8], bytes: &[u8]) -> bool
     is_word(directive, &text[..directive.len()])
 }
 
-/// Where the text of a directive begins, where a line is that directive: a blank or nothing stands behind its word.
+/// Returns the offset of a directive's text, if the line is that directive: whitespace or the end of the line follows its
+/// word.
 fn directive_text_at(directive: &[u8], bytes: &[u8]) -> Option<usize>
     requires { str_to_ascii_lowercase directive.now ≡ directive.now }
     ensures value { result ≡ text_found directive.now bytes.now }
@@ -42,7 +43,7 @@ fn directive_text_at(directive: &[u8], bytes: &[u8]) -> Option<usize>
     }
 }
 
-/// A byte as it stands in a name: `?` where it can't be printed.
+/// Returns the byte to use in a name: `?` if it isn't printable.
 fn printable(byte: u8) -> u8
     ensures value { result ≡ printable byte }
     ensures ascii { result < 128 }
@@ -54,7 +55,7 @@ fn printable(byte: u8) -> u8
     }
 }
 
-/// How many bytes stand before the blanks at the end.
+/// Returns the number of bytes before the whitespace at the end.
 fn trimmed_len(text: &[u8]) -> usize
     ensures value { take result text.now ≡ reverse (without_blanks (reverse text.now)) }
     ensures within { result ≤ length text.now }
@@ -69,7 +70,7 @@ fn trimmed_len(text: &[u8]) -> usize
     0
 }
 
-/// Bytes as they stand in a name.
+/// Returns bytes as a string for a name, with `?` for those that aren't printable.
 fn printed(alloc: Global, bytes: &[u8]) -> Result<String, TextProblem>
     ensures { Gives (λ text. string_bytes text) result (Ok (map printable bytes.now)) }
 {
@@ -82,7 +83,7 @@ fn printed(alloc: Global, bytes: &[u8]) -> Result<String, TextProblem>
     Ok(text)
 }
 
-/// The text of `;name` or `;author`, without the blanks at both ends.
+/// Returns the text of `;name` or `;author` without the whitespace at both ends.
 fn trimmed(text: &[u8]) -> &[u8]
     ensures { result.now ≡ trimmed text.now }
 {
@@ -90,7 +91,8 @@ fn trimmed(text: &[u8]) -> &[u8]
     &front[..trimmed_len(front)]
 }
 
-/// The value of `;name` or `;author`, from its text without blanks at both ends: printable bytes, 60 of them at most.
+/// Returns the value of `;name` or `;author`: the printable form of at most 60 bytes of `trimmed`, which has no
+/// whitespace at both ends.
 pub fn directive_value(alloc: Global, trimmed: &[u8]) -> Result<String, TextProblem>
     ensures value { Gives (λ value. string_bytes value) result (Ok (printed_value trimmed.now)) }
     ensures printed { IfOk result (λ value. IsPrinted (string_bytes value)) }
@@ -98,19 +100,19 @@ pub fn directive_value(alloc: Global, trimmed: &[u8]) -> Result<String, TextProb
     printed(alloc, &trimmed[..trimmed.len().min(MAX_NAME)])
 }
 
-/// What a comment says.
+/// The meaning of a comment.
 #[derive(Clone, Copy)]
 pub enum Comment<'a> {
-    /// `;name`, with its text, without the blanks at both ends.
+    /// `;name`, with its text without whitespace at both ends.
     Name(&'a [u8]),
-    /// `;author`, with its text in the same way.
+    /// `;author`, with its text without whitespace at both ends.
     Author(&'a [u8]),
-    /// `;assert`, with the place of its expression.
+    /// `;assert`, with the offset of its expression.
     Assert(usize),
     Other,
 }
 
-/// What a line says, as a comment.
+/// Returns the meaning of a line as a comment.
 pub fn comment_of(bytes: &[u8]) -> Comment<'_>
     ensures value { said_of result ≡ said bytes.now }
     ensures inside { assert_place result ≤ length bytes.now }

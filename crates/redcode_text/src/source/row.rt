@@ -1,4 +1,4 @@
-//! A line of a source, and what kind it is of.
+//! A line of a source, and its kind.
 ghost use Rattle.std.specs.Prelude.{◌≡◌, ◌≤◌, ◌==◌, length, not, IfSome};
 ghost use Rattle.std.specs.List.{prefix_len};
 ghost use Rattle.redcode_text.specs.Bytes.{semicolon};
@@ -8,7 +8,7 @@ ghost use Rattle.redcode_text.specs.Source.{is_comment, first_word_at, has_word,
 
 use crate::characters::{blank_len, is_word, word_len};
 
-/// What a line is, with the place of its word FOR or EQU.
+/// The kind of a line, with the offset of its word FOR or EQU.
 #[derive(Clone, Copy, PartialEq, Eq)]
 pub enum LineKind {
     Rof,
@@ -17,7 +17,7 @@ pub enum LineKind {
     Other,
 }
 
-/// The first place from `at` on where no blank stands.
+/// Returns the offset of the first byte from `at` on that isn't whitespace.
 fn past_blanks(bytes: &[u8], at: usize) -> usize
     requires { at ≤ length bytes.now }
     ensures value { result ≡ past_blanks bytes.now at }
@@ -60,7 +60,7 @@ fn second_word_at(bytes: &[u8]) -> usize
     past_blanks(bytes, past_colon(bytes, behind))
 }
 
-/// Whether a word, in either case, stands at a place.
+/// Returns whether the word at an offset is `word`, in either case.
 fn has_word(word: &[u8], bytes: &[u8], at: usize) -> bool
     requires { at ≤ length bytes.now }
     ensures { result ≡ has_word word.now bytes.now at }
@@ -69,7 +69,7 @@ fn has_word(word: &[u8], bytes: &[u8], at: usize) -> bool
     is_word(&rest[..word_len(rest)], word)
 }
 
-/// Where a word stands as the first or the second of a line.
+/// Returns the offset of `word`, if it is the first or the second word of a line.
 fn leading_word_at(word: &[u8], bytes: &[u8]) -> Option<usize>
     ensures value { result ≡ leading_word_at word.now bytes.now }
     ensures within { IfSome result (λ at. at ≤ length bytes.now) }
@@ -85,7 +85,7 @@ fn leading_word_at(word: &[u8], bytes: &[u8]) -> Option<usize>
     None
 }
 
-/// What kind a line is of, by its first two words.
+/// Returns the kind of a line, which its first two words decide.
 fn line_kind(bytes: &[u8]) -> LineKind
     ensures value { kind_of result ≡ line_kind bytes.now }
     ensures inside { word_place result ≤ length bytes.now }
@@ -102,7 +102,7 @@ fn line_kind(bytes: &[u8]) -> LineKind
     }
 }
 
-/// How many bytes stand before a comment.
+/// Returns the number of bytes before a comment.
 fn code_len(bytes: &[u8]) -> usize
     ensures value { result ≡ prefix_len (λ b. not (b == semicolon)) bytes.now }
     ensures within { result ≤ length bytes.now }
@@ -110,7 +110,7 @@ fn code_len(bytes: &[u8]) -> usize
     bytes.iter().take_while(|byte| **byte != b';').count()
 }
 
-/// The bytes before a comment.
+/// Returns the bytes before a comment.
 pub fn before_comment(bytes: &[u8]) -> &[u8]
     ensures value { result.now ≡ before_comment bytes.now }
     ensures within { length result.now ≤ length bytes.now }
@@ -121,12 +121,12 @@ pub fn before_comment(bytes: &[u8]) -> &[u8]
 /// A line of a source, without its LF.
 #[derive(Clone, Copy)]
 pub struct SourceRow<'a> {
-    /// The number of the line, from 1.
+    /// The line number, from 1.
     pub number: usize,
-    /// The index of its first byte in the source.
+    /// The offset of its first byte in the source.
     pub at: usize,
     pub bytes: &'a [u8],
-    /// Kept, since a line of a loop is read again in each round.
+    /// Stored, because a line of a loop is read again in each iteration.
     kind: LineKind,
     ghost kind_is: { IsKind kind bytes.now },
 }
@@ -134,7 +134,7 @@ pub struct SourceRow<'a> {
 impl<'a> SourceRow<'a> {
     ghost use Rattle.redcode_text.specs.Code.Rows.{row_of};
 
-    /// The line of this number, whose first byte has this index in the source.
+    /// Returns the line with this number, whose first byte has the offset `at` in the source.
     pub fn new(number: usize, at: usize, bytes: &'a [u8]) -> Self
         ensures { row_of result ≡ record { number = number; at = at; bytes = bytes.now } }
     {
@@ -146,7 +146,7 @@ impl<'a> SourceRow<'a> {
         }
     }
 
-    /// Whether the line is a comment alone.
+    /// Returns whether the line has nothing but a comment.
     pub fn is_comment(&self) -> bool
         ensures { result ≡ is_comment self.now.bytes.now }
     {
@@ -156,7 +156,7 @@ impl<'a> SourceRow<'a> {
         }
     }
 
-    /// What kind the line is of.
+    /// Returns the kind of the line.
     pub fn kind(&self) -> LineKind
         ensures value { kind_of result ≡ line_kind self.now.bytes.now }
         ensures inside { word_place result ≤ length self.now.bytes.now }

@@ -1,4 +1,4 @@
-//! The faults of sources, each at its line.
+//! The errors of sources, with their lines.
 use super::{
     COPIES, LOOPS, NAMES, at, check_faults, check_no_faults, copies, fault, fault_of, joined,
 };
@@ -68,7 +68,8 @@ fn the_first_fault_of_a_line(rt: HostRuntime) {
     check_faults(&rt, rt.alloc(), FIRST_FAULTS);
 }
 
-/// The first line has tokens of line 4 alone, and they can't be replaced.
+/// Checks that the first and the last token of the first line have the line number 4, and that replacing EQU names
+/// nests too deep.
 fn check_use(rt: &impl Abort, alloc: Global, program: &Program) -> Result<(), Fail> {
     let line = program.lines().first().ok_or("line")?;
     assert_eq!(rt; line.rest.first().map(|token| token.line), Some(4));
@@ -98,7 +99,7 @@ fn long_words_that_are_no_tokens(rt: HostRuntime) -> Result<(), Fail> {
     Ok(())
 }
 
-/// A source that is cut off anywhere has a program or a fault.
+/// Every prefix of a source has a program or an error.
 #[test]
 fn each_beginning_of_a_source_is_answered(rt: HostRuntime) {
     for len in 0..LOOPS.len() {

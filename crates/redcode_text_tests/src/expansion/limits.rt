@@ -1,4 +1,4 @@
-//! Limits of a source, at their value and one past it.
+//! Limits of a source, at their value and one beyond.
 use super::{NAMES, at, check_copies, copies, fault, fault_of, first_labels, joined};
 use redcode_text::{Program, TextFault, TextProblem, expand};
 use std::alloc::Global;
@@ -25,7 +25,7 @@ fn as_many_tokens_as_may_be_read(rt: HostRuntime) -> Result<(), Fail> {
     check_copies(&rt, rt.alloc(), b"0 ", 65_537, too_long)
 }
 
-/// So many loops in one another with these lines within have this fault.
+/// Checks that `count` nested loops around the given lines have this error.
 fn check_loops(
     rt: &impl Abort,
     alloc: Global,
@@ -47,8 +47,8 @@ fn as_many_loops_as_may_be_open(rt: HostRuntime) -> Result<(), Fail> {
     check_loops(&rt, rt.alloc(), 33, b"", too_long)
 }
 
-/// EQU names `e0`, which stands for a leaf, up to `e` and this number, of which each stands for two of the one before, and
-/// a text behind them.
+/// EQU names from `e0`, which is defined as `leaf`, up to the number `last`, each defined as two of the previous one;
+/// then the text `behind`.
 fn doublings(alloc: Global, leaf: &str, last: usize, behind: &str) -> Result<Vec<u8>, Fail> {
     let first = format!(in alloc; "e0 EQU {leaf}\n")?;
     let mut source = Vec::from_slice(alloc, first.as_bytes())?;
@@ -61,7 +61,7 @@ fn doublings(alloc: Global, leaf: &str, last: usize, behind: &str) -> Result<Vec
     Ok(source)
 }
 
-/// How many tokens the rest of the last line of a program has, where EQU names are replaced.
+/// The number of tokens of the last line of a program, without its operation, after EQU names are replaced.
 fn last_len(alloc: Global, program: &Program) -> Result<usize, TextFault> {
     let mut len = 0;
     for line in program.lines() {
@@ -70,7 +70,7 @@ fn last_len(alloc: Global, program: &Program) -> Result<usize, TextFault> {
     Ok(len)
 }
 
-/// The same of the program of a source.
+/// The number of tokens of the last line of a source's program, after EQU names are replaced.
 fn substituted_len(alloc: Global, source: &[u8]) -> Result<usize, TextFault> {
     let program = expand(alloc, source, &NAMES)?;
     let len = last_len(alloc, &program);
@@ -78,7 +78,7 @@ fn substituted_len(alloc: Global, source: &[u8]) -> Result<usize, TextFault> {
     len
 }
 
-/// So many doublings of 1, and a text behind them, have a last line of so many tokens, or this fault.
+/// Checks the number of tokens of the last line, or the error, for `last` doublings of 1 followed by a text.
 fn check_doublings(
     rt: &impl Abort,
     alloc: Global,
@@ -106,7 +106,7 @@ fn as_many_names_as_may_be_replaced(rt: HostRuntime) -> Result<(), Fail> {
     Ok(())
 }
 
-/// `e15` takes 65,535 replacements and makes 65,535 tokens.
+/// `e15` needs 65,535 replacements and yields 65,535 tokens.
 #[test]
 fn as_many_tokens_as_replacements_may_make(rt: HostRuntime) -> Result<(), Fail> {
     let alloc = rt.alloc();
@@ -130,7 +130,7 @@ fn as_long_as_names_may_be(rt: HostRuntime) -> Result<(), Fail> {
     Ok(())
 }
 
-/// So many EQU names of which each stands for the one before, and a line that uses the last as its operation.
+/// `count` EQU names, each defined as the previous one, and a line that uses the last one as its operation.
 fn chain(alloc: Global, count: usize) -> Result<Vec<u8>, Fail> {
     let mut source = Vec::from_slice(alloc, b"e1 EQU DAT 5\n")?;
     for before in 1..count {
@@ -154,7 +154,7 @@ fn as_deep_as_names_may_be_replaced(rt: HostRuntime) -> Result<(), Fail> {
     Ok(())
 }
 
-/// Names `a0`, `a1` and so on, each with these bytes behind it.
+/// The names `a0`, `a1` and so on, each followed by `behind`.
 fn numbered(alloc: Global, count: usize, behind: &str) -> Result<Vec<u8>, Fail> {
     let mut source = Vec::new(alloc);
     for index in 0..count {
@@ -176,7 +176,7 @@ fn as_many_labels_as_there_may_be(rt: HostRuntime) -> Result<(), Fail> {
     Ok(())
 }
 
-/// Five doublings of a leaf, and a text behind them, give so many lines.
+/// Checks the number of lines for five doublings of a leaf followed by a text.
 fn check_count(
     rt: &impl Abort,
     alloc: Global,
@@ -191,7 +191,7 @@ fn check_count(
     Ok(())
 }
 
-/// Counts of many tokens are kept, where their names still stand for the same.
+/// The same count of many tokens in several loops: its value may be the same, or differ because of CURLINE.
 #[test]
 fn counts_that_are_met_again(rt: HostRuntime) -> Result<(), Fail> {
     let alloc = rt.alloc();

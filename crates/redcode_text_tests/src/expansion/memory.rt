@@ -1,5 +1,5 @@
-//! Calls that are refused memory. Each test holds whichever one of its requests is refused, since a second try has memory:
-//! checks/memory refuses each in turn.
+//! Calls whose allocations fail. Each test tries the call again if memory runs out, so it passes whichever allocation
+//! fails. checks/memory lets each allocation fail in turn.
 use super::NAMES;
 use redcode_text::{
     Line, LineTokens, Program, TextFault, TextProblem, Token, TokenKind, expand, scan,
@@ -8,7 +8,7 @@ use std::alloc::Global;
 use std::process::Abort;
 use std::test::Fail;
 
-/// Names, labels, loops in loops, joins, EQU lines, an operation that is an EQU name, directives and an assert.
+/// Names, labels, nested loops, joins, EQU lines, an operation that is an EQU name, directives and an assert.
 const SOURCE: &[u8] =
     b";redcode\n;name Loops\n;author Somebody\n;assert CORESIZE == 8000\nstep EQU 4\ncopy EQU MOV.I #step, target\n     EQU ADD.AB #step, target\ni FOR 2\nj FOR step-3\nx&i&j DAT i, step\nROF\nROF\ntarget copy\nEND target\n";
 
@@ -17,7 +17,7 @@ const OF_MEMORY: TextFault = TextFault {
     problem: TextProblem::OutOfMemory,
 };
 
-/// How many lines and asserts a program has, and how many labels and tokens its lines have.
+/// The numbers of lines and asserts of a program, and of the labels and tokens of its lines.
 fn sizes(program: &Program) -> [usize; 4] {
     let lines = program.lines();
     let labels = lines
@@ -31,7 +31,7 @@ fn sizes(program: &Program) -> [usize; 4] {
     [lines.len(), program.asserts().len(), labels, tokens]
 }
 
-/// The program, by a second try where the first was refused memory.
+/// Returns the program, and tries again if memory runs out.
 fn program_of(rt: &impl Abort, alloc: Global) -> Result<Program, Fail> {
     match expand(alloc, SOURCE, &NAMES) {
         Err(fault) => {
@@ -56,7 +56,7 @@ fn a_source_is_expanded(rt: HostRuntime) -> Result<(), Fail> {
     Ok(())
 }
 
-/// The tokens of a line with its EQU names replaced, by a second try where the first was refused memory.
+/// Returns the tokens of a line with its EQU names replaced, and tries again if memory runs out.
 fn substituted(
     rt: &impl Abort,
     alloc: Global,
@@ -92,7 +92,7 @@ fn tokens_are_substituted(rt: HostRuntime) -> Result<(), Fail> {
     checked
 }
 
-/// The tokens of a text, by a second try where the first was refused memory.
+/// Returns the tokens of a text, and tries again if memory runs out.
 fn scanned(rt: &impl Abort, alloc: Global, text: &[u8]) -> Result<LineTokens, Fail> {
     match scan(alloc, text) {
         Err(fault) => {

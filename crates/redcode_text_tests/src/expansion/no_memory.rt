@@ -1,5 +1,6 @@
-//! Calls that take no memory. Each test asks for memory once, and holds whether that and all that comes after it is refused
-//! or not: checks/memory refuses all requests from each on. Where its program is refused, there is nothing to show.
+//! Calls that don't allocate. Each test allocates once, and passes whether or not that allocation and all later ones
+//! fail: checks/memory lets all allocations from each one on fail. If the program of a test can't be allocated, there
+//! is nothing to check.
 use super::{NAMES, NoNames};
 use redcode_text::{
     ExprFault, Line, Program, Sign, Token, TokenKind, check_shape, eval, expand, is_instruction,
@@ -9,7 +10,7 @@ use std::alloc::Global;
 use std::process::Abort;
 use std::test::Fail;
 
-/// Asks for memory, which is the first request of all that are refused.
+/// Allocates once. This is the first allocation that may fail.
 fn ask(alloc: Global) {
     let _asked: Result<Vec<u64>, _> = Vec::with_capacity(alloc, 1);
 }
@@ -49,7 +50,7 @@ fn check_texts(rt: &impl Abort, program: &Program) {
     assert!(rt; program.equate_lines(0).is_some());
 }
 
-/// An instruction.
+/// Checks that a line is a DAT instruction.
 fn check_line(rt: &impl Abort, program: &Program, line: &Line) {
     assert!(rt; is_spelled(program.names(), b"dat", line.operation));
     assert!(rt; is_instruction(program.names(), line.operation, &line.rest));

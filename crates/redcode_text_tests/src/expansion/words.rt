@@ -1,4 +1,4 @@
-//! Long words, and words behind joins.
+//! Long words, and words after joins.
 use super::{NAMES, at, check_copies, copies, first_labels, joined};
 use redcode_text::{Line, NameTable, TextProblem, TokenKind, expand};
 use std::alloc::Global;
@@ -37,7 +37,8 @@ fn long_words_in_loop(alloc: Global) -> Result<Vec<u8>, Fail> {
     joined(alloc, &texts)
 }
 
-/// There are three lines, of which the last has a token, 3 and 70.
+/// Checks that there are three lines, and that the last one has three tokens after its operation, of which the last two
+/// are 3 and 70.
 fn check_long_words(rt: &impl Abort, lines: &[Line]) {
     assert_eq!(rt; lines.len(), 3);
     let rest = lines[2].rest.as_slice();
@@ -55,7 +56,8 @@ fn long_words_in_each_round(rt: HostRuntime) -> Result<(), Fail> {
     Ok(())
 }
 
-/// A label of so many letters and the digits of its round, in two rounds of a loop, and both names behind it.
+/// A label of `len` letters and the digits of its iteration, in a loop of two iterations, and a use of both names after
+/// it.
 fn joined_in_loop(alloc: Global, len: usize) -> Result<Vec<u8>, Fail> {
     let word = copies(alloc, b"x", len)?;
     let texts: [&[u8]; 7] = [
@@ -74,14 +76,14 @@ JMP ",
     joined(alloc, &texts)
 }
 
-/// Puts a name of a program behind a text, and a blank.
+/// Appends a name of a program to a text, and a space.
 fn push_name(names: &NameTable, name: usize, text: &mut Vec<u8>) -> Result<(), Fail> {
     text.extend_from_slice(names.name(name))?;
     text.push(b' ')?;
     Ok(())
 }
 
-/// The labels of lines and the names behind their operations.
+/// The labels of lines, and the names after their operations.
 fn names_of_lines(alloc: Global, names: &NameTable, lines: &[Line]) -> Result<Vec<u8>, Fail> {
     let mut text = Vec::new(alloc);
     for line in lines {

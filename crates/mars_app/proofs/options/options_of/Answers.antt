@@ -1,6 +1,6 @@
 use Rattle.mars_app.proofs.options.options_of.Goals as goal
 
--- a path between records, field by field
+-- A path between records, field by field.
 pub returns : goal.returns
 returns c = λ i. record {
   files = c.in_ok-files.ensures i;

@@ -30,7 +30,7 @@ returns-clause-ok g c =
     all_play_well (g.F.WarriorFiles.known c.args.files.now) c.args.options.now c.args.setup.now c.in_ok-warriors.warriors.items _ _
     c.requires.setup c.as_slice.ensures.value c.contest_size.ensures c.in_ok-warriors.ensures.loaded c.if-options.false c.play-done.result _ _ (rw c.deref.ensures.value at c.play-done.ensures.ok)
 
--- ---- runs that fail
+-- ---- Runs that fail
 
 pub returns-then-options-clause-err : goal.returns-then-options-clause-err
 returns-then-options-clause-err g c =

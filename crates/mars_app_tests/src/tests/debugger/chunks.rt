@@ -1,4 +1,4 @@
-//! Inputs of more bytes than one read has, and replies of more bytes than wait at once: both are 4,096.
+//! Inputs longer than one read, and replies longer than the text that may wait; both limits are 4,096 bytes.
 use super::{Exchange, answers, imp_session};
 use crate::tests::{repeat, repeated};
 use mars_app::debug;
@@ -7,7 +7,7 @@ use std::alloc::Global;
 use std::process::Abort;
 use std::test::Fail;
 
-/// The session answers so in pieces of few bytes, and of a byte less and more than 4,096.
+/// Checks the replies for reads and writes of few bytes, and of slightly less and more than 4,096.
 fn check_sizes(
     rt: &impl Abort,
     alloc: Global,
@@ -19,7 +19,7 @@ fn check_sizes(
     }
 }
 
-/// So it is for a session of one imp.
+/// Checks the replies of a session of one imp for all these sizes.
 fn check_imp(rt: &impl Abort, alloc: Global, input: &[u8], expected: &[u8]) -> Result<(), Fail> {
     let mut session = imp_session(rt, alloc)?;
     check_sizes(rt, alloc, &mut session, Exchange { input, expected });
@@ -27,7 +27,7 @@ fn check_imp(rt: &impl Abort, alloc: Global, input: &[u8], expected: &[u8]) -> R
     Ok(())
 }
 
-/// A line has 9 bytes, so that reads of 4,096 end within lines.
+/// A line has 9 bytes, so that reads of 4,096 bytes end within lines.
 #[test]
 fn inputs_of_more_than_one_read(rt: HostRuntime) -> Result<(), Fail> {
     let alloc = rt.alloc();
@@ -47,7 +47,7 @@ fn a_list_of_2000_cells(rt: HostRuntime) -> Result<(), Fail> {
     check_imp(&rt, alloc, b"list 0 2000\n", &cells)
 }
 
-/// After these spawns the queue is this line.
+/// Checks that the queue is this line after these spawns.
 fn check_queue(rt: &impl Abort, alloc: Global, spawns: &[u8], queue: &[u8]) -> Result<(), Fail> {
     let mut session = imp_session(rt, alloc)?;
     let (mut lines, mut output) = (spawns, Vec::new(alloc));

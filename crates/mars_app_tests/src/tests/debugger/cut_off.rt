@@ -1,4 +1,4 @@
-//! Readers and writers that fail in the middle: what was answered is a beginning of the transcript.
+//! Readers and writers that fail in the middle: what was written is a beginning of the transcript.
 use super::{AMPLE, Entries, LONG, Narrow, ONE_IMP, Pieces, THREE_STAY, imp_session, session_of};
 use mars_app::{DebugFault, debug};
 use mars_session::{DeltaTape, Session};
@@ -6,7 +6,7 @@ use std::alloc::Global;
 use std::process::Abort;
 use std::test::Fail;
 
-/// The replies to the lines that came whole.
+/// Returns the replies to the complete lines of `came`.
 fn replies_to(alloc: Global, came: &[u8], replies: &[&str]) -> Result<Vec<u8>, Fail> {
     let mut expected = Vec::new(alloc);
     let mut line = 0usize;
@@ -21,7 +21,7 @@ fn replies_to(alloc: Global, came: &[u8], replies: &[&str]) -> Result<Vec<u8>, F
     Ok(expected)
 }
 
-/// After what came the read fails, and this was written.
+/// Checks what was written if the read after `came` fails.
 fn check_cut_off(
     rt: &impl Abort,
     alloc: Global,
@@ -40,7 +40,7 @@ fn check_cut_off(
     assert!(rt; output.as_slice() == expected, "{}", came.len());
 }
 
-/// The input is cut off after each number of bytes, and then the read fails: the lines that came are answered.
+/// Checks the replies if the read after each number of bytes of the input fails: the complete lines were executed.
 fn answers_what_came(
     rt: &impl Abort,
     alloc: Global,

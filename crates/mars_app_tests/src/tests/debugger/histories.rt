@@ -1,4 +1,4 @@
-//! Places and marks: undo, redo, goto, and histories that are full or forget.
+//! Places and marks: undo, redo, goto, and histories that are full or evict places.
 use super::{Exchange, ONE_IMP, THREE_STAY, answers, battle_of, gives, gives_within, imp_gives};
 use mars_session::{RingTape, Session};
 use std::test::Fail;
@@ -36,7 +36,7 @@ fn a_history_that_is_full(rt: HostRuntime) -> Result<(), Fail> {
     gives_within(&rt, rt.alloc(), ONE_IMP, 2, Exchange { input, expected })
 }
 
-/// Two places are kept beside the last one: the first that is left isn't marked.
+/// Two places are kept beside the last one, and the first that is left is not marked.
 #[test]
 fn a_history_that_forgets(rt: HostRuntime) -> Result<(), Fail> {
     let input = b"run 3\nundo\ngoto 0\ngoto 1\nstep\nundo\nundo\nredo\n";

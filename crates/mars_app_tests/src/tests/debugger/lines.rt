@@ -1,4 +1,4 @@
-//! Lines of any length and kind, and how they come and go.
+//! Lines of any length and kind, and how they are split into reads.
 use super::{Entries, Exchange, IMP, LONG, Narrow, Pieces, STAY, gives, imp_gives, imp_session};
 use mars_app::{DebugFault, debug, debug_within};
 use std::test::Fail;
@@ -23,7 +23,7 @@ fn long_and_empty_lines(rt: HostRuntime) -> Result<(), Fail> {
 #[test]
 fn blanks(rt: HostRuntime) -> Result<(), Fail> {
     let alloc = rt.alloc();
-    // A command among as many blanks as one more than a line may have is no command.
+    // A line of 257 bytes is unknown, also if it is a command followed by spaces, or only spaces.
     let mut input = Vec::from_slice(alloc, b"step")?;
     input.extend_from_slice(&BLANKS[..253])?;
     input.extend_from_slice(b"\n")?;
@@ -151,7 +151,7 @@ fn as_many_reads_as_are_allowed(rt: HostRuntime) -> Result<(), Fail> {
     Ok(())
 }
 
-/// A person or a program may give any number of lines, byte by byte.
+/// Any number of lines may be entered byte by byte.
 #[test]
 fn as_many_reads_as_there_are_bytes(rt: HostRuntime) -> Result<(), Fail> {
     let alloc = rt.alloc();

@@ -1,6 +1,6 @@
-//! The debugger takes no memory, and over a ring of records no command of it does. The test makes its objects, asks for
-//! memory once more, and holds whether that and all that comes after it is refused or not: checks/memory refuses all
-//! requests from each on. Where the objects themselves are refused, there is nothing to show.
+//! The debugger does not allocate, and neither does a command of it over a ring of records. The test creates its objects,
+//! allocates again, and holds whether that allocation and all later ones fail or not; checks/memory lets all allocations from
+//! each one on fail. If the objects themselves cannot be allocated, the test checks nothing.
 use super::{AMPLE, IMP, Narrow, Pieces};
 use mars_app::{DebugFault, debug_within};
 use mars_cell::{Params, read_load};
@@ -10,16 +10,16 @@ use std::alloc::Global;
 use std::process::Abort;
 use std::test::Fail;
 
-/// Every kind of line.
+/// Lines of every kind.
 const INPUT: &[u8] =
     b"step\nqueue 0\nrun 3\nuntil 5\nundo\nredo\ngoto 2\nedit 7 NOP.F $0, $0\nfill 3 4 NOP.F $1, $0\nspawn 0 5\nmove 0 0 3\nkill 0 1\nlist 2 4\nshow\nredo\nbad\nrun 200\n";
 
-/// Asks for memory, which is the first request of all that are refused.
+/// Allocates once. In some runs this is the first allocation that fails.
 fn ask(alloc: Global) {
     let _asked: Result<Vec<u64>, _> = Vec::with_capacity(alloc, 1);
 }
 
-/// The session that the program has, of one imp.
+/// Returns the program's own kind of session, of one imp.
 fn imp_session(alloc: Global, params: &Params) -> Option<Session<RingTape>> {
     let mut warriors = Vec::new(alloc);
     warriors.push(read_load(alloc, IMP, params).ok()?).ok()?;
@@ -29,7 +29,7 @@ fn imp_session(alloc: Global, params: &Params) -> Option<Session<RingTape>> {
     Some(Session::new(tape, AMPLE))
 }
 
-/// A writer with so much room, and memory for it.
+/// Returns a writer with capacity for `room` bytes, which are allocated.
 fn writer(alloc: Global, room: usize) -> Option<Narrow> {
     Some(Narrow {
         bytes: Vec::with_capacity(alloc, 2000).ok()?,
@@ -38,19 +38,19 @@ fn writer(alloc: Global, room: usize) -> Option<Narrow> {
     })
 }
 
-/// How the debugger is run, and what it answers.
+/// How the debugger is run, and its result.
 #[derive(Clone, Copy)]
 struct Case {
     /// Whether the reader fails at its end.
     fails: bool,
-    /// How many bytes the writer takes.
+    /// Number of bytes that the writer takes.
     room: usize,
     reads: u64,
     done: Result<(), DebugFault>,
 }
 
 impl Case {
-    /// What the debugger writes to a writer and answers.
+    /// Runs the debugger over a session and a writer, and returns its result.
     fn debugged(
         self,
         session: &mut Session<RingTape>,
@@ -65,7 +65,7 @@ impl Case {
     }
 }
 
-/// A session answers so, and another one over which no memory is left does and writes the same.
+/// Checks that two sessions have the same results and output, the second one without memory left.
 fn check_sessions(
     rt: &impl Abort,
     alloc: Global,
@@ -84,7 +84,7 @@ fn check_sessions(
     assert_eq!(rt; poor.standing(), ample.standing());
 }
 
-/// So it is with this session and a new one.
+/// Checks that the results and output of this session are those of a new one without memory left.
 fn check_session(
     rt: &impl Abort,
     alloc: Global,

@@ -1,4 +1,4 @@
-//! The help, and the words behind the name of the program.
+//! The help, and the arguments after the name of the program.
 use crate::tests::{Outcome, answer, check_fault, memory_files};
 use mars_app::{Streams, start};
 use std::alloc::Global;
@@ -59,7 +59,7 @@ fn help(rt: HostRuntime) -> Result<(), Fail> {
     assert_eq!(rt; answer.status, 0);
     assert!(rt; answer.faults.is_empty());
     assert!(rt; answer.output.as_slice() == HELP.as_bytes());
-    // A bad word before it, or a number out of its range, is judged first.
+    // An invalid argument or a number out of its range before `--help` is reported first.
     for word in ["x", "0", "100001"] {
         check_fault(
             &rt,
@@ -72,7 +72,7 @@ fn help(rt: HostRuntime) -> Result<(), Fail> {
     Ok(())
 }
 
-/// An environment of these arguments, of which the first is the program's name, and of no variables.
+/// An environment with these arguments, of which the first is the program's name, and without variables.
 #[derive(Drop)]
 struct Arguments(&'static [&'static [u8]]);
 
@@ -97,7 +97,7 @@ impl Env for Arguments {
     }
 }
 
-/// What a program answers that was started with these arguments.
+/// Runs a program that is started with these arguments, and returns its result.
 fn started(alloc: Global, arguments: &'static [&'static [u8]]) -> Result<Outcome, Fail> {
     let (input, output) = (b"".as_slice(), Vec::new(alloc));
     let mut streams = Streams { input, output };
@@ -113,10 +113,10 @@ fn started(alloc: Global, arguments: &'static [&'static [u8]]) -> Result<Outcome
     })
 }
 
-/// Arguments, and the status and what is written with them.
+/// Arguments, the exit status, the output and the line of the error.
 type Start = (&'static [&'static [u8]], u8, &'static [u8], &'static [u8]);
 
-/// The name need not be text, and isn't one of the words; each of these must be text, and counts: of 41 the last is no file.
+/// The name need not be text and is no argument. Each argument must be text and counts: the last of 41 is no file.
 const STARTS: &[Start] = &[
     (
         &[b"\xff", b"--load", b"imp.load"],

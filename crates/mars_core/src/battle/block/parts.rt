@@ -9,20 +9,20 @@ use crate::battle::block::{BLOCK_MARK, BlockFault, HEAD_WORDS};
 use crate::deaths::MOST_WARRIORS;
 use mars_cell::Params;
 
-/// Parts of a block.
+/// The parts of a block.
 #[derive(Clone, Copy)]
 pub struct Parts<'w> {
-    /// Header: the first 64 words.
+    /// The header: the first 64 words.
     pub head: &'w [u32],
-    /// Number of processes of each warrior.
+    /// The number of processes of each warrior.
     pub counts: &'w [u32],
     /// Three words for each cell.
     pub cells: &'w [u32],
-    /// Addresses of the processes, queue by queue.
+    /// The addresses of the processes, queue by queue.
     pub processes: &'w [u32],
 }
 
-/// Returns the parts of the block that the words begin with, by the lengths that its header has.
+/// Returns the parts of the block that the words begin with, by the lengths that its header states.
 pub fn parts_of(words: &[u32]) -> Result<Parts<'_>, BlockFault>
     ensures head { IfOk result (λ parts. length parts.head.now ≡ head_words) }
     ensures cells { IfOk result (λ parts. length parts.cells.now ≡ 3 * (params_in parts.head.now).core_size) }

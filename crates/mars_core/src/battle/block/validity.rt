@@ -8,7 +8,7 @@ use crate::deaths::Death;
 use crate::machine::clock::{Clock, least_live};
 use crate::queue::ProcessQueue;
 
-/// Returns how many of the deaths name this warrior.
+/// Returns the number of deaths of this warrior.
 fn times_died(deaths: &[Death], warrior: usize) -> usize
     ensures { result ≡ spec_times_died deaths.now warrior }
 {

@@ -1,11 +1,11 @@
-//! Whether warriors would be laid over one another.
+//! Whether loaded warriors would overlap.
 ghost use Rattle.std.specs.Prelude.{◌≡◌, length, ◌+◌, ◌%◌, ◌≤◌, true, ◌||◌};
 ghost use Rattle.mars_core.specs.Start.{addresses_from, loaded_addresses, has_duplicate, overlap};
 ghost use Rattle.mars_core.specs.Code.Distances.{distance as spec_distance, share};
 
 use mars_cell::Warrior;
 
-/// Whether two loaded cells share an address.
+/// Returns whether two loaded cells have the same address.
 pub fn has_overlap(core_size: u32, warriors: &[Warrior], starts: &[u32]) -> bool
     requires core_size { 1 ≤ core_size }
     requires starts { length starts.now ≡ length warriors.now }
@@ -25,7 +25,8 @@ pub fn has_overlap(core_size: u32, warriors: &[Warrior], starts: &[u32]) -> bool
     false
 }
 
-/// Whether two of a warrior's cells share an address, or one shares one with the others'.
+/// Returns whether two of the warrior's cells have the same address, or one of them has an address of the other
+/// warriors' cells.
 #[tactic(auto, using(crate::proofs::Overlaps::row_has_duplicate))]
 fn clashes(
     core_size: u32,
@@ -43,7 +44,7 @@ fn clashes(
         || meets_others(core_size, warrior, start, others, starts)
 }
 
-/// Whether a warrior's cells share an address with those of the others.
+/// Returns whether one of the warrior's cells has an address of the other warriors' cells.
 fn meets_others(
     core_size: u32,
     warrior: &Warrior,
@@ -66,7 +67,7 @@ fn meets_others(
     false
 }
 
-/// Whether two rows of cells have an address in common: one of them starts within the other.
+/// Returns whether two ranges of cells have an address in common, which they have if one starts within the other.
 #[tactic(auto, using(crate::proofs::Overlaps::rows_share))]
 fn rows_share(core_size: u32, start: u32, len: usize, other_start: u32, other_len: usize) -> bool
     requires core_size { 1 ≤ core_size }
@@ -78,7 +79,7 @@ fn rows_share(core_size: u32, start: u32, len: usize, other_start: u32, other_le
         || (distance(core_size, other_start, start) as usize) < other_len
 }
 
-/// How far it is from one address up to another.
+/// Returns the distance from one address forward to another.
 #[tactic(auto, unfolding(crate::specs::Code::Distances::distance))]
 fn distance(core_size: u32, from: u32, to: u32) -> u32
     requires { 1 ≤ core_size }

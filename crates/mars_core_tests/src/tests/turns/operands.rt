@@ -1,4 +1,4 @@
-//! Operands: each mode, the limits, and on what core the B-operand is evaluated.
+//! Operands: each mode, the limits, and the core in which the B-operand is evaluated.
 use super::{Case, check_all};
 use crate::tests::{OF_EIGHT, Sizes};
 use std::test::Fail;
@@ -7,7 +7,7 @@ use std::test::Fail;
 const READS_BACK: Sizes = (8, 8, 4, 8);
 
 const OPERANDS: &[Case] = &[
-    // A predecrement and a postincrement of one cell, which is then written.
+    // A predecrement and a postincrement change the same cell, which is then written.
     Case {
         sizes: OF_EIGHT,
         before: &[(0, "MOV.AB {1, }1"), (1, "DAT.F $1, $5")],
@@ -30,7 +30,7 @@ const OPERANDS: &[Case] = &[
         queue: &[1],
         changes: 2,
     },
-    // In a core of one cell.
+    // A core of one cell.
     Case {
         sizes: (1, 1, 1, 1),
         before: &[(0, "ADD.F }0, {0")],
@@ -58,7 +58,7 @@ const LIMITS: &[Case] = &[
         queue: &[1],
         changes: 2,
     },
-    // Reading and writing fold by their own limits.
+    // Reads and writes are folded by their own limits.
     Case {
         sizes: (8, 8, 4, 8),
         before: &[(0, "MOV.I $3, $3"), (7, "NOP.F $0, $-3")],
@@ -66,7 +66,7 @@ const LIMITS: &[Case] = &[
         queue: &[1],
         changes: 1,
     },
-    // So is the postincrement.
+    // The postincrement is at the write pointer.
     Case {
         sizes: READS_BACK,
         before: &[(0, "NOP.F }3, $0")],
@@ -74,7 +74,7 @@ const LIMITS: &[Case] = &[
         queue: &[1],
         changes: 1,
     },
-    // The second pointer of an indirect operand is folded, too, the one that reads and the one that writes.
+    // The second pointer of an indirect operand is folded, too, both for reading and for writing.
     Case {
         sizes: READS_BACK,
         before: &[
@@ -93,7 +93,7 @@ const LIMITS: &[Case] = &[
         queue: &[1],
         changes: 1,
     },
-    // The sum is folded as it is, and not its remainder by the size of the core.
+    // The sum itself is folded, not its remainder modulo the core size.
     Case {
         sizes: (8, 8, 3, 8),
         before: &[
@@ -105,7 +105,7 @@ const LIMITS: &[Case] = &[
         queue: &[1],
         changes: 1,
     },
-    // The write pointer goes through its own cell.
+    // The write pointer leads through its own cell.
     Case {
         sizes: READS_BACK,
         before: &[
@@ -117,7 +117,7 @@ const LIMITS: &[Case] = &[
         queue: &[1],
         changes: 1,
     },
-    // A jump goes by the read pointer.
+    // A jump uses the read pointer.
     Case {
         sizes: READS_BACK,
         before: &[(0, "JMP.B $3, $0")],
@@ -125,7 +125,7 @@ const LIMITS: &[Case] = &[
         queue: &[7],
         changes: 0,
     },
-    // Arithmetic takes what is read, and DJN tests it, but lowers what is written.
+    // Arithmetic uses the cell that is read. DJN tests the cell that is read, but decrements the one that is written.
     Case {
         sizes: READS_BACK,
         before: &[(0, "ADD.AB #1, $3"), (7, "DAT.F $0, $-3")],
@@ -159,7 +159,7 @@ fn limits(rt: HostRuntime) -> Result<(), Fail> {
 }
 
 const INDIRECT_OPERANDS: &[Case] = &[
-    // By the A-field of cell 1 to cell 3.
+    // The A-field of cell 1 leads to cell 3.
     Case {
         sizes: OF_EIGHT,
         before: &[
@@ -171,7 +171,7 @@ const INDIRECT_OPERANDS: &[Case] = &[
         queue: &[1],
         changes: 1,
     },
-    // By the B-field of cell 1 to cell 4.
+    // The B-field of cell 1 leads to cell 4.
     Case {
         sizes: OF_EIGHT,
         before: &[(0, "MOV.A #-3, @1"), (1, "DAT.F $0, $3")],
@@ -179,7 +179,7 @@ const INDIRECT_OPERANDS: &[Case] = &[
         queue: &[1],
         changes: 1,
     },
-    // The jump goes by the field as it was before it is raised.
+    // The jump uses the field as it was before it is incremented.
     Case {
         sizes: OF_EIGHT,
         before: &[(0, "JMP.B }1, $0"), (1, "DAT.F $4, $0")],
@@ -187,7 +187,7 @@ const INDIRECT_OPERANDS: &[Case] = &[
         queue: &[5],
         changes: 1,
     },
-    // The predecrement is of the executing cell, which is written after it.
+    // The predecrement changes the executing cell, which is written after that.
     Case {
         sizes: OF_EIGHT,
         before: &[(0, "ADD.AB #1, {0")],
@@ -195,7 +195,7 @@ const INDIRECT_OPERANDS: &[Case] = &[
         queue: &[1],
         changes: 2,
     },
-    // A decrement of a decremented field.
+    // A decremented field is decremented again.
     Case {
         sizes: OF_EIGHT,
         before: &[(0, "DJN.B $0, <1"), (1, "DAT.F $0, $1")],

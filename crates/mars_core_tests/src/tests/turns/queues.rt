@@ -1,4 +1,4 @@
-//! Splits, deaths, and who has the next turn.
+//! Splits, deaths, and which warrior has the next turn.
 use super::{Case, check_all};
 use crate::tests::{OF_EIGHT, battle_of, check_clock, check_deaths, make_turns, params, turn};
 use mars_core::{Battle, Death};
@@ -6,7 +6,7 @@ use std::process::Abort;
 use std::test::Fail;
 
 const SPLITS: &[Case] = &[
-    // A full queue keeps the next instruction.
+    // A full queue queues only the next instruction, not the jump.
     Case {
         sizes: (8, 1, 8, 8),
         before: &[(0, "SPL.B $0, $0")],
@@ -28,7 +28,7 @@ fn splits(rt: HostRuntime) -> Result<(), Fail> {
     check_all(&rt, rt.alloc(), SPLITS)
 }
 
-/// The battle is over, and the first of its two warriors lives.
+/// Checks that the battle is over and that the first of its two warriors lives.
 fn check_won(rt: &impl Abort, battle: &mut Battle) {
     assert_eq!(rt; battle.survivors(), 1);
     assert!(rt; battle.is_over());
@@ -44,7 +44,7 @@ const SECOND_DEATH: &[Death] = &[Death {
     turns: 2,
 }];
 
-/// The second of two warriors dies in its first turn, which completes the cycle.
+/// Checks that the second of two warriors dies in its first turn, which completes the cycle.
 fn check_second_dies(rt: &impl Abort, battle: &mut Battle) -> Result<(), Fail> {
     let atom = turn(battle)?;
     assert!(rt; atom.died);

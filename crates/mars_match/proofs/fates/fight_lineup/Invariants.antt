@@ -4,7 +4,7 @@ use Rattle.mars_match.specs.Fates.{fates}
 use Rattle.mars_match.proofs.Gathered.{gathered}
 use Rattle.mars_match.proofs.fates.fight_lineup.Given as goal
 
--- the rounds that are left lead to the fates of all
+-- The fates so far and those of the remaining rounds are the fates of all rounds.
 abbrev pub invariant-loop-number : goal.invariant-loop-number
 invariant-loop-number l = record {
   made : gathered l.fates.items (fates l.setup.params l.lineup l.setup.plan.fixed (l.setup.plan.rounds - l.number) l.number l.seed)

@@ -1,4 +1,4 @@
--- The first cell, and the others.
+-- A fill sets the first cell, and then the others.
 use Rattle.std.proofs.Common.{◌≡◌, ◌+◌, ◌-◌, ◌<◌, List, None, false, refl, ap, arith, rules}
 use Rattle.mars_core.specs.State.{State}
 use Rattle.mars_core.specs.Edit.{edit_fault, edited}

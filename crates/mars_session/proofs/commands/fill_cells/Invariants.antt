@@ -6,7 +6,7 @@ use Rattle.mars_session.specs.Commands.{fills}
 use Rattle.mars_session.specs.Code.Appending.{Kept, go_on_all}
 use Rattle.mars_session.proofs.commands.fill_cells.Given as goal
 
--- the places so far and the cells that are left make those of the whole
+-- The places so far, followed by the cells that are left, are those of the whole fill.
 abbrev pub invariant-loop-address : goal.invariant-loop-address
 invariant-loop-address g l =
     let history = g.T.Tape.history in

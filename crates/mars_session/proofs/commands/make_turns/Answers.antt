@@ -1,4 +1,4 @@
--- The first turn, and the others.
+-- The command executes the first turn, and then the others.
 use Rattle.std.proofs.Common.{◌≡◌, ◌-◌, List, false, refl, ap}
 use Rattle.mars_core.specs.State.{State}
 use Rattle.mars_core.specs.Turn.{turn_of}

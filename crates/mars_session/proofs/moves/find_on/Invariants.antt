@@ -3,7 +3,7 @@ use Rattle.std.specs.Prelude.{IsSome}
 use Rattle.mars_session.specs.History.{following, first_at_turn}
 use Rattle.mars_session.proofs.moves.find_on.Given as goal
 
--- there is a place to look for, and it is that from the start
+-- The place exists, and it is the one that was found from the start.
 abbrev pub invariant-on : goal.invariant-on
 invariant-on g l = record {
   there : IsSome (first_at_turn l.turns (g.T.Tape.history l.tape));

@@ -1,4 +1,4 @@
-//! The records between places, as a tape tells them.
+//! The records between places, as a tape returns them.
 use super::{Turn, one_turn};
 use crate::tests::{COPIER, IDLE, lone_tape};
 use mars_core::{Edit, Work};
@@ -20,7 +20,7 @@ fn edit_and_back(tape: &mut DeltaTape) -> Result<(), Fail> {
     Ok(())
 }
 
-/// The records are those of a turn and of an edit.
+/// Checks that the records are those of a turn and of an edit.
 fn check_records(rt: &impl Abort, tape: &DeltaTape) -> Result<(), Fail> {
     let first = tape.atom(0).ok_or("a record")?;
     assert_eq!(rt; first.work, Work::Turn(0, 0));
@@ -31,7 +31,7 @@ fn check_records(rt: &impl Abort, tape: &DeltaTape) -> Result<(), Fail> {
     Ok(())
 }
 
-/// A tape of records has one for each place after the first, also for those that follow the present one.
+/// A tape of records has one for each place after the first, also for the places after the present one.
 #[test]
 fn records_between_places(rt: HostRuntime) -> Result<(), Fail> {
     let mut tape = one_turn(lone_tape(rt.alloc(), 8, &[COPIER])?)?;

@@ -7,7 +7,7 @@ use Rattle.redcode_text.specs.Views.{scan_of}
 use Rattle.redcode_text.specs.Tokens.{OpenLoop, at_line, scan_from, scanned, tokens}
 use Rattle.redcode_text.proofs.lexer.scan.Goals as goal
 
--- nothing is read before, and no loop is open
+-- At the start nothing has been read, and no loop is open.
 start : (text : List ℕ) (loops : List OpenLoop) (before : List Token) (names : List (List ℕ)) → loops ≡ [] → before ≡ [] → names ≡ []
     → scan_from loops 1 (length text) 0 0 text (record { tokens = before; names = names }) ≡ tokens [] 1 0 (length text) [] text
 start text loops before names l b n = λ i. scan_from (l i) 1 (length text) 0 0 text (record { tokens = b i; names = n i })

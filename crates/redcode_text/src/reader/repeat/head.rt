@@ -1,4 +1,4 @@
-//! The head of a loop: its counter and its count.
+//! The header of a loop: its counter and its count.
 ghost use Rattle.std.specs.Prelude.{◌≡◌, ◌<◌, ◌+◌, ◌^◌, length, ◌≤◌, Ok, IfOk};
 ghost use Rattle.redcode_text.specs.Equates.{substitution};
 ghost use Rattle.redcode_text.specs.Tokens.{without_line};
@@ -22,16 +22,16 @@ use crate::source::row::SourceRow;
 use crate::token::{Token, TokenKind};
 use std::alloc::Global;
 
-/// The head of a loop.
+/// The header of a loop.
 #[derive(Clone, Copy)]
 pub struct Head {
-    /// Its counter, by its index among the names, if it has one.
+    /// The counter, as an index into the names, if there is one.
     pub counter: Option<usize>,
-    /// How often its body is read.
+    /// The number of iterations.
     pub count: u32,
 }
 
-/// What names stand for in a count.
+/// The values of names in a count.
 #[derive(Clone, Copy)]
 struct CountNames<'a> {
     pub predefined: &'a PredefinedNames,
@@ -51,7 +51,7 @@ impl<'a> Env for CountNames<'a> {
     }
 }
 
-/// A count is a value from 0 to 10,000.
+/// Converts the value of an expression to a count, from 0 to 10,000.
 fn as_count(value: Result<i64, ExprFault>) -> Result<u32, TextProblem>
     ensures { result ≡ as_count value }
 {
@@ -63,7 +63,7 @@ fn as_count(value: Result<i64, ExprFault>) -> Result<u32, TextProblem>
 }
 
 impl Reading {
-    /// Whether a name that isn't predefined is among the tokens.
+    /// Returns whether there is a name among the tokens that isn't predefined.
     fn has_label(&self, names: &PredefinedNames, tokens: &[Token]) -> bool
         ensures { result ≡ has_label (predefined_of names.now) (reading_of self.now) (kinds tokens.now) }
     {
@@ -77,7 +77,7 @@ impl Reading {
         false
     }
 
-    /// What names stand for in a count here.
+    /// Returns the values of names in a count at this place.
     fn count_names<'a>(&'a self, predefined: &'a PredefinedNames) -> CountNames<'a>
         ensures predefined { result.predefined.now ≡ predefined.now }
         ensures names { result.names.now ≡ self.now.names.table }
@@ -90,7 +90,7 @@ impl Reading {
         }
     }
 
-    /// How often the body of a loop is read, by the tokens of its count with their EQU names replaced.
+    /// Returns the number of iterations, from the tokens of the count after their EQU names were replaced.
     fn replaced_count(
         &self,
         names: &PredefinedNames,
@@ -106,7 +106,7 @@ impl Reading {
         as_count(eval(replaced, &self.count_names(names)))
     }
 
-    /// How often the body of a loop is read.
+    /// Returns the number of iterations, from the tokens of the count.
     #[tactic(auto, using(crate::proofs::Failing::fails_bare))]
     fn count_of(
         &self,
@@ -125,7 +125,7 @@ impl Reading {
 }
 
 impl Reading {
-    /// Reads a FOR line, whose word FOR begins at this place of it.
+    /// Reads a FOR line, whose word FOR is at an offset of the line.
     pub fn read_head(
         &mut self,
         alloc: Global,

@@ -8,7 +8,7 @@ use Rattle.mars_core.proofs.Inside.{operands_inside}
 use Rattle.mars_core.proofs.Restored.{origin-operands}
 use Rattle.mars_core.proofs.machine.touched.touched.Goals as goal
 
--- what is added one by one, or as a list
+-- Appending one by one and appending a list give the same list.
 in_order : (xs ys : List ℕ) (r s w : ℕ) → ((xs ++ r ∷ [] ++ ys) ++ s ∷ []) ++ w ∷ [] ≡ xs ++ r ∷ ys ++ s ∷ w ∷ []
 in_order xs ys r s w = append_assoc _ (s ∷ []) (w ∷ []) ∙ ap (λ l. l ++ s ∷ w ∷ []) (append_assoc xs (r ∷ []) ys)
 

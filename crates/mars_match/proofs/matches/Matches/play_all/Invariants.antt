@@ -5,7 +5,7 @@ use Rattle.mars_match.specs.Code.LeagueSteps.{after_matches}
 use Rattle.mars_match.specs.Code.Tallies.{IsOf, most_row}
 use Rattle.mars_match.proofs.matches.Matches.play_all.Given as goal
 
--- the matches that are left lead to the tallies of all
+-- The remaining matches lead to the tallies of all matches.
 abbrev pub invariant-loop-i : goal.invariant-loop-i
 invariant-loop-i l = record {
   sums : after_matches l.setup.params l.setup.plan.formula l.setup.plan.fixed l.setup.plan.rounds l.setup.plan.seed (all_pairs l.i (drop l.i l.warriors)) l.tallies

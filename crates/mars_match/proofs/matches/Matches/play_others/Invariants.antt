@@ -5,7 +5,7 @@ use Rattle.mars_match.specs.Code.Tallies.{IsOf, most_rounds, most_row}
 use Rattle.mars_match.proofs.Pairs.{pairs_left}
 use Rattle.mars_match.proofs.matches.Matches.play_others.Given as goal
 
--- the matches that are left lead to the tallies of all
+-- The remaining matches lead to the tallies of all matches.
 abbrev pub invariant-loop-j : goal.invariant-loop-j
 invariant-loop-j l = record {
   sums : after_matches l.setup.params l.setup.plan.formula l.setup.plan.fixed l.setup.plan.rounds l.setup.plan.seed (pairs_left l.i l.j (drop l.i l.warriors) (drop l.j l.warriors)) l.tallies

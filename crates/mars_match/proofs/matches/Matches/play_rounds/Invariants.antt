@@ -3,7 +3,7 @@ use Rattle.mars_match.specs.Code.Keeping.{IsKept}
 use Rattle.mars_match.specs.Code.Tallies.{tallied, IsOf}
 use Rattle.mars_match.proofs.matches.Matches.play_rounds.Given as goal
 
--- the rounds that are left lead to the tallies of all
+-- The remaining rounds lead to the tallies of all rounds.
 abbrev pub invariant-loop-number : goal.invariant-loop-number
 invariant-loop-number l = record {
   sums : tallied l.setup.params l.lineup l.setup.plan.formula l.setup.plan.fixed (l.setup.plan.rounds - l.number) l.number l.seed l.tallies

@@ -1,4 +1,4 @@
--- One call more, and its reply.
+-- Each iteration executes one more call and appends its reply.
 use Rattle.std.proofs.Common.{List, Result, ◌≡◌, ◌+◌, ◌∷◌, ◌++◌, [], ◌∙◌, refl, append_assoc, arith, take, get_or, vec_len}
 use Rattle.std.proofs.lemmas.List.{take_more}
 use Rattle.mars_session.specs.declared.calls.Call.TheVariants.{Step}

@@ -5,7 +5,7 @@ use Rattle.mars_session.specs.declared.calls.Refusal.{Refusal}
 use Rattle.mars_session.specs.Script.{EachAnswers}
 use Rattle.mars_session.proofs.sessions.Session.apply_all.Given as goal
 
--- the replies so far are those to the calls so far
+-- The replies so far are those to the calls so far.
 abbrev pub invariant-loop-call : goal.invariant-loop-call
 invariant-loop-call g l = record {
   replies : List (Result Standing Refusal);

@@ -43,7 +43,7 @@ read_loop-returns-clause-gives t c =
     let ends = c.requires.ends c.args.at c.requires.within in
     (omega (arith, ends.from), omega (arith, c.requires.closed), loop-done-at (predefined_of c.args.names.now) c.args.source.rows.now c.args.at (slice_index_or c.args.source.ends.now c.args.at 0) c.args.word_at c.index-rows-at.result c.index-rows-last.result (reading_of c.args.reading.now) (head_of (reading_of c.read_for_row.new.reading) c.in_ok-head.head) (reading_of c.read_rounds.new.reading) (reading_of c.read_rof_row.new.reading) c.requires.within c.requires.closed c.requires.word ends c.index-rows-at.is c.index-rows-last.is c.in_ok-head.ensures.gives c.in_ok-read_rounds.ensures.gives c.if-reading.false c.in_ok-read_rof_row.ensures.gives)
 
--- a reading with other open loops
+-- A reading whose open loops are replaced.
 reopened : (st : Reading) (names : List (List ℕ)) (loops ls : List OpenLoop) → names ≡ st.names → loops ≡ ls → record st { loops = loops; names = names } ≡ record st { loops = ls }
 reopened st names loops ls e f = λ i. record st { loops = f i; names = e i }
 

@@ -6,7 +6,7 @@ use Rattle.redcode_text.proofs.expression.evaluation.Evaluator.close.Goals as go
 use Rattle.redcode_text.proofs.expression.evaluation.Evaluator.close.Given.{Over}
 use Rattle.redcode_text.proofs.expression.evaluation.Evaluator.close.Goals.{In-Some}
 
--- the signs lie before the parenthesis
+-- The unary operators are before the parenthesis.
 inside : (g : Over) (c : In-Some g) → (c.in-Some.from ≤ c.in-Some.to) × (c.in-Some.to ≤ c.args.at)
 inside g c =
     let before = subst (λ (p : Progress). AreInside c.args.at p.stack) (sym c.self.view_is) c.requires.inside in
