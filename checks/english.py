@@ -1,7 +1,7 @@
 """Counts the forms of the project's old idiom, which docs/dev/STYLE.md replaces by the field's terms.
 
 The text that is read is prose: documents without their code, comments, docstrings, and the texts that a command prints. It has three
-parts: "documents" and "messages", which have none of these forms, and "comments", whose number may only fall.
+parts: "documents", "messages" and "comments".
 """
 import ast, io, re, tokenize
 
@@ -78,7 +78,7 @@ def marked_pieces(text, marks):
     """What follows one of the marks of a comment, a line at a time."""
     for number, line in enumerate(text.split("\n"), 1):
         # A star is a mark only at the start of a line; elsewhere it is a pointer or a product.
-        found = re.search(rf"(?:(?:^|\s)(?:{marks})|^\s*\*(?!/))(.*)", line)
+        found = re.search(rf"(?:(?:^|\s)(?:{marks})|^\s*\*(?=\s))(.*)", line)
         if found:
             yield "comments", number, found[1]
 

@@ -46,13 +46,9 @@ fn plain_rows(alloc: Global, rows: &[Row]) -> Result<Vec<MarsRow>, MatchFault>
     ensures plain { IfOk result (λ plain. plain.items ≡ map plain_row rows.now) }
     ensures memory { IfErr result (λ fault. fault ≡ MatchFault.OutOfMemory) }
 {
-    let Ok(mut plain) = Vec::with_capacity(alloc, rows.len()) else {
-        return Err(MatchFault::OutOfMemory);
-    };
+    let mut plain = Vec::with_capacity(alloc, rows.len())?;
     for row in rows {
-        if plain.push(MarsRow::of(row)).is_err() {
-            return Err(MatchFault::OutOfMemory);
-        }
+        plain.push(MarsRow::of(row))?;
     }
     Ok(plain)
 }

@@ -79,9 +79,7 @@ fn append_fates(
 {
     for warrior in 0..starts.len() {
         let fate = fate_of(battle, first, warrior, starts[warrior]);
-        if fates.push(fate).is_err() {
-            return Err(MatchFault::OutOfMemory);
-        }
+        fates.push(fate)?;
     }
     Ok(())
 }
@@ -94,9 +92,7 @@ fn fight_lineup(alloc: Global, setup: &Setup, lineup: &Lineup) -> Result<Vec<Fat
     ensures { let plan = setup.now.plan in IsAnswer (λ (fates : Vec FateValue Global). fates.items)
         (fates setup.now.params lineup.now plan.fixed plan.rounds 0 plan.seed) result }
 {
-    let Ok(mut starts) = vec![in alloc; 0u32; lineup.len()] else {
-        return Err(MatchFault::OutOfMemory);
-    };
+    let mut starts = vec![in alloc; 0u32; lineup.len()]?;
     let mut fates = Vec::new(alloc);
     let mut seed = setup.plan.seed;
     let mut last = None;
@@ -133,8 +129,6 @@ pub fn fight_rounds(
         (fates_of setup.now.params warriors.now plan.fixed plan.rounds plan.seed) result }
 {
     check_count(warriors.len())?;
-    let Ok(lineup) = Lineup::new(alloc, warriors) else {
-        return Err(MatchFault::OutOfMemory);
-    };
+    let lineup = Lineup::new(alloc, warriors)?;
     fight_lineup(alloc, setup, &lineup)
 }

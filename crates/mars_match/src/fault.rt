@@ -3,6 +3,7 @@
 use crate::placement::PlaceFault;
 use mars_core::BattleFault;
 use redcode_text::ExprFault;
+use std::alloc::{AllocError, AllocFailed};
 use thiserror::Error;
 
 /// The reason why a match or a league can't be run. It is displayed as its number and name, followed by the error inside
@@ -21,4 +22,26 @@ pub enum MatchFault {
     /// An allocation failed.
     #[error("4 OutOfMemory")]
     OutOfMemory,
+}
+
+impl From<AllocError> for MatchFault {
+    ghost use Rattle.std.specs.Prelude.{◌≡◌};
+    ghost use Rattle.mars_match.specs.declared.fault.MatchFault.TheVariants as fault;
+
+    ghost from_gives = { λ _ to. to ≡ fault.OutOfMemory };
+
+    fn from(_error: AllocError) -> MatchFault {
+        MatchFault::OutOfMemory
+    }
+}
+
+impl<T: Drop> From<AllocFailed<T>> for MatchFault {
+    ghost use Rattle.std.specs.Prelude.{◌≡◌};
+    ghost use Rattle.mars_match.specs.declared.fault.MatchFault.TheVariants as fault;
+
+    ghost from_gives = { λ _ to. to ≡ fault.OutOfMemory };
+
+    fn from(_failed: AllocFailed<T>) -> MatchFault {
+        MatchFault::OutOfMemory
+    }
 }

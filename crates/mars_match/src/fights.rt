@@ -226,13 +226,9 @@ fn survivors_list(alloc: Global, battle: &Battle, first: usize) -> Result<Vec<bo
     ensures { MatchResult result (λ list. list.items ≡ in_load_order first battle.now) (λ fault. fault ≡ MatchFault.OutOfMemory) }
 {
     let count = battle.warriors();
-    let Ok(mut list) = Vec::with_capacity(alloc, count) else {
-        return Err(MatchFault::OutOfMemory);
-    };
+    let mut list = Vec::with_capacity(alloc, count)?;
     for warrior in 0..count {
-        if list.push(is_alive(battle, first, warrior)).is_err() {
-            return Err(MatchFault::OutOfMemory);
-        }
+        list.push(is_alive(battle, first, warrior))?;
     }
     Ok(list)
 }
@@ -258,9 +254,7 @@ pub fn fight(
     ensures survivors { IsAnswer (λ (list : Vec Bool Global). list.items) (fought params.now warriors.now starts.now round) result }
 {
     check_count(warriors.len())?;
-    let Ok(lineup) = Lineup::new(alloc, warriors) else {
-        return Err(MatchFault::OutOfMemory);
-    };
+    let lineup = Lineup::new(alloc, warriors)?;
     let fought = Round {
         lineup: &lineup,
         starts,

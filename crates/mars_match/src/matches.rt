@@ -32,13 +32,9 @@ use std::alloc::Global;
 pub fn first_tallies(alloc: Global, count: usize) -> Result<Vec<Tally>, MatchFault>
     ensures { MatchResult result (λ tallies. tallies.items ≡ replicate count spec_no_rounds) (λ fault. fault ≡ MatchFault.OutOfMemory) }
 {
-    let Ok(mut tallies) = Vec::with_capacity(alloc, count) else {
-        return Err(MatchFault::OutOfMemory);
-    };
+    let mut tallies = Vec::with_capacity(alloc, count)?;
     for _warrior in 0..count {
-        if tallies.push(no_rounds()).is_err() {
-            return Err(MatchFault::OutOfMemory);
-        }
+        tallies.push(no_rounds())?;
     }
     Ok(tallies)
 }
@@ -76,14 +72,10 @@ pub fn rows_of(
     requires { length tallies.now ≡ length warriors.now }
     ensures { IsAnswer (λ (rows : Vec RowValue Global). rows.items) (checked_rows (rows_with warriors.now tallies.now)) result }
 {
-    let Ok(mut rows) = Vec::with_capacity(alloc, warriors.len()) else {
-        return Err(MatchFault::OutOfMemory);
-    };
+    let mut rows = Vec::with_capacity(alloc, warriors.len())?;
     for i in 0..warriors.len() {
         let row = row_of(&warriors[i], tallies[i])?;
-        if rows.push(row).is_err() {
-            return Err(MatchFault::OutOfMemory);
-        }
+        rows.push(row)?;
     }
     Ok(rows)
 }
@@ -172,9 +164,7 @@ impl Matches {
         ensures bounds { IfOk result (λ _. All (IsOf most_rounds) tallies.new) }
         ensures kept { IfOk result (λ _. IsKept setup.now (length lineup.now) self.new) }
     {
-        let Ok(mut starts) = vec![in self.alloc; 0u32; lineup.len()] else {
-            return Err(MatchFault::OutOfMemory);
-        };
+        let mut starts = vec![in self.alloc; 0u32; lineup.len()]?;
         let mut seed = setup.plan.seed;
         for number in 0..setup.plan.rounds {
             seed = setup.place_round(seed, starts.as_mut_slice())?;
@@ -230,13 +220,9 @@ impl Matches {
         ensures bounds { IfOk result (λ _. All (IsOf ((i + 1) * most_row)) tallies.new) }
         ensures kept { IfOk result (λ _. IsKept setup.now 2 self.new) }
     {
-        let Ok(mut lineup) = Lineup::twice(self.alloc, &warriors[i]) else {
-            return Err(MatchFault::OutOfMemory);
-        };
+        let mut lineup = Lineup::twice(self.alloc, &warriors[i])?;
         for j in i + 1..warriors.len() {
-            let Ok(()) = lineup.replace_second(&warriors[j]) else {
-                return Err(MatchFault::OutOfMemory);
-            };
+            lineup.replace_second(&warriors[j])?;
             let (one, other) = self.play_pair(setup, &lineup)?;
             tallies[i] = joined(tallies[i], one);
             tallies[j] = joined(tallies[j], other);
@@ -281,9 +267,7 @@ pub fn rounds(alloc: Global, setup: &Setup, warriors: &[Warrior]) -> Result<Tabl
         (table_of setup.now.params warriors.now plan.formula plan.fixed plan.rounds plan.seed) result }
 {
     check_count(warriors.len())?;
-    let Ok(lineup) = Lineup::new(alloc, warriors) else {
-        return Err(MatchFault::OutOfMemory);
-    };
+    let lineup = Lineup::new(alloc, warriors)?;
     let mut tallies = first_tallies(alloc, warriors.len())?;
     let mut matches = Matches::new(alloc);
     matches.play_rounds(setup, &lineup, tallies.as_mut_slice())?;

@@ -5,7 +5,7 @@ ghost use Rattle.mars_core.specs.Limits.{most_warriors};
 ghost use Rattle.mars_cell.specs.Limits.{largest_core};
 
 use mars_cell::Params;
-use std::alloc::Global;
+use std::alloc::{AllocError, Global};
 use thiserror::Error;
 
 /// The maximum seed; the minimum is 1.
@@ -23,6 +23,17 @@ pub enum PlaceFault {
     /// An allocation failed.
     #[error("3 OutOfMemory")]
     OutOfMemory,
+}
+
+impl From<AllocError> for PlaceFault {
+    ghost use Rattle.std.specs.Prelude.{◌≡◌};
+    ghost use Rattle.mars_match.specs.declared.placement.PlaceFault.TheVariants as fault;
+
+    ghost from_gives = { λ _ to. to ≡ fault.OutOfMemory };
+
+    fn from(_error: AllocError) -> PlaceFault {
+        PlaceFault::OutOfMemory
+    }
 }
 
 /// Draws from the generator of Park and Miller. The result is both the drawn number and the new seed.
@@ -141,9 +152,7 @@ pub fn place(
     if let Some(fault) = find_fault(params, warriors, seed) {
         return Err(fault);
     }
-    let Ok(mut starts) = vec![in alloc; 0u32; warriors as usize] else {
-        return Err(PlaceFault::OutOfMemory);
-    };
+    let mut starts = vec![in alloc; 0u32; warriors as usize]?;
     let seed = place_all(params, seed, starts.as_mut_slice());
     Ok((starts, seed))
 }

@@ -58,14 +58,10 @@ impl Matches {
             (sum_from setup.now.params plan.formula plan.fixed plan.rounds plan.seed candidate.now spec_no_matches opponents.now) result }
         ensures kept { IfOk result (λ _. IsKept setup.now 2 self.new) }
     {
-        let Ok(mut lineup) = Lineup::twice(self.alloc, candidate) else {
-            return Err(MatchFault::OutOfMemory);
-        };
+        let mut lineup = Lineup::twice(self.alloc, candidate)?;
         let mut sum = no_matches();
         for opponent in opponents {
-            let Ok(()) = lineup.replace_second(opponent) else {
-                return Err(MatchFault::OutOfMemory);
-            };
+            lineup.replace_second(opponent)?;
             let (own, _others) = self.play_pair(setup, &lineup)?;
             let Some(more) = added(sum, own) else {
                 return Err(MatchFault::Score(ExprFault::Range));
@@ -96,15 +92,11 @@ pub fn population(
     ensures sums { let plan = setup.now.plan in IsAnswer (λ (sums : Vec SumNumbers Global). sums.items)
         (population_of setup.now.params plan.formula plan.fixed plan.rounds plan.seed opponents.now candidates.now) result }
 {
-    let Ok(mut sums) = Vec::with_capacity(alloc, candidates.len()) else {
-        return Err(MatchFault::OutOfMemory);
-    };
+    let mut sums = Vec::with_capacity(alloc, candidates.len())?;
     let mut matches = Matches::new(alloc);
     for candidate in candidates {
         let sum = matches.sum_of(setup, candidate, opponents)?;
-        if sums.push(sum).is_err() {
-            return Err(MatchFault::OutOfMemory);
-        }
+        sums.push(sum)?;
     }
     Ok(sums)
 }

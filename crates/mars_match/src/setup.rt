@@ -74,9 +74,7 @@ impl Setup {
             (placed_for self.now.params warriors self.now.plan.fixed seed) result }
         ensures many { IfOk result (λ placed. vec_len placed.0 ≡ warriors) }
     {
-        let Ok(mut starts) = vec![in alloc; 0u32; warriors as usize] else {
-            return Err(MatchFault::OutOfMemory);
-        };
+        let mut starts = vec![in alloc; 0u32; warriors as usize]?;
         let left = self.place_round(seed, starts.as_mut_slice())?;
         Ok((starts, left))
     }

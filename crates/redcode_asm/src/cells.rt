@@ -72,9 +72,7 @@ impl<'a> Source<'a> {
         for line in lines {
             if self.is_instruction(line) {
                 let cell = self.cell_at(alloc, core_size, Place { index, line })?;
-                let Ok(()) = cells.push(cell) else {
-                    return Err(AsmFault::out_of_memory());
-                };
+                cells.push(cell)?;
                 index += 1;
             }
         }

@@ -3,6 +3,7 @@ ghost use Rattle.std.specs.Prelude.{◌≡◌};
 ghost use Rattle.redcode_asm.specs.Code.Problems.{fault_line, problem_of_text};
 
 use redcode_text::{ExprFault, TextFault, TextProblem};
+use std::alloc::{AllocError, AllocFailed};
 use thiserror::Error;
 
 /// An error in a line of a source. It is displayed as its number and name, followed by the error inside it.
@@ -86,17 +87,6 @@ impl AsmFault {
             problem: AsmProblem::of_text(fault.problem),
         }
     }
-
-    /// Returns the error for a failed allocation.
-    pub(crate) fn out_of_memory() -> AsmFault
-        ensures problem { result.problem ≡ AsmProblem.OutOfMemory }
-        ensures line { result.line ≡ 0 }
-    {
-        AsmFault {
-            line: 0,
-            problem: AsmProblem::OutOfMemory,
-        }
-    }
 }
 
 /// The reason why a text isn't a formula. It is displayed as its number and name, followed by the error of the expression.
@@ -108,4 +98,29 @@ pub enum FormulaFault {
     /// An allocation failed.
     #[error("2 OutOfMemory")]
     OutOfMemory,
+}
+
+impl From<AllocError> for AsmFault {
+    ghost use Rattle.std.specs.Prelude.{◌≡◌};
+    ghost use Rattle.redcode_asm.specs.declared.fault.AsmProblem.TheVariants.{OutOfMemory};
+
+    ghost from_gives = { λ _ to. to ≡ record { line = 0; problem = OutOfMemory } };
+
+    fn from(_error: AllocError) -> AsmFault {
+        AsmFault {
+            line: 0,
+            problem: AsmProblem::OutOfMemory,
+        }
+    }
+}
+
+impl<T: Drop> From<AllocFailed<T>> for AsmFault {
+    ghost use Rattle.std.specs.Prelude.{◌≡◌};
+    ghost use Rattle.redcode_asm.specs.declared.fault.AsmProblem.TheVariants.{OutOfMemory};
+
+    ghost from_gives = { λ _ to. to ≡ record { line = 0; problem = OutOfMemory } };
+
+    fn from(_failed: AllocFailed<T>) -> AsmFault {
+        AsmFault::from(AllocError)
+    }
 }

@@ -76,14 +76,9 @@ fn assembled_lines(
 ) -> Result<Vec<u8>, AsmFault>
     ensures { Answers (λ text. text.items) result (assembled_lines (predefined_of predefined.now) params.now program.now) }
 {
-    match program_warrior(alloc, program, predefined, params) {
-        Ok(warrior) => drop(warrior),
-        Err(fault) => return Err(fault),
-    }
-    match lines_of(alloc, program) {
-        Ok(text) => Ok(text),
-        Err(_) => Err(AsmFault::out_of_memory()),
-    }
+    let warrior = program_warrior(alloc, program, predefined, params)?;
+    drop(warrior);
+    Ok(lines_of(alloc, program)?)
 }
 
 /// Returns a text with a line for each instruction of a source's warrior, in order.

@@ -24,8 +24,5 @@ pub fn assemble_load(
     ensures { Answers (λ text. text.items) result (assembled_load params.now rounds warriors source.now) }
 {
     let warrior = assemble(alloc, source, params, rounds, warriors)?;
-    match write_load(alloc, &warrior, params.core_size()) {
-        Ok(text) => Ok(text),
-        Err(_) => Err(AsmFault::out_of_memory()),
-    }
+    Ok(write_load(alloc, &warrior, params.core_size())?)
 }

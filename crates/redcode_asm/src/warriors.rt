@@ -23,12 +23,8 @@ fn named_warrior(
     requires { start < length cells.items }
     ensures { Answers (λ warrior. warrior) result (Ok (warrior_from program.now cells.items start)) }
 {
-    let Ok(name) = String::from_str(alloc, program.name()) else {
-        return Err(AsmFault::out_of_memory());
-    };
-    let Ok(author) = String::from_str(alloc, program.author()) else {
-        return Err(AsmFault::out_of_memory());
-    };
+    let name = String::from_str(alloc, program.name())?;
+    let author = String::from_str(alloc, program.author())?;
     match Warrior::new(name, author, cells, start) {
         Ok(warrior) => Ok(warrior),
         Err(_) => unreachable!(),
@@ -77,9 +73,7 @@ pub fn program_warrior<'p>(
     ensures value { Answers (λ warrior. warrior) result (warrior_of (predefined_of predefined.now) params.now program.now) }
     ensures fits { IfOk result (λ warrior. All (FitsCore params.now.core_size) warrior.cells) }
 {
-    let Ok(labels) = Labels::of_lines(alloc, program.names(), program.lines()) else {
-        return Err(AsmFault::out_of_memory());
-    };
+    let labels = Labels::of_lines(alloc, program.names(), program.lines())?;
     let source = Source {
         program,
         labels: &labels,

@@ -1,4 +1,4 @@
-//! Where operands lead (`specs/Operand`).
+//! The evaluation of operands (`specs/Operand`).
 ghost use Rattle.std.specs.Prelude.{◌≡◌, ◌<◌, ◌≤◌, false, length};
 ghost use Rattle.mars_cell.specs.Cells.{field_of};
 ghost use Rattle.mars_cell.specs.Limits.{largest_core};
@@ -13,7 +13,7 @@ use crate::machine::address::{address_after, folded, folded_number, lowered, rai
 use crate::packed::PackedCell;
 use mars_cell::{Field, Mode, Params};
 
-/// Where an operand leads: the address that it reads, the address that it writes, and a copy of the cell that it reads.
+/// The result of an operand: its read address, its write address, and a copy of the cell at the read address.
 #[derive(Clone, Copy)]
 pub struct Place {
     pub read: u32,
@@ -21,7 +21,9 @@ pub struct Place {
     pub copy: PackedCell,
 }
 
-/// Evaluates the operand of a mode and a number, for the instruction at `pc`. This may write a cell.
+/// Evaluates the operand with a mode and a number of the instruction at `pc`. A predecrement or postincrement writes a cell.
+///
+/// The constants `CALLER` and `OPERAND` make an instance for each call (`execution`).
 #[inline(always)]
 #[tactic(auto, unfolding(crate::specs::Operand::evaluated))]
 pub fn place_of<const LIMITED: bool, const CALLER: u8, const OPERAND: u8>(
@@ -54,7 +56,7 @@ pub fn place_of<const LIMITED: bool, const CALLER: u8, const OPERAND: u8>(
     }
 }
 
-/// Whether the evaluation of a mode writes a field.
+/// Returns whether a mode writes a field.
 #[inline(always)]
 pub fn writes_a_field(mode: Mode) -> bool
     ensures { result ≡ writes_field mode }
@@ -66,7 +68,7 @@ pub fn writes_a_field(mode: Mode) -> bool
     }
 }
 
-/// The folded number leads to the cell.
+/// Evaluates a direct operand: the folded number leads to the cell.
 #[inline(always)]
 #[tactic(auto, unfolding(crate::specs::Operand::direct_operand))]
 fn direct<const LIMITED: bool>(params: &Params, core: &[PackedCell], pc: u32, number: u32) -> Place
@@ -88,7 +90,7 @@ fn direct<const LIMITED: bool>(params: &Params, core: &[PackedCell], pc: u32, nu
     )
 }
 
-/// The folded number leads to cells, whose fields are added to it.
+/// Evaluates an indirect operand: the folded number leads to a cell, whose field is added to it.
 #[inline(always)]
 #[tactic(auto, using(crate::proofs::Folding::through), unfolding(crate::specs::Operand::indirect_operand, crate::specs::Operand::direct_operand))]
 fn indirect<const LIMITED: bool>(
@@ -122,7 +124,7 @@ fn indirect<const LIMITED: bool>(
     )
 }
 
-/// First the field is lowered, then the operand is evaluated.
+/// Evaluates a predecrement operand: decrements the field, then evaluates the indirect operand.
 #[inline(always)]
 #[tactic(auto, unfolding(crate::specs::Operand::predecremented))]
 fn predecrement<const LIMITED: bool>(
@@ -146,7 +148,7 @@ fn predecrement<const LIMITED: bool>(
     indirect::<LIMITED>(params, core, field, pc, number)
 }
 
-/// First the operand is evaluated, then the field is raised.
+/// Evaluates a postincrement operand: evaluates the indirect operand, then increments the field.
 #[inline(always)]
 #[tactic(auto, unfolding(crate::specs::Operand::postincremented))]
 fn postincrement<const LIMITED: bool>(
@@ -171,7 +173,7 @@ fn postincrement<const LIMITED: bool>(
     found
 }
 
-/// The address that the number leads to for writing.
+/// Returns the address of the cell whose field a predecrement or postincrement writes.
 #[inline(always)]
 pub fn pointed<const LIMITED: bool>(params: &Params, pc: u32, number: u32) -> u32
     requires unlimited { LIMITED ≡ false → IsUnlimited params.now }
@@ -185,7 +187,8 @@ pub fn pointed<const LIMITED: bool>(params: &Params, pc: u32, number: u32) -> u3
     address_after(core_size, pc, pointer)
 }
 
-/// The address of a folded pointer which is the sum of the pointer that led through a cell and of that cell's field.
+/// Returns the address of an indirect operand, from the folded sum `pointer` if there are limits, otherwise from the address
+/// `through` of the pointing cell and the `number` in it, which takes one addition.
 #[inline(always)]
 fn address_through<const LIMITED: bool>(
     core_size: u32,
@@ -210,7 +213,7 @@ fn address_through<const LIMITED: bool>(
     }
 }
 
-/// An immediate operand: the instruction itself.
+/// Evaluates an immediate operand: the instruction itself.
 #[inline(always)]
 #[tactic(auto, using(crate::proofs::Folding::after_none))]
 fn here(core_size: u32, core: &[PackedCell], pc: u32) -> Place
@@ -223,7 +226,7 @@ fn here(core_size: u32, core: &[PackedCell], pc: u32) -> Place
     place_at(core_size, core, pc, pc)
 }
 
-/// The place of an address to read and an address to write.
+/// Returns the place with these addresses.
 #[inline(always)]
 fn place_at(core_size: u32, core: &[PackedCell], read: u32, write: u32) -> Place
     requires core { IsCore core_size core.now }
@@ -239,7 +242,7 @@ fn place_at(core_size: u32, core: &[PackedCell], read: u32, write: u32) -> Place
     }
 }
 
-/// The cell at an address.
+/// Returns the cell at an address.
 #[inline(always)]
 pub fn cell_at(core: &[PackedCell], address: u32) -> PackedCell
     requires { address < length core.now }
@@ -248,7 +251,7 @@ pub fn cell_at(core: &[PackedCell], address: u32) -> PackedCell
     core[address as usize]
 }
 
-/// The number in a field of the cell at an address.
+/// Returns the number in a field of the cell at an address.
 #[inline(always)]
 fn number_at(core_size: u32, core: &[PackedCell], field: Field, address: u32) -> u32
     requires core { IsCore core_size core.now }
@@ -259,7 +262,7 @@ fn number_at(core_size: u32, core: &[PackedCell], field: Field, address: u32) ->
     core[address as usize].field(field)
 }
 
-/// Raises a field of the cell at an address by one.
+/// Increments a field of the cell at an address, modulo the core size.
 #[inline(always)]
 #[tactic(auto, unfolding(crate::specs::Writes::write_field, crate::specs::Writes::write_cell))]
 fn raise_field(core_size: u32, core: &mut [PackedCell], field: Field, address: u32)
@@ -274,7 +277,7 @@ fn raise_field(core_size: u32, core: &mut [PackedCell], field: Field, address: u
     core[address as usize] = cell.with_field(field, number);
 }
 
-/// Lowers a field of the cell at an address by one.
+/// Decrements a field of the cell at an address, modulo the core size.
 #[inline(always)]
 #[tactic(auto, unfolding(crate::specs::Writes::write_field, crate::specs::Writes::write_cell))]
 fn lower_field(core_size: u32, core: &mut [PackedCell], field: Field, address: u32)

@@ -1,4 +1,4 @@
-//! The fields that belong together under a modifier, and what an opcode does with each pair of numbers.
+//! The pairs of fields that a modifier selects, and what an opcode does with the numbers of each pair.
 ghost use Rattle.std.specs.Prelude.{◌≡◌, ◌<◌, ◌≤◌, true};
 ghost use Rattle.mars_cell.specs.Cells.{FitsCore};
 ghost use Rattle.mars_cell.specs.Limits.{largest_core};
@@ -9,7 +9,7 @@ use crate::machine::address::{lowered, remainder};
 use crate::packed::PackedCell;
 use mars_cell::{Field, Modifier, Op};
 
-/// Whether MOV, SEQ and SNE take whole cells.
+/// Returns whether MOV, SEQ and SNE use whole cells with this modifier.
 #[inline(always)]
 pub fn takes_whole_cells(modifier: Modifier) -> bool
     ensures { result ≡ spec_takes_whole_cells modifier }
@@ -17,7 +17,7 @@ pub fn takes_whole_cells(modifier: Modifier) -> bool
     matches!(modifier, Modifier::I)
 }
 
-/// The target, where the field of each pair of the modifier is the number that the opcode makes.
+/// Returns the target with the result of the opcode in the B-field of each pair.
 #[inline(always)]
 pub fn with_pairs(
     core_size: u32,
@@ -49,7 +49,7 @@ pub fn with_pairs(
     }
 }
 
-/// The number that an opcode makes of one of the A-copy and one of the B-copy.
+/// Returns the result of an opcode for the number `x` of the A-copy and the number `y` of the B-copy.
 #[inline(always)]
 pub fn new_number(core_size: u32, op: Op, x: u32, y: u32) -> u32
     requires core_size { (1 ≤ core_size) × (core_size ≤ largest_core) }
@@ -72,7 +72,7 @@ pub fn new_number(core_size: u32, op: Op, x: u32, y: u32) -> u32
     }
 }
 
-/// Whether the operands are equal: their pairs, or as whole cells.
+/// Returns whether the operands are equal: all pairs of fields, or the whole cells with the modifier I.
 #[inline(always)]
 #[tactic(auto, unfolding(crate::specs::Effect::are_equal))]
 pub fn are_equal(core_size: u32, modifier: Modifier, a: PackedCell, b: PackedCell) -> bool
@@ -87,7 +87,7 @@ pub fn are_equal(core_size: u32, modifier: Modifier, a: PackedCell, b: PackedCel
     }
 }
 
-/// Whether two cells are equal in all their parts.
+/// Returns whether two cells are equal in all parts.
 #[inline(always)]
 fn are_equal_cells(a: PackedCell, b: PackedCell) -> bool
     ensures { result ≡ spec_are_equal_cells a b }
@@ -95,7 +95,7 @@ fn are_equal_cells(a: PackedCell, b: PackedCell) -> bool
     a.equals(b)
 }
 
-/// Whether every pair of the modifier passes the opcode's test.
+/// Returns whether each pair of fields passes the test of the opcode.
 #[inline(always)]
 pub fn all_pairs_pass(
     core_size: u32,
@@ -122,7 +122,7 @@ pub fn all_pairs_pass(
     }
 }
 
-/// The test that an opcode makes of a number of the A-copy and one of the B-copy.
+/// Returns whether the number `x` of the A-copy and the number `y` of the B-copy pass the test of the opcode.
 #[inline(always)]
 fn passes_test(core_size: u32, op: Op, x: u32, y: u32) -> bool
     requires core_size { (1 ≤ core_size) × (core_size ≤ largest_core) }
@@ -138,7 +138,7 @@ fn passes_test(core_size: u32, op: Op, x: u32, y: u32) -> bool
     }
 }
 
-/// The fields that belong together: one of the A-copy, and one of the B-side.
+/// Returns the pairs of fields that a modifier selects: one of the A-copy, and one of the B-copy or B-target.
 pub fn pairs(modifier: Modifier) -> &'static [(Field, Field)]
     ensures { result.now ≡ pairs_of modifier }
 {
