@@ -18,7 +18,7 @@ loop-number-init c =
 
 pub returns-in_err-seed : goal.returns-in_err-seed
 returns-in_err-seed c =
-    let p = err_from_is_err_and c.from_residual.result c.from_residual.ensures.1 in
+    let p = err_from_is_err_and c.from_residual-in_err-seed.result c.from_residual-in_err-seed.ensures.1 in
     let plan = c.args.setup.now.plan in
     let many : length c.as_mut_slice.result.now ≡ length c.args.lineup.now = rw c.as_mut_slice.ensures.value c.loop-number.invariant.starts in
     let bad : placed_for c.args.setup.now.params (length c.args.lineup.now) plan.fixed c.loop-number.seed ≡ Err c.in_err-seed.field-0.0 = rw many at c.in_err-seed.ensures in

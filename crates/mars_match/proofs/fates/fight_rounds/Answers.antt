@@ -18,5 +18,5 @@ returns c =
     let plan = c.args.setup.now.plan in
     let ws = c.args.warriors.now in
     let count = good_count (count_fault (length ws)) c.check_count.result c.in_ok-check_count.field-0 c.check_count.ensures c.in_ok-check_count.was in
-    let same : c.in-Ok.lineup ≡ ws = c.in-Ok.ensures in
+    let same : c.in_ok-lineup.lineup ≡ ws = c.in_ok-lineup.ensures in
     rw (counted_fates c.args.setup.now.params ws plan.fixed plan.rounds plan.seed count, ← same) c.fight_lineup.ensures

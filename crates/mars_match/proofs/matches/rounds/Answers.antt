@@ -23,7 +23,7 @@ returns-in_err-play_rounds-clause-table c =
     let plan = c.args.setup.now.plan in
     let ws = c.args.warriors.now in
     let count = good_count (count_fault (length ws)) c.check_count.result c.in_ok-check_count.field-0 c.check_count.ensures c.in_ok-check_count.was in
-    let same : c.in-Ok.lineup ≡ ws = c.in-Ok.ensures in
+    let same : c.in_ok-lineup.lineup ≡ ws = c.in_ok-lineup.ensures in
     let fresh : c.as_mut_slice.result.now ≡ replicate (length ws) no_rounds = c.as_mut_slice.ensures.value ∙ c.in_ok-tallies.ensures in
     fault_answer _ _ _ p.0 p.1 (elim c.in_err-play_rounds.ensures.sums [
       | inl none ↦ inl (p.2 ∙ none)
@@ -38,7 +38,7 @@ returns-in_err-rows-clause-table c =
     let plan = c.args.setup.now.plan in
     let ws = c.args.warriors.now in
     let count = good_count (count_fault (length ws)) c.check_count.result c.in_ok-check_count.field-0 c.check_count.ensures c.in_ok-check_count.was in
-    let same : c.in-Ok.lineup ≡ ws = c.in-Ok.ensures in
+    let same : c.in_ok-lineup.lineup ≡ ws = c.in_ok-lineup.ensures in
     let fresh : c.as_mut_slice.result.now ≡ replicate (length ws) no_rounds = c.as_mut_slice.ensures.value ∙ c.in_ok-tallies.ensures in
     let ts = c.play_rounds.new.tallies in
     let e : tallied c.args.setup.now.params ws plan.formula plan.fixed plan.rounds 0 plan.seed (replicate (length ws) no_rounds) ≡ Ok ts = rw (← fresh, ← same) c.in_ok-play_rounds.ensures.sums in
@@ -53,7 +53,7 @@ returns-clause-table c =
     let plan = c.args.setup.now.plan in
     let ws = c.args.warriors.now in
     let count = good_count (count_fault (length ws)) c.check_count.result c.in_ok-check_count.field-0 c.check_count.ensures c.in_ok-check_count.was in
-    let same : c.in-Ok.lineup ≡ ws = c.in-Ok.ensures in
+    let same : c.in_ok-lineup.lineup ≡ ws = c.in_ok-lineup.ensures in
     let fresh : c.as_mut_slice.result.now ≡ replicate (length ws) no_rounds = c.as_mut_slice.ensures.value ∙ c.in_ok-tallies.ensures in
     let ts = c.play_rounds.new.tallies in
     let e : tallied c.args.setup.now.params ws plan.formula plan.fixed plan.rounds 0 plan.seed (replicate (length ws) no_rounds) ≡ Ok ts = rw (← fresh, ← same) c.in_ok-play_rounds.ensures.sums in

@@ -9,7 +9,7 @@ use Rattle.mars_match.proofs.matches.rows_of.Goals as goal
 
 pub returns-in_err-row : goal.returns-in_err-row
 returns-in_err-row c =
-    let p = err_from_is_err_and c.from_residual.result c.from_residual.ensures.1 in
+    let p = err_from_is_err_and c.from_residual-in_err-row.result c.from_residual-in_err-row.ensures.1 in
     let ws = c.args.warriors.now in
     let ts = c.args.tallies.now in
     let i = c.loop-i.i in

@@ -16,13 +16,13 @@ loop-j-init c =
       sums = ap (λ pairs. after_matches c.args.setup.now.params plan.formula plan.fixed plan.rounds plan.seed pairs c.args.tallies.now) (from_first c.args.warriors.now i c.requires.inside);
       bounds = all_more (i * most_row) (i * most_row + (i + 1) * most_rounds) c.args.tallies.now (omega arith) c.requires.bounds;
       kept = c.requires.kept;
-      two = rw c.in-Ok.ensures refl;
-      first = rw (c.in-Ok.ensures, from_one c.args.warriors.now i c.index-warriors-i.result c.requires.inside c.index-warriors-i.is) refl;
+      two = rw c.in_ok-lineup.ensures refl;
+      first = rw (c.in_ok-lineup.ensures, from_one c.args.warriors.now i c.index-warriors-i.result c.requires.inside c.index-warriors-i.is) refl;
     }
 
 pub play_pair-requires-clause-kept : goal.play_pair-requires-clause-kept
 play_pair-requires-clause-kept c =
-    let two : length c.replace_second.new.self ≡ 2 = grind (arith, common_steps, c.in-Ok-replace_second.ensures) in
+    let two : length c.replace_second.new.self ≡ 2 = grind (arith, common_steps, c.in_ok-replace_second.ensures) in
     rw two c.loop-j.invariant.kept
 
 pub joined-requires-clause-before : goal.joined-requires-clause-before
@@ -61,7 +61,7 @@ loop-j-preserved c =
     let a = c.joined.result in
     let b = c.joined-in-loop-j.result in
     let both : c.replace_second.new.self ≡ c.index-warriors-i.result ∷ c.index-warriors-j.result ∷ [] =
-    lined_up ws c.loop-j.lineup c.replace_second.new.self i c.index-warriors-i.result c.index-warriors-j.result first c.index-warriors-i.is c.loop-j.invariant.first c.in-Ok-replace_second.ensures in
+    lined_up ws c.loop-j.lineup c.replace_second.new.self i c.index-warriors-i.result c.index-warriors-j.result first c.index-warriors-i.is c.loop-j.invariant.first c.in_ok-replace_second.ensures in
     let two : length c.replace_second.new.self ≡ 2 = ap length both in
     let bounds = set_both_bounds xs i j t u a b no_rounds before inside c.joined.ensures c.joined-in-loop-j.ensures m most_rounds c.loop-j.invariant.bounds c.in_ok-one.ensures.bounds.0 c.in_ok-one.ensures.bounds.1 in
     record {
@@ -75,13 +75,13 @@ loop-j-preserved c =
 
 pub returns-in_err-one-clause-sums : goal.returns-in_err-one-clause-sums
 returns-in_err-one-clause-sums c =
-    let p = err_from_is_err_and c.from_residual.result c.from_residual.ensures.1 in
+    let p = err_from_is_err_and c.from_residual-in_err-one.result c.from_residual-in_err-one.ensures.1 in
     let plan = c.args.setup.now.plan in
     let ws = c.args.warriors.now in
     let first : c.args.i < length ws = omega arith in
     let second : c.loop-j.j < length ws = omega arith in
     let both : c.replace_second.new.self ≡ c.index-warriors-i.result ∷ c.index-warriors-j.result ∷ [] =
-    lined_up ws c.loop-j.lineup c.replace_second.new.self c.args.i c.index-warriors-i.result c.index-warriors-j.result first c.index-warriors-i.is c.loop-j.invariant.first c.in-Ok-replace_second.ensures in
+    lined_up ws c.loop-j.lineup c.replace_second.new.self c.args.i c.index-warriors-i.result c.index-warriors-j.result first c.index-warriors-i.is c.loop-j.invariant.first c.in_ok-replace_second.ensures in
     fault_answer _ _ _ p.0 p.1 (elim (c.in_err-one.ensures.table c.index-warriors-i.result c.index-warriors-j.result both) [
       | inl none ↦ inl (p.2 ∙ none)
       | inr bad ↦ inr (sym c.loop-j.invariant.sums ∙ match_err c.args.setup.now.params plan.formula plan.fixed plan.rounds plan.seed ws c.args.i c.loop-j.j c.index-warriors-i.result c.index-warriors-j.result c.loop-j.tallies p.0 first second c.index-warriors-i.is c.index-warriors-j.is (rw p.2 bad))
