@@ -205,13 +205,9 @@ impl Equates {
         ensures { Gives (λ _. self.new) result (Ok (self.old ++ record { name = name; lines = line.items ∷ [] } ∷ [])) }
     {
         let mut lines = Vec::new(alloc);
-        let Ok(()) = lines.push(line) else {
-            return Err(TextProblem::OutOfMemory);
-        };
-        match self.lines.insert(name, lines) {
-            Ok(_) => Ok(()),
-            Err(_) => Err(TextProblem::OutOfMemory),
-        }
+        lines.push(line)?;
+        let _ = self.lines.insert(name, lines)?;
+        Ok(())
     }
 
     /// Adds a line to the definition of the last EQU name.
@@ -221,12 +217,8 @@ impl Equates {
         let Some((name, mut lines)) = self.lines.pop() else {
             return Ok(());
         };
-        let Ok(()) = lines.push(line) else {
-            return Err(TextProblem::OutOfMemory);
-        };
-        match self.lines.insert(name, lines) {
-            Ok(_) => Ok(()),
-            Err(_) => Err(TextProblem::OutOfMemory),
-        }
+        lines.push(line)?;
+        let _ = self.lines.insert(name, lines)?;
+        Ok(())
     }
 }

@@ -2,6 +2,7 @@
 ghost use Rattle.std.specs.Prelude.{◌≡◌};
 ghost use Rattle.redcode_text.specs.Code.Problems.{fault_line};
 
+use std::alloc::{AllocError, AllocFailed};
 use thiserror::Error;
 
 /// The reason why an expression has no value. It is displayed as its number and name.
@@ -60,6 +61,28 @@ pub enum TextProblem {
     /// An allocation failed.
     #[error("11 OutOfMemory")]
     OutOfMemory,
+}
+
+impl From<AllocError> for TextProblem {
+    ghost use Rattle.std.specs.Prelude.{◌≡◌};
+    ghost use Rattle.redcode_text.specs.declared.fault.TextProblem.TheVariants as fault;
+
+    ghost from_gives = { λ _ to. to ≡ fault.OutOfMemory };
+
+    fn from(_error: AllocError) -> TextProblem {
+        TextProblem::OutOfMemory
+    }
+}
+
+impl<T: Drop> From<AllocFailed<T>> for TextProblem {
+    ghost use Rattle.std.specs.Prelude.{◌≡◌};
+    ghost use Rattle.redcode_text.specs.declared.fault.TextProblem.TheVariants as fault;
+
+    ghost from_gives = { λ _ to. to ≡ fault.OutOfMemory };
+
+    fn from(_failed: AllocFailed<T>) -> TextProblem {
+        TextProblem::OutOfMemory
+    }
 }
 
 /// An error in a text, with its line. It is displayed without the line.

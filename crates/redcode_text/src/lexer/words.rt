@@ -109,18 +109,14 @@ fn join_word(alloc: Global, names: &SourceNames, word: &[u8]) -> Result<Vec<u8>,
     ensures ascii { IfOk result (λ w. IsAscii w.items) }
 {
     let mut at = part_len(word);
-    let Ok(mut joined) = Vec::from_slice(alloc, &word[..at]) else {
-        return Err(TextProblem::OutOfMemory);
-    };
+    let mut joined = Vec::from_slice(alloc, &word[..at])?;
     while at < word.len() {
         let from = at + 1;
         let to = from + part_len(&word[from..]);
         let Some(round) = names.round_of(&word[from..to]) else {
             return Err(TextProblem::BadToken);
         };
-        let Ok(()) = push_round(&mut joined, round) else {
-            return Err(TextProblem::OutOfMemory);
-        };
+        push_round(&mut joined, round)?;
         at = to;
     }
     Ok(joined)

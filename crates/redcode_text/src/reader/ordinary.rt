@@ -82,12 +82,8 @@ impl Reading {
             if !self.may_label(names, known, name) {
                 return Err(TextProblem::Duplicate);
             }
-            let Ok(()) = labels.push(name) else {
-                return Err(TextProblem::OutOfMemory);
-            };
-            let Ok(()) = known.insert(name) else {
-                return Err(TextProblem::OutOfMemory);
-            };
+            labels.push(name)?;
+            known.insert(name)?;
             at = at + 1 + colons(&tokens[at + 1..]);
         }
         Ok(Parts {
@@ -139,9 +135,7 @@ impl Reading {
     {
         let counts = is_instruction(&self.names.table, line.operation, &line.rest);
         let ends = is_end(&self.names.table, line.operation);
-        let Ok(()) = add_labelled(&mut self.lines, &mut self.labels, line) else {
-            return Err(TextProblem::OutOfMemory);
-        };
+        add_labelled(&mut self.lines, &mut self.labels, line)?;
         if counts {
             self.instructions += 1;
         }

@@ -11,13 +11,9 @@ use std::alloc::Global;
 fn joined(alloc: Global, front: &[Token], back: &[Token]) -> Result<Vec<Token>, TextProblem>
     ensures { Gives (λ made. made.items) result (Ok (front.now ++ back.now)) }
 {
-    let Ok(mut made) = Vec::from_slice(alloc, front) else {
-        return Err(TextProblem::OutOfMemory);
-    };
-    match made.extend_from_slice(back) {
-        Ok(()) => Ok(made),
-        Err(_) => Err(TextProblem::OutOfMemory),
-    }
+    let mut made = Vec::from_slice(alloc, front)?;
+    made.extend_from_slice(back)?;
+    Ok(made)
 }
 
 /// Returns the tokens that precede the line at an index in an EQU definition: `before` for the first line, none for the

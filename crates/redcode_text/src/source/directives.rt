@@ -76,9 +76,7 @@ fn printed(alloc: Global, bytes: &[u8]) -> Result<String, TextProblem>
 {
     let mut text = String::new(alloc);
     for byte in bytes {
-        let Ok(()) = text.push(char::from(printable(*byte))) else {
-            return Err(TextProblem::OutOfMemory);
-        };
+        text.push(char::from(printable(*byte)))?;
     }
     Ok(text)
 }

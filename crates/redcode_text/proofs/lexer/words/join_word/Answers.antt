@@ -12,17 +12,17 @@ loop-at-init c =
     record {
       within = c.part_len-at.ensures.within;
       same =
-          ap (λ l. join_counters loops l (names_of (drop first word))) c.in-Ok.ensures.items
+          ap (λ l. join_counters loops l (names_of (drop first word))) c.in_ok-joined.ensures.items
           ∙ ap (λ n. join_counters loops (take n word) (names_of (drop n word))) c.part_len-at.ensures.value
           ∙ sym (joined-first loops word);
-      ascii = rw c.in-Ok.ensures.items (IsAscii-take word first c.requires);
+      ascii = rw c.in_ok-joined.ensures.items (IsAscii-take word first c.requires);
     }
 
-pub returns-in_default-round_of-clause-value : goal.returns-in_default-round_of-clause-value
-returns-in_default-round_of-clause-value c =
+pub returns-in_default-clause-value : goal.returns-in_default-clause-value
+returns-in_default-clause-value c =
     let word = c.args.word.now in let at = c.loop-at.at in
     sym c.loop-at.invariant.same
-    ∙ join-bad (loops_of c.args.names.now) c.loop-at.joined.items word at c.part_len.result c.loop-at-test.true (c.part_len.ensures.value ∙ ap part_len (take_rest word (at + 1))) c.in_default-round_of.ensures
+    ∙ join-bad (loops_of c.args.names.now) c.loop-at.joined.items word at c.part_len.result c.loop-at-test.true (c.part_len.ensures.value ∙ ap part_len (take_rest word (at + 1))) c.in_default.ensures
 
 pub loop-at-preserved : goal.loop-at-preserved
 loop-at-preserved c =
@@ -30,8 +30,8 @@ loop-at-preserved c =
     record {
       within = omega (arith, simp (take_rest, length-drop) at c.part_len.ensures.within);
       same =
-          ap (λ l. join_counters (loops_of c.args.names.now) l (names_of (drop (at + 1 + c.part_len.result) word))) c.in-Ok-push_round.ensures.digits
+          ap (λ l. join_counters (loops_of c.args.names.now) l (names_of (drop (at + 1 + c.part_len.result) word))) c.in_ok-push_round.ensures.digits
           ∙ sym (join-ok (loops_of c.args.names.now) c.loop-at.joined.items word at c.part_len.result c.in-Some.round c.loop-at-test.true (c.part_len.ensures.value ∙ ap part_len (take_rest word (at + 1))) c.in-Some.ensures)
           ∙ c.loop-at.invariant.same;
-      ascii = c.in-Ok-push_round.ensures.ascii c.loop-at.invariant.ascii;
+      ascii = c.in_ok-push_round.ensures.ascii c.loop-at.invariant.ascii;
     }

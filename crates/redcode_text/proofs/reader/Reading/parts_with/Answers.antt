@@ -30,8 +30,8 @@ loop-at-preserved c =
     let (k, fuel, same) = c.loop-at.invariant.same in
     record {
       within = omega (arith, simp (take_rest, length-drop) at c.colons.ensures.within);
-      known = name-more c.insert.new.self c.loop-at.known c.loop-at.labels.items c.push.new.self.items c.in-Name.name c.in-Ok.ensures.items c.in-Ok-insert.ensures c.loop-at.invariant.known;
-      same = rw c.in-Ok.ensures.items (label-at (predefined_of c.args.names.now) (reading_of c.args.self.now) c.args.tokens.now c.loop-at.at k c.in-Name.name c.colons.result _ c.loop-at.labels.items _ c.loop-at-test.true fuel c.in-Name.is (sym c.is_operation.ensures ∙ c.if-is_operation.false)
+      known = name-more c.insert.new.self c.loop-at.known c.loop-at.labels.items c.push.new.self.items c.in-Name.name c.in_ok-push.ensures.items c.in_ok-insert.ensures c.loop-at.invariant.known;
+      same = rw c.in_ok-push.ensures.items (label-at (predefined_of c.args.names.now) (reading_of c.args.self.now) c.args.tokens.now c.loop-at.at k c.in-Name.name c.colons.result _ c.loop-at.labels.items _ c.loop-at-test.true fuel c.in-Name.is (sym c.is_operation.ensures ∙ c.if-is_operation.false)
           (sym (may-label (predefined_of c.args.names.now) (reading_of c.args.self.now) c.loop-at.known c.loop-at.labels.items c.in-Name.name c.loop-at.invariant.known) ∙ sym c.may_label.ensures ∙ c.if-not-may_label.false)
           (simp take_rest at c.colons.ensures.value) same);
     }
