@@ -17,10 +17,10 @@ use Rattle.mars_app.specs.Faults.{RunFails}
 use Rattle.mars_app.specs.Faults.RunFails.{not_allowed, not_contested, not_debugged, not_scored, starved}
 use Rattle.mars_app.specs.Loading.{AreLoaded}
 use Rattle.mars_app.specs.Options.{Ask, value_of}
-use Rattle.mars_app.specs.Runs.{Asked, RunsWell}
-use Rattle.mars_app.specs.Runs.RunsWell.{contested, debugged}
+use Rattle.mars_app.specs.Runs.{Asked, RunSucceeds}
+use Rattle.mars_app.specs.Runs.RunSucceeds.{contested, debugged}
 use Rattle.mars_app.specs.Streams.{StreamsValue}
-use Rattle.mars_app.specs.Code.Plays.{IsRefused, PlaysInPart, PlaysWell}
+use Rattle.mars_app.specs.Code.Plays.{IsRefused, PlaysInPart, PlaySucceeds}
 use Rattle.mars_app.specs.declared.fault.RunFault.{RunFault}
 use Rattle.mars_app.specs.declared.options.Options.{Options}
 use Rattle.mars_match.specs.declared.setup.Setup.{Setup}
@@ -57,7 +57,7 @@ module _ (known : List ℕ → Option (List ℕ)) (o : Options) (setup : Setup) 
     (held : IsSetupOf o setup) (files_are : files ≡ o.files.items) (count_is : count ≡ contest_size o)
     (loaded : AreLoaded known setup.params o.rounds count (map (λ s. string_bytes s) files) ws) (load : o.load ≡ false)
     {T : Type 0} (r : Result T RunFault) (old new : StreamsValue) where
-  plays_well : PlaysWell o setup ws old new → (words : List (List ℕ)) → Ask words (value_of o) → RunsWell words known old new
+  plays_well : PlaySucceeds o setup ws old new → (words : List (List ℕ)) → Ask words (value_of o) → RunSucceeds words known old new
   plays_well (inl (debugger, s, starts, well)) words said =
       debugged (asked_for words known o setup ws files count said held files_are count_is loaded) load debugger s starts well
   plays_well (inr (debugger, rows, answers, writes)) words said =
@@ -69,7 +69,7 @@ module _ (known : List ℕ → Option (List ℕ)) (o : Options) (setup : Setup) 
   plays_in_part f (inr (debugger, unread, part)) words said =
       not_contested (asked_for words known o setup ws files count said held files_are count_is loaded) load debugger unread part
 
-  pub all_play_well : OnOk r (PlaysWell o setup ws old new) → OnOk r ((words : List (List ℕ)) → Ask words (value_of o) → RunsWell words known old new)
+  pub all_play_well : OnOk r (PlaySucceeds o setup ws old new) → OnOk r ((words : List (List ℕ)) → Ask words (value_of o) → RunSucceeds words known old new)
   all_play_well = on_ok_weaker r plays_well
 
   pub all_play_in_part : IfErr r (PlaysInPart o setup ws old new)

@@ -1,8 +1,8 @@
 -- The arguments of the program, as `clap` parses them.
 use Rattle.std.specs.Prelude.{ℕ, true, List, [], ◌∷◌, Some, codes, fold, pos}
-use Rattle.mars_app.specs.Limits.{longest_history, most_rounds}
-use Rattle.mars_match.specs.Placement.{greatest_seed}
-use Rattle.mars_cell.specs.Limits.{largest_core, most_cycles, most_processes}
+use Rattle.mars_app.specs.Limits.{max_history, max_rounds}
+use Rattle.mars_match.specs.Placement.{max_seed}
+use Rattle.mars_cell.specs.Limits.{max_core_size, max_cycles, max_processes}
 use Rattle.clap.specs.Lexer.{usize_max}
 use Rattle.clap.specs.Simple.{App, new_rule, new_shape, with_rule}
 use Rattle.clap.specs.Walk.{Rule}
@@ -39,9 +39,9 @@ or_else text rule = record rule { defaults = text ∷ [] }
 -- Options of the match or league.
 abbrev pub contest_rules : List Rule
 contest_rules =
-    short 114 (or_else (codes "1") (number_rule (codes "rounds") most_rounds))
-    ∷ short 70 (number_rule (codes "fixed") largest_core)
-    ∷ long (or_else (codes "1") (number_rule (codes "seed") greatest_seed))
+    short 114 (or_else (codes "1") (number_rule (codes "rounds") max_rounds))
+    ∷ short 70 (number_rule (codes "fixed") max_core_size)
+    ∷ long (or_else (codes "1") (number_rule (codes "seed") max_seed))
     ∷ long (or_else (codes "(W*W-1)/S") score_rule)
     ∷ long (flag_rule (codes "league"))
     ∷ []
@@ -49,13 +49,13 @@ contest_rules =
 -- Options of the core.
 abbrev pub core_rules : List Rule
 core_rules =
-    short 115 (or_else (codes "8000") (number_rule (codes "core") largest_core))
-    ∷ short 99 (or_else (codes "80000") (number_rule (codes "cycles") most_cycles))
-    ∷ short 112 (or_else (codes "8000") (number_rule (codes "processes") most_processes))
-    ∷ short 108 (or_else (codes "100") (number_rule (codes "longest") largest_core))
-    ∷ short 100 (or_else (codes "100") (number_rule (codes "distance") largest_core))
-    ∷ long (number_rule (codes "read-limit") largest_core)
-    ∷ long (number_rule (codes "write-limit") largest_core)
+    short 115 (or_else (codes "8000") (number_rule (codes "core") max_core_size))
+    ∷ short 99 (or_else (codes "80000") (number_rule (codes "cycles") max_cycles))
+    ∷ short 112 (or_else (codes "8000") (number_rule (codes "processes") max_processes))
+    ∷ short 108 (or_else (codes "100") (number_rule (codes "longest") max_core_size))
+    ∷ short 100 (or_else (codes "100") (number_rule (codes "distance") max_core_size))
+    ∷ long (number_rule (codes "read-limit") max_core_size)
+    ∷ long (number_rule (codes "write-limit") max_core_size)
     ∷ []
 
 -- Options of the output.
@@ -71,7 +71,7 @@ output_rules =
 abbrev pub debugger_rules : List Rule
 debugger_rules =
     short 101 (flag_rule (codes "debugger"))
-    ∷ long (or_else (codes "200000") (number_rule (codes "history") longest_history))
+    ∷ long (or_else (codes "200000") (number_rule (codes "history") max_history))
     ∷ []
 
 -- The names of the warriors' files.

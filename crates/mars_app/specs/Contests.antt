@@ -66,8 +66,8 @@ fault_of (match.Battle fault) = Battle fault
 fault_of (match.Score fault) = Score fault
 
 -- Writing `text` failed: the output failed after a beginning of it, not all, or an allocation failed after a beginning of it.
-abbrev pub BreaksOff : RunFault → Option (List ℕ) → Option (List ℕ) → List ℕ → Type 0
-BreaksOff fault old new text =
+abbrev pub WriteCutShort : RunFault → Option (List ℕ) → Option (List ℕ) → List ℕ → Type 0
+WriteCutShort fault old new text =
     ((fault ≡ Output) × CutShort old new text)
     ⊎ ((fault ≡ OutOfMemory) × (n : ℕ) × (n ≤ length text) × Appends old new (take n text))
 
@@ -75,6 +75,6 @@ BreaksOff fault old new text =
 -- listing; or while the results were written.
 abbrev pub ContestFails : RunFault → Result (List RowValue) MatchFault → Bool → Option (List ℕ) → Option (List ℕ) → List ℕ → Type 0
 ContestFails fault contest sorted old new listing =
-    BreaksOff fault old new listing
+    WriteCutShort fault old new listing
     ⊎ (((f : MatchFault) × (contest ≡ Err f) × (fault ≡ fault_of f) × Appends old new listing)
     ⊎ ((rows : List RowValue) × (contest ≡ Ok rows) × (fault ≡ Output) × CutShort old new (listing ++ results_text rows sorted)))

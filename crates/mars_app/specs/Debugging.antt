@@ -28,8 +28,8 @@ abbrev pub session_at : ℕ → State → SessionState
 session_at most s = record { history = beginning s; limit = most; retention = record { most = Some most; forgotten = false } }
 
 -- The debugger ended at a `quit` or at the end of its input, after it started with the session `s`.
-abbrev pub DebugsWell : SessionState → StreamsValue → StreamsValue → Type 0
-DebugsWell s old new = (t : SessionState) × Completes (core_size_of s) old.unread new.unread s old.written t new.written
+abbrev pub DebugSucceeds : SessionState → StreamsValue → StreamsValue → Type 0
+DebugSucceeds s old new = (t : SessionState) × Completes (core_size_of s) old.unread new.unread s old.written t new.written
 
 -- The debugger ended with a failed read or a failed write, after it started with the session `s`.
 abbrev pub DebugsInPart : RunFault → SessionState → StreamsValue → StreamsValue → Type 0

@@ -18,7 +18,7 @@ use Rattle.redcode_text.specs.Tokens.{Scanned}
 use Rattle.redcode_text.specs.declared.fault.ExprFault.{ExprFault}
 use Rattle.mars_app.specs.Contests.{ContestFails, contest, contest_size, listing}
 use Rattle.mars_app.specs.Debugging.{DebugsInPart, StartsNothing, first_round, session_at}
-use Rattle.mars_app.specs.Loading.{AreLoaded, IsRead, IsUnread, is_load_file, largest_file, shown_name}
+use Rattle.mars_app.specs.Loading.{AreLoaded, IsRead, IsReadFault, is_load_file, max_file_len, shown_name}
 use Rattle.mars_app.specs.Options.{AreBad, Ask, AskForHelp, parameters_of, value_of}
 use Rattle.mars_app.specs.Runs.{Asked}
 use Rattle.mars_app.specs.Streams.{StreamsValue, Untouched, WritesInPart}
@@ -42,15 +42,15 @@ IsFaultOfFile p rounds count name bytes fault.OutOfMemory = ⊤
 IsFaultOfFile p rounds count name bytes _ = ⊥
 
 -- The error is the reason for which the file isn't read, and shows the name of the file.
-abbrev pub IsUnreadFile : (List ℕ → Option (List ℕ)) → List ℕ → RunFault → Type 0
-IsUnreadFile known name (fault.CannotRead shown) = (string_bytes shown ≡ shown_name name) × IsUnread (known name) largest_file file.CannotRead
-IsUnreadFile known name (fault.TooLarge shown) = (string_bytes shown ≡ shown_name name) × IsUnread (known name) largest_file file.TooLarge
-IsUnreadFile known name fault.OutOfMemory = ⊤
-IsUnreadFile known name _ = ⊥
+abbrev pub IsReadFaultOfFile : (List ℕ → Option (List ℕ)) → List ℕ → RunFault → Type 0
+IsReadFaultOfFile known name (fault.CannotRead shown) = (string_bytes shown ≡ shown_name name) × IsReadFault (known name) max_file_len file.CannotRead
+IsReadFaultOfFile known name (fault.TooLarge shown) = (string_bytes shown ≡ shown_name name) × IsReadFault (known name) max_file_len file.TooLarge
+IsReadFaultOfFile known name fault.OutOfMemory = ⊤
+IsReadFaultOfFile known name _ = ⊥
 
 -- The file isn't read, or has no warrior.
 abbrev pub FailsToLoad : (List ℕ → Option (List ℕ)) → Parameters → ℕ → ℕ → List ℕ → RunFault → Type 0
-FailsToLoad known p rounds count name f = IsUnreadFile known name f
+FailsToLoad known p rounds count name f = IsReadFaultOfFile known name f
     ⊎ ((bytes : List ℕ) × IsRead known name bytes × IsFaultOfFile p rounds count name bytes f)
 
 -- The first file that fails has the error `f`; those before it have warriors.

@@ -36,19 +36,19 @@ abbrev pub warrior_of_file : Parameters → ℕ → ℕ → List ℕ → List �
 warrior_of_file p rounds warriors name bytes = if is_load_file name then result_ok (load p.core_size p.max_length bytes) else result_ok (assembly p rounds warriors bytes)
 
 -- The maximum size of a warrior's file in bytes.
-abbrev pub largest_file : ℕ
-largest_file = 1048576
+abbrev pub max_file_len : ℕ
+max_file_len = 1048576
 
 -- The bytes are the content of the file `name`, if its content is known, and are at most the maximum size.
 abbrev pub IsRead : (List ℕ → Option (List ℕ)) → List ℕ → List ℕ → Type 0
-IsRead known name bytes = IfSome (known name) (λ whole. bytes ≡ whole) × (length bytes ≤ largest_file)
+IsRead known name bytes = IfSome (known name) (λ whole. bytes ≡ whole) × (length bytes ≤ max_file_len)
 
 -- The error is a reason for which a file of at most `limit` bytes isn't read. A file whose content is known can be read, so its
 -- error is that it has more bytes.
-abbrev pub IsUnread : Option (List ℕ) → ℕ → FileFault → Type 0
-IsUnread known limit CannotRead = IsNone known
-IsUnread known limit TooLarge = IfSome known (λ bytes. limit < length bytes)
-IsUnread known limit OutOfMemory = ⊤
+abbrev pub IsReadFault : Option (List ℕ) → ℕ → FileFault → Type 0
+IsReadFault known limit CannotRead = IsNone known
+IsReadFault known limit TooLarge = IfSome known (λ bytes. limit < length bytes)
+IsReadFault known limit OutOfMemory = ⊤
 
 -- The content of the first file that has this name.
 abbrev pub file_named : List (String Global × Vec ℕ Global) → List ℕ → Option (List ℕ)

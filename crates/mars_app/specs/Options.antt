@@ -3,10 +3,10 @@ use Rattle.std.specs.Prelude.{◌≡◌, ⊤, ◌⊎◌, ℕ, ◌+◌, ◌==◌,
 use Rattle.std.specs.Option.{option_map_or, unwrap_or}
 use Rattle.std.specs.Str.{bytes_eq}
 use Rattle.std.specs.Str.Parse.{digits_value, without_leading_plus}
-use Rattle.mars_core.specs.Limits.{most_warriors}
-use Rattle.mars_app.specs.Limits.{longest_history, most_rounds}
-use Rattle.mars_match.specs.Placement.{greatest_seed}
-use Rattle.mars_cell.specs.Limits.{largest_core, most_cycles, most_processes}
+use Rattle.mars_core.specs.Limits.{max_warriors}
+use Rattle.mars_app.specs.Limits.{max_history, max_rounds}
+use Rattle.mars_match.specs.Placement.{max_seed}
+use Rattle.mars_cell.specs.Limits.{max_core_size, max_cycles, max_processes}
 use Rattle.clap.specs.Faults.{fault_of}
 use Rattle.clap.specs.Kinds.{IsAmong}
 use Rattle.clap.specs.Simple.{matches_of}
@@ -111,17 +111,17 @@ is_between least greatest n = nat_le least n && nat_le n greatest
 
 -- A limit is a number of cells of a core. One that isn't given is the core size.
 abbrev pub is_limit : Option ℕ → Bool
-is_limit limit = option_map_or (is_between 1 largest_core) limit true
+is_limit limit = option_map_or (is_between 1 max_core_size) limit true
 
 -- Each number is in its range.
 abbrev pub has_numbers : OptionsValue → Bool
-has_numbers o = is_between 1 most_rounds o.rounds && is_between 1 largest_core o.core && is_between 1 most_cycles o.cycles
-    && is_between 1 most_processes o.processes && is_between 1 largest_core o.longest && is_between 1 largest_core o.distance
-    && is_between 1 greatest_seed o.seed && is_between 1 longest_history o.history && is_limit o.read_limit && is_limit o.write_limit
+has_numbers o = is_between 1 max_rounds o.rounds && is_between 1 max_core_size o.core && is_between 1 max_cycles o.cycles
+    && is_between 1 max_processes o.processes && is_between 1 max_core_size o.longest && is_between 1 max_core_size o.distance
+    && is_between 1 max_seed o.seed && is_between 1 max_history o.history && is_limit o.read_limit && is_limit o.write_limit
 
 -- There are 1 to 16 files: exactly one if its load file is written, and at least two for a league.
 abbrev pub has_files : OptionsValue → Bool
-has_files o = is_between 1 most_warriors (length o.files) && (not o.load || length o.files == 1) && (not o.league || nat_le 2 (length o.files))
+has_files o = is_between 1 max_warriors (length o.files) && (not o.load || length o.files == 1) && (not o.league || nat_le 2 (length o.files))
 
 -- At most one of the debugger, a league and a load file is requested.
 abbrev pub has_one_mode : OptionsValue → Bool

@@ -8,7 +8,7 @@ use Rattle.mars_match.specs.Results.{results_text}
 use Rattle.mars_match.specs.Tables.{RowValue}
 use Rattle.mars_match.specs.declared.setup.Setup.{Setup}
 use Rattle.mars_app.specs.Contests.{IsSetupOf, contest, contest_size, listing}
-use Rattle.mars_app.specs.Debugging.{DebugsWell, first_round, session_at}
+use Rattle.mars_app.specs.Debugging.{DebugSucceeds, first_round, session_at}
 use Rattle.mars_app.specs.Loading.{AreLoaded}
 use Rattle.mars_app.specs.Streams.{StreamsValue, Writes}
 use Rattle.mars_app.specs.Options.{Ask, AskForHelp, value_of}
@@ -25,14 +25,14 @@ pub record Asked (words : List (List ℕ)) (known : List ℕ → Option (List �
 
 -- The run has written the help; or the load file of the warrior; or has debugged the battle of the first round; or has written
 -- the listing and the results of a match or a league. Only the debugger reads the input.
-pub data RunsWell (words : List (List ℕ)) (known : List ℕ → Option (List ℕ)) (old new : StreamsValue) : Type 0 where
-  helped : AskForHelp words → (text : List ℕ) → Writes old new text → RunsWell words known old new
+pub data RunSucceeds (words : List (List ℕ)) (known : List ℕ → Option (List ℕ)) (old new : StreamsValue) : Type 0 where
+  helped : AskForHelp words → (text : List ℕ) → Writes old new text → RunSucceeds words known old new
   written : (asked : Asked words known) → asked.options.load ≡ true
-      → Writes old new (flat_map (load_text asked.setup.params.core_size) asked.warriors) → RunsWell words known old new
+      → Writes old new (flat_map (load_text asked.setup.params.core_size) asked.warriors) → RunSucceeds words known old new
   debugged : (asked : Asked words known) → asked.options.load ≡ false → asked.options.debugger ≡ true
       → (s : State) → first_round asked.setup asked.warriors ≡ Ok s
-      → DebugsWell (session_at asked.options.history s) old new → RunsWell words known old new
+      → DebugSucceeds (session_at asked.options.history s) old new → RunSucceeds words known old new
   contested : (asked : Asked words known) → asked.options.load ≡ false → asked.options.debugger ≡ false
       → (rows : List RowValue) → contest asked.options.league asked.setup asked.warriors ≡ Ok rows
       → Writes old new (listing asked.setup.params.core_size asked.options.brief asked.warriors ++ results_text rows asked.options.sorted)
-      → RunsWell words known old new
+      → RunSucceeds words known old new

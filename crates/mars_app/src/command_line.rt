@@ -8,15 +8,15 @@ ghost use Rattle.mars_app.specs.Code.WordTables.{reached, rule_of_word, valued};
 
 use clap::builder::ValueParser;
 use clap::{Arg, ArgAction, Command, value_parser};
-use mars_cell::{LARGEST_CORE, MOST_CYCLES, MOST_PROCESSES};
-use mars_match::GREATEST_SEED;
+use mars_cell::{MAX_CORE_SIZE, MAX_CYCLES, MAX_PROCESSES};
+use mars_match::MAX_SEED;
 use std::alloc::{AllocError, Global};
 
 /// Maximum number of rounds of a match.
-pub const MOST_ROUNDS: u32 = 100_000;
+pub const MAX_ROUNDS: u32 = 100_000;
 
 /// Maximum number of places that a history keeps beside the last one.
-pub const LONGEST_HISTORY: u32 = 1_000_000;
+pub const MAX_HISTORY: u32 = 1_000_000;
 
 /// Text after the list of options in the help.
 const AFTER_HELP: &str = "\
@@ -101,7 +101,7 @@ static WORDS: [Word; 18] = [
         heading: "Match",
         name: "rounds",
         letter: Some('r'),
-        value: Value::Number(MOST_ROUNDS),
+        value: Value::Number(MAX_ROUNDS),
         default: Some("1"),
         help: "Number of rounds, 1 to 100000",
     },
@@ -109,7 +109,7 @@ static WORDS: [Word; 18] = [
         heading: "Match",
         name: "fixed",
         letter: Some('F'),
-        value: Value::Number(LARGEST_CORE),
+        value: Value::Number(MAX_CORE_SIZE),
         default: None,
         help: "Position of warrior 2, from the minimum distance to the core size minus it",
     },
@@ -117,7 +117,7 @@ static WORDS: [Word; 18] = [
         heading: "Match",
         name: "seed",
         letter: None,
-        value: Value::Number(GREATEST_SEED),
+        value: Value::Number(MAX_SEED),
         default: Some("1"),
         help: "Seed for the starting positions, 1 to 2147483646",
     },
@@ -141,7 +141,7 @@ static WORDS: [Word; 18] = [
         heading: "Core",
         name: "core",
         letter: Some('s'),
-        value: Value::Number(LARGEST_CORE),
+        value: Value::Number(MAX_CORE_SIZE),
         default: Some("8000"),
         help: "Core size, 1 to 1048576",
     },
@@ -149,7 +149,7 @@ static WORDS: [Word; 18] = [
         heading: "Core",
         name: "cycles",
         letter: Some('c'),
-        value: Value::Number(MOST_CYCLES),
+        value: Value::Number(MAX_CYCLES),
         default: Some("80000"),
         help: "Cycle limit, 1 to 10000000",
     },
@@ -157,7 +157,7 @@ static WORDS: [Word; 18] = [
         heading: "Core",
         name: "processes",
         letter: Some('p'),
-        value: Value::Number(MOST_PROCESSES),
+        value: Value::Number(MAX_PROCESSES),
         default: Some("8000"),
         help: "Process limit, 1 to 65536",
     },
@@ -165,7 +165,7 @@ static WORDS: [Word; 18] = [
         heading: "Core",
         name: "longest",
         letter: Some('l'),
-        value: Value::Number(LARGEST_CORE),
+        value: Value::Number(MAX_CORE_SIZE),
         default: Some("100"),
         help: "Maximum length of a warrior, 1 to the core size",
     },
@@ -173,7 +173,7 @@ static WORDS: [Word; 18] = [
         heading: "Core",
         name: "distance",
         letter: Some('d'),
-        value: Value::Number(LARGEST_CORE),
+        value: Value::Number(MAX_CORE_SIZE),
         default: Some("100"),
         help: "Minimum distance, from the maximum length to the core size",
     },
@@ -181,7 +181,7 @@ static WORDS: [Word; 18] = [
         heading: "Core",
         name: "read-limit",
         letter: None,
-        value: Value::Number(LARGEST_CORE),
+        value: Value::Number(MAX_CORE_SIZE),
         default: None,
         help: "Read limit, 1 to the core size [default: core size]",
     },
@@ -189,7 +189,7 @@ static WORDS: [Word; 18] = [
         heading: "Core",
         name: "write-limit",
         letter: None,
-        value: Value::Number(LARGEST_CORE),
+        value: Value::Number(MAX_CORE_SIZE),
         default: None,
         help: "Write limit, 1 to the core size [default: core size]",
     },
@@ -205,7 +205,7 @@ static WORDS: [Word; 18] = [
         heading: "Debugger",
         name: "history",
         letter: None,
-        value: Value::Number(LONGEST_HISTORY),
+        value: Value::Number(MAX_HISTORY),
         default: Some("200000"),
         help: "Size of the debugger's history, 1 to 1000000 places",
     },

@@ -2,17 +2,17 @@
 ghost use Rattle.std.specs.Prelude.{◌≡◌, ◌≤◌, ◌++◌, All, IfErr, List, Ok, OnOk, length};
 ghost use Rattle.std.specs.Io.KnownBytes.{Appends};
 ghost use Rattle.mars_cell.specs.Cells.{FitsCore};
-ghost use Rattle.mars_cell.specs.Limits.{largest_core};
+ghost use Rattle.mars_cell.specs.Limits.{max_core_size};
 ghost use Rattle.mars_cell.specs.Written.{load_text};
-ghost use Rattle.mars_match.specs.Answers.{IsAnswer};
+ghost use Rattle.mars_match.specs.CallResults.{IsResult};
 ghost use Rattle.mars_match.specs.Results.{results_text};
 ghost use Rattle.mars_match.specs.Tables.{RowValue};
 ghost use Rattle.mars_match.specs.declared.table.Table.{Table};
 ghost use Rattle.mars_cell.specs.Output.{CutShort};
-ghost use Rattle.mars_app.specs.Contests.{BreaksOff, ContestFails, contest, fault_of, listed, listing, listing_head};
+ghost use Rattle.mars_app.specs.Contests.{WriteCutShort, ContestFails, contest, fault_of, listed, listing, listing_head};
 ghost use Rattle.mars_app.specs.Loading.{AllFit};
 ghost use Rattle.mars_match.specs.Placement.{FitsTwo};
-ghost use Rattle.mars_core.specs.Limits.{most_warriors};
+ghost use Rattle.mars_core.specs.Limits.{max_warriors};
 
 use crate::fault::RunFault;
 use crate::options::Options;
@@ -31,7 +31,7 @@ pub fn run_contest<W: Write>(
     output: &mut W,
 ) -> Result<(), RunFault>
     requires fit { AllFit setup.now.params.core_size warriors.now }
-    requires few { length warriors.now ≤ most_warriors }
+    requires few { length warriors.now ≤ max_warriors }
     requires position { FitsTwo setup.now.params (length warriors.now) setup.now.plan.fixed }
     ensures ok { OnOk result ((rows : List RowValue) × (contest options.now.league setup.now warriors.now ≡ Ok rows)
         × Appends (W.contents output.old) (W.contents output.new)
@@ -59,9 +59,9 @@ fn hold_contest(
     setup: &Setup,
     warriors: &[Warrior],
 ) -> Result<Table, MatchFault>
-    requires few { length warriors.now ≤ most_warriors }
+    requires few { length warriors.now ≤ max_warriors }
     requires position { FitsTwo setup.now.params (length warriors.now) setup.now.plan.fixed }
-    ensures { IsAnswer (λ (table : Table). table.rows.items) (contest is_league setup.now warriors.now) result }
+    ensures { IsResult (λ (table : Table). table.rows.items) (contest is_league setup.now warriors.now) result }
 {
     if is_league {
         league(alloc, setup, warriors)
@@ -104,10 +104,10 @@ fn write_listing<W: Write>(
     core_size: u32,
     output: &mut W,
 ) -> Result<(), RunFault>
-    requires size { core_size ≤ largest_core }
+    requires size { core_size ≤ max_core_size }
     requires fit { AllFit core_size warriors.now }
     ensures ok { OnOk result (Appends (W.contents output.old) (W.contents output.new) (listing core_size brief warriors.now)) }
-    ensures err { IfErr result (λ fault. BreaksOff fault (W.contents output.old) (W.contents output.new)
+    ensures err { IfErr result (λ fault. WriteCutShort fault (W.contents output.old) (W.contents output.new)
         (listing core_size brief warriors.now)) }
 {
     if brief {
@@ -127,10 +127,10 @@ fn write_warrior<W: Write>(
     core_size: u32,
     output: &mut W,
 ) -> Result<(), RunFault>
-    requires size { core_size ≤ largest_core }
+    requires size { core_size ≤ max_core_size }
     requires fit { All (FitsCore core_size) warrior.now.cells }
     ensures ok { OnOk result (Appends (W.contents output.old) (W.contents output.new) (listed core_size number warrior.now)) }
-    ensures err { IfErr result (λ fault. BreaksOff fault (W.contents output.old) (W.contents output.new)
+    ensures err { IfErr result (λ fault. WriteCutShort fault (W.contents output.old) (W.contents output.new)
         (listed core_size number warrior.now)) }
 {
     let head = listing_head(number, warrior);
@@ -161,10 +161,10 @@ fn write_load_file<W: Write>(
     core_size: u32,
     output: &mut W,
 ) -> Result<(), RunFault>
-    requires size { core_size ≤ largest_core }
+    requires size { core_size ≤ max_core_size }
     requires fit { All (FitsCore core_size) warrior.now.cells }
     ensures ok { OnOk result (Appends (W.contents output.old) (W.contents output.new) (load_text core_size warrior.now)) }
-    ensures err { IfErr result (λ fault. BreaksOff fault (W.contents output.old) (W.contents output.new)
+    ensures err { IfErr result (λ fault. WriteCutShort fault (W.contents output.old) (W.contents output.new)
         (load_text core_size warrior.now)) }
 {
     let Ok(text) = write_load(alloc, warrior, core_size) else {

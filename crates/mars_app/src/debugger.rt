@@ -8,7 +8,7 @@ ghost use Rattle.std.specs.Prelude.{◌≡◌, Bool, [], ◌∷◌, ◌<◌, ◌
 ghost use Rattle.std.specs.Io.KnownBytes.{Appends};
 ghost use Rattle.mars_cell.specs.Output.{CutShort};
 ghost use Rattle.mars_app.specs.Debugger.Transcript.{answer, core_size_of, Completes, NothingDone, ReadFails, TakesAtMost, WriteFails};
-ghost use Rattle.mars_app.specs.Code.Steps.{Breaks, BreaksAtEnd, Finishes, GoesThrough, Quits};
+ghost use Rattle.mars_app.specs.Code.Steps.{WriteFailsWithin, WriteFailsAtEnd, Finishes, GoesThrough, Quits};
 
 mod line_buffer;
 mod pending;
@@ -81,7 +81,7 @@ fn take_byte<W: Write, T: Tape>(
         line.new session.new.state (W.contents writer.new) }
     ensures quit { result ≡ Ok Flow.Quit → Quits core_size (byte ∷ []) line.old session.old.state (W.contents writer.old)
         session.new.state (W.contents writer.new) }
-    ensures err { OnErr result (Breaks core_size (byte ∷ []) line.old session.old.state (W.contents writer.old)
+    ensures err { OnErr result (WriteFailsWithin core_size (byte ∷ []) line.old session.old.state (W.contents writer.old)
         session.new.state (W.contents writer.new)) }
 {
     if byte != b'\n' {
@@ -113,7 +113,7 @@ fn take_bytes<W: Write, T: Tape>(
         line.new session.new.state (W.contents writer.new) }
     ensures quit { result ≡ Ok Flow.Quit → Quits core_size chunk.now line.old session.old.state (W.contents writer.old)
         session.new.state (W.contents writer.new) }
-    ensures err { OnErr result (Breaks core_size chunk.now line.old session.old.state (W.contents writer.old)
+    ensures err { OnErr result (WriteFailsWithin core_size chunk.now line.old session.old.state (W.contents writer.old)
         session.new.state (W.contents writer.new)) }
 {
     for byte in chunk {
@@ -136,7 +136,7 @@ fn take_last_line<W: Write, T: Tape>(
     requires { 0 < core_size }
     ensures ok { OnOk result (Finishes core_size line.old session.old.state (W.contents writer.old)
         session.new.state (W.contents writer.new)) }
-    ensures err { OnErr result (BreaksAtEnd core_size line.old session.old.state (W.contents writer.old)
+    ensures err { OnErr result (WriteFailsAtEnd core_size line.old session.old.state (W.contents writer.old)
         session.new.state (W.contents writer.new)) }
 {
     if line.is_empty() {
@@ -153,7 +153,7 @@ fn take_last_line<W: Write, T: Tape>(
 const CHUNK: usize = 4096;
 
 /// Maximum number of reads of the debugger.
-const MOST_READS: u64 = 4_294_967_296;
+const MAX_READS: u64 = 4_294_967_296;
 
 /// Reads lines up to `quit` or the end of the input, in at most `reads` reads. Writes the reply to each line before it executes
 /// the next one.
@@ -219,5 +219,5 @@ pub fn debug<R: Read, W: Write, T: Tape>(
         session.old.state (W.contents writer.old) session.new.state (W.contents writer.new) }
     ensures few { TakesAtMost (4096 * 4294967296) (R.remaining reader.old) (R.remaining reader.new) }
 {
-    debug_within(reader, writer, session, MOST_READS)
+    debug_within(reader, writer, session, MAX_READS)
 }

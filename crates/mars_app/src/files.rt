@@ -1,7 +1,7 @@
 //! The files from which warriors are read.
 ghost use Rattle.std.specs.Global.{Global};
 ghost use Rattle.std.specs.Prelude.{◌≡◌, ◌≤◌, ℕ, List, [], ◌∷◌, ◌++◌, Option, None, IfErr, IfOk, IfSome, OnErr, OnOk, String, Vec, string_bytes, vec_len};
-ghost use Rattle.mars_app.specs.Loading.{IsUnread};
+ghost use Rattle.mars_app.specs.Loading.{IsReadFault};
 
 use std::alloc::{AllocError, Global};
 use std::fs;
@@ -28,7 +28,7 @@ pub trait WarriorFiles {
     fn read(&self, alloc: Global, name: &str, limit: usize) -> Result<Vec<u8>, FileFault>
         ensures few { IfOk result (λ bytes. vec_len bytes ≤ limit) }
         ensures whole { IfOk result (λ bytes. IfSome (known self.now name.now) (λ whole. bytes.items ≡ whole)) }
-        ensures unread { IfErr result (IsUnread (known self.now name.now) limit) };
+        ensures unread { IfErr result (IsReadFault (known self.now name.now) limit) };
 }
 
 /// Files in memory, for tests.

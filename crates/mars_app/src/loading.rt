@@ -2,7 +2,7 @@
 ghost use Rattle.std.specs.Prelude.{◌≡◌, All, IfErr, IfOk, Some, false, length, map, string_bytes, true, vec_len};
 ghost use Rattle.mars_cell.specs.Cells.{FitsCore};
 ghost use Rattle.mars_app.specs.Code.Blames.{IsAssemblyFault, IsLoadFault};
-ghost use Rattle.mars_app.specs.Faults.{FailsToLoad, FirstFails, IsFaultOfFile, IsUnreadFile};
+ghost use Rattle.mars_app.specs.Faults.{FailsToLoad, FirstFails, IsFaultOfFile, IsReadFaultOfFile};
 ghost use Rattle.mars_app.specs.Loading.{AllFit, AreLoaded, IsLoadFileOf, IsRead, is_load_file, shown_character, shown_name, warrior_of_file};
 
 use crate::fault::RunFault;
@@ -12,7 +12,7 @@ use redcode_asm::{AsmFault, AsmProblem, assemble, assemble_load};
 use std::alloc::{AllocError, Global};
 
 /// Maximum size of a warrior's file in bytes.
-const LARGEST_FILE: usize = 1_048_576;
+const MAX_FILE_LEN: usize = 1_048_576;
 
 /// The parameters of a match, with which its warriors are assembled.
 #[derive(Clone, Copy)]
@@ -82,9 +82,9 @@ pub fn load_file_of<F: WarriorFiles>(
 /// Returns the content of a file.
 fn read_file<F: WarriorFiles>(alloc: Global, files: &F, name: &str) -> Result<Vec<u8>, RunFault>
     ensures ok { IfOk result (λ bytes. IsRead (F.known files.now) name.now bytes.items) }
-    ensures err { IfErr result (IsUnreadFile (F.known files.now) name.now) }
+    ensures err { IfErr result (IsReadFaultOfFile (F.known files.now) name.now) }
 {
-    let fault = match files.read(alloc, name, LARGEST_FILE) {
+    let fault = match files.read(alloc, name, MAX_FILE_LEN) {
         Ok(bytes) => return Ok(bytes),
         Err(fault) => fault,
     };

@@ -9,14 +9,14 @@ ghost use Rattle.mars_app.specs.CommandLine.{mars};
 ghost use Rattle.mars_app.specs.Options.{Reads, are_allowed, given_number, has_files, has_fitting_position, has_numbers, has_one_mode, is_between, is_given, is_limit, number, options_of, value_of};
 ghost use Rattle.mars_app.specs.Code.Allowed.{AreInRange, HaveFiles, HaveFittingPosition, HaveNumbers, IsBetween};
 ghost use Rattle.mars_app.specs.Code.Words.{IsFaultOf};
-ghost use Rattle.mars_cell.specs.Limits.{largest_core};
+ghost use Rattle.mars_cell.specs.Limits.{max_core_size};
 
-use crate::command_line::{LONGEST_HISTORY, MOST_ROUNDS, command};
+use crate::command_line::{MAX_HISTORY, MAX_ROUNDS, command};
 use clap::ArgMatches;
 use clap::error::ErrorKind;
-use mars_cell::{LARGEST_CORE, MOST_CYCLES, MOST_PROCESSES};
-use mars_core::MOST_WARRIORS;
-use mars_match::GREATEST_SEED;
+use mars_cell::{MAX_CORE_SIZE, MAX_CYCLES, MAX_PROCESSES};
+use mars_core::MAX_WARRIORS;
+use mars_match::MAX_SEED;
 use std::alloc::{AllocError, Global};
 
 /// Why the arguments are rejected, or what is printed instead of a run.
@@ -148,14 +148,14 @@ fn has_numbers(options: &Options) -> bool
     ensures value { result ≡ has_numbers (value_of options.now) }
     ensures used { IsTrue result → HaveNumbers options.now }
 {
-    is_between(1, MOST_ROUNDS, options.rounds)
-        && is_between(1, LARGEST_CORE, options.core)
-        && is_between(1, MOST_CYCLES, options.cycles)
-        && is_between(1, MOST_PROCESSES, options.processes)
-        && is_between(1, LARGEST_CORE, options.longest)
-        && is_between(1, LARGEST_CORE, options.distance)
-        && is_between(1, GREATEST_SEED, options.seed)
-        && is_between(1, LONGEST_HISTORY, options.history)
+    is_between(1, MAX_ROUNDS, options.rounds)
+        && is_between(1, MAX_CORE_SIZE, options.core)
+        && is_between(1, MAX_CYCLES, options.cycles)
+        && is_between(1, MAX_PROCESSES, options.processes)
+        && is_between(1, MAX_CORE_SIZE, options.longest)
+        && is_between(1, MAX_CORE_SIZE, options.distance)
+        && is_between(1, MAX_SEED, options.seed)
+        && is_between(1, MAX_HISTORY, options.history)
         && is_limit(options.read_limit)
         && is_limit(options.write_limit)
 }
@@ -170,11 +170,11 @@ fn is_between(least: u32, greatest: u32, n: u32) -> bool
 /// Returns whether a limit, if it is given, is a number of cells of a core.
 fn is_limit(limit: Option<u32>) -> bool
     ensures value { result ≡ is_limit limit }
-    ensures used { IsTrue result → IfSome limit (IsBetween 1 largest_core) }
+    ensures used { IsTrue result → IfSome limit (IsBetween 1 max_core_size) }
 {
     match limit {
         None => true,
-        Some(limit) => is_between(1, LARGEST_CORE, limit),
+        Some(limit) => is_between(1, MAX_CORE_SIZE, limit),
     }
 }
 
@@ -185,7 +185,7 @@ fn has_files(options: &Options) -> bool
 {
     let count = options.files.len();
     1 <= count
-        && count <= MOST_WARRIORS
+        && count <= MAX_WARRIORS
         && (!options.load || count == 1)
         && (!options.league || 2 <= count)
 }

@@ -3,20 +3,20 @@ ghost use Rattle.std.specs.Prelude.{◌≡◌, ◌≢◌, ◌≤◌, ◌⊎◌, 
 ghost use Rattle.std.specs.Global.{Global};
 ghost use Rattle.mars_core.specs.State.{State};
 ghost use Rattle.mars_app.specs.Contests.{IsSetupOf, contest_size};
-ghost use Rattle.mars_app.specs.Debugging.{DebugsInPart, DebugsWell, StartsNothing, first_round, session_at};
+ghost use Rattle.mars_app.specs.Debugging.{DebugsInPart, DebugSucceeds, StartsNothing, first_round, session_at};
 ghost use Rattle.mars_app.specs.Streams.{Untouched, Writes, WritesInPart};
 ghost use Rattle.mars_app.specs.Loading.{AllFit, IsLoadFileOf};
 ghost use Rattle.mars_match.specs.Placement.{FitsTwo};
 ghost use Rattle.mars_app.specs.Code.Allowed.{AreInRange, IsBetween};
-ghost use Rattle.mars_app.specs.Code.Plays.{IsRefused, PlaysInPart, PlaysWell};
+ghost use Rattle.mars_app.specs.Code.Plays.{IsRefused, PlaysInPart, PlaySucceeds};
 ghost use Rattle.mars_app.specs.Options.{Ask, parameters_of, value_of};
 ghost use Rattle.mars_app.specs.Faults.{FailsToLoad, RunFails};
-ghost use Rattle.mars_app.specs.Runs.{RunsWell};
+ghost use Rattle.mars_app.specs.Runs.{RunSucceeds};
 ghost use Rattle.mars_app.specs.Status.{status_of};
 ghost use Rattle.mars_app.specs.declared.fault.RunFault.{RunFault};
 ghost use Rattle.mars_cell.specs.ParameterFaults.{checked_parameters};
-ghost use Rattle.mars_core.specs.Limits.{most_warriors};
-ghost use Rattle.mars_app.specs.Limits.{longest_history};
+ghost use Rattle.mars_core.specs.Limits.{max_warriors};
+ghost use Rattle.mars_app.specs.Limits.{max_history};
 
 use crate::contest::{match_fault, run_contest};
 use crate::debugger::{DebugFault, debug};
@@ -46,11 +46,11 @@ pub fn run<F: WarriorFiles, R: Read, W: Write, E: Write>(
     faults: &mut E,
 ) -> u8
     ensures status { result ≤ 2 }
-    ensures done { result ≡ 0 → RunsWell (map (λ word. string_bytes word) words.now) (F.known files.now) streams.old streams.new }
+    ensures done { result ≡ 0 → RunSucceeds (map (λ word. string_bytes word) words.now) (F.known files.now) streams.old streams.new }
     ensures failed { result ≢ 0 → (fault : RunFault) × (result ≡ status_of fault)
         × RunFails (map (λ word. string_bytes word) words.now) (F.known files.now) streams.old streams.new fault }
 {
-    match run_words(alloc, words, files, streams) {
+    match run_args(alloc, words, files, streams) {
         Ok(()) => 0,
         Err(fault) => {
             write_fault(alloc, &fault, faults);
@@ -69,13 +69,13 @@ pub fn write_fault<E: Write>(alloc: Global, fault: &RunFault, faults: &mut E) {
     };
 }
 
-fn run_words<F: WarriorFiles, R: Read, W: Write>(
+fn run_args<F: WarriorFiles, R: Read, W: Write>(
     alloc: Global,
     words: &[String],
     files: &F,
     streams: &mut Streams<R, W>,
 ) -> Result<(), RunFault>
-    ensures ok { OnOk result (RunsWell (map (λ word. string_bytes word) words.now) (F.known files.now) streams.old streams.new) }
+    ensures ok { OnOk result (RunSucceeds (map (λ word. string_bytes word) words.now) (F.known files.now) streams.old streams.new) }
     ensures err { IfErr result (RunFails (map (λ word. string_bytes word) words.now) (F.known files.now) streams.old streams.new) }
 {
     match read_options(alloc, words) {
@@ -95,7 +95,7 @@ fn run_options<F: WarriorFiles, R: Read, W: Write>(
 ) -> Result<(), RunFault>
     requires { AreInRange options.now }
     ensures ok { OnOk result ((words : List (List ℕ)) → Ask words (value_of options.now)
-        → RunsWell words (F.known files.now) streams.old streams.new) }
+        → RunSucceeds words (F.known files.now) streams.old streams.new) }
     ensures err { IfErr result (λ fault. (words : List (List ℕ)) → Ask words (value_of options.now)
         → RunFails words (F.known files.now) streams.old streams.new fault) }
 {
@@ -144,7 +144,7 @@ fn carry_out<F: WarriorFiles, R: Read, W: Write>(
     requires range { AreInRange options.now }
     requires setup { IsSetupOf options.now setup.now }
     ensures ok { OnOk result ((words : List (List ℕ)) → Ask words (value_of options.now)
-        → RunsWell words (F.known files.now) streams.old streams.new) }
+        → RunSucceeds words (F.known files.now) streams.old streams.new) }
     ensures err { IfErr result (λ fault. (words : List (List ℕ)) → Ask words (value_of options.now)
         → RunFails words (F.known files.now) streams.old streams.new fault) }
 {
@@ -174,12 +174,12 @@ fn play<R: Read, W: Write>(
     requires setup { IsSetupOf options.now setup.now }
     requires fit { AllFit setup.now.params.core_size warriors.now }
     requires some { 1 ≤ length warriors.now }
-    requires few { length warriors.now ≤ most_warriors }
+    requires few { length warriors.now ≤ max_warriors }
     requires position { FitsTwo setup.now.params (length warriors.now) options.now.fixed }
-    requires history { IsBetween 1 longest_history options.now.history }
+    requires history { IsBetween 1 max_history options.now.history }
 
     // If it succeeds, what the options request was written; on an error, a beginning of it.
-    ensures ok { OnOk result (PlaysWell options.now setup.now warriors.now streams.old streams.new) }
+    ensures ok { OnOk result (PlaySucceeds options.now setup.now warriors.now streams.old streams.new) }
     ensures err { IfErr result (PlaysInPart options.now setup.now warriors.now streams.old streams.new) }
 {
     if options.debugger {
@@ -207,7 +207,7 @@ fn parameters(options: &Options) -> Result<Params, ParamFault>
 
 /// Returns the number of warriors of a battle: two in a league, all otherwise.
 fn contest_size(options: &Options) -> u32
-    requires { vec_len options.now.files ≤ most_warriors }
+    requires { vec_len options.now.files ≤ max_warriors }
     ensures { result ≡ contest_size options.now }
 {
     if options.league {
@@ -245,11 +245,11 @@ fn debug_round<R: Read, W: Write>(
     streams: &mut Streams<R, W>,
 ) -> Result<(), RunFault>
     requires some { 1 ≤ length warriors.now }
-    requires few { length warriors.now ≤ most_warriors }
+    requires few { length warriors.now ≤ max_warriors }
     requires position { FitsTwo setup.now.params (length warriors.now) setup.now.plan.fixed }
-    requires history { IsBetween 1 longest_history history }
+    requires history { IsBetween 1 max_history history }
     ensures ok { OnOk result ((s : State) × (first_round setup.now warriors.now ≡ Ok s)
-        × DebugsWell (session_at history s) streams.old streams.new) }
+        × DebugSucceeds (session_at history s) streams.old streams.new) }
     ensures err { IfErr result (λ fault. StartsNothing fault (first_round setup.now warriors.now) streams.old streams.new
         ⊎ ((s : State) × (first_round setup.now warriors.now ≡ Ok s)
         × DebugsInPart fault (session_at history s) streams.old streams.new)) }
@@ -272,8 +272,8 @@ fn debug_battle<R: Read, W: Write>(
     history: u32,
     streams: &mut Streams<R, W>,
 ) -> Result<(), RunFault>
-    requires { IsBetween 1 longest_history history }
-    ensures ok { OnOk result (DebugsWell (session_at history battle) streams.old streams.new) }
+    requires { IsBetween 1 max_history history }
+    ensures ok { OnOk result (DebugSucceeds (session_at history battle) streams.old streams.new) }
     ensures err { IfErr result (λ fault. ((fault ≡ RunFault.OutOfMemory) × Untouched streams.old streams.new)
         ⊎ DebugsInPart fault (session_at history battle) streams.old streams.new) }
 {

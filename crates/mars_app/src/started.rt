@@ -2,7 +2,7 @@
 ghost use Rattle.std.specs.Prelude.{◌≡◌, ◌≢◌, ◌⊎◌, ℕ, IfErr, List};
 ghost use Rattle.mars_app.specs.Streams.{Untouched};
 ghost use Rattle.mars_app.specs.Faults.{RunFails};
-ghost use Rattle.mars_app.specs.Runs.{RunsWell};
+ghost use Rattle.mars_app.specs.Runs.{RunSucceeds};
 ghost use Rattle.mars_app.specs.Status.{status_of};
 ghost use Rattle.mars_app.specs.declared.fault.RunFault.{RunFault};
 
@@ -24,12 +24,12 @@ pub fn start<V: Env, F: WarriorFiles, R: Read, W: Write, E: Write>(
     streams: &mut Streams<R, W>,
     faults: &mut E,
 ) -> u8
-    ensures done { result ≡ 0 → (words : List (List ℕ)) × RunsWell words (F.known files.now) streams.old streams.new }
+    ensures done { result ≡ 0 → (words : List (List ℕ)) × RunSucceeds words (F.known files.now) streams.old streams.new }
     ensures failed { result ≢ 0 → (fault : RunFault) × (result ≡ status_of fault)
         × (((fault ≡ RunFault.Words) × Untouched streams.old streams.new)
         ⊎ ((words : List (List ℕ)) × RunFails words (F.known files.now) streams.old streams.new fault)) }
 {
-    match words_behind_name(alloc, env) {
+    match collect_args(alloc, env) {
         Ok(words) => run(alloc, words.as_slice(), files, streams, faults),
         Err(fault) => {
             write_fault(alloc, &fault, faults);
@@ -40,10 +40,10 @@ pub fn start<V: Env, F: WarriorFiles, R: Read, W: Write, E: Write>(
 
 /// Returns the arguments after the program's name. The name isn't checked: the caller of the program chooses it, and it need
 /// not be text.
-fn words_behind_name<E: Env>(alloc: Global, env: &E) -> Result<Vec<String>, RunFault>
+fn collect_args<E: Env>(alloc: Global, env: &E) -> Result<Vec<String>, RunFault>
     ensures { IfErr result (λ fault. (fault ≡ RunFault.Words) ⊎ (fault ≡ RunFault.OutOfMemory)) }
 {
-    let words = match env::args(&(BehindName(env), alloc)) {
+    let words = match env::args(&(ArgsAfterProgram(env), alloc)) {
         Ok(words) => words,
         Err(error) if error.kind() == ErrorKind::OutOfMemory => return Err(RunFault::OutOfMemory),
         Err(_) => return Err(RunFault::Words),
@@ -56,9 +56,9 @@ fn words_behind_name<E: Env>(alloc: Global, env: &E) -> Result<Vec<String>, RunF
 
 /// An environment without the program's name: its first argument is the one after the name.
 #[derive(Drop)]
-struct BehindName<'e, E>(&'e E);
+struct ArgsAfterProgram<'e, E>(&'e E);
 
-impl<E: Env> Env for BehindName<'_, E> {
+impl<E: Env> Env for ArgsAfterProgram<'_, E> {
     fn arg(&self, i: usize, buf: &mut [u8]) -> Result<usize, FillError> {
         self.0.arg(i.saturating_add(1), buf)
     }

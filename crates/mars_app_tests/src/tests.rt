@@ -123,7 +123,7 @@ NOP
 ";
 
 /// Returns the status of a run over these files.
-fn run_words<R: Read, W: Write, E: Write>(
+fn run_args<R: Read, W: Write, E: Write>(
     alloc: Global,
     files: &MemoryFiles,
     words: &[&str],
@@ -152,7 +152,7 @@ fn answer_over(
     let output = Vec::new(alloc);
     let mut streams = Streams { input, output };
     let mut faults = Vec::new(alloc);
-    let status = run_words(alloc, files, words, &mut streams, &mut faults)?;
+    let status = run_args(alloc, files, words, &mut streams, &mut faults)?;
     Ok(Outcome {
         status,
         output: streams.output,

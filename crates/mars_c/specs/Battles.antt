@@ -26,8 +26,8 @@ placed_in p w fixed (suc k) seed = placed_for p w fixed seed >>= λ placed. plac
 
 -- The state in which round `round` of a match of the warriors `ws` starts, or the error of the first round that cannot be
 -- placed or started.
-abbrev pub begun : Setup → List WarriorValue → ℕ → Result State MatchFault
-begun setup ws round = placed_in setup.params (length ws) setup.plan.fixed round setup.plan.seed >>= λ starts. started setup.params ws starts round
+abbrev pub round_start_state : Setup → List WarriorValue → ℕ → Result State MatchFault
+round_start_state setup ws round = placed_in setup.params (length ws) setup.plan.fixed round setup.plan.seed >>= λ starts. started setup.params ws starts round
 
 -- `s` is the state in which round `round` of a match of the warriors `ws` starts.
 abbrev pub IsRound : Setup → List WarriorValue → ℕ → State → Type 0

@@ -12,7 +12,7 @@ use Rattle.mars_c.specs.Battles.{IsStart}
 use Rattle.mars_c.specs.Cells.{plain_cell}
 use Rattle.mars_c.specs.Codes.{block_fault_of}
 use Rattle.mars_c.specs.Records.{recorded}
-use Rattle.mars_c.specs.Refusals.{AreWarriors, Misses, RefusesRound}
+use Rattle.mars_c.specs.Refusals.{AreWarriors, IsOutOfRange, RefusesRound}
 use Rattle.mars_c.specs.declared.faults.BlockRefusal.{BlockRefusal}
 use Rattle.mars_c.specs.declared.faults.BlockRefusal.TheVariants.{OutOfMemory, Block, Capacity, NoSuchEdit, Edit as OfEdit, History}
 use Rattle.mars_c.specs.declared.faults.CallRefusal.{CallRefusal}
@@ -66,7 +66,7 @@ HoldsEdited numbers before after = (s : State) × (e : Edit) × IsPlayable s bef
 -- `refusal` is a reason for which the battle of round `round` of these warriors is not started.
 abbrev pub RefusesStart : MarsSettings → List MarsCell → List MarsWarrior → ℕ → CallRefusal → Type 0
 RefusesStart settings cells entrants round refusal =
-    Misses Warriors (AreWarriors (length entrants)) refusal ⊎ RefusesRound settings cells entrants round refusal
+    IsOutOfRange Warriors (AreWarriors (length entrants)) refusal ⊎ RefusesRound settings cells entrants round refusal
 
 -- `refusal` is a reason for which the words do not begin with the block of a battle.
 abbrev pub RefusesWords : List ℕ → BlockRefusal → Type 0

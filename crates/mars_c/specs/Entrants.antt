@@ -3,7 +3,7 @@ use Rattle.std.specs.Prelude.{◌≡◌, ◌≢◌, ◌≤◌, ◌<◌, ◌==◌
 use Rattle.std.specs.List.{list_all}
 use Rattle.mars_cell.specs.Cells.{FitsCore}
 use Rattle.mars_cell.specs.Parameters.{Parameters}
-use Rattle.mars_cell.specs.Limits.{longest_name}
+use Rattle.mars_cell.specs.Limits.{max_name_len}
 use Rattle.mars_cell.specs.ParameterFaults.{is_within}
 use Rattle.mars_cell.specs.Warriors.{WarriorValue}
 use Rattle.mars_cell.specs.declared.instruction.Cell.{Cell}
@@ -61,7 +61,7 @@ named bytes = take_while (λ b. not (b == 0)) bytes
 
 -- The bytes are a valid name: at most 60 printable ASCII characters.
 abbrev pub is_name : List ℕ → Bool
-is_name bytes = nat_le (length bytes) longest_name && list_all (is_within 32 126) bytes
+is_name bytes = nat_le (length bytes) max_name_len && list_all (is_within 32 126) bytes
 
 -- The numbers of a warrior and its names.
 abbrev pub plain_program : WarriorValue → MarsProgram

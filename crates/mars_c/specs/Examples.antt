@@ -39,7 +39,7 @@ use Rattle.mars_match.specs.declared.placement.PlaceFault.TheVariants as place
 use Rattle.mars_match.specs.declared.setup.Setup.{Setup}
 use Rattle.mars_match.specs.Examples.Placements.{sizes}
 use Rattle.mars_c.specs.Settings.{parameters_in}
-use Rattle.mars_c.specs.Battles.{begun, placed_in}
+use Rattle.mars_c.specs.Battles.{round_start_state, placed_in}
 use Rattle.mars_c.specs.Cells.{plain_cell}
 use Rattle.mars_c.specs.Blocks.{Means, played_rows}
 use Rattle.mars_c.specs.Codes.{block_fault_of, fault_of, numbered}
@@ -206,7 +206,7 @@ pub fixed_position_stays : placed_in (sizes 8000 100) 2 (Some 4000) 5 1 ≡ Ok (
 fixed_position_stays = refl
 
 -- In round 1 the second warrior has the first turn, from its own starting position.
-pub second_round_begins_with_the_second : (begun (by_formula (codes "0")) (stay ∷ dead ∷ []) 1 >>= λ s. Ok s.queues) ≡ Ok ((2 ∷ []) ∷ (0 ∷ []) ∷ [])
+pub second_round_begins_with_the_second : (round_start_state (by_formula (codes "0")) (stay ∷ dead ∷ []) 1 >>= λ s. Ok s.queues) ≡ Ok ((2 ∷ []) ∷ (0 ∷ []) ∷ [])
 unfolding starts_of next_seed drawn start_state overlap the_machine
 second_round_begins_with_the_second = refl
 

@@ -9,7 +9,7 @@ use Rattle.mars_match.specs.declared.fates.Fate.{Fate}
 use Rattle.mars_match.specs.declared.fault.MatchFault.{MatchFault}
 use Rattle.mars_match.specs.declared.setup.Setup.{Setup}
 use Rattle.mars_c.specs.Entrants.{AreEntrants}
-use Rattle.mars_c.specs.Refusals.{AreWarriors, Misses, RefusesEntry, fight_refusal}
+use Rattle.mars_c.specs.Refusals.{AreWarriors, IsOutOfRange, RefusesEntry, fight_refusal}
 use Rattle.mars_c.specs.Settings.{IsSetup, parameters_in}
 use Rattle.mars_c.specs.declared.cells.MarsCell.{MarsCell}
 use Rattle.mars_c.specs.declared.faults.CallRefusal.{CallRefusal}
@@ -103,6 +103,6 @@ FailsLineup s cells entrants lineups refusal = (p : Parameters) × (ws : List Wa
 abbrev pub RefusesOutcomes : MarsSettings → List MarsCell → List MarsWarrior → List MarsLineup → ℕ → CallRefusal → Type 0
 RefusesOutcomes s cells entrants lineups places refusal =
     IsWrongLineup (length entrants) lineups refusal
-    ⊎ Misses Rows (places ≡ rows_for s lineups) refusal
+    ⊎ IsOutOfRange Rows (places ≡ rows_for s lineups) refusal
     ⊎ RefusesEntry s (codes "0") 0 cells entrants refusal
     ⊎ FailsLineup s cells entrants lineups refusal

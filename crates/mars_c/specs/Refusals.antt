@@ -5,9 +5,9 @@ use Rattle.mars_cell.specs.Load.{load}
 use Rattle.mars_cell.specs.Parameters.{Parameters}
 use Rattle.mars_cell.specs.ParameterFaults.{checked_parameters}
 use Rattle.mars_cell.specs.Warriors.{WarriorValue}
-use Rattle.mars_core.specs.Limits.{most_warriors}
+use Rattle.mars_core.specs.Limits.{max_warriors}
 use Rattle.mars_core.specs.declared.battle.start.BattleFault.TheVariants as battle
-use Rattle.mars_match.specs.Leagues.{league_of, most_of_league}
+use Rattle.mars_match.specs.Leagues.{league_of, max_league_warriors}
 use Rattle.mars_match.specs.Placement.{FitsTwo}
 use Rattle.mars_match.specs.Rounds.{table_of}
 use Rattle.mars_match.specs.declared.fault.MatchFault.{MatchFault}
@@ -20,7 +20,7 @@ use Rattle.redcode_asm.specs.declared.fault.AsmFault.{AsmFault}
 use Rattle.redcode_asm.specs.declared.fault.AsmProblem.{AsmProblem}
 use Rattle.redcode_asm.specs.declared.fault.AsmProblem.TheVariants as problem
 use Rattle.mars_c.specs.Settings.{AreRounds, IsSeed, IsSetup, parameters_in, position_of}
-use Rattle.mars_c.specs.Battles.{begun}
+use Rattle.mars_c.specs.Battles.{round_start_state}
 use Rattle.mars_c.specs.Codes.{fault_of}
 use Rattle.mars_c.specs.Contests.{population}
 use Rattle.mars_c.specs.Entrants.{AreEntrants, IsNoEntrant, Reads, is_name, named}
@@ -114,11 +114,11 @@ Fails s text cells entrants fought refusal = (setup : Setup) × (ws : List Warri
 
 -- A battle may have this number of warriors.
 abbrev pub AreWarriors : ℕ → Type 0
-AreWarriors count = (1 ≤ count) × (count ≤ most_warriors)
+AreWarriors count = (1 ≤ count) × (count ≤ max_warriors)
 
 -- `refusal` is this error of the settings, and the number is out of its range.
-abbrev pub Misses : SettingsFault → Type 0 → CallRefusal → Type 0
-Misses fault Fits refusal = (refusal ≡ Settings fault) × (Fits → ⊥)
+abbrev pub IsOutOfRange : SettingsFault → Type 0 → CallRefusal → Type 0
+IsOutOfRange fault Fits refusal = (refusal ≡ Settings fault) × (Fits → ⊥)
 
 -- `refusal` is the error of a match of these warriors.
 abbrev pub FailsMatch : MarsSettings → List ℕ → List MarsCell → List MarsWarrior → CallRefusal → Type 0
@@ -130,7 +130,7 @@ FailsLeague s text cells entrants = Fails s text cells entrants (λ setup ws. le
 
 -- `refusal` is the error of the start of a round's battle.
 abbrev pub FailsRound : MarsSettings → List MarsCell → List MarsWarrior → ℕ → CallRefusal → Type 0
-FailsRound s cells entrants round = Fails s (codes "0") cells entrants (λ setup ws. begun setup ws round)
+FailsRound s cells entrants round = Fails s (codes "0") cells entrants (λ setup ws. round_start_state setup ws round)
 
 -- `refusal` is the error of a population with `rows` candidates: that of its first match that fails, or whose row makes a sum
 -- that does not fit.
@@ -140,8 +140,8 @@ FailsPopulation s text cells entrants rows = Fails s text cells entrants (λ set
 -- `refusal` is a reason for which a match of these warriors, with `rows` rows, has no result.
 abbrev pub RefusesMatch : MarsSettings → List ℕ → List MarsCell → List MarsWarrior → ℕ → CallRefusal → Type 0
 RefusesMatch s text cells entrants rows refusal =
-    Misses Warriors (AreWarriors (length entrants)) refusal
-    ⊎ Misses Rows (rows ≡ length entrants) refusal
+    IsOutOfRange Warriors (AreWarriors (length entrants)) refusal
+    ⊎ IsOutOfRange Rows (rows ≡ length entrants) refusal
     ⊎ RefusesEntry s text (length entrants) cells entrants refusal
     ⊎ FailsMatch s text cells entrants refusal
 
@@ -149,8 +149,8 @@ RefusesMatch s text cells entrants rows refusal =
 -- must fit battles of 0 warriors.
 abbrev pub RefusesLeague : MarsSettings → List ℕ → List MarsCell → List MarsWarrior → ℕ → CallRefusal → Type 0
 RefusesLeague s text cells entrants rows refusal =
-    Misses Warriors (length entrants ≤ most_of_league) refusal
-    ⊎ Misses Rows (rows ≡ length entrants) refusal
+    IsOutOfRange Warriors (length entrants ≤ max_league_warriors) refusal
+    ⊎ IsOutOfRange Rows (rows ≡ length entrants) refusal
     ⊎ RefusesEntry s text 0 cells entrants refusal
     ⊎ FailsLeague s text cells entrants refusal
 
@@ -158,13 +158,13 @@ RefusesLeague s text cells entrants rows refusal =
 -- position must fit two.
 abbrev pub RefusesPopulation : MarsSettings → List ℕ → List MarsCell → List MarsWarrior → ℕ → CallRefusal → Type 0
 RefusesPopulation s text cells entrants rows refusal =
-    Misses Rows (rows ≤ length entrants) refusal
+    IsOutOfRange Rows (rows ≤ length entrants) refusal
     ⊎ RefusesEntry s text 2 cells entrants refusal
     ⊎ FailsPopulation s text cells entrants rows refusal
 
 -- `refusal` is a reason for which the battle of this round does not start.
 abbrev pub RefusesRound : MarsSettings → List MarsCell → List MarsWarrior → ℕ → CallRefusal → Type 0
 RefusesRound s cells entrants round refusal =
-    Misses Round (round < s.rounds) refusal
+    IsOutOfRange Round (round < s.rounds) refusal
     ⊎ RefusesEntry s (codes "0") (length entrants) cells entrants refusal
     ⊎ FailsRound s cells entrants round refusal

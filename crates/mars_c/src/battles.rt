@@ -1,9 +1,9 @@
 //! The battle at the start of a round, and a debugger's session over a battle.
 ghost use Rattle.std.specs.Prelude.{◌≡◌, ◌≤◌, ◌⊎◌, [], Err, IfErr, IfOk, IfSome, Ok, length, vec_len};
 ghost use Rattle.mars_match.specs.Placement.{FitsTwo};
-ghost use Rattle.mars_c.specs.Battles.{IsDebugged, IsHistory, IsRound, IsStart, begun, placed_in};
+ghost use Rattle.mars_c.specs.Battles.{IsDebugged, IsHistory, IsRound, IsStart, round_start_state, placed_in};
 ghost use Rattle.mars_c.specs.Refusals.{RefusesRound, fight_refusal};
-ghost use Rattle.mars_core.specs.Limits.{most_warriors};
+ghost use Rattle.mars_core.specs.Limits.{max_warriors};
 
 use crate::entrants::{Entrants, Entry, enter};
 use crate::faults::{CallRefusal, refused_fight};
@@ -24,7 +24,7 @@ fn starts_in(
     round: u32,
 ) -> Result<Vec<u32>, MatchFault>
     requires some { 1 ≤ warriors }
-    requires few { warriors ≤ most_warriors }
+    requires few { warriors ≤ max_warriors }
     requires position { FitsTwo setup.now.params warriors setup.now.plan.fixed }
     ensures many { IfOk result (λ starts. vec_len starts ≡ warriors) }
     ensures value { IfOk result (λ starts. placed_in setup.now.params warriors setup.now.plan.fixed round setup.now.plan.seed
@@ -49,10 +49,10 @@ fn round_battle(
     round: u32,
 ) -> Result<Battle, MatchFault>
     requires some { 1 ≤ vec_len warriors }
-    requires few { vec_len warriors ≤ most_warriors }
+    requires few { vec_len warriors ≤ max_warriors }
     requires position { FitsTwo setup.now.params (vec_len warriors) setup.now.plan.fixed }
     ensures round { IfOk result (IsRound setup.now warriors.items round) }
-    ensures fault { IfErr result (λ fault. (fight_refusal fault ≡ CallRefusal.OutOfMemory) ⊎ (begun setup.now warriors.items round ≡ Err fault)) }
+    ensures fault { IfErr result (λ fault. (fight_refusal fault ≡ CallRefusal.OutOfMemory) ⊎ (round_start_state setup.now warriors.items round ≡ Err fault)) }
 {
     let count = warriors.len();
     let mut starts = starts_in(alloc, setup, count as u32, round)?;
@@ -73,7 +73,7 @@ pub fn start_of(
     round: u32,
 ) -> Result<Battle, CallRefusal>
     requires some { 1 ≤ length entrants.warriors.now }
-    requires few { length entrants.warriors.now ≤ most_warriors }
+    requires few { length entrants.warriors.now ≤ max_warriors }
     ensures start { let e = entrants.entry in IfOk result (IsStart settings.now e.cells.now e.warriors.now round) }
     ensures refused { let e = entrants.entry in IfErr result (RefusesRound settings.now e.cells.now e.warriors.now round) }
 {

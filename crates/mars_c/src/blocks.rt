@@ -16,11 +16,11 @@ use crate::battles::start_of;
 use crate::edits::{MarsEdit, edit_of};
 use crate::entrants::Entrants;
 use crate::faults::{BlockRefusal, CallRefusal};
-use crate::playing::{TurnRow, tell_turns};
+use crate::playing::{TurnRow, fill_turn_rows};
 use crate::records::MarsRecord;
 use crate::settings::{MarsSettings, parameters, warriors_fault};
 use crate::touches::MarsTouched;
-use mars_core::{Battle, BlockFault, most_words};
+use mars_core::{Battle, BlockFault, max_words};
 use std::alloc::Global;
 
 /// Returns the maximum length of the block of a battle in words, or 0 if the settings and the number of warriors allow no
@@ -34,7 +34,7 @@ pub fn words_of(settings: &MarsSettings, warriors: u32) -> usize
         return 0;
     }
     match parameters(settings) {
-        Ok(params) => most_words(&params, warriors as usize),
+        Ok(params) => max_words(&params, warriors as usize),
         Err(_) => 0,
     }
 }
@@ -122,7 +122,7 @@ fn play<R: TurnRow>(battle: &mut Battle, turns: u32, rows: &mut [R])
     ensures battle { battle.new ≡ after_turns turns battle.old }
 {
     let count = rows.len().min(turns as usize);
-    tell_turns(battle, &mut rows[..count]);
+    fill_turn_rows(battle, &mut rows[..count]);
     battle.run(turns - count as u32);
 }
 

@@ -1,6 +1,6 @@
 //! Matches and leagues.
 ghost use Rattle.std.specs.Prelude.{◌≡◌, ◌≤◌, ◌⊎◌, IfErr, IfOk, OnErr, OnOk, length};
-ghost use Rattle.mars_match.specs.Leagues.{most_of_league};
+ghost use Rattle.mars_match.specs.Leagues.{max_league_warriors};
 ghost use Rattle.mars_c.specs.Contests.{HoldsLeague, HoldsMatch, IsLeague, IsMatch};
 ghost use Rattle.mars_c.specs.Refusals.{FailsLeague, FailsMatch, RefusesEntry, RefusesLeague, RefusesMatch};
 
@@ -13,7 +13,7 @@ use mars_match::{Table, league, rounds};
 use std::alloc::Global;
 
 /// Maximum number of warriors of a league.
-const MOST_OF_A_LEAGUE: usize = 65_536;
+const MAX_LEAGUE_WARRIORS: usize = 65_536;
 
 /// Returns the table of a match.
 fn match_table(
@@ -42,7 +42,7 @@ fn league_table(
     formula: &[u8],
     entrants: Entrants<'_>,
 ) -> Result<Table, CallRefusal>
-    requires { length entrants.warriors.now ≤ most_of_league }
+    requires { length entrants.warriors.now ≤ max_league_warriors }
     ensures table { let e = entrants.entry in IfOk result (λ table. IsLeague settings.now formula.now e.cells.now e.warriors.now table.rows.items) }
     ensures refused { let e = entrants.entry in IfErr result (λ refusal. RefusesEntry settings.now formula.now 0 e.cells.now e.warriors.now refusal
         ⊎ FailsLeague settings.now formula.now e.cells.now e.warriors.now refusal) }
@@ -94,7 +94,7 @@ pub fn league_into(
     ensures err { OnErr result (place.new ≡ place.old) }
     ensures refused { let e = entrants.entry in IfErr result (RefusesLeague settings.now formula.now e.cells.now e.warriors.now (length place.old)) }
 {
-    if entrants.warriors.len() > MOST_OF_A_LEAGUE {
+    if entrants.warriors.len() > MAX_LEAGUE_WARRIORS {
         return Err(CallRefusal::Settings(SettingsFault::Warriors));
     }
     if place.len() != entrants.warriors.len() {

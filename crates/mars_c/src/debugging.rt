@@ -8,7 +8,7 @@ use crate::faults::BlockRefusal;
 use std::alloc::Global;
 
 /// Maximum number of places of a history.
-const LONGEST_HISTORY: u32 = 1_000_000;
+const MAX_HISTORY: u32 = 1_000_000;
 
 /// Returns what the debugger replies to `lines` over the battle whose block the words begin with.
 pub fn transcript(
@@ -20,7 +20,7 @@ pub fn transcript(
     ensures text { IfOk result (λ text. Debugs words.now history lines.now text.items) }
     ensures refused { IfErr result (RefusesDebugging words.now history) }
 {
-    if history < 1 || history > LONGEST_HISTORY {
+    if history < 1 || history > MAX_HISTORY {
         return Err(BlockRefusal::History);
     }
     let battle = match read(alloc, words) {

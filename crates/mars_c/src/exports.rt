@@ -14,7 +14,7 @@ use crate::assembling::{assembled, lines, loaded, written};
 use crate::cells::{MarsCell, put_cells};
 use crate::contests::{league_into, match_into};
 use crate::entrants::Entrants;
-use crate::faults::{MarsFault, given, told};
+use crate::faults::{MarsFault, given, to_c_fault};
 use crate::outcomes::{MarsLineup, MarsOutcome, outcomes_into};
 use crate::population::population_into;
 use crate::rows::MarsRow;
@@ -23,7 +23,7 @@ use crate::warriors::{Made, MarsProgram, MarsWarrior};
 use std::alloc::Global;
 
 /// Copies `text` to the start of `buffer` if it fits, and returns whether it does. Sets `length` in both cases.
-fn give_text(text: &[u8], buffer: &mut [u8], length: &mut usize) -> bool
+fn copy_to_buffer(text: &[u8], buffer: &mut [u8], length: &mut usize) -> bool
     ensures fits { result ≡ true → BeginsWith text.now length.new buffer.old buffer.new }
     ensures short { result ≡ false → Overflows text.now length.new buffer.old }
     ensures kept { result ≡ false → buffer.new ≡ buffer.old }
@@ -93,7 +93,7 @@ pub extern "C" fn mars_assemble(
 {
     match assembled(alloc, settings, warriors, source) {
         Ok(made) => answer(fault, given(give_program(&made, cells, program))),
-        Err(refusal) => answer(fault, told(refusal)),
+        Err(refusal) => answer(fault, to_c_fault(refusal)),
     }
 }
 
@@ -115,8 +115,8 @@ pub extern "C" fn mars_lines(
     ensures kept { result ≢ 0 → buffer.new ≡ buffer.old }
 {
     match lines(alloc, settings, warriors, source) {
-        Ok(text) => answer(fault, given(give_text(&text, buffer, length))),
-        Err(refusal) => answer(fault, told(refusal)),
+        Ok(text) => answer(fault, given(copy_to_buffer(&text, buffer, length))),
+        Err(refusal) => answer(fault, to_c_fault(refusal)),
     }
 }
 
@@ -139,7 +139,7 @@ pub extern "C" fn mars_read_load(
 {
     match loaded(alloc, settings, load) {
         Ok(made) => answer(fault, given(give_program(&made, cells, program))),
-        Err(refusal) => answer(fault, told(refusal)),
+        Err(refusal) => answer(fault, to_c_fault(refusal)),
     }
 }
 
@@ -161,8 +161,8 @@ pub extern "C" fn mars_write_load(
     ensures kept { result ≢ 0 → buffer.new ≡ buffer.old }
 {
     match written(alloc, settings, cells, program) {
-        Ok(text) => answer(fault, given(give_text(&text, buffer, length))),
-        Err(refusal) => answer(fault, told(refusal)),
+        Ok(text) => answer(fault, given(copy_to_buffer(&text, buffer, length))),
+        Err(refusal) => answer(fault, to_c_fault(refusal)),
     }
 }
 
@@ -184,7 +184,7 @@ pub extern "C" fn mars_match(
 {
     match match_into(alloc, settings, formula, Entrants { cells, warriors }, rows) {
         Ok(()) => answer(fault, given(true)),
-        Err(refusal) => answer(fault, told(refusal)),
+        Err(refusal) => answer(fault, to_c_fault(refusal)),
     }
 }
 
@@ -206,7 +206,7 @@ pub extern "C" fn mars_league(
 {
     match league_into(alloc, settings, formula, Entrants { cells, warriors }, rows) {
         Ok(()) => answer(fault, given(true)),
-        Err(refusal) => answer(fault, told(refusal)),
+        Err(refusal) => answer(fault, to_c_fault(refusal)),
     }
 }
 
@@ -230,7 +230,7 @@ pub extern "C" fn mars_population(
 {
     match population_into(alloc, settings, formula, Entrants { cells, warriors }, rows) {
         Ok(()) => answer(fault, given(true)),
-        Err(refusal) => answer(fault, told(refusal)),
+        Err(refusal) => answer(fault, to_c_fault(refusal)),
     }
 }
 
@@ -258,6 +258,6 @@ pub extern "C" fn mars_outcomes(
         outcomes,
     ) {
         Ok(()) => answer(fault, given(true)),
-        Err(refusal) => answer(fault, told(refusal)),
+        Err(refusal) => answer(fault, to_c_fault(refusal)),
     }
 }

@@ -128,7 +128,7 @@ fn lineup(index: usize, fault: LineupFault) -> MarsFault
 }
 
 /// Converts the reason for which a call failed to the error that the caller gets.
-pub fn told(refusal: CallRefusal) -> MarsFault
+pub fn to_c_fault(refusal: CallRefusal) -> MarsFault
     ensures fault { result ≡ fault_of refusal }
     ensures some { 1 ≤ result.code }
     ensures not_room { result.code ≢ 10 }

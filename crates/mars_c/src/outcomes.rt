@@ -2,17 +2,17 @@
 ghost use Rattle.std.specs.Prelude.{◌≡◌, ◌++◌, ◌≤◌, ℕ, All, IfErr, IfOk, IfSome, List, None, OnErr, OnOk, Some, length, map, slice_get};
 ghost use Rattle.mars_match.specs.declared.fates.Fate.{Fate as FateValue};
 ghost use Rattle.mars_c.specs.Outcomes.{AreChosen, AreFought, HoldsOutcomes, IsFought, IsLineup, IsNoLineup, IsWrongLineup, RefusesLineup, RefusesOutcomes, indices_of, plain_fate, rows_for, seeded as spec_seeded};
-ghost use Rattle.mars_c.specs.Refusals.{Misses};
+ghost use Rattle.mars_c.specs.Refusals.{IsOutOfRange};
 ghost use Rattle.mars_c.specs.declared.outcomes.MarsLineup.{MarsLineup as LineupNumbers};
 ghost use Rattle.mars_c.specs.declared.ranges.SettingsFault.TheVariants as settings_fault;
-ghost use Rattle.mars_core.specs.Limits.{most_warriors};
+ghost use Rattle.mars_core.specs.Limits.{max_warriors};
 
 use crate::entrants::{Entrants, read_all};
 use crate::faults::{CallRefusal, refused_fight};
 use crate::ranges::{LineupFault, SettingsFault};
 use crate::settings::{MarsSettings, make_setup, parameters};
 use mars_cell::Warrior;
-use mars_core::MOST_WARRIORS;
+use mars_core::MAX_WARRIORS;
 use mars_match::{Fate, fight_rounds};
 use std::alloc::Global;
 
@@ -69,7 +69,7 @@ fn lineup_fault(lineup: &MarsLineup, count: usize) -> Option<LineupFault>
     ensures right { result ≡ None → IsLineup count lineup.now }
     ensures wrong { IfSome result (IsNoLineup count lineup.now) }
 {
-    if lineup.count < 1 || lineup.count as usize > MOST_WARRIORS {
+    if lineup.count < 1 || lineup.count as usize > MAX_WARRIORS {
         return Some(LineupFault::Count);
     }
     for place in 0..lineup.count as usize {
@@ -99,8 +99,8 @@ fn check_rows(
     lineups: &[MarsLineup],
     places: usize,
 ) -> Result<(), CallRefusal>
-    requires { All (λ lineup. lineup.count ≤ most_warriors) lineups.now }
-    ensures wrong { IfErr result (Misses settings_fault.Rows (places ≡ rows_for settings.now lineups.now)) }
+    requires { All (λ lineup. lineup.count ≤ max_warriors) lineups.now }
+    ensures wrong { IfErr result (IsOutOfRange settings_fault.Rows (places ≡ rows_for settings.now lineups.now)) }
 {
     let mut rest = places;
     for lineup in lineups {

@@ -17,7 +17,7 @@ pub trait TurnRow: Copy {
 }
 
 /// Executes one turn for each row and records it there. Stops if the battle is over; the other rows are unchanged then.
-pub fn tell_turns<R: TurnRow>(battle: &mut Battle, rows: &mut [R])
+pub fn fill_turn_rows<R: TurnRow>(battle: &mut Battle, rows: &mut [R])
     ensures rows { rows.new ≡ recorded R.row_of battle.old rows.old }
     ensures battle { battle.new ≡ after_turns (length rows.old) battle.old }
 {

@@ -1,7 +1,7 @@
 //! Settings, and the setup of a match that they describe.
 ghost use Rattle.std.specs.Prelude.{◌≡◌, ◌≤◌, ℕ, IfErr, IfOk, IfSome, List, None, Ok};
 ghost use Rattle.mars_cell.specs.ParameterFaults.{checked_parameters};
-ghost use Rattle.mars_core.specs.Limits.{most_warriors};
+ghost use Rattle.mars_core.specs.Limits.{max_warriors};
 ghost use Rattle.mars_match.specs.Placement.{FitsTwo};
 ghost use Rattle.mars_c.specs.Settings.{AreRounds, IsSeed, IsSetup, limit_of, parameters_in, position_of};
 ghost use Rattle.mars_c.specs.Refusals.{AreWarriors, IsOutside, RefusesEntry};
@@ -11,13 +11,13 @@ ghost use Rattle.mars_c.specs.declared.warriors.MarsWarrior.{MarsWarrior as Warr
 use crate::faults::CallRefusal;
 use crate::ranges::SettingsFault;
 use mars_cell::{ParamFault, Params};
-use mars_core::MOST_WARRIORS;
-use mars_match::{GREATEST_SEED, Plan, Setup};
+use mars_core::MAX_WARRIORS;
+use mars_match::{MAX_SEED, Plan, Setup};
 use redcode_asm::{Formula, FormulaFault};
 use std::alloc::Global;
 
 /// Maximum number of rounds of a match.
-const MOST_ROUNDS: u32 = 100_000;
+const MAX_ROUNDS: u32 = 100_000;
 
 /// The settings of a match. A limit of 0 is the core size, and a position of 0 is none.
 #[repr(C)]
@@ -72,10 +72,10 @@ pub fn parameters(settings: &MarsSettings) -> Result<Params, ParamFault>
 /// Returns the error of a number of warriors that no battle has, or `None` if a battle may have it.
 pub fn warriors_fault(warriors: usize) -> Option<SettingsFault>
     ensures some { result ≡ None → 1 ≤ warriors }
-    ensures few { result ≡ None → warriors ≤ most_warriors }
+    ensures few { result ≡ None → warriors ≤ max_warriors }
     ensures fault { IfSome result (λ fault. (fault ≡ SettingsFault.Warriors) × (AreWarriors warriors → ⊥)) }
 {
-    if warriors < 1 || warriors > MOST_WARRIORS {
+    if warriors < 1 || warriors > MAX_WARRIORS {
         return Some(SettingsFault::Warriors);
     }
     None
@@ -87,10 +87,10 @@ fn numbers_fault(settings: &MarsSettings) -> Option<SettingsFault>
     ensures seed { result ≡ None → IsSeed settings.now.seed }
     ensures outside { (warriors : ℕ) (cells : List CellNumbers) (entrants : List WarriorNumbers) → IfSome result (IsOutside settings.now warriors cells entrants) }
 {
-    if settings.rounds < 1 || settings.rounds > MOST_ROUNDS {
+    if settings.rounds < 1 || settings.rounds > MAX_ROUNDS {
         return Some(SettingsFault::Rounds);
     }
-    if settings.seed < 1 || settings.seed > GREATEST_SEED {
+    if settings.seed < 1 || settings.seed > MAX_SEED {
         return Some(SettingsFault::Seed);
     }
     None

@@ -4,7 +4,7 @@ ghost use Rattle.mars_c.specs.Touches.{plain_touched, touched_row};
 
 use crate::playing::TurnRow;
 use crate::records::address_at;
-use mars_core::{Battle, MOST_TOUCHED};
+use mars_core::{Battle, MAX_TOUCHED};
 
 /// The cells that a turn reads or writes: the number of addresses, and the addresses. Unused ones are 0.
 #[repr(C)]

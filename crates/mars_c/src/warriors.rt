@@ -2,7 +2,7 @@
 ghost use Rattle.std.specs.Prelude.{◌≡◌, ◌≢◌, ◌≤◌, All, IfErr, IfOk, IfSome, None, Some, false, if◌then◌else◌, length, map, option_map, string_bytes};
 ghost use Rattle.std.specs.List.{list_all};
 ghost use Rattle.mars_cell.specs.Cells.{FitsCore};
-ghost use Rattle.mars_cell.specs.Limits.{longest_name};
+ghost use Rattle.mars_cell.specs.Limits.{max_name_len};
 ghost use Rattle.mars_cell.specs.ParameterFaults.{is_within};
 ghost use Rattle.mars_cell.specs.Warriors.{IsName};
 ghost use Rattle.mars_c.specs.Cells.{plain_cell};
@@ -17,7 +17,7 @@ use std::alloc::Global;
 const NAME: usize = 64;
 
 /// Maximum length of a name in bytes.
-const LONGEST_NAME: usize = 60;
+const MAX_NAME_LEN: usize = 60;
 
 /// A warrior whose cells are part of an array.
 #[repr(C)]
@@ -164,7 +164,7 @@ fn read_name(bytes: &[u8]) -> Option<&str>
     ensures value { option_map (λ name. name.now) result ≡ (if is_name bytes.now then Some bytes.now else None) }
     ensures name { IfSome result (λ name. IsName name.now) }
 {
-    if bytes.len() > LONGEST_NAME || !is_printed(bytes) {
+    if bytes.len() > MAX_NAME_LEN || !is_printed(bytes) {
         return None;
     }
     str::from_utf8(bytes).ok()
@@ -188,7 +188,7 @@ pub fn name_in(alloc: Global, bytes: &[u8]) -> Result<String, EntrantFault>
 /// Returns a name in 64 bytes: zeros follow it.
 #[tactic(auto, using(crate::proofs::Names::padded))]
 fn name_of(name: &str) -> [u8; 64]
-    requires { length name.now ≤ longest_name }
+    requires { length name.now ≤ max_name_len }
     ensures { result ≡ plain_name name.now }
 {
     let mut bytes = [0u8; NAME];

@@ -4,7 +4,7 @@ use Rattle.std.specs.Char.{is_ascii_digit}
 use Rattle.std.specs.List.{list_all, starts_with}
 use Rattle.mars_cell.specs.declared.fault.LoadFault.{LoadFault}
 use Rattle.mars_cell.specs.declared.fault.LoadFault.TheVariants as fault
-use Rattle.mars_cell.specs.Limits.{largest_core, longest_name}
+use Rattle.mars_cell.specs.Limits.{max_core_size, max_name_len}
 use Rattle.mars_cell.specs.Numbers.{parse_digits}
 use Rattle.mars_cell.specs.ParameterFaults.{is_within}
 
@@ -26,8 +26,8 @@ abbrev pub no_header : ℕ → HeaderValue
 no_header m = record { written = m; name = codes "Unknown"; author = codes "Anonymous" }
 
 -- What follows `word` in `bytes`, if they begin with it.
-abbrev pub behind : List ℕ → List ℕ → Option (List ℕ)
-behind word bytes = if bytes_eq (take (length word) bytes) word then Some (drop (length word) bytes) else None
+abbrev pub after_prefix : List ℕ → List ℕ → Option (List ℕ)
+after_prefix word bytes = if bytes_eq (take (length word) bytes) word then Some (drop (length word) bytes) else None
 
 -- The first byte is a digit.
 abbrev pub begins_digit : List ℕ → Bool
@@ -35,25 +35,25 @@ begins_digit [] = false
 begins_digit (b ∷ bs) = is_ascii_digit b
 
 -- A load file states its version: it begins with `;load ` and a digit. A file that doesn't is of version 1.
-unfoldable pub tells_version : List ℕ → Bool
-tells_version bytes = elim (behind (codes ";load ") bytes) [ None ↦ false | Some rest ↦ begins_digit rest ]
+unfoldable pub has_version : List ℕ → Bool
+has_version bytes = elim (after_prefix (codes ";load ") bytes) [ None ↦ false | Some rest ↦ begins_digit rest ]
 
 -- The core size that `digits` state: a number from 1 to the maximum that does not begin with 0.
 unfoldable pub size_of : List ℕ → Option ℕ
 size_of digits =
-    if starts_with nat_eq digits (codes "0") then None else option_and_then (λ n. if is_within 1 largest_core n then Some n else None) (parse_digits digits)
+    if starts_with nat_eq digits (codes "0") then None else option_and_then (λ n. if is_within 1 max_core_size n then Some n else None) (parse_digits digits)
 
 -- A name has at most 60 bytes, each a printable ASCII character.
 unfoldable pub name_of : List ℕ → Option (List ℕ)
-name_of text = if nat_le (length text) longest_name && list_all (is_within 32 126) text then Some text else None
+name_of text = if nat_le (length text) max_name_len && list_all (is_within 32 126) text then Some text else None
 
 -- The core size in the first line, which is `;load 2 ` and the size.
 abbrev pub size_in : List ℕ → Option ℕ
-size_in line = option_and_then size_of (behind (codes ";load 2 ") line)
+size_in line = option_and_then size_of (after_prefix (codes ";load 2 ") line)
 
 -- The name in the second or third line, which is `word` and the name.
 abbrev pub name_in : List ℕ → List ℕ → Option (List ℕ)
-name_in word line = option_and_then name_of (behind word line)
+name_in word line = option_and_then name_of (after_prefix word line)
 
 -- The header of a file of version 2, which is its first three lines, or the first error.
 unfoldable pub header_of : List (List ℕ) → Result HeaderValue LoadFault

@@ -1,7 +1,7 @@
 -- The laws: what is written is read back.
 use Rattle.std.specs.Prelude.{◌≡◌, ℕ, ◌<◌, ◌≤◌, ◌^◌, ℤ, pos, length, map, All, Some, Ok}
 use Rattle.mars_cell.specs.declared.instruction.Cell.{Cell}
-use Rattle.mars_cell.specs.Limits.{largest_core}
+use Rattle.mars_cell.specs.Limits.{max_core_size}
 use Rattle.mars_cell.specs.Cells.{FitsCore}
 use Rattle.mars_cell.specs.Grammar.{read_cell}
 use Rattle.mars_cell.specs.Load.{load}
@@ -36,5 +36,5 @@ carried m size c = record c { a = carried_number m size c.a; b = carried_number 
 -- A load file that was written for a core of `m` cells is read in any other core as the same warrior, with its numbers carried by
 -- value, if the warrior isn't longer than the maximum length there.
 abbrev pub LoadFileIsCarried : Type 0
-LoadFileIsCarried = (m : ℕ) (p : Parameters) (w : WarriorValue) → m ≤ largest_core → AreInRange p → IsWarrior w → length w.cells ≤ p.max_length → All (FitsCore m) w.cells
+LoadFileIsCarried = (m : ℕ) (p : Parameters) (w : WarriorValue) → m ≤ max_core_size → AreInRange p → IsWarrior w → length w.cells ≤ p.max_length → All (FitsCore m) w.cells
     → load p.core_size p.max_length (load_text m w) ≡ Ok (record w { cells = map (carried m p.core_size) w.cells })

@@ -12,7 +12,7 @@ use Rattle.mars_cell.specs.declared.fault.LoadFault.TheVariants as fault
 use Rattle.mars_cell.specs.Parts.{parts, onto_first}
 use Rattle.mars_cell.specs.Numbers.{parse_number}
 use Rattle.mars_cell.specs.Grammar.{cell_of}
-use Rattle.mars_cell.specs.Header.{HeaderValue, ◌>>=◌, header_of, no_header, tells_version}
+use Rattle.mars_cell.specs.Header.{HeaderValue, ◌>>=◌, header_of, no_header, has_version}
 use Rattle.mars_cell.specs.Warriors.{WarriorValue}
 
 -- The lines of a list of bytes, without their LF; the last line may have none.
@@ -25,21 +25,21 @@ abbrev pub before_comment : List ℕ → List ℕ
 before_comment l = take_while (λ b. not (b == 59)) l
 
 -- A number that is the only part.
-unfoldable pub lone_number : List (List ℕ) → Option ℤ
-lone_number [] = None
-lone_number (p ∷ []) = parse_number p
-lone_number (p ∷ q ∷ ps) = None
+unfoldable pub only_number : List (List ℕ) → Option ℤ
+only_number [] = None
+only_number (p ∷ []) = parse_number p
+only_number (p ∷ q ∷ ps) = None
 
 -- What follows END: nothing, or a number.
 unfoldable pub end_of : List (List ℕ) → Option (Option ℤ)
 end_of [] = Some None
-end_of (p ∷ ps) = option_map (λ n. Some n) (lone_number (p ∷ ps))
+end_of (p ∷ ps) = option_map (λ n. Some n) (only_number (p ∷ ps))
 
 -- The statement that the parts of a line form in a core of `m` cells, if the file was written for a core of `written` cells.
 unfoldable pub statement_of : ℕ → ℕ → List (List ℕ) → Option Statement
 statement_of written m [] = Some statement.Nothing
 statement_of written m (p ∷ ps) =
-    if str_eq_ignore_ascii_case p (codes "ORG") then option_map (λ n. statement.Origin n) (lone_number ps) else
+    if str_eq_ignore_ascii_case p (codes "ORG") then option_map (λ n. statement.Origin n) (only_number ps) else
     if str_eq_ignore_ascii_case p (codes "END") then option_map (λ n. statement.End n) (end_of ps) else
     option_map (λ c. statement.Instruction c) (cell_of written m (p ∷ ps))
 
@@ -120,7 +120,7 @@ body h m longest k ls = elim (statements h.written m k ls) [
 -- The warrior of a load file in a core of `m` cells, or the first error. A warrior has at most `longest` cells.
 unfoldable pub load : ℕ → ℕ → List ℕ → Result WarriorValue LoadFault
 load m longest bytes =
-    if tells_version bytes then (header_of (lines_of bytes) >>= λ h. body h m longest 4 (drop 3 (lines_of bytes)))
+    if has_version bytes then (header_of (lines_of bytes) >>= λ h. body h m longest 4 (drop 3 (lines_of bytes)))
     else body (no_header m) m longest 1 (lines_of bytes)
 
 -- The result of reading is the defined warrior or the defined error, unless an allocation failed.

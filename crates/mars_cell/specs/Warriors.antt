@@ -1,6 +1,6 @@
 -- Warriors.
 use Rattle.std.specs.Prelude.{ℕ, ◌<◌, ◌≤◌, List, length, All}
-use Rattle.mars_cell.specs.Limits.{longest_name}
+use Rattle.mars_cell.specs.Limits.{max_name_len}
 use Rattle.mars_cell.specs.declared.instruction.Cell.{Cell}
 
 -- A program with its name and author.
@@ -12,7 +12,7 @@ pub record WarriorValue : Type 0 where
 
 -- A name has at most 60 bytes, each a printable ASCII character.
 pub record IsName (bytes : List ℕ) : Type 0 where
-  pub short : length bytes ≤ longest_name
+  pub short : length bytes ≤ max_name_len
   pub printed : All (λ b. (32 ≤ b) × (b ≤ 126)) bytes
 
 -- The invariant of a warrior: it starts at one of its cells, and its name and author are names.

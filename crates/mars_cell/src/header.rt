@@ -2,7 +2,7 @@
 ghost use Rattle.std.specs.Prelude.{◌≡◌, ◌+◌, ◌<◌, drop, option_and_then, option_map, slice_get, IfOk, IfSome};
 ghost use Rattle.std.specs.List.{list_all};
 ghost use Rattle.std.specs.Result.{result_map_both};
-ghost use Rattle.mars_cell.specs.Header.{header_of, name_in, name_of, no_header, size_in, size_of, tells_version};
+ghost use Rattle.mars_cell.specs.Header.{header_of, name_in, name_of, no_header, size_in, size_of, has_version};
 ghost use Rattle.mars_cell.specs.Load.{lines_of};
 ghost use Rattle.mars_cell.specs.ParameterFaults.{is_within};
 ghost use Rattle.mars_cell.specs.Warriors.{IsName};
@@ -10,10 +10,10 @@ ghost use Rattle.mars_cell.specs.Warriors.{IsName};
 use crate::fault::LoadFault;
 use crate::lines::Lines;
 use crate::numbers::read_digits;
-use crate::parameters::LARGEST_CORE;
+use crate::parameters::MAX_CORE_SIZE;
 
 /// The maximum number of bytes of a name.
-const LONGEST_NAME: usize = 60;
+const MAX_NAME_LEN: usize = 60;
 
 /// The header of a load file: what it states before its statements.
 #[derive(Clone, Copy)]
@@ -43,9 +43,9 @@ impl Header<'static> {
 }
 
 /// Returns whether the file states its version, which it does if its first bytes are `;load ` and a digit.
-#[tactic(auto, unfolding(crate::specs::Header::tells_version))]
-pub fn tells_version(bytes: &[u8]) -> bool
-    ensures { result ≡ tells_version bytes.now }
+#[tactic(auto, unfolding(crate::specs::Header::has_version))]
+pub fn has_version(bytes: &[u8]) -> bool
+    ensures { result ≡ has_version bytes.now }
 {
     match bytes.strip_prefix(b";load ") {
         Some([first, ..]) => first.is_ascii_digit(),
@@ -63,7 +63,7 @@ fn read_size(digits: &[u8]) -> Option<u32>
         return None;
     }
     let size = read_digits(digits)?;
-    if size < 1 || size > u64::from(LARGEST_CORE) {
+    if size < 1 || size > u64::from(MAX_CORE_SIZE) {
         return None;
     }
     Some(size as u32)
@@ -82,7 +82,7 @@ fn read_name(text: &[u8]) -> Option<&str>
     ensures value { option_map (λ name. name.now) result ≡ name_of text.now }
     ensures is_name { IfSome result (λ name. IsName name.now) }
 {
-    if text.len() > LONGEST_NAME || !is_printed(text) {
+    if text.len() > MAX_NAME_LEN || !is_printed(text) {
         return None;
     }
     str::from_utf8(text).ok()

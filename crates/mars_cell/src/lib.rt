@@ -39,7 +39,7 @@ pub use instruction::{Cell, Field, Mode, Modifier, Op};
 pub use load::read_load;
 pub use numbers::{read_digits, residue};
 pub use output::{LINE, Line, WriteFault, numbered, push_number, push_right, write_text};
-pub use parameters::{LARGEST_CORE, MOST_CYCLES, MOST_PROCESSES, ParamFault, Params};
+pub use parameters::{MAX_CORE_SIZE, MAX_CYCLES, MAX_PROCESSES, ParamFault, Params};
 pub use warriors::{Warrior, WarriorFault};
 pub use words::{read_modifier, read_op};
 pub use written::write_load;

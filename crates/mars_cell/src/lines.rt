@@ -36,7 +36,7 @@ impl<'a> Lines<'a> {
             return None;
         }
         let (line, rest) = self.rest.split_at(line_len(self.rest));
-        self.rest = behind_newline(rest);
+        self.rest = after_newline(rest);
         self.number += 1;
         Some(line)
     }
@@ -50,7 +50,7 @@ fn line_len(bytes: &[u8]) -> usize
 }
 
 /// Returns what follows the first byte, which is the LF of a line; returns an empty slice unchanged.
-fn behind_newline(rest: &[u8]) -> &[u8]
+fn after_newline(rest: &[u8]) -> &[u8]
     ensures { result.now ≡ drop 1 rest.now }
 {
     match rest.split_first() {

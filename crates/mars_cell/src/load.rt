@@ -5,7 +5,7 @@ ghost use Rattle.mars_cell.specs.Load.{body, lines_of, load, is_index, Loads};
 ghost use Rattle.mars_cell.specs.Code.Listing.{ReadsListing, header_value, load_from, nothing_read};
 
 use crate::fault::LoadFault;
-use crate::header::{Header, read_header, tells_version};
+use crate::header::{Header, has_version, read_header};
 use crate::instruction::Cell;
 use crate::lines::Lines;
 use crate::numbers::Sizes;
@@ -147,7 +147,7 @@ pub fn read_load(alloc: Global, bytes: &[u8], params: &Params) -> Result<Warrior
     ensures fits { IfOk result (λ warrior. All (FitsCore params.now.core_size) warrior.cells) }
 {
     let mut lines = Lines::new(bytes);
-    if !tells_version(bytes) {
+    if !has_version(bytes) {
         return read_body(alloc, Header::unnamed(params.core_size()), lines, params);
     }
     let header = read_header(&mut lines)?;

@@ -2,7 +2,7 @@
 ghost use Rattle.std.specs.Prelude.{◌≡◌, ◌==◌, IfSome, length, not, take_while};
 ghost use Rattle.mars_cell.specs.Parts.{parts};
 ghost use Rattle.mars_cell.specs.Code.Listing.{StatementFits};
-ghost use Rattle.mars_cell.specs.Load.{line_statement, lone_number, end_of, statement_of};
+ghost use Rattle.mars_cell.specs.Load.{line_statement, only_number, end_of, statement_of};
 
 use crate::grammar::take_cell;
 use crate::instruction::Cell;
@@ -24,9 +24,9 @@ pub enum Statement {
 }
 
 /// Reads a number that is the only part of the line.
-#[tactic(auto, unfolding(crate::specs::Load::lone_number))]
-fn read_lone_number(line: LineParts<'_>) -> Option<i64>
-    ensures { result ≡ lone_number (parts line.entry.rest.now) }
+#[tactic(auto, unfolding(crate::specs::Load::only_number))]
+fn read_only_number(line: LineParts<'_>) -> Option<i64>
+    ensures { result ≡ only_number (parts line.entry.rest.now) }
 {
     let mut line = line;
     let number = line.take_first()?;
@@ -37,7 +37,7 @@ fn read_lone_number(line: LineParts<'_>) -> Option<i64>
 }
 
 /// Reads what follows `END`: nothing or a number.
-#[tactic(auto, unfolding(crate::specs::Load::end_of, crate::specs::Load::lone_number))]
+#[tactic(auto, unfolding(crate::specs::Load::end_of, crate::specs::Load::only_number))]
 fn read_end(line: LineParts<'_>) -> Option<Option<i64>>
     ensures { result ≡ end_of (parts line.entry.rest.now) }
 {
@@ -45,7 +45,7 @@ fn read_end(line: LineParts<'_>) -> Option<Option<i64>>
     if after.take_first().is_none() {
         return Some(None);
     }
-    let number = read_lone_number(line)?;
+    let number = read_only_number(line)?;
     Some(Some(number))
 }
 
@@ -60,7 +60,7 @@ fn read_statement(line: LineParts<'_>, sizes: Sizes) -> Option<Statement>
         return Some(Statement::Nothing);
     };
     if is_word(first, b"ORG") {
-        let number = read_lone_number(after)?;
+        let number = read_only_number(after)?;
         Some(Statement::Origin(number))
     } else if is_word(first, b"END") {
         let number = read_end(after)?;

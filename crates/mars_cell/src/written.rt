@@ -1,7 +1,7 @@
 //! Writing load files.
 ghost use Rattle.std.specs.Prelude.{◌≡◌, ◌≤◌, ◌++◌, All, IfOk, OnOk, decimal, flat_map, map};
 ghost use Rattle.mars_cell.specs.Cells.{FitsCore};
-ghost use Rattle.mars_cell.specs.Limits.{largest_core};
+ghost use Rattle.mars_cell.specs.Limits.{max_core_size};
 ghost use Rattle.mars_cell.specs.Text.{cell_text};
 ghost use Rattle.mars_cell.specs.Written.{load_text, with_newline};
 
@@ -58,7 +58,7 @@ fn push_cells(text: &mut Vec<u8>, cells: &[Cell], core_size: u32) -> Result<(), 
 ///
 /// Returns an error only if an allocation fails.
 pub fn write_load(alloc: Global, warrior: &Warrior, core_size: u32) -> Result<Vec<u8>, AllocError>
-    requires size { core_size ≤ largest_core }
+    requires size { core_size ≤ max_core_size }
     requires fits { All (FitsCore core_size) warrior.now.cells }
     ensures { IfOk result (λ text. text.items ≡ load_text core_size warrior.now) }
 {

@@ -7,7 +7,7 @@ use Rattle.std.proofs.lemmas.List.Elements.{All-get_or}
 use Rattle.mars_cell.specs.declared.instruction.Cell.{Cell}
 use Rattle.mars_cell.specs.Cells.{FitsCore}
 use Rattle.mars_core.specs.State.{State, is_empty, queue_of}
-use Rattle.mars_core.specs.Edit.{address_fault, cell_fault, warrior_fault, process_fault, life_fault, room_fault, edit_fault, IsProcess, CanSpawn}
+use Rattle.mars_core.specs.Edit.{address_fault, cell_fault, warrior_fault, process_fault, dead_warrior_fault, full_queue_fault, edit_fault, IsProcess, CanSpawn}
 use Rattle.mars_core.specs.Validity.{IsQueue, IsValid}
 use Rattle.mars_core.specs.declared.battle.edit.Edit.TheVariants as edit
 use Rattle.mars_core.specs.declared.battle.edit.EditFault.{EditFault}
@@ -45,10 +45,10 @@ module _ (s : State) where
   process_in : (w i : ℕ) → process_fault s w i ≡ None → i < length (queue_of s.queues w)
   process_in w i e = is_below i (length (queue_of s.queues w)) (passed (nat_lt i (length (queue_of s.queues w))) _ e)
 
-  alive_is : (w : ℕ) → life_fault s w ≡ None → is_empty (queue_of s.queues w) ≡ false
+  alive_is : (w : ℕ) → dead_warrior_fault s w ≡ None → is_empty (queue_of s.queues w) ≡ false
   alive_is w e = failed (is_empty (queue_of s.queues w)) _ e
 
-  room_is : (w : ℕ) → room_fault s w ≡ None → length (queue_of s.queues w) < s.params.processes
+  room_is : (w : ℕ) → full_queue_fault s w ≡ None → length (queue_of s.queues w) < s.params.processes
   room_is w e = is_below (length (queue_of s.queues w)) s.params.processes (passed (nat_lt (length (queue_of s.queues w)) s.params.processes) _ e)
 
   pub accepted_set_cell : (a : ℕ) (c : Cell) → edit_fault s (edit.SetCell a c) ≡ None → (a < s.params.core_size) × FitsCore s.params.core_size c
@@ -72,8 +72,8 @@ module _ (s : State) where
   pub accepted_spawn : (w a : ℕ) → edit_fault s (edit.Spawn w a) ≡ None → CanSpawn s w a
   unfolding edit_fault
   accepted_spawn w a e =
-      let third = none_or (option_or (option_or (address_fault s.params.core_size a) (warrior_fault s w)) (life_fault s w)) (room_fault s w) e in
-      let second = none_or (option_or (address_fault s.params.core_size a) (warrior_fault s w)) (life_fault s w) third.0 in
+      let third = none_or (option_or (option_or (address_fault s.params.core_size a) (warrior_fault s w)) (dead_warrior_fault s w)) (full_queue_fault s w) e in
+      let second = none_or (option_or (address_fault s.params.core_size a) (warrior_fault s w)) (dead_warrior_fault s w) third.0 in
       let first = none_or (address_fault s.params.core_size a) (warrior_fault s w) second.0 in
       record { address_in = address_in a first.0; warrior = warrior_in w first.1; alive = alive_is w second.1; room = room_is w third.1 }
 

@@ -4,7 +4,7 @@ use Rattle.std.proofs.lemmas.List.{length-take, length-drop}
 use Rattle.std.proofs.lemmas.List.Elements.{All-cons}
 use Rattle.mars_cell.specs.declared.instruction.Cell.{Cell}
 use Rattle.mars_cell.specs.Parameters.{Parameters}
-use Rattle.mars_core.specs.Limits.{most_warriors}
+use Rattle.mars_core.specs.Limits.{max_warriors}
 use Rattle.mars_core.specs.State.{State, state_of, queue_of, is_over_of}
 use Rattle.mars_core.specs.Validity.{IsValid}
 use Rattle.mars_core.specs.Queue.{Queue, addresses_of}
@@ -30,11 +30,11 @@ use Rattle.mars_core.proofs.Turns.{running, filled_length, queue_fits, turn_vali
 pub record CanApply (atom : Atom) (s : State) : Type 0 where
   pub cells : AreInside (length s.core) atom.cells.items
   pub queue : HasQueue (warrior_of atom.work) (CanRequeue s.params.processes atom.work (length atom.queued.items)) s.queues
-  pub deaths : atom.died ≡ true → length s.deaths < most_warriors
+  pub deaths : atom.died ≡ true → length s.deaths < max_warriors
 
 module _ (s : State) (v : IsValid s) where
   -- If a warrior lives, the list of deaths is not full.
-  room_for_death : (w : ℕ) → w < length s.queues → ((queue_of s.queues w ≡ []) → ⊥) → length s.deaths < most_warriors
+  room_for_death : (w : ℕ) → w < length s.queues → ((queue_of s.queues w ≡ []) → ⊥) → length s.deaths < max_warriors
   room_for_death w h lives =
       let alive = live_survives s.queues w h lives in
       let few = v.few in

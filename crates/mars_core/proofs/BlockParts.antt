@@ -7,7 +7,7 @@ use Rattle.std.proofs.lemmas.List.{length-map, length-replicate}
 use Rattle.std.proofs.lemmas.List.Sums.{sum_by-le, sum-map}
 use Rattle.mars_cell.specs.declared.instruction.Cell.{Cell}
 use Rattle.mars_core.specs.State.{State, is_over_of, state_of}
-use Rattle.mars_core.specs.Limits.{most_warriors}
+use Rattle.mars_core.specs.Limits.{max_warriors}
 use Rattle.mars_cell.specs.Parameters.{Parameters, AreInRange}
 use Rattle.mars_core.specs.declared.deaths.Death.{Death}
 use Rattle.mars_core.specs.declared.machine.clock.Clock.{Clock}
@@ -146,7 +146,7 @@ unfolding head_of field_words
 head_deaths_count s = refl
 
 -- The parts of a valid state.
-pub valid_parts : (params : Parameters) (core : List Cell) (queues these those : List Queue) (clock : Clock) (turns cycles : ℕ) (deaths others : List Death) → AreInRange params → IsCore params.core_size core → 1 ≤ length queues → length queues ≤ most_warriors
+pub valid_parts : (params : Parameters) (core : List Cell) (queues these those : List Queue) (clock : Clock) (turns cycles : ℕ) (deaths others : List Death) → AreInRange params → IsCore params.core_size core → 1 ≤ length queues → length queues ≤ max_warriors
     → All (IsQueue params.core_size params.processes) (addresses_of queues) → these ≡ queues → those ≡ queues → others ≡ deaths → cycles ≡ params.cycles → AreDeaths (addresses_of these) others → IsClock cycles (addresses_of those) clock turns
     → IsValid (state_of params core queues clock.next clock.cycle turns deaths)
 valid_parts params core queues these those clock turns cycles deaths others r c some few qs e f g n d t =

@@ -210,19 +210,19 @@ no_first ([] ∷ queues) h =
     omega (arith, first, no_first queues (none_before (first_live queues) suc h))
 no_first ((x ∷ q) ∷ queues) h = absurd (cc)
 
-pub nobody_lives : (queues : List (List ℕ)) → live_from queues 0 ≡ None → survivors_of queues ≡ 0
-nobody_lives queues h = no_first queues (none_before (first_live queues) (λ k. 0 + k) h)
+pub none_survive : (queues : List (List ℕ)) → live_from queues 0 ≡ None → survivors_of queues ≡ 0
+none_survive queues h = no_first queues (none_before (first_live queues) (λ k. 0 + k) h)
 
-pub somebody_lives : (queues : List (List ℕ)) (k : ℕ) → live_from queues 0 ≡ Some k → 1 ≤ survivors_of queues
-somebody_lives [] k h = absurd (cc)
-somebody_lives ([] ∷ queues) k h =
+pub some_survive : (queues : List (List ℕ)) (k : ℕ) → live_from queues 0 ≡ Some k → 1 ≤ survivors_of queues
+some_survive [] k h = absurd (cc)
+some_survive ([] ∷ queues) k h =
     let rest : survivors_of ([] ∷ queues) ≡ 0 + survivors_of queues = sum_by-cons (λ (q : List ℕ). if is_empty q then 0 else 1) [] queues in
     let live = later (first_live queues) k h in
-    omega (arith, rest, somebody_lives queues live.0 live.1) where
+    omega (arith, rest, some_survive queues live.0 live.1) where
       later : (o : Option ℕ) (k : ℕ) → option_map (λ j. 0 + j) (option_map suc o) ≡ Some k → (j : ℕ) × (option_map (λ j. 0 + j) o ≡ Some j)
       later None k h = absurd (cc)
       later (Some j) k h = (0 + j, refl)
-somebody_lives ((x ∷ q) ∷ queues) k h =
+some_survive ((x ∷ q) ∷ queues) k h =
     let first : survivors_of ((x ∷ q) ∷ queues) ≡ 1 + survivors_of queues = sum_by-cons (λ (q : List ℕ). if is_empty q then 0 else 1) (x ∷ q) queues in
     omega (arith, first)
 

@@ -87,9 +87,9 @@ unfolding applied
 turns-applied atom s = refl
 
 -- A record leads to a given state from only one state.
-pub one_before : (s t : State) (atom : Atom) (here : State) → Leads s atom here → Leads t atom here → s ≡ t
-one_before s t atom here first second = sym (record_reverted s atom here first) ∙ record_reverted t atom here second
+pub record_determines_predecessor : (s t : State) (atom : Atom) (here : State) → Leads s atom here → Leads t atom here → s ≡ t
+record_determines_predecessor s t atom here first second = sym (record_reverted s atom here first) ∙ record_reverted t atom here second
 
 -- A record leads from a given state to only one state.
-pub one_after : (s t : State) (atom : Atom) (here : State) → Leads here atom s → Leads here atom t → s ≡ t
-one_after s t atom here first second = sym (record_applied here atom s first) ∙ record_applied here atom t second
+pub record_determines_successor : (s t : State) (atom : Atom) (here : State) → Leads here atom s → Leads here atom t → s ≡ t
+record_determines_successor s t atom here first second = sym (record_applied here atom s first) ∙ record_applied here atom t second

@@ -5,7 +5,7 @@ use Rattle.std.proofs.lemmas.List.{length-set, length-map}
 use Rattle.std.proofs.lemmas.List.Elements.{All-set, All-get_or}
 use Rattle.mars_cell.specs.declared.instruction.Cell.{Cell}
 use Rattle.mars_cell.specs.Parameters.{Parameters}
-use Rattle.mars_core.specs.Limits.{most_warriors}
+use Rattle.mars_core.specs.Limits.{max_warriors}
 use Rattle.mars_core.specs.State.{State, state_of, is_empty, survivors_of, queue_of, advanced, clock_of}
 use Rattle.mars_core.specs.Queue.{Queue, addresses_of}
 use Rattle.mars_core.specs.Turn.{with_death}
@@ -70,7 +70,7 @@ module _ (p : Parameters) (core : List Cell) (qs : List Queue) (next cycle turns
       rw (addresses-set, length-set, survivors_kept (addresses_of qs) w q'.addresses warrior (λ e. filled (sym queue_at ∙ e)) filled') counted
 
   -- If a warrior lives, the list of deaths is not full.
-  pub kill_room : q.addresses ≢ [] → length deaths + survivors_of (addresses_of qs) ≡ length qs → length deaths < most_warriors
+  pub kill_room : q.addresses ≢ [] → length deaths + survivors_of (addresses_of qs) ≡ length qs → length deaths < max_warriors
   kill_room filled counted =
       let alive = live_survives (addresses_of qs) w warrior (λ e. filled (sym queue_at ∙ e)) in
       let few = simp length-map at v.few in

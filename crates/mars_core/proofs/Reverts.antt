@@ -1,6 +1,6 @@
 -- What follows, for the code that reverts a record, from the fact that the record leads to the present state.
 -- `revert` requires that the record leads here from some state, a pair that the caller provides, and results in every such state
--- (`one_before` states that there is one). The facts that the code needs are stated by cases on the work (`CanRestore`) and
+-- (`record_determines_predecessor` states that there is one). The facts that the code needs are stated by cases on the work (`CanRestore`) and
 -- derived from `Leads` once. A queue is changed by a function of one queue (`with_queue`), so that all kinds of work are indexed
 -- alike.
 use Rattle.std.proofs.Common.{◌≡◌, ℕ, ◌+◌, ◌-◌, ◌<◌, ◌≤◌, List, [], ◌∷◌, length, set, drop, inl, inr, sym, subst, arith, false, cond, Option, Some, None}

@@ -10,7 +10,7 @@ use Rattle.mars_cell.specs.declared.instruction.Cell.{Cell}
 use Rattle.mars_cell.specs.Cells.{FitsCore, empty_cell}
 use Rattle.mars_cell.specs.Parameters.{Parameters, AreInRange}
 use Rattle.mars_cell.specs.Warriors.{WarriorValue}
-use Rattle.mars_core.specs.Limits.{most_warriors}
+use Rattle.mars_core.specs.Limits.{max_warriors}
 use Rattle.mars_core.specs.State.{is_empty, survivors_of, queue_of, state_of}
 use Rattle.mars_core.specs.Validity.{IsCore, IsQueue, IsValid}
 use Rattle.mars_core.specs.Start.{is_inside, fields_inside, first_processes, start_fault}
@@ -66,7 +66,7 @@ one_inside m a h = grind (arith, elements)
 queue_of_one : (m n a : ℕ) → 1 ≤ n → a < m → IsQueue m n (one a)
 queue_of_one m n a p h = record { addresses = one_inside m a h; room = omega arith }
 
-no_fault : (p : Parameters) (ws : List WarriorValue) (ss : List ℕ) → start_fault p ws ss ≡ None → (1 ≤ length ws) × (length ws ≤ most_warriors)
+no_fault : (p : Parameters) (ws : List WarriorValue) (ss : List ℕ) → start_fault p ws ss ≡ None → (1 ≤ length ws) × (length ws ≤ max_warriors)
 no_fault p ws ss h = (grind (arith, nat_tests), grind (arith, nat_tests))
 
 module _ (p : Parameters) (ws : List WarriorValue) (ss : List ℕ) (core : List Cell) (r : AreInRange p) (lengths : length ss ≡ length ws) (fine : start_fault p ws ss ≡ None) (c : IsCore p.core_size core) where

@@ -17,12 +17,12 @@ touched_in warrior (suc n) s =
     if is_over_of s then [] else (if s.next == warrior then touched_in_turn s else []) ++ touched_in warrior n (turn_of s)
 
 -- All cells that the warrior reads or writes in the next `n` turns are in `part`.
-abbrev pub KeepsTo : (ℕ → Bool) → ℕ → ℕ → State → Type 0
-KeepsTo part warrior n s = AllPass part (touched_in warrior n s)
+abbrev pub StaysWithin : (ℕ → Bool) → ℕ → ℕ → State → Type 0
+StaysWithin part warrior n s = AllPass part (touched_in warrior n s)
 
 -- In the next `n` turns, the other warriors change no cell of `part`.
-abbrev pub IsLeftTo : (ℕ → Bool) → ℕ → ℕ → State → Type 0
-IsLeftTo part warrior n s =
+abbrev pub OthersLeaveUnchanged : (ℕ → Bool) → ℕ → ℕ → State → Type 0
+OthersLeaveUnchanged part warrior n s =
     (k : ℕ) → k < n → let t = after_turns k s in is_over_of t ≡ false → t.next ≢ warrior →
     (address : ℕ) → part address ≡ true → cell_at (turn_of t).core address ≡ cell_at t.core address
 

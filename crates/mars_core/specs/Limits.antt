@@ -2,8 +2,8 @@
 use Rattle.std.specs.Prelude.{ℕ}
 
 -- The maximum number of warriors in a battle.
-abbrev pub most_warriors : ℕ
-most_warriors = 16
+abbrev pub max_warriors : ℕ
+max_warriors = 16
 
 -- A number of turns that no battle reaches.
 abbrev pub turns_bound : ℕ

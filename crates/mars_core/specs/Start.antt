@@ -6,7 +6,7 @@ use Rattle.mars_cell.specs.declared.instruction.Cell.{Cell}
 use Rattle.mars_cell.specs.Cells.{empty_cell}
 use Rattle.mars_cell.specs.Parameters.{Parameters}
 use Rattle.mars_cell.specs.Warriors.{WarriorValue}
-use Rattle.mars_core.specs.Limits.{most_warriors}
+use Rattle.mars_core.specs.Limits.{max_warriors}
 use Rattle.mars_core.specs.State.{State}
 use Rattle.mars_core.specs.declared.battle.start.BattleFault.{BattleFault}
 use Rattle.mars_core.specs.declared.battle.start.BattleFault.TheVariants.{NoWarrior, TooMany, Overlap, StartOutside, FieldOutside}
@@ -48,22 +48,22 @@ fields_inside m (w ∷ warriors) = list_all (is_inside m) w.cells && fields_insi
 abbrev pub start_fault : Parameters → List WarriorValue → List ℕ → Option BattleFault
 start_fault p warriors starts =
     if length warriors == 0 then Some NoWarrior
-    else if nat_lt most_warriors (length warriors) then Some TooMany
+    else if nat_lt max_warriors (length warriors) then Some TooMany
     else if overlap p.core_size warriors starts then Some Overlap
     else if not (list_all (λ s. nat_lt s p.core_size) starts) then Some StartOutside
     else if not (fields_inside p.core_size warriors) then Some FieldOutside
     else None
 
 -- The core with the cells loaded from `address` on.
-abbrev pub laid : ℕ → ℕ → List Cell → List Cell → List Cell
-laid m address [] core = core
-laid m address (cell ∷ cells) core = laid m (address + 1) cells (slice_set core (address % m) cell)
+abbrev pub with_warrior : ℕ → ℕ → List Cell → List Cell → List Cell
+with_warrior m address [] core = core
+with_warrior m address (cell ∷ cells) core = with_warrior m (address + 1) cells (slice_set core (address % m) cell)
 
 -- The core with each warrior loaded at its starting position.
-abbrev pub all_laid : ℕ → List WarriorValue → List ℕ → List Cell → List Cell
-all_laid m [] starts core = core
-all_laid m (w ∷ warriors) [] core = core
-all_laid m (w ∷ warriors) (s ∷ starts) core = all_laid m warriors starts (laid m s w.cells core)
+abbrev pub with_warriors : ℕ → List WarriorValue → List ℕ → List Cell → List Cell
+with_warriors m [] starts core = core
+with_warriors m (w ∷ warriors) [] core = core
+with_warriors m (w ∷ warriors) (s ∷ starts) core = with_warriors m warriors starts (with_warrior m s w.cells core)
 
 -- The address of the first process of each warrior.
 abbrev pub first_processes : ℕ → List WarriorValue → List ℕ → List ℕ
@@ -75,7 +75,7 @@ first_processes m (w ∷ warriors) (s ∷ starts) = ((s + w.start) % m) ∷ firs
 unfoldable pub start_state : Parameters → List WarriorValue → List ℕ → State
 start_state p warriors starts = record {
   params = p;
-  core = all_laid p.core_size warriors starts (replicate p.core_size empty_cell);
+  core = with_warriors p.core_size warriors starts (replicate p.core_size empty_cell);
   queues = map (λ address. address ∷ []) (first_processes p.core_size warriors starts);
   next = 0;
   cycle = 0;

@@ -45,7 +45,7 @@ impl Default for Atom {
     /// Returns a record that is meant to be overwritten.
     #[inline(always)]
     fn default() -> Self {
-        quiet_atom(Work::SetCell, ArrayVec::new(), 0)
+        atom_without_death(Work::SetCell, ArrayVec::new(), 0)
     }
 }
 
@@ -96,7 +96,7 @@ pub fn note_turn(atom: &mut Atom, before: Clock, made: MadeTurn)
 }
 
 /// Returns the record of an edit that kills no warrior and therefore leaves the clock unchanged.
-pub fn quiet_atom(work: Work, cells: ArrayVec<CellChange, 3>, next: u32) -> Atom
+pub fn atom_without_death(work: Work, cells: ArrayVec<CellChange, 3>, next: u32) -> Atom
     ensures { result ≡ record {
       work = work;
       cells = cells;

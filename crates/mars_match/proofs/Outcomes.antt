@@ -11,7 +11,7 @@ use Rattle.mars_cell.specs.Warriors.{WarriorValue}
 use Rattle.mars_core.specs.State.{State, is_empty, survivors_of}
 use Rattle.std.specs.Prelude.{not, Bool}
 use Rattle.redcode_text.specs.Tokens.{Scanned}
-use Rattle.mars_match.specs.Answers.{IsAnswer}
+use Rattle.mars_match.specs.CallResults.{IsResult}
 use Rattle.mars_match.specs.Battles.{lives, in_load_order, fought}
 use Rattle.mars_match.specs.Rounds.{Outcome, placed_for, round_score, round_outcome, as_score, fits_in_64, checked_rows}
 use Rattle.mars_match.specs.Code.Tallies.{tallied, all_added, row_with, rows_with}
@@ -21,7 +21,7 @@ use Rattle.mars_match.specs.declared.table.Tally.{Tally}
 use Rattle.mars_match.proofs.Rotations.{length-rotated}
 use Rattle.mars_match.proofs.Sums.{how_many-rotated, how_many-lives}
 
-pub fault_answer : {A B : Type 0} (view : A → B) (defined : Result B MatchFault) (result : Result A MatchFault) (f : MatchFault) → result ≡ Err f → (f ≡ OutOfMemory) ⊎ (defined ≡ Err f) → IsAnswer view defined result
+pub fault_answer : {A B : Type 0} (view : A → B) (defined : Result B MatchFault) (result : Result A MatchFault) (f : MatchFault) → result ≡ Err f → (f ≡ OutOfMemory) ⊎ (defined ≡ Err f) → IsResult view defined result
 fault_answer view defined result f e h = rw e h
 
 -- The score is the same in load order and in the order of turns.

@@ -11,26 +11,26 @@ use Rattle.mars_match.proofs.Ascending.{ascending_zero, permutation_ascending, r
 use Rattle.std.specs.List.Sorted.{IsNonDecreasing}
 use Rattle.mars_match.proofs.Draws.{length-spread, length-draws, draws_below}
 use Rattle.std.specs.List.{swap}
-use Rattle.mars_match.specs.Placement.{drawn, way_up, AreApart, IsSpaced, exchanged, spread, draws, ascending, room_for, seed_after, starts_of}
+use Rattle.mars_match.specs.Placement.{drawn, forward_distance, AreApart, IsSpaced, exchanged, spread, draws, ascending, room_for, seed_after, starts_of}
 
 -- The address `b` is at least `d` above `a`, and from `b` to `a` around the core of `m` cells it is at least `d`.
 record IsGap (m d a b : ℕ) : Type 0 where
   up : a + d ≤ b
   round : b + d ≤ a + m
 
-way_up_above : (m a b : ℕ) → a ≤ b → b < m → way_up m a b ≡ b - a
-way_up_above m a b h k =
+forward_distance_above : (m a b : ℕ) → a ≤ b → b < m → forward_distance m a b ≡ b - a
+forward_distance_above m a b h k =
     let e : b + (m - a) ≡ m + (b - a) = omega arith in
     let small : b - a < m = omega arith in
     rw (e, add-mod_left m (b - a)) (mod-eq_of_lt small)
 
-way_up_below : (m a b : ℕ) → b < a → a < m → way_up m a b ≡ b + (m - a)
-way_up_below m a b h k = let small : b + (m - a) < m = omega arith in mod-eq_of_lt small
+forward_distance_below : (m a b : ℕ) → b < a → a < m → forward_distance m a b ≡ b + (m - a)
+forward_distance_below m a b h k = let small : b + (m - a) < m = omega arith in mod-eq_of_lt small
 
 apart_from_gap : (m d a b : ℕ) → 1 ≤ d → b < m → IsGap m d a b → AreApart m d a b
 apart_from_gap m d a b one inside gap =
-    let above : way_up m a b ≡ b - a = way_up_above m a b (omega (arith, gap.up)) inside in
-    let below : way_up m b a ≡ a + (m - b) = way_up_below m b a (omega (arith, gap.up)) inside in
+    let above : forward_distance m a b ≡ b - a = forward_distance_above m a b (omega (arith, gap.up)) inside in
+    let below : forward_distance m b a ≡ a + (m - b) = forward_distance_below m b a (omega (arith, gap.up)) inside in
     record { up = omega (arith, above, gap.up); down = omega (arith, below, gap.round) }
 
 turned : (m d a b : ℕ) → AreApart m d a b → AreApart m d b a

@@ -1,7 +1,7 @@
 -- The battle of a round, and its survivors. Parameters: `p` are the parameters of the battle, `warriors` the warriors in
 -- load order, `starts` the addresses of their first cells, and `k` the number of the round, from 0.
 use Rattle.std.specs.Prelude.{ℕ, ◌-◌, ◌*◌, ◌%◌, Bool, not, ◌==◌, nat_lt, if◌then◌else◌, List, ◌++◌, length, map, take, drop, Option, None, Some, Result, Ok, Err}
-use Rattle.mars_core.specs.Limits.{most_warriors}
+use Rattle.mars_core.specs.Limits.{max_warriors}
 use Rattle.mars_cell.specs.Parameters.{Parameters}
 use Rattle.mars_cell.specs.Warriors.{WarriorValue}
 use Rattle.mars_core.specs.State.{State, is_empty}
@@ -42,7 +42,7 @@ round_fault p warriors starts k = let first = k % length warriors in start_fault
 
 -- The error if there is no warrior or too many.
 abbrev pub count_fault : ℕ → Option BattleFault
-count_fault count = if count == 0 then Some NoWarrior else if nat_lt most_warriors count then Some TooMany else None
+count_fault count = if count == 0 then Some NoWarrior else if nat_lt max_warriors count then Some TooMany else None
 
 -- The value, unless there is an error.
 abbrev pub unless : {A : Type 0} → Option BattleFault → A → Result A MatchFault

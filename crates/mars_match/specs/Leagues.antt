@@ -9,8 +9,8 @@ use Rattle.mars_match.specs.Tables.{RowValue}
 use Rattle.mars_match.specs.declared.fault.MatchFault.{MatchFault}
 
 -- The maximum number of warriors of a league.
-abbrev pub most_of_league : ℕ
-most_of_league = 65536
+abbrev pub max_league_warriors : ℕ
+max_league_warriors = 65536
 
 -- Two warriors that play a match, and their places in load order.
 pub record Pair : Type 0 where

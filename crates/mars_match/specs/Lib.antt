@@ -7,7 +7,7 @@ pub mod Leagues
 pub mod Populations
 pub mod Fates
 pub mod Results
-pub mod Answers
+pub mod CallResults
 pub mod Laws
 pub mod Examples
 pub mod Code

@@ -4,8 +4,8 @@ use Rattle.mars_cell.specs.Parameters.{Parameters}
 use Rattle.mars_match.specs.declared.placement.PlaceFault.{PlaceFault}
 use Rattle.mars_match.specs.declared.placement.PlaceFault.TheVariants.{NoRoom, BadSeed}
 
-abbrev pub greatest_seed : ℕ
-greatest_seed = 2147483646
+abbrev pub max_seed : ℕ
+max_seed = 2147483646
 
 -- One draw of the generator of Park and Miller. The result is both the drawn number and the new seed.
 unfoldable pub drawn : ℕ → ℕ
@@ -62,17 +62,17 @@ next_seed w seed = seed_after ((w - 1) + (w - 2)) seed
 abbrev pub place_fault : Parameters → ℕ → ℕ → Option PlaceFault
 place_fault p w seed =
     if nat_lt p.core_size (w * p.distance) then Some NoRoom
-    else if not (nat_le 1 seed && nat_le seed greatest_seed) then Some BadSeed
+    else if not (nat_le 1 seed && nat_le seed max_seed) then Some BadSeed
     else None
 
 -- The number of cells from one address up to another, around the core.
-abbrev pub way_up : ℕ → ℕ → ℕ → ℕ
-way_up core_size from to = (to + (core_size - from)) % core_size
+abbrev pub forward_distance : ℕ → ℕ → ℕ → ℕ
+forward_distance core_size from to = (to + (core_size - from)) % core_size
 
 -- Two addresses are at least `distance` cells apart, both ways around the core.
 pub record AreApart (core_size distance a b : ℕ) : Type 0 where
-  pub up : distance ≤ way_up core_size a b
-  pub down : distance ≤ way_up core_size b a
+  pub up : distance ≤ forward_distance core_size a b
+  pub down : distance ≤ forward_distance core_size b a
 
 -- Each start is in the core, and any two are at least `distance` cells apart.
 pub record IsSpaced (core_size distance : ℕ) (starts : List ℕ) : Type 0 where

@@ -77,13 +77,13 @@ abbrev pub has_lost : ℕ → Outcome → Bool
 has_lost i outcome = not (has_lived i outcome)
 
 -- The points of warrior `i` in a round.
-abbrev pub paid : ℕ → Outcome → ℤ
-paid i outcome = if has_lived i outcome then outcome.score else pos 0
+abbrev pub round_points : ℕ → Outcome → ℤ
+round_points i outcome = if has_lived i outcome then outcome.score else pos 0
 
 -- The exact sum of the points of warrior `i`.
 abbrev pub points_of : ℕ → List Outcome → ℤ
 points_of i [] = pos 0
-points_of i (outcome ∷ outcomes) = paid i outcome +ℤ points_of i outcomes
+points_of i (outcome ∷ outcomes) = round_points i outcome +ℤ points_of i outcomes
 
 -- The row of warrior `i`.
 abbrev pub row_of : WarriorValue → ℕ → List Outcome → RowValue

@@ -1,9 +1,9 @@
 //! The fate of each warrior in each round of a match.
 ghost use Rattle.std.specs.Prelude.{◌≡◌, ◌++◌, ◌+◌, ◌-◌, ◌*◌, ◌%◌, ◌<◌, ◌≤◌, ◌≢◌, Box, IfErr, IfOk, IfSome, MatchResult, Vec, length, vec_len};
 ghost use Rattle.std.specs.Global.{Global};
-ghost use Rattle.mars_core.specs.Limits.{most_warriors};
+ghost use Rattle.mars_core.specs.Limits.{max_warriors};
 ghost use Rattle.mars_core.specs.State.{State};
-ghost use Rattle.mars_match.specs.Answers.{IsAnswer};
+ghost use Rattle.mars_match.specs.CallResults.{IsResult};
 ghost use Rattle.mars_match.specs.Code.Lineups.{HasRoom};
 ghost use Rattle.mars_match.specs.Fates.{fate_of as spec_fate_of, fates, fates_from, fates_of, place_of as spec_place_of, turns_until as spec_turns_until};
 ghost use Rattle.mars_match.specs.Placement.{FitsTwo};
@@ -87,9 +87,9 @@ fn append_fates(
 /// Returns the fates of all rounds of a match.
 fn fight_lineup(alloc: Global, setup: &Setup, lineup: &Lineup) -> Result<Vec<Fate>, MatchFault>
     requires some { 1 ≤ length lineup.now }
-    requires few { length lineup.now ≤ most_warriors }
+    requires few { length lineup.now ≤ max_warriors }
     requires fixed { IfSome setup.now.plan.fixed (λ position. length lineup.now ≡ 2) }
-    ensures { let plan = setup.now.plan in IsAnswer (λ (fates : Vec FateValue Global). fates.items)
+    ensures { let plan = setup.now.plan in IsResult (λ (fates : Vec FateValue Global). fates.items)
         (fates setup.now.params lineup.now plan.fixed plan.rounds 0 plan.seed) result }
 {
     let mut starts = vec![in alloc; 0u32; lineup.len()]?;
@@ -125,7 +125,7 @@ pub fn fight_rounds(
     warriors: &[Warrior],
 ) -> Result<Vec<Fate>, MatchFault>
     requires fixed { FitsTwo setup.now.params (length warriors.now) setup.now.plan.fixed }
-    ensures { let plan = setup.now.plan in IsAnswer (λ (fates : Vec FateValue Global). fates.items)
+    ensures { let plan = setup.now.plan in IsResult (λ (fates : Vec FateValue Global). fates.items)
         (fates_of setup.now.params warriors.now plan.fixed plan.rounds plan.seed) result }
 {
     check_count(warriors.len())?;

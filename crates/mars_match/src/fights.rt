@@ -2,17 +2,17 @@
 ghost use Rattle.std.specs.Prelude.{◌≡◌, ◌+◌, ◌%◌, ◌<◌, ◌≤◌, length, Some, None, IfSome, Ok, Err, MatchOption, MatchResult, IfOk, IfErr, IsOk, ◌≢◌, slice_index_or, false, Bool, Vec, ◌++◌, ◌∷◌, [], take, Box};
 ghost use Rattle.std.specs.Global.{Global};
 ghost use Rattle.mars_core.specs.State.{State};
-ghost use Rattle.mars_match.specs.Answers.{IsAnswer};
+ghost use Rattle.mars_match.specs.CallResults.{IsResult};
 ghost use Rattle.mars_match.specs.Battles.{rotated, end_of, in_load_order, count_fault, unless, started, fought};
 ghost use Rattle.mars_match.specs.Code.Lineups.{HasRoom};
 ghost use Rattle.mars_match.specs.Fates.{ended};
 ghost use Rattle.mars_core.specs.Start.{start_state, start_fault};
-ghost use Rattle.mars_core.specs.Limits.{most_warriors};
+ghost use Rattle.mars_core.specs.Limits.{max_warriors};
 
 use crate::fault::MatchFault;
 use arrayvec::ArrayVec;
 use mars_cell::{Params, Warrior};
-use mars_core::{Battle, BattleFault, MOST_WARRIORS};
+use mars_core::{Battle, BattleFault, MAX_WARRIORS};
 use std::alloc::{AllocError, Global};
 use std::marker::Model;
 
@@ -105,7 +105,7 @@ pub struct Round<'r> {
     pub number: u32,
     ghost same_length: { length starts.now ≡ length lineup.now },
     ghost some: { 1 ≤ length lineup.now },
-    ghost few: { length lineup.now ≤ most_warriors },
+    ghost few: { length lineup.now ≤ max_warriors },
 }
 
 /// Executes turns until the battle is over.
@@ -123,15 +123,15 @@ pub fn check_count(count: usize) -> Result<(), MatchFault>
     if count == 0 {
         return Err(MatchFault::Battle(BattleFault::NoWarrior));
     }
-    if count > MOST_WARRIORS {
+    if count > MAX_WARRIORS {
         return Err(MatchFault::Battle(BattleFault::TooMany));
     }
     Ok(())
 }
 
 /// Returns the starts from number `first` on, followed by those before it.
-fn rotated_starts(starts: &[u32], first: usize) -> ArrayVec<u32, MOST_WARRIORS>
-    requires few { length starts.now ≤ most_warriors }
+fn rotated_starts(starts: &[u32], first: usize) -> ArrayVec<u32, MAX_WARRIORS>
+    requires few { length starts.now ≤ max_warriors }
     requires first { first ≤ length starts.now }
     ensures { result.items ≡ rotated first starts.now }
 {
@@ -149,7 +149,7 @@ fn new_battle(
     starts: &[u32],
 ) -> Result<Box<Battle>, MatchFault>
     requires { length starts.now ≡ length warriors.now }
-    ensures { IsAnswer (λ (battle : Box State Global). battle.value)
+    ensures { IsResult (λ (battle : Box State Global). battle.value)
         (unless (start_fault params.now warriors.now starts.now) (start_state params.now warriors.now starts.now)) result }
 {
     match Battle::new(alloc, params, warriors, starts) {
@@ -170,7 +170,7 @@ fn start_round(
     last: Option<Box<Battle>>,
 ) -> Result<Box<Battle>, MatchFault>
     requires { IfSome last (λ battle. HasRoom params.now (length round.lineup.now) battle.value) }
-    ensures state { let r = round.entry in IsAnswer (λ (battle : Box State Global). battle.value)
+    ensures state { let r = round.entry in IsResult (λ (battle : Box State Global). battle.value)
         (started params.now r.lineup.now r.starts.now r.number) result }
     ensures no_memory { IfSome last (λ _. IfErr result (λ fault. fault ≢ MatchFault.OutOfMemory)) }
 {
@@ -207,9 +207,9 @@ pub fn fight_round(
     last: Option<Box<Battle>>,
 ) -> Result<Box<Battle>, MatchFault>
     requires { IfSome last (λ battle. HasRoom params.now (length round.lineup.now) battle.value) }
-    ensures survivors { let r = round.entry in IsAnswer (λ (battle : Box State Global). in_load_order (r.number % length r.lineup.now) battle.value)
+    ensures survivors { let r = round.entry in IsResult (λ (battle : Box State Global). in_load_order (r.number % length r.lineup.now) battle.value)
         (fought params.now r.lineup.now r.starts.now r.number) result }
-    ensures state { let r = round.entry in IsAnswer (λ (battle : Box State Global). battle.value) (ended params.now r.lineup.now r.starts.now r.number) result }
+    ensures state { let r = round.entry in IsResult (λ (battle : Box State Global). battle.value) (ended params.now r.lineup.now r.starts.now r.number) result }
     ensures room { IfOk result (λ battle. HasRoom params.now (length round.entry.lineup.now) battle.value) }
 
     // With the memory of a last battle, nothing is allocated.
@@ -251,7 +251,7 @@ pub fn fight(
 ) -> Result<Vec<bool>, MatchFault>
     requires { length starts.now ≡ length warriors.now }
     ensures count { IfSome (count_fault (length warriors.now)) (λ fault. result ≡ Err (MatchFault.Battle fault)) }
-    ensures survivors { IsAnswer (λ (list : Vec Bool Global). list.items) (fought params.now warriors.now starts.now round) result }
+    ensures survivors { IsResult (λ (list : Vec Bool Global). list.items) (fought params.now warriors.now starts.now round) result }
 {
     check_count(warriors.len())?;
     let lineup = Lineup::new(alloc, warriors)?;

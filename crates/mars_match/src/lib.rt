@@ -8,7 +8,7 @@
 //! - `fight` returns the survivors of a round (`specs/Battles`), `rounds` the table of a match (`specs/Rounds`), `league`
 //!   that of a league (`specs/Leagues`), `population` the sums of candidates (`specs/Populations`), and `fight_rounds`
 //!   the fate of each warrior in each round (`specs/Fates`). Each of them may return its first error, or run out of
-//!   memory (`specs/Answers`).
+//!   memory (`specs/CallResults`).
 //! - `write_results` writes the defined text of a table (`specs/Results`), or a prefix of it if the writer fails. It
 //!   doesn't allocate.
 //!
@@ -31,7 +31,7 @@ pub use fates::{Fate, fight_rounds};
 pub use fault::MatchFault;
 pub use fights::fight;
 pub use matches::{league, rounds};
-pub use placement::{GREATEST_SEED, PlaceFault, place};
+pub use placement::{MAX_SEED, PlaceFault, place};
 pub use populations::population;
 pub use report::write_results;
 pub use setup::{Plan, Setup};

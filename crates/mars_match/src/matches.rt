@@ -2,7 +2,7 @@
 ghost use Rattle.std.specs.Prelude.{◌≡◌, ℕ, ◌+◌, ◌%◌, ◌<◌, ◌≤◌, All, length, ℤ, ◌-◌, Some, None, Ok, Err, IfSome, IfOk, IfErr, ◌≢◌, MatchOption, true, false, MatchResult, Vec, replicate, ◌*◌, drop, [], ◌∷◌, Box};
 ghost use Rattle.mars_core.specs.State.{State};
 ghost use Rattle.mars_cell.specs.Warriors.{WarriorValue};
-ghost use Rattle.mars_match.specs.Answers.{IsAnswer};
+ghost use Rattle.mars_match.specs.CallResults.{IsResult};
 ghost use Rattle.mars_match.specs.Battles.{count_fault};
 ghost use Rattle.mars_match.specs.Code.Keeping.{AreScores, IsKept};
 ghost use Rattle.mars_match.specs.Code.Lineups.{HasRoom};
@@ -11,10 +11,10 @@ ghost use Rattle.mars_match.specs.Rounds.{round_outcome, fits_in_64, checked_row
 ghost use Rattle.mars_match.specs.declared.setup.Setup.{Setup as SetupValue};
 ghost use Rattle.mars_match.specs.declared.table.Table.{Table};
 ghost use Rattle.mars_match.specs.Tables.{RowValue};
-ghost use Rattle.mars_match.specs.Code.Tallies.{no_rounds as spec_no_rounds, most_before, most_rounds, most_row, outcome_by, tallied, IsOf, row_with, rows_with};
+ghost use Rattle.mars_match.specs.Code.Tallies.{no_rounds as spec_no_rounds, max_rounds_before, max_rounds, max_row_rounds, outcome_by, tallied, IsOf, row_with, rows_with};
 ghost use Rattle.std.specs.Global.{Global};
-ghost use Rattle.mars_core.specs.Limits.{most_warriors};
-ghost use Rattle.mars_match.specs.Leagues.{all_pairs, league_of, most_of_league};
+ghost use Rattle.mars_core.specs.Limits.{max_warriors};
+ghost use Rattle.mars_match.specs.Leagues.{all_pairs, league_of, max_league_warriors};
 ghost use Rattle.mars_match.specs.Code.LeagueSteps.{joined as spec_joined, pairs_of_first, after_matches};
 ghost use Rattle.mars_match.specs.declared.table.Tally.{Tally};
 
@@ -24,7 +24,7 @@ use crate::scores::{Scores, score_round};
 use crate::setup::Setup;
 use crate::table::{Row, Sum, Table, Tally, add_round, no_rounds};
 use mars_cell::Warrior;
-use mars_core::{Battle, MOST_WARRIORS};
+use mars_core::{Battle, MAX_WARRIORS};
 use redcode_text::ExprFault;
 use std::alloc::Global;
 
@@ -70,7 +70,7 @@ pub fn rows_of(
     tallies: &[Tally],
 ) -> Result<Vec<Row>, MatchFault>
     requires { length tallies.now ≡ length warriors.now }
-    ensures { IsAnswer (λ (rows : Vec RowValue Global). rows.items) (checked_rows (rows_with warriors.now tallies.now)) result }
+    ensures { IsResult (λ (rows : Vec RowValue Global). rows.items) (checked_rows (rows_with warriors.now tallies.now)) result }
 {
     let mut rows = Vec::with_capacity(alloc, warriors.len())?;
     for i in 0..warriors.len() {
@@ -82,8 +82,8 @@ pub fn rows_of(
 
 /// Adds the tally of a match of a league to the tally of the matches before it.
 fn joined(tally: Tally, more: Tally) -> Tally
-    requires before { IsOf most_before tally }
-    requires one { IsOf most_rounds more }
+    requires before { IsOf max_rounds_before tally }
+    requires one { IsOf max_rounds more }
     ensures { result ≡ spec_joined tally more }
 {
     Tally {
@@ -123,7 +123,7 @@ impl Matches {
         Matches {
             alloc,
             last: None,
-            scores: [None; MOST_WARRIORS],
+            scores: [None; MAX_WARRIORS],
         }
     }
 
@@ -135,7 +135,7 @@ impl Matches {
         round: Round<'_>,
     ) -> Result<(Box<Battle>, i64), MatchFault>
         requires kept { IsKept setup.now (length round.lineup.now) self.old }
-        ensures outcome { let r = round.entry in IsAnswer (λ (played : Box State Global × ℤ). outcome_by (r.number % length r.lineup.now) played.0.value played.1)
+        ensures outcome { let r = round.entry in IsResult (λ (played : Box State Global × ℤ). outcome_by (r.number % length r.lineup.now) played.0.value played.1)
             (round_outcome setup.now.params r.lineup.now setup.now.plan.formula r.starts.now r.number) result }
         ensures room { IfOk result (λ played. HasRoom setup.now.params (length round.entry.lineup.now) played.0.value) }
         ensures scores { IfOk result (λ _. AreScores setup.now.plan.formula (length round.entry.lineup.now) self.new.scores) }
@@ -154,14 +154,14 @@ impl Matches {
         tallies: &mut [Tally],
     ) -> Result<(), MatchFault>
         requires some { 1 ≤ length lineup.now }
-        requires few { length lineup.now ≤ most_warriors }
+        requires few { length lineup.now ≤ max_warriors }
         requires fixed { IfSome setup.now.plan.fixed (λ position. length lineup.now ≡ 2) }
         requires many { length tallies.old ≡ length lineup.now }
         requires fresh { All (IsOf 0) tallies.old }
         requires kept { IsKept setup.now (length lineup.now) self.old }
-        ensures sums { let plan = setup.now.plan in IsAnswer (λ _. tallies.new)
+        ensures sums { let plan = setup.now.plan in IsResult (λ _. tallies.new)
             (tallied setup.now.params lineup.now plan.formula plan.fixed plan.rounds 0 plan.seed tallies.old) result }
-        ensures bounds { IfOk result (λ _. All (IsOf most_rounds) tallies.new) }
+        ensures bounds { IfOk result (λ _. All (IsOf max_rounds) tallies.new) }
         ensures kept { IfOk result (λ _. IsKept setup.now (length lineup.now) self.new) }
     {
         let mut starts = vec![in self.alloc; 0u32; lineup.len()]?;
@@ -190,9 +190,9 @@ impl Matches {
         requires two { length lineup.now ≡ 2 }
         requires kept { IsKept setup.now (length lineup.now) self.old }
         ensures table { let plan = setup.now.plan in (first second : WarriorValue) → lineup.now ≡ first ∷ second ∷ []
-            → IsAnswer (λ (both : Tally × Tally). row_with first both.0 ∷ row_with second both.1 ∷ [])
+            → IsResult (λ (both : Tally × Tally). row_with first both.0 ∷ row_with second both.1 ∷ [])
             (table_of setup.now.params (first ∷ second ∷ []) plan.formula plan.fixed plan.rounds plan.seed) result }
-        ensures bounds { IfOk result (λ both. IsOf most_rounds both.0 × IsOf most_rounds both.1) }
+        ensures bounds { IfOk result (λ both. IsOf max_rounds both.0 × IsOf max_rounds both.1) }
         ensures kept { IfOk result (λ _. IsKept setup.now (length lineup.now) self.new) }
     {
         let mut tallies = [no_rounds(), no_rounds()];
@@ -210,14 +210,14 @@ impl Matches {
         i: usize,
         tallies: &mut [Tally],
     ) -> Result<(), MatchFault>
-        requires few { length warriors.now ≤ most_of_league }
+        requires few { length warriors.now ≤ max_league_warriors }
         requires inside { i < length warriors.now }
         requires many { length tallies.old ≡ length warriors.now }
-        requires bounds { All (IsOf (i * most_row)) tallies.old }
+        requires bounds { All (IsOf (i * max_row_rounds)) tallies.old }
         requires kept { IsKept setup.now 2 self.old }
-        ensures sums { let plan = setup.now.plan in IsAnswer (λ _. tallies.new)
+        ensures sums { let plan = setup.now.plan in IsResult (λ _. tallies.new)
             (after_matches setup.now.params plan.formula plan.fixed plan.rounds plan.seed (pairs_of_first i (drop i warriors.now)) tallies.old) result }
-        ensures bounds { IfOk result (λ _. All (IsOf ((i + 1) * most_row)) tallies.new) }
+        ensures bounds { IfOk result (λ _. All (IsOf ((i + 1) * max_row_rounds)) tallies.new) }
         ensures kept { IfOk result (λ _. IsKept setup.now 2 self.new) }
     {
         let mut lineup = Lineup::twice(self.alloc, &warriors[i])?;
@@ -237,11 +237,11 @@ impl Matches {
         warriors: &[Warrior],
         tallies: &mut [Tally],
     ) -> Result<(), MatchFault>
-        requires few { length warriors.now ≤ most_of_league }
+        requires few { length warriors.now ≤ max_league_warriors }
         requires many { length tallies.old ≡ length warriors.now }
         requires bounds { All (IsOf 0) tallies.old }
         requires kept { IsKept setup.now 2 self.old }
-        ensures { let plan = setup.now.plan in IsAnswer (λ _. tallies.new)
+        ensures { let plan = setup.now.plan in IsResult (λ _. tallies.new)
             (after_matches setup.now.params plan.formula plan.fixed plan.rounds plan.seed (all_pairs 0 warriors.now) tallies.old) result }
     {
         for i in 0..warriors.len() {
@@ -263,7 +263,7 @@ impl Matches {
 pub fn rounds(alloc: Global, setup: &Setup, warriors: &[Warrior]) -> Result<Table, MatchFault>
     requires fixed { FitsTwo setup.now.params (length warriors.now) setup.now.plan.fixed }
     ensures count { IfSome (count_fault (length warriors.now)) (λ fault. result ≡ Err (MatchFault.Battle fault)) }
-    ensures table { let plan = setup.now.plan in IsAnswer (λ (table : Table). table.rows.items)
+    ensures table { let plan = setup.now.plan in IsResult (λ (table : Table). table.rows.items)
         (table_of setup.now.params warriors.now plan.formula plan.fixed plan.rounds plan.seed) result }
 {
     check_count(warriors.len())?;
@@ -287,9 +287,9 @@ pub fn rounds(alloc: Global, setup: &Setup, warriors: &[Warrior]) -> Result<Tabl
 /// Returns the first error of a match, or an error if a warrior's points don't fit 64 bits at the end of a match or of
 /// the league. `OutOfMemory` is returned if an allocation fails.
 pub fn league(alloc: Global, setup: &Setup, warriors: &[Warrior]) -> Result<Table, MatchFault>
-    requires few { length warriors.now ≤ most_of_league }
+    requires few { length warriors.now ≤ max_league_warriors }
     requires fixed { FitsTwo setup.now.params (length warriors.now) setup.now.plan.fixed }
-    ensures table { let plan = setup.now.plan in IsAnswer (λ (table : Table). table.rows.items)
+    ensures table { let plan = setup.now.plan in IsResult (λ (table : Table). table.rows.items)
         (league_of setup.now.params warriors.now plan.formula plan.fixed plan.rounds plan.seed) result }
 {
     let mut tallies = first_tallies(alloc, warriors.len())?;

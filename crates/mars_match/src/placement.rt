@@ -1,15 +1,15 @@
 //! The starting positions of the warriors of a battle.
 ghost use Rattle.std.specs.Prelude.{◌≡◌, ◌+◌, ◌-◌, ◌*◌, ◌%◌, ◌<◌, ◌≤◌, ◌∷◌, All, length, IfOk, IfErr, IfSome};
 ghost use Rattle.mars_match.specs.Placement.{drawn as spec_drawn, seed_after, draws, spread, exchanged, starts_of, next_seed, place_fault, IsSpaced};
-ghost use Rattle.mars_core.specs.Limits.{most_warriors};
-ghost use Rattle.mars_cell.specs.Limits.{largest_core};
+ghost use Rattle.mars_core.specs.Limits.{max_warriors};
+ghost use Rattle.mars_cell.specs.Limits.{max_core_size};
 
 use mars_cell::Params;
 use std::alloc::{AllocError, Global};
 use thiserror::Error;
 
 /// The maximum seed; the minimum is 1.
-pub const GREATEST_SEED: u32 = 2_147_483_646;
+pub const MAX_SEED: u32 = 2_147_483_646;
 
 /// The reason why warriors can't be placed, in the order of the checks. It is displayed as its number and name.
 #[derive(Clone, Copy, Debug, PartialEq, Eq, Error)]
@@ -62,9 +62,9 @@ fn draw_values(starts: &mut [u32], room: u32, seed: u32) -> u32
 
 /// Adds `i` times the distance to start `i`.
 fn spread(starts: &mut [u32], distance: u32)
-    requires few { length starts.old ≤ most_warriors }
-    requires distance { length starts.old * distance ≤ largest_core }
-    requires below { All (λ s. s ≤ largest_core) starts.old }
+    requires few { length starts.old ≤ max_warriors }
+    requires distance { length starts.old * distance ≤ max_core_size }
+    requires below { All (λ s. s ≤ max_core_size) starts.old }
     ensures { starts.new ≡ spread distance 0 starts.old }
 {
     for i in 0..starts.len() {
@@ -91,7 +91,7 @@ fn exchange(starts: &mut [u32], seed: u32) -> u32
 /// Doesn't allocate.
 pub fn place_all(params: &Params, seed: u32, starts: &mut [u32]) -> u32
     requires some { 1 ≤ length starts.old }
-    requires few { length starts.old ≤ most_warriors }
+    requires few { length starts.old ≤ max_warriors }
     requires room { length starts.old * params.now.distance ≤ params.now.core_size }
     ensures starts { starts.new ≡ starts_of params.now (length starts.old) seed }
     ensures seed { result ≡ next_seed (length starts.old) seed }
@@ -108,14 +108,14 @@ pub fn place_all(params: &Params, seed: u32, starts: &mut [u32]) -> u32
 
 /// Returns the first error of placing warriors, except for `OutOfMemory`.
 pub fn find_fault(params: &Params, warriors: u32, seed: u32) -> Option<PlaceFault>
-    requires { warriors ≤ most_warriors }
+    requires { warriors ≤ max_warriors }
     ensures { result ≡ place_fault params.now warriors seed }
 {
     let core_size = params.core_size();
     if warriors * params.distance() > core_size {
         return Some(PlaceFault::NoRoom);
     }
-    if seed < 1 || seed > GREATEST_SEED {
+    if seed < 1 || seed > MAX_SEED {
         return Some(PlaceFault::BadSeed);
     }
     None
@@ -135,7 +135,7 @@ pub fn place(
     seed: u32,
 ) -> Result<(Vec<u32>, u32), PlaceFault>
     requires some { 1 ≤ warriors }
-    requires few { warriors ≤ most_warriors }
+    requires few { warriors ≤ max_warriors }
 
     // It fails exactly with the defined error, or if memory runs out.
     ensures fault { IfSome (place_fault params.now warriors seed) (λ fault. result ≡ Err fault) }

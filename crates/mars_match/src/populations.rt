@@ -1,9 +1,9 @@
 //! Populations, in which each candidate plays a match with each opponent.
 ghost use Rattle.std.specs.Prelude.{◌≡◌, IfOk, MatchOption, Vec, false, length, true, vec_len};
 ghost use Rattle.std.specs.Global.{Global};
-ghost use Rattle.mars_match.specs.Answers.{IsAnswer};
+ghost use Rattle.mars_match.specs.CallResults.{IsResult};
 ghost use Rattle.mars_match.specs.Code.Keeping.{IsKept};
-ghost use Rattle.mars_match.specs.Code.Tallies.{IsOf, most_rounds, summed};
+ghost use Rattle.mars_match.specs.Code.Tallies.{IsOf, max_rounds, summed};
 ghost use Rattle.mars_match.specs.Placement.{FitsTwo};
 ghost use Rattle.mars_match.specs.Populations.{fits, no_matches as spec_no_matches, population_of, sum_from};
 ghost use Rattle.mars_match.specs.declared.table.Sum.{Sum as SumNumbers};
@@ -31,7 +31,7 @@ fn no_matches() -> Sum
 
 /// Adds the tally of a match to a sum, or returns `None` if the result doesn't fit 64 bits.
 fn added(sum: Sum, tally: Tally) -> Option<Sum>
-    requires { IsOf most_rounds tally }
+    requires { IsOf max_rounds tally }
     ensures { MatchOption result (fits (summed sum tally) ≡ false) (λ more. (fits (summed sum tally) ≡ true) × (more ≡ summed sum tally)) }
 {
     let Some(points) = fitting(i128::from(sum.points) + tally.points) else {
@@ -54,7 +54,7 @@ impl Matches {
         opponents: &[Warrior],
     ) -> Result<Sum, MatchFault>
         requires kept { IsKept setup.now 2 self.old }
-        ensures sum { let plan = setup.now.plan in IsAnswer (λ (sum : SumNumbers). sum)
+        ensures sum { let plan = setup.now.plan in IsResult (λ (sum : SumNumbers). sum)
             (sum_from setup.now.params plan.formula plan.fixed plan.rounds plan.seed candidate.now spec_no_matches opponents.now) result }
         ensures kept { IfOk result (λ _. IsKept setup.now 2 self.new) }
     {
@@ -89,7 +89,7 @@ pub fn population(
 ) -> Result<Vec<Sum>, MatchFault>
     requires fixed { FitsTwo setup.now.params 2 setup.now.plan.fixed }
     ensures many { IfOk result (λ sums. vec_len sums ≡ length candidates.now) }
-    ensures sums { let plan = setup.now.plan in IsAnswer (λ (sums : Vec SumNumbers Global). sums.items)
+    ensures sums { let plan = setup.now.plan in IsResult (λ (sums : Vec SumNumbers Global). sums.items)
         (population_of setup.now.params plan.formula plan.fixed plan.rounds plan.seed opponents.now candidates.now) result }
 {
     let mut sums = Vec::with_capacity(alloc, candidates.len())?;

@@ -1,16 +1,16 @@
 //! The points of each survivor of a round.
 ghost use Rattle.std.specs.Prelude.{◌≡◌, ◌≤◌, ◌≢◌, length, IfErr};
-ghost use Rattle.mars_core.specs.Limits.{most_warriors};
+ghost use Rattle.mars_core.specs.Limits.{max_warriors};
 ghost use Rattle.mars_match.specs.Battles.{lives};
 ghost use Rattle.mars_match.specs.Code.Keeping.{AreScores};
 ghost use Rattle.mars_match.specs.Rounds.{round_score};
 
 use crate::fault::MatchFault;
-use mars_core::{Battle, MOST_WARRIORS};
+use mars_core::{Battle, MAX_WARRIORS};
 use redcode_asm::Formula;
 
 /// The points of each survivor, by the number of survivors, if they were computed. The item 0 is for one survivor.
-pub type Scores = [Option<i64>; MOST_WARRIORS];
+pub type Scores = [Option<i64>; MAX_WARRIORS];
 
 /// Returns the points of each survivor of a battle. They are computed once for each number of survivors.
 pub fn score_round(
@@ -18,7 +18,7 @@ pub fn score_round(
     battle: &Battle,
     scores: &mut Scores,
 ) -> Result<i64, MatchFault>
-    requires few { length battle.now.queues ≤ most_warriors }
+    requires few { length battle.now.queues ≤ max_warriors }
     requires scores { AreScores formula.now (length battle.now.queues) scores.old }
     ensures value { result ≡ round_score formula.now (lives battle.now) }
     ensures scores { AreScores formula.now (length battle.now.queues) scores.new }

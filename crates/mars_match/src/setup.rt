@@ -1,8 +1,8 @@
 //! The setup of matches, and the starting positions of the warriors of a round: drawn, or at a fixed position.
 ghost use Rattle.std.specs.Prelude.{◌≡◌, ◌≤◌, ℕ, length, IfOk, IfSome, MatchResult, Ok, Err, Vec, vec_len};
 ghost use Rattle.std.specs.Global.{Global};
-ghost use Rattle.mars_core.specs.Limits.{most_warriors};
-ghost use Rattle.mars_match.specs.Answers.{IsAnswer};
+ghost use Rattle.mars_core.specs.Limits.{max_warriors};
+ghost use Rattle.mars_match.specs.CallResults.{IsResult};
 ghost use Rattle.mars_match.specs.Placement.{FitsTwo};
 ghost use Rattle.mars_match.specs.Rounds.{placed_for};
 
@@ -37,7 +37,7 @@ impl Setup {
     /// Sets the starts of a round, and returns the seed that is left.
     pub(crate) fn place_round(&self, seed: u32, starts: &mut [u32]) -> Result<u32, MatchFault>
         requires some { 1 ≤ length starts.old }
-        requires few { length starts.old ≤ most_warriors }
+        requires few { length starts.old ≤ max_warriors }
         requires fixed { IfSome self.now.plan.fixed (λ position. length starts.old ≡ 2) }
         ensures { MatchResult result (λ left. placed_for self.now.params (length starts.old) self.now.plan.fixed seed ≡ Ok (starts.new, left))
             (λ fault. placed_for self.now.params (length starts.old) self.now.plan.fixed seed ≡ Err fault) }
@@ -68,9 +68,9 @@ impl Setup {
         seed: u32,
     ) -> Result<(Vec<u32>, u32), MatchFault>
         requires some { 1 ≤ warriors }
-        requires few { warriors ≤ most_warriors }
+        requires few { warriors ≤ max_warriors }
         requires fixed { FitsTwo self.now.params warriors self.now.plan.fixed }
-        ensures value { IsAnswer (λ (placed : Vec ℕ Global × ℕ). (placed.0.items, placed.1))
+        ensures value { IsResult (λ (placed : Vec ℕ Global × ℕ). (placed.0.items, placed.1))
             (placed_for self.now.params warriors self.now.plan.fixed seed) result }
         ensures many { IfOk result (λ placed. vec_len placed.0 ≡ warriors) }
     {

@@ -7,7 +7,7 @@ use Rattle.mars_core.specs.State.{State}
 use Rattle.mars_core.proofs.CallerLemmas.{turns-turn_of, turns-edited, cycle-turn_of, cycle-edited}
 use Rattle.mars_session.specs.History.{Place, History, places, rewound_from, rewound, first_at_turn_from, first_at_turn, goto, last_place, first_turns, last_turns}
 use Rattle.mars_session.specs.Tapes.{Follows, FollowsAll, AllFollow, Steps, RisesFrom, TurnsRise}
-use Rattle.mars_session.specs.Laws.{RisesAlong, TurnsAndCyclesRise, GotoBetween}
+use Rattle.mars_session.specs.Laws.{GrowsByAtMostOne, TurnsAndCyclesRise, GotoBetween}
 use Rattle.mars_session.proofs.Walking.{last_turns_rewound, rewound_first}
 use Rattle.mars_session.proofs.Places.{places_rewound}
 
@@ -115,7 +115,7 @@ met_up_to t first last h rise e f up_to = by_first (nat_le first t) refl
     by_first false k =
         sym (none_unless (first_turns h ≤ t) (goto t h) (λ some. ((turns_between h t rise).0 some).0) (λ l. absurd (omega (arith, leb-false first t k, e, l))))
 
-rises_along : (number : State → ℕ) → ((s t : State) → Follows s t → (number s ≤ number t) × (number t ≤ number s + 1)) → (h : History) → Steps h → RisesAlong number (places h)
+rises_along : (number : State → ℕ) → ((s t : State) → Follows s t → (number s ≤ number t) × (number t ≤ number s + 1)) → (h : History) → Steps h → GrowsByAtMostOne number (places h)
 rises_along number one h t =
     let r : History = rewound h in
     let first : r.before ≡ [] = rewound_first h.before h.present h.after in

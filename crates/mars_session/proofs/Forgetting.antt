@@ -8,7 +8,7 @@ use Rattle.circular_buffer.specs.Buffer.{Buffer, buffer, keep_last}
 use Rattle.mars_core.specs.State.{State}
 use Rattle.mars_core.specs.Leads.{Leads}
 use Rattle.mars_core.specs.declared.record.Atom.{Atom}
-use Rattle.mars_session.specs.Limits.{longest_history}
+use Rattle.mars_session.specs.Limits.{max_history}
 use Rattle.mars_session.specs.History.{Place, History, position_of, marked, append}
 use Rattle.mars_session.specs.Retention.{Retention, retained, retention_after}
 use Rattle.mars_session.specs.Code.Journals.{entry_at, journal_history, IsJournal, IsRing}
@@ -54,7 +54,7 @@ dropped_history first e es at t l =
     let none_after : length (e ∷ es) - (at + 1) ≡ 0 = omega (arith, l) in
     rw (none, none_after, add-one at) (history_is t _ _ _ _ _ _ (dropped_before first e es at t) (dropped_mark first e es at) refl)
 
-dropped_ring : (e : Atom × Bool) (es : List (Atom × Bool)) (most at : ℕ) (t : State) → length es ≡ at → at ≤ most → 1 ≤ most → most ≤ longest_history → IsJournal (e ∷ es) (at + 1) t → IsRing es most at t
+dropped_ring : (e : Atom × Bool) (es : List (Atom × Bool)) (most at : ℕ) (t : State) → length es ≡ at → at ≤ most → 1 ≤ most → most ≤ max_history → IsJournal (e ∷ es) (at + 1) t → IsRing es most at t
 dropped_ring e es most at t l m some few d =
     let none : length es - at ≡ 0 = omega arith in
     record {
@@ -94,7 +94,7 @@ ring_pushed first es most at s t a d e leads = by_room (nat_lt at most) refl
     by_room true f = room_pushed first es most at s t a e (ltb-true at most f) leads
     by_room false f = full_pushed first es most at s t a e (omega (arith, ltb-false at most f, d.within)) d.some leads
 
-full_ring : (es : List (Atom × Bool)) (most at : ℕ) (s t : State) (a : Atom) → length es ≡ at → at ≡ most → 1 ≤ most → most ≤ longest_history → Leads s a t → IsJournal es at s
+full_ring : (es : List (Atom × Bool)) (most at : ℕ) (s t : State) (a : Atom) → length es ≡ at → at ≡ most → 1 ≤ most → most ≤ max_history → Leads s a t → IsJournal es at s
     → IsRing (keep_last most (es ++ (a, false) ∷ [])) most at t
 full_ring [] most at s t a e m some few leads d = absurd (omega (arith, e))
 full_ring (x ∷ es) most at s t a e m some few leads d =

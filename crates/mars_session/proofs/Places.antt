@@ -6,7 +6,7 @@ use Rattle.std.proofs.lemmas.List.{reverse-append, append_assoc, length-reverse,
 use Rattle.std.proofs.Math.Seq.{take-append_seam}
 use Rattle.mars_core.specs.State.{State}
 use Rattle.mars_session.specs.History.{Place, History, places, position_of, append, append_all, cut, marked, after_command, marked_before, undo, marked_after, redo, rewound_from, rewound, first_at_turn_from, goto}
-use Rattle.mars_session.specs.Laws.{passes_at, IsGreatestBelow, IsLeastBetween, MovesKeepPlaces, UndoFindsNearest, RedoFindsNearest, GotoFindsFirst, command_places, CommandsAppend}
+use Rattle.mars_session.specs.Laws.{holds_at, IsGreatestBelow, IsLeastBetween, MovesKeepPlaces, UndoFindsNearest, RedoFindsNearest, GotoFindsFirst, command_places, CommandsAppend}
 use Rattle.mars_session.proofs.Walking.{rewound_again, position_rewound}
 use Rattle.mars_session.proofs.Undoing.{after_append_all}
 
@@ -61,12 +61,12 @@ moves_keep_places h to (inr (inr g)) =
     places_same to h (start_of (rewound r) (goto g.0 h) to (goto_start g.0 r.before r.present r.after) g.1 ∙ rewound_again h)
 
 -- The place with number `length front + k` is place `k` of the rest.
-passes_behind : (test : Place → Bool) (front rest : List Place) (k n : ℕ) → n ≡ length front + k → passes_at test (front ++ rest) n ≡ passes_at test rest k
+passes_behind : (test : Place → Bool) (front rest : List Place) (k n : ℕ) → n ≡ length front + k → holds_at test (front ++ rest) n ≡ holds_at test rest k
 passes_behind test [] rest k n e = let same : n ≡ k = omega (arith, e) in rw same refl
 passes_behind test (x ∷ front) rest k zero e = absurd (omega (arith, e))
 passes_behind test (x ∷ front) rest k (suc n) e = passes_behind test front rest k n (omega (arith, e))
 
-passes_here : (test : Place → Bool) (all before : List Place) (p : Place) (after : List Place) → all ≡ reverse before ++ p ∷ after → passes_at test all (length before) ≡ test p
+passes_here : (test : Place → Bool) (all before : List Place) (p : Place) (after : List Place) → all ≡ reverse before ++ p ∷ after → holds_at test all (length before) ≡ test p
 passes_here test all before p after e =
     rw e (passes_behind test (reverse before) (p ∷ after) 0 (length before) (omega (arith, length-reverse before)))
 
@@ -91,31 +91,31 @@ least_more f n m None z h = λ k l u. first_fails f n k (nat_eq k n) refl l (λ 
 least_more f n m (Some i) z h = (omega (arith, h.0), h.1, h.2, λ k l u. first_fails f n k (nat_eq k n) refl l (λ v. h.3 k v u) z)
 
 undo_finds : (all before : List Place) (p : Place) (after : List Place) → all ≡ reverse before ++ p ∷ after
-    → IsGreatestBelow (passes_at (λ (q : Place). q.mark) all) (length before) (option_map position_of (marked_before before p after))
+    → IsGreatestBelow (holds_at (λ (q : Place). q.mark) all) (length before) (option_map position_of (marked_before before p after))
 undo_finds all [] p after e = λ k l. absurd (omega (arith, l))
 undo_finds all (b ∷ before) p after e =
     let there : all ≡ reverse before ++ b ∷ p ∷ after = e ∙ places_from b before (p ∷ after) in
-    let f : ℕ → Bool = passes_at (λ (q : Place). q.mark) all in
+    let f : ℕ → Bool = holds_at (λ (q : Place). q.mark) all in
     let here : f (length before) ≡ b.mark = passes_here (λ (q : Place). q.mark) all before b (p ∷ after) there in
     found (λ (o : Option History). IsGreatestBelow f (suc (length before)) (option_map position_of o)) b.mark (Some (record { before = before; present = b; after = p ∷ after })) (marked_before before b (p ∷ after))
     (λ m. (omega arith, here ∙ m, λ k l u. absurd (omega (arith, l, u))))
     (λ m. greatest_more f (length before) (option_map position_of (marked_before before b (p ∷ after))) (here ∙ m) (undo_finds all before b (p ∷ after) there))
 
 redo_finds : (all before : List Place) (p : Place) (after : List Place) → all ≡ reverse before ++ p ∷ after
-    → IsLeastBetween (passes_at (λ (q : Place). q.mark) all) (suc (length before)) (length all) (option_map position_of (marked_after before p after))
+    → IsLeastBetween (holds_at (λ (q : Place). q.mark) all) (suc (length before)) (length all) (option_map position_of (marked_after before p after))
 redo_finds all before p [] e = λ k l u. absurd (omega (arith, l, u, places_count all before p [] e))
 redo_finds all before p (a ∷ after) e =
     let there : all ≡ reverse (p ∷ before) ++ a ∷ after = e ∙ sym (places_from p before (a ∷ after)) in
-    let f : ℕ → Bool = passes_at (λ (q : Place). q.mark) all in
+    let f : ℕ → Bool = holds_at (λ (q : Place). q.mark) all in
     let here : f (suc (length before)) ≡ a.mark = passes_here (λ (q : Place). q.mark) all (p ∷ before) a after there in
     found (λ (o : Option History). IsLeastBetween f (suc (length before)) (length all) (option_map position_of o)) a.mark (Some (record { before = p ∷ before; present = a; after = after })) (marked_after (p ∷ before) a after)
     (λ m. (omega arith, omega (arith, places_count all before p (a ∷ after) e), here ∙ m, λ k l u. absurd (omega (arith, l, u))))
     (λ m. least_more f (suc (length before)) (length all) (option_map position_of (marked_after (p ∷ before) a after)) (here ∙ m) (redo_finds all (p ∷ before) a after there))
 
 goto_finds : (t : ℕ) (all before : List Place) (p : Place) (after : List Place) → all ≡ reverse before ++ p ∷ after
-    → IsLeastBetween (passes_at (λ (q : Place). q.state.turns == t) all) (length before) (length all) (option_map position_of (first_at_turn_from t before p after))
+    → IsLeastBetween (holds_at (λ (q : Place). q.state.turns == t) all) (length before) (length all) (option_map position_of (first_at_turn_from t before p after))
 goto_finds t all before p [] e =
-    let f : ℕ → Bool = passes_at (λ (q : Place). q.state.turns == t) all in
+    let f : ℕ → Bool = holds_at (λ (q : Place). q.state.turns == t) all in
     let here : f (length before) ≡ nat_eq p.state.turns t = passes_here (λ (q : Place). q.state.turns == t) all before p [] e in
     let count = places_count all before p [] e in
     found (λ (o : Option History). IsLeastBetween f (length before) (length all) (option_map position_of o)) (nat_eq p.state.turns t) (Some (record { before = before; present = p; after = [] })) None
@@ -123,7 +123,7 @@ goto_finds t all before p [] e =
     (λ m. least_more f (length before) (length all) None (here ∙ m) (λ k l u. absurd (omega (arith, l, u, count))))
 goto_finds t all before p (a ∷ after) e =
     let there : all ≡ reverse (p ∷ before) ++ a ∷ after = e ∙ sym (places_from p before (a ∷ after)) in
-    let f : ℕ → Bool = passes_at (λ (q : Place). q.state.turns == t) all in
+    let f : ℕ → Bool = holds_at (λ (q : Place). q.state.turns == t) all in
     let here : f (length before) ≡ nat_eq p.state.turns t = passes_here (λ (q : Place). q.state.turns == t) all before p (a ∷ after) e in
     found (λ (o : Option History). IsLeastBetween f (length before) (length all) (option_map position_of o)) (nat_eq p.state.turns t) (Some (record { before = before; present = p; after = a ∷ after })) (first_at_turn_from t (p ∷ before) a after)
     (λ m. (omega arith, omega (arith, places_count all before p (a ∷ after) e), here ∙ m, λ k l u. absurd (omega (arith, l, u))))
@@ -139,7 +139,7 @@ pub goto_finds_first : GotoFindsFirst
 goto_finds_first h t =
     let r : History = rewound h in
     let all = goto_finds t (places h) r.before r.present r.after (sym (places_rewound h.before h.present h.after)) in
-    subst (λ (n : ℕ). IsLeastBetween (passes_at (λ (q : Place). q.state.turns == t) (places h)) n (length (places h)) (option_map position_of (goto t h))) (position_rewound h) all
+    subst (λ (n : ℕ). IsLeastBetween (holds_at (λ (q : Place). q.state.turns == t) (places h)) n (length (places h)) (option_map position_of (goto t h))) (position_rewound h) all
 
 -- The places of a command, after those before it.
 appended_places : (before : List Place) (s : State) (ss : List State)

@@ -1,6 +1,6 @@
 -- Turns never fall along a tape, and rise by at most one from place to place.
 -- Each tape derives this from its invariant and states it in two of its methods (`position`, `last_turns`). It lets `goto` stop
--- early: the results of `may_lie_before` and `is_met` follow from it, so the walk itself needs no lemma.
+-- early: the results of `target_may_precede` and `is_turn_in_history` follow from it, so the walk itself needs no lemma.
 use Rattle.std.proofs.Common.{◌≡◌, ℕ, zero, suc, ◌+◌, ◌-◌, ◌<◌, ◌≤◌, inl, inr, Bool, List, length, refl, ap, sym, subst, ◌∙◌, arith, add-one}
 use Rattle.mars_core.specs.State.{State}
 use Rattle.mars_core.specs.Leads.{Leads}

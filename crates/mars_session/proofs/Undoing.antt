@@ -7,7 +7,7 @@ use Rattle.mars_session.specs.declared.calls.Call.{Call}
 use Rattle.mars_session.specs.declared.calls.Refusal.{Refusal}
 use Rattle.mars_session.specs.Commands.{States}
 use Rattle.mars_session.specs.Retention.{Retention, never, retained, retention_after}
-use Rattle.mars_session.specs.Script.{CallKind, Command, Move, kind_of, outcome_of, outcome, command_outcome, appended, move_outcome, no_room, first, rest, script}
+use Rattle.mars_session.specs.Script.{CallKind, Command, Move, kind_of, outcome_of, outcome, command_outcome, appended, move_outcome, room_refusal, first, rest, script}
 use Rattle.mars_session.specs.Laws.{command_places, times, is_command, count_of, appended_by, AllAccepted, UndosGiveBack, RedosGiveAgain, RedoAfterUndo}
 
 -- The history `h` with its present place marked, and followed by these places.
@@ -92,7 +92,7 @@ accepted_room m h states None ok = record { first = states.0; others = states.1;
 
 accepted_command : (m : Retention) (limit bound : ℕ) (poor : Bool) (h : History) (x : Result States Refusal) → IsOk (command_outcome m limit bound poor h x).reply → Accepted m (count_of x) h (command_outcome m limit bound poor h x).history
 accepted_command m limit bound poor h (Err r) ok = absurd (let e : false ≡ true = ok in cc)
-accepted_command m limit bound poor h (Ok states) ok = accepted_room m h states (no_room m limit bound poor h) ok
+accepted_command m limit bound poor h (Ok states) ok = accepted_room m h states (room_refusal m limit bound poor h) ok
 
 accepted_kind : (m : Retention) (limit : ℕ) (call : CallKind) (poor : Bool) (h : History) → IsTrue (is_command call) → IsOk (outcome_of m limit call poor h).reply
     → Accepted m (appended_by call h.present.state) h (outcome_of m limit call poor h).history
@@ -113,7 +113,7 @@ remembers_room m h states None = inr (after_command h states.0 states.1, refl)
 
 remembers_command : (m : Retention) (limit bound : ℕ) (poor : Bool) (h : History) (x : Result States Refusal) → Remembers m (command_outcome m limit bound poor h x).retention
 remembers_command m limit bound poor h (Err r) = inl refl
-remembers_command m limit bound poor h (Ok states) = remembers_room m h states (no_room m limit bound poor h)
+remembers_command m limit bound poor h (Ok states) = remembers_room m h states (room_refusal m limit bound poor h)
 
 remembers_move : (m : Retention) (h : History) (r : Refusal) (x : Option History) → Remembers m (move_outcome m h r x).retention
 remembers_move m h r None = inl refl

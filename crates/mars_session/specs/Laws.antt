@@ -12,12 +12,12 @@ use Rattle.mars_session.specs.History.{Place, History, beginning, places, positi
 use Rattle.mars_session.specs.Retention.{Retention, never}
 use Rattle.mars_session.specs.Commands.{States, in_cycle, until_states}
 use Rattle.mars_session.specs.Tapes.{Steps, IsTape, IsTapeOf, RisesFrom}
-use Rattle.mars_session.specs.Script.{SessionValue, CallKind, Command, Move, kind_of, outcome, is_poor, EachAnswers, script, first, rest}
+use Rattle.mars_session.specs.Script.{SessionValue, CallKind, Command, Move, kind_of, outcome, is_poor, CallsMeetSpec, script, first, rest}
 
 -- If calls are executed one after another, the replies and the final history are those of `script`, with an allocation failing
 -- in exactly the calls whose reply says so.
 abbrev pub CallsAreScripts : Type 0
-CallsAreScripts = (old new : SessionValue) (calls : List Call) (replies : List (Result Standing Refusal)) → EachAnswers old calls replies new
+CallsAreScripts = (old new : SessionValue) (calls : List Call) (replies : List (Result Standing Refusal)) → CallsMeetSpec old calls replies new
     → (script old.state.retention old.state.limit calls (map is_poor replies) old.state.history
     ≡ record { history = new.state.history; retention = new.state.retention; replies = replies })
     × (new.state.limit ≡ old.state.limit)
@@ -69,7 +69,7 @@ accepted_count replies = length (filter is_ok replies)
 
 -- From the history `end`, `count` calls of Undo are all accepted and lead to the state of `h`; then `count` calls of Redo are
 -- all accepted and lead back to `end` exactly.
-pub record GoesBackAndOn (m : Retention) (limit count : ℕ) (undo_poor redo_poor : List Bool) (h back end : History) : Type 0 where
+pub record UndoRedoRoundTrip (m : Retention) (limit count : ℕ) (undo_poor redo_poor : List Bool) (h back end : History) : Type 0 where
   pub undone : IsTrue (list_all is_ok (script m limit (replicate count Undo) undo_poor end).replies)
   pub retention : (script m limit (replicate count Undo) undo_poor end).retention ≡ m
   pub state : back.present.state ≡ h.present.state
@@ -83,7 +83,7 @@ CommandsAreUndone = (limit : ℕ) (calls : List Call) (poor undo_poor redo_poor 
     → let count = accepted_count (script never limit calls poor h).replies in
     let end = (script never limit calls poor h).history in
     let back = (script never limit (replicate count Undo) undo_poor end).history in
-    GoesBackAndOn never limit count undo_poor redo_poor h back end × (position_of back ≡ position_of h)
+    UndoRedoRoundTrip never limit count undo_poor redo_poor h back end × (position_of back ≡ position_of h)
 
 -- The number of states that a command reaches.
 abbrev pub count_of : Result States Refusal → ℕ
@@ -96,23 +96,23 @@ appended_by (Command bound states) s = count_of (states s)
 appended_by (Move refusal move) s = 0
 
 -- The number of places that calls append together.
-abbrev pub appended_together : Retention → ℕ → List Call → List Bool → History → ℕ
-appended_together m limit [] poor h = 0
-appended_together m limit (call ∷ calls) poor h =
+abbrev pub total_appended : Retention → ℕ → List Call → List Bool → History → ℕ
+total_appended m limit [] poor h = 0
+total_appended m limit (call ∷ calls) poor h =
     let one = outcome m limit call (first poor) h in
-    appended_by (kind_of call) h.present.state + appended_together one.retention limit calls (rest poor) one.history
+    appended_by (kind_of call) h.present.state + total_appended one.retention limit calls (rest poor) one.history
 
 -- If `k` places are kept, commands that append at most `k` places together can be undone and redone, as in `CommandsAreUndone`.
 -- The position may be another one, because places may be evicted.
 abbrev pub FewCommandsAreUndone : Type 0
 FewCommandsAreUndone = (k : ℕ) (forgotten : Bool) (limit : ℕ) (calls : List Call) (poor undo_poor redo_poor : List Bool) (h : History) → IsTrue (list_all is_command (map kind_of calls))
     → let m : Retention = record { most = Some k; forgotten = forgotten } in
-    appended_together m limit calls poor h ≤ k
+    total_appended m limit calls poor h ≤ k
     → let count = accepted_count (script m limit calls poor h).replies in
     let end = (script m limit calls poor h).history in
     let after = (script m limit calls poor h).retention in
     let back = (script after limit (replicate count Undo) undo_poor end).history in
-    GoesBackAndOn after limit count undo_poor redo_poor h back end
+    UndoRedoRoundTrip after limit count undo_poor redo_poor h back end
 
 -- From a marked place, redo after an accepted undo restores the history.
 abbrev pub RedoAfterUndo : Type 0
@@ -144,23 +144,23 @@ abbrev pub PlacesAreValid : Type 0
 PlacesAreValid = (h : History) → Steps h → All (λ (p : Place). IsValid p.state) (places h)
 
 -- `number` never falls from place to place, and rises by at most one.
-abbrev pub RisesAlong : (State → ℕ) → List Place → Type 0
-RisesAlong number [] = Unit {0}
-RisesAlong number (p ∷ ps) = RisesFrom number p.state ps
+abbrev pub GrowsByAtMostOne : (State → ℕ) → List Place → Type 0
+GrowsByAtMostOne number [] = Unit {0}
+GrowsByAtMostOne number (p ∷ ps) = RisesFrom number p.state ps
 
 -- The numbers of turns and of cycles never fall along a tape, and rise by at most one from place to place.
 abbrev pub TurnsAndCyclesRise : Type 0
-TurnsAndCyclesRise = (h : History) → Steps h → RisesAlong (λ (s : State). s.turns) (places h) × RisesAlong (λ (s : State). s.cycle) (places h)
+TurnsAndCyclesRise = (h : History) → Steps h → GrowsByAtMostOne (λ (s : State). s.turns) (places h) × GrowsByAtMostOne (λ (s : State). s.cycle) (places h)
 
 -- A tape has a place with `t` turns exactly if `t` is between the turns of its first and of its last place.
 abbrev pub GotoBetween : Type 0
 GotoBetween = (h : History) (t : ℕ) → Steps h → IsSome (goto t h) ↔ ((first_turns h ≤ t) × (t ≤ last_turns h))
 
 -- There is a place with this number, and it passes the test.
-abbrev pub passes_at : (Place → Bool) → List Place → ℕ → Bool
-passes_at test [] i = false
-passes_at test (p ∷ ps) zero = test p
-passes_at test (p ∷ ps) (suc i) = passes_at test ps i
+abbrev pub holds_at : (Place → Bool) → List Place → ℕ → Bool
+holds_at test [] i = false
+holds_at test (p ∷ ps) zero = test p
+holds_at test (p ∷ ps) (suc i) = holds_at test ps i
 
 -- The result is the greatest number below `n` that passes, or None if none does.
 abbrev pub IsGreatestBelow : (ℕ → Bool) → ℕ → Option ℕ → Type 0
@@ -178,15 +178,15 @@ MovesKeepPlaces = (h to : History) → ((undo h ≡ Some to) ⊎ ((redo h ≡ So
 
 -- Undo leads to the nearest marked place before the present one.
 abbrev pub UndoFindsNearest : Type 0
-UndoFindsNearest = (h : History) → IsGreatestBelow (passes_at (λ (p : Place). p.mark) (places h)) (position_of h) (option_map position_of (undo h))
+UndoFindsNearest = (h : History) → IsGreatestBelow (holds_at (λ (p : Place). p.mark) (places h)) (position_of h) (option_map position_of (undo h))
 
 -- Redo leads to the nearest marked place after the present one.
 abbrev pub RedoFindsNearest : Type 0
-RedoFindsNearest = (h : History) → IsLeastBetween (passes_at (λ (p : Place). p.mark) (places h)) (position_of h + 1) (length (places h)) (option_map position_of (redo h))
+RedoFindsNearest = (h : History) → IsLeastBetween (holds_at (λ (p : Place). p.mark) (places h)) (position_of h + 1) (length (places h)) (option_map position_of (redo h))
 
 -- Goto leads to the first place with `t` turns.
 abbrev pub GotoFindsFirst : Type 0
-GotoFindsFirst = (h : History) (t : ℕ) → IsLeastBetween (passes_at (λ (p : Place). p.state.turns == t) (places h)) 0 (length (places h)) (option_map position_of (goto t h))
+GotoFindsFirst = (h : History) (t : ℕ) → IsLeastBetween (holds_at (λ (p : Place). p.state.turns == t) (places h)) 0 (length (places h)) (option_map position_of (goto t h))
 
 -- The places that a command appends. Only the last one is marked.
 abbrev pub command_places : State → List State → List Place

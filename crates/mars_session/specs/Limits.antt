@@ -2,5 +2,5 @@
 use Rattle.std.specs.Prelude.{ℕ}
 
 -- The maximum number of places beside the last one that a tape which evicts may keep.
-abbrev pub longest_history : ℕ
-longest_history = 1000000
+abbrev pub max_history : ℕ
+max_history = 1000000

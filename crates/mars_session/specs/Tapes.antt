@@ -11,13 +11,13 @@ use Rattle.mars_session.specs.History.{Place, History, last_of, rewound, last_pl
 
 -- A tape that keeps all places: its history, and the number of places that it can append without allocating, once the following
 -- ones are dropped.
-pub record Taped : Type 0 where
+pub record TapeValue : Type 0 where
   pub history : History
   pub room : ℕ
 
 -- A tape that evicts places: its history, the number of places that it keeps beside the last one, and whether one was ever
 -- evicted.
-pub record Ringed : Type 0 where
+pub record RingTapeValue : Type 0 where
   pub history : History
   pub most : ℕ
   pub forgotten : Bool

@@ -6,7 +6,7 @@ ghost use Rattle.mars_core.specs.State.{is_over_of};
 ghost use Rattle.mars_core.specs.Turn.{turn_of};
 ghost use Rattle.mars_core.specs.Edit.{edit_fault};
 ghost use Rattle.mars_session.specs.Code.Appending.{go_on_all};
-ghost use Rattle.mars_session.specs.Script.{standing_of, no_room, is_out_of_memory, is_poor, command_outcome, IsAnswer};
+ghost use Rattle.mars_session.specs.Script.{standing_of, room_refusal, is_out_of_memory, is_poor, command_outcome, IsOutcome};
 
 use crate::calls::{Call, Refusal, Standing};
 use crate::tapes::Tape;
@@ -41,8 +41,8 @@ fn prepare<T: Tape>(tape: &mut T, limit: u64, bound: u64) -> Result<(), Refusal>
     requires { 1 ≤ bound }
 
     // There is room as the specification says. `OutOfMemory` is possible only if the tape has less room than `bound`.
-    ensures room { OnOk result (no_room (T.retention tape.old) limit bound false (T.history tape.old) ≡ None) }
-    ensures refused { IfErr result (λ r. no_room (T.retention tape.old) limit bound (is_out_of_memory r) (T.history tape.old) ≡ Some r) }
+    ensures room { OnOk result (room_refusal (T.retention tape.old) limit bound false (T.history tape.old) ≡ None) }
+    ensures refused { IfErr result (λ r. room_refusal (T.retention tape.old) limit bound (is_out_of_memory r) (T.history tape.old) ≡ Some r) }
     ensures memory { result ≡ Err Refusal.OutOfMemory → T.room tape.old < bound }
 
     // If it succeeds, the place is marked and the places after it are dropped; otherwise nothing changes.
@@ -115,7 +115,7 @@ fn make_turns<T: Tape>(
 
 /// Executes one turn.
 pub fn step<T: Tape>(tape: &mut T, limit: u64) -> Result<Standing, Refusal>
-    ensures answer { IsAnswer (T.retention tape.old) limit Call.Step (T.history tape.old) result (T.history tape.new) (T.retention tape.new) }
+    ensures answer { IsOutcome (T.retention tape.old) limit Call.Step (T.history tape.old) result (T.history tape.new) (T.retention tape.new) }
     ensures memory { result ≡ Err Refusal.OutOfMemory → T.room tape.old < 1 }
 {
     if tape.now().is_over() {
@@ -126,7 +126,7 @@ pub fn step<T: Tape>(tape: &mut T, limit: u64) -> Result<Standing, Refusal>
 
 /// Executes `n` turns, or as many as are left.
 pub fn run<T: Tape>(tape: &mut T, limit: u64, n: u64) -> Result<Standing, Refusal>
-    ensures answer { IsAnswer (T.retention tape.old) limit (Call.Run n) (T.history tape.old) result (T.history tape.new) (T.retention tape.new) }
+    ensures answer { IsOutcome (T.retention tape.old) limit (Call.Run n) (T.history tape.old) result (T.history tape.new) (T.retention tape.new) }
     ensures memory { result ≡ Err Refusal.OutOfMemory → T.room tape.old < n }
 {
     if n == 0 || n > COMMAND_LIMIT {
@@ -139,7 +139,7 @@ pub fn run<T: Tape>(tape: &mut T, limit: u64, n: u64) -> Result<Standing, Refusa
 }
 
 /// Returns `cycles * warriors`, or `None` if one command may not execute that many turns.
-fn few_turns(cycles: u64, warriors: u64) -> Option<u64>
+fn bounded_turns(cycles: u64, warriors: u64) -> Option<u64>
     ensures { MatchOption result (command_limit < cycles * warriors) (λ n. (n ≡ cycles * warriors) × (n ≤ command_limit)) }
 {
     cycles.checked_mul(warriors).filter(|n| *n <= COMMAND_LIMIT)
@@ -147,13 +147,13 @@ fn few_turns(cycles: u64, warriors: u64) -> Option<u64>
 
 /// Executes turns until the battle is in the cycle, or as many as are left.
 pub fn until<T: Tape>(tape: &mut T, limit: u64, cycle: u64) -> Result<Standing, Refusal>
-    ensures answer { IsAnswer (T.retention tape.old) limit (Call.Until cycle) (T.history tape.old) result (T.history tape.new)
+    ensures answer { IsOutcome (T.retention tape.old) limit (Call.Until cycle) (T.history tape.old) result (T.history tape.new)
         (T.retention tape.new) }
     ensures memory { result ≡ Err Refusal.OutOfMemory → T.room tape.old < until_bound cycle (T.history tape.old).present.state }
 {
     let now = tape.now();
     let reached = now.cycle() as u64;
-    let Some(n) = few_turns(cycle.saturating_sub(reached), now.warriors() as u64) else {
+    let Some(n) = bounded_turns(cycle.saturating_sub(reached), now.warriors() as u64) else {
         return Err(Refusal::Count);
     };
     if now.is_over() {
@@ -221,7 +221,7 @@ pub fn fill<T: Tape>(
     to: u64,
     cell: Cell,
 ) -> Result<Standing, Refusal>
-    ensures answer { IsAnswer (T.retention tape.old) limit (Call.Fill from to cell) (T.history tape.old) result (T.history tape.new)
+    ensures answer { IsOutcome (T.retention tape.old) limit (Call.Fill from to cell) (T.history tape.old) result (T.history tape.new)
         (T.retention tape.new) }
     ensures memory { result ≡ Err Refusal.OutOfMemory → T.room tape.old < cells_between from to }
 {

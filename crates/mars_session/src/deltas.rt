@@ -26,10 +26,10 @@ pub struct DeltaTape {
 
 impl Model for DeltaTape {
     ghost use Rattle.std.specs.Prelude.{◌-◌, true, vec_capacity};
-    ghost use Rattle.mars_session.specs.Tapes.{Taped};
+    ghost use Rattle.mars_session.specs.Tapes.{TapeValue};
     ghost use Rattle.mars_session.specs.Code.Journals.{IsJournal, HasEnds, journal_history};
 
-    ghost Value = { Taped };
+    ghost Value = { TapeValue };
 
     ghost view = { λ t. record { history = journal_history true t.entries.items t.at t.battle; room = vec_capacity t.entries - t.at } };
 

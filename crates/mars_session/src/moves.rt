@@ -1,7 +1,7 @@
 //! The moves to places in the history, generic over the tape.
 ghost use Rattle.std.specs.Prelude.{◌≡◌, ◌≢◌, Err, ◌<◌, ◌≤◌, true, false, Some, IsSome, is_some};
 ghost use Rattle.mars_session.specs.History.{position_of, last_of, rewound, undo, redo, goto, first_at_turn, first_turns as turns_of_first, last_turns};
-ghost use Rattle.mars_session.specs.Script.{move_outcome, no_undo};
+ghost use Rattle.mars_session.specs.Script.{move_outcome, undo_refusal};
 
 use crate::calls::{Refusal, Standing};
 use crate::commands::standing;
@@ -34,7 +34,7 @@ fn go_on<T: Tape>(tape: &mut T, position: u64)
 
 /// Returns the refusal of an undo that finds no marked place.
 fn no_marked_place<T: Tape>(tape: &T) -> Refusal
-    ensures why { result ≡ no_undo (T.retention tape.now) }
+    ensures why { result ≡ undo_refusal (T.retention tape.now) }
     ensures never { result ≢ Refusal.OutOfMemory }
 {
     if tape.forgotten() {
@@ -46,7 +46,7 @@ fn no_marked_place<T: Tape>(tape: &T) -> Refusal
 
 /// Goes back to the nearest marked place.
 pub fn undo<T: Tape>(tape: &mut T) -> Result<Standing, Refusal>
-    ensures answer { move_outcome (T.retention tape.old) (T.history tape.old) (no_undo (T.retention tape.old)) (undo (T.history tape.old))
+    ensures answer { move_outcome (T.retention tape.old) (T.history tape.old) (undo_refusal (T.retention tape.old)) (undo (T.history tape.old))
         ≡ record { history = T.history tape.new; retention = T.retention tape.new; reply = result } }
     ensures never { result ≢ Err Refusal.OutOfMemory }
 {
@@ -89,7 +89,7 @@ fn turns_now<T: Tape>(tape: &T) -> u64
 ///
 /// It can't be if the present place is the first one or has fewer turns than the target, because the number of turns never
 /// decreases along a history.
-fn may_lie_before<T: Tape>(tape: &T, turns: u64) -> bool
+fn target_may_precede<T: Tape>(tape: &T, turns: u64) -> bool
     ensures back { result ≡ true → 0 < position_of (T.history tape.now) }
     ensures here { result ≡ false → goto turns (T.history tape.now) ≡ first_at_turn turns (T.history tape.now) }
 {
@@ -102,13 +102,13 @@ fn go_before<T: Tape>(tape: &mut T, turns: u64)
     ensures sought { first_at_turn turns (T.history tape.new) ≡ goto turns (T.history tape.old) }
     ensures retention { T.retention tape.new ≡ T.retention tape.old }
 {
-    'back: while may_lie_before(tape, turns) {
+    'back: while target_may_precede(tape, turns) {
         tape.back();
     }
 }
 
 /// Goes forward to the first place with this number of turns, which may be the present one. There must be one.
-fn find_on<T: Tape>(tape: &mut T, turns: u64)
+fn forward_to<T: Tape>(tape: &mut T, turns: u64)
     requires { IsSome (first_at_turn turns (T.history tape.old)) }
     ensures found { first_at_turn turns (T.history tape.old) ≡ Some (T.history tape.new) }
     ensures retention { T.retention tape.new ≡ T.retention tape.old }
@@ -123,7 +123,7 @@ fn find_on<T: Tape>(tape: &mut T, turns: u64)
 /// The turns rise by at most one from place to place, so there is one for each number between those of the first and of the
 /// last place.
 #[tactic(auto, using(crate::proofs::Between::met_past))]
-fn is_met<T: Tape>(tape: &T, turns: u64) -> bool
+fn is_turn_in_history<T: Tape>(tape: &T, turns: u64) -> bool
     ensures { result ≡ is_some (goto turns (T.history tape.now)) }
 {
     turns <= tape.last_turns() && tape.first_turns() <= turns
@@ -136,10 +136,10 @@ pub fn goto<T: Tape>(tape: &mut T, turns: u64) -> Result<Standing, Refusal>
         (goto turns (T.history tape.old)) ≡ record { history = T.history tape.new; retention = T.retention tape.new; reply = result } }
     ensures never { result ≢ Err Refusal.OutOfMemory }
 {
-    if !is_met(tape, turns) {
+    if !is_turn_in_history(tape, turns) {
         return Err(Refusal::NotInHistory(tape.first_turns(), tape.last_turns()));
     }
     go_before(tape, turns);
-    find_on(tape, turns);
+    forward_to(tape, turns);
     Ok(standing(tape))
 }

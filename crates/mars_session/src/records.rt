@@ -5,7 +5,7 @@ ghost use Rattle.mars_core.specs.State.{is_over_of};
 ghost use Rattle.mars_core.specs.Turn.{turn_of, turn_record};
 ghost use Rattle.mars_core.specs.Leads.{Leads};
 ghost use Rattle.mars_core.specs.Record.{turns_of as spec_turns_of};
-ghost use Rattle.mars_session.specs.Limits.{longest_history};
+ghost use Rattle.mars_session.specs.Limits.{max_history};
 ghost use Rattle.mars_session.specs.Code.Journals.{entry_at, mark_at};
 
 use circular_buffer::HeapCircularBuffer;
@@ -111,7 +111,7 @@ impl Records {
     pub fn push(&mut self, atom: Atom, turns: u32)
         requires last { self.old.at ≡ length self.old.ring.items }
         requires some { 1 ≤ self.old.ring.capacity }
-        requires few { self.old.ring.capacity ≤ longest_history }
+        requires few { self.old.ring.capacity ≤ max_history }
         requires within { length self.old.ring.items ≤ self.old.ring.capacity }
         requires turns { self.old.first_turns + spec_turns_of (entry_at self.old.ring.items 0).0.work ≤ turns }
 
@@ -144,7 +144,7 @@ impl Records {
     pub fn push_turn(&mut self, battle: &mut Battle)
         requires last { self.old.at ≡ length self.old.ring.items }
         requires some { 1 ≤ self.old.ring.capacity }
-        requires few { self.old.ring.capacity ≤ longest_history }
+        requires few { self.old.ring.capacity ≤ max_history }
         requires within { length self.old.ring.items ≤ self.old.ring.capacity }
         requires turns { self.old.first_turns + spec_turns_of (entry_at self.old.ring.items 0).0.work ≤ battle.old.turns }
         requires running { is_over_of battle.old ≡ false }

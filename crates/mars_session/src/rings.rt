@@ -1,7 +1,7 @@
 //! A tape that evicts the oldest places.
 ghost use Rattle.std.proofs.Common.{refl, rules};
 ghost use Rattle.std.specs.Prelude.{◌≡◌, ◌+◌, ◌-◌, ◌<◌, ◌≤◌, ◌^◌, Some, false, true, MatchResult};
-ghost use Rattle.mars_session.specs.Limits.{longest_history};
+ghost use Rattle.mars_session.specs.Limits.{max_history};
 ghost use Rattle.mars_session.specs.History.{beginning, cut, back, forward};
 
 use crate::records::Records;
@@ -20,10 +20,10 @@ pub struct RingTape {
 }
 
 impl Model for RingTape {
-    ghost use Rattle.mars_session.specs.Tapes.{Ringed};
+    ghost use Rattle.mars_session.specs.Tapes.{RingTapeValue};
     ghost use Rattle.mars_session.specs.Code.Journals.{journal_history, IsRing, HasEnds};
 
-    ghost Value = { Ringed };
+    ghost Value = { RingTapeValue };
 
     ghost view = { λ t. record { history = journal_history t.records.first_mark t.records.ring.items t.records.at t.battle; most = t.records.ring.capacity; forgotten = t.records.forgotten } };
 
@@ -39,7 +39,7 @@ impl RingTape {
     /// Returns the battle if an allocation fails.
     pub fn new(alloc: Global, battle: Battle, most: usize) -> Result<Self, Battle>
         requires some { 1 ≤ most }
-        requires few { most ≤ longest_history }
+        requires few { most ≤ max_history }
         ensures { MatchResult result (λ t. t ≡ record { history = beginning battle; most = most; forgotten = false }) (λ b. b ≡ battle) }
     {
         match Records::with_room(alloc, most, battle.turns()) {

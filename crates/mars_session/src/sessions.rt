@@ -2,7 +2,7 @@
 ghost use Rattle.std.specs.Prelude.{◌≡◌, ◌++◌, ◌+◌, ◌≤◌, List, OnOk, OnErr, IsOk, Result, length, vec_len, vec_capacity};
 ghost use Rattle.mars_session.specs.declared.calls.Standing.{Standing};
 ghost use Rattle.mars_session.specs.declared.calls.Refusal.{Refusal};
-ghost use Rattle.mars_session.specs.Script.{SessionValue, standing_of, EachAnswers, Answers};
+ghost use Rattle.mars_session.specs.Script.{SessionValue, standing_of, CallsMeetSpec, CallMeetsSpec};
 
 use crate::calls::{Call, Refusal, Reply, Standing};
 use crate::tapes::Tape;
@@ -83,7 +83,7 @@ impl<T: Tape> Session<T> {
     ///
     /// `Over` if the battle is over.
     pub fn step(&mut self) -> Result<Standing, Refusal>
-        ensures { Answers self.old Call.Step result self.new }
+        ensures { CallMeetsSpec self.old Call.Step result self.new }
     {
         self.call(Call::Step)
     }
@@ -94,7 +94,7 @@ impl<T: Tape> Session<T> {
     ///
     /// `Count` if `n` is out of range; `Over` if the battle is over.
     pub fn run(&mut self, n: u64) -> Result<Standing, Refusal>
-        ensures { Answers self.old (Call.Run n) result self.new }
+        ensures { CallMeetsSpec self.old (Call.Run n) result self.new }
     {
         self.call(Call::Run(n))
     }
@@ -106,7 +106,7 @@ impl<T: Tape> Session<T> {
     /// `Count` if the remaining cycles times the number of all warriors exceed 1,000,000; `Over` if the battle is over;
     /// `CyclePassed` if the cycle is not after the present one.
     pub fn until(&mut self, cycle: u64) -> Result<Standing, Refusal>
-        ensures { Answers self.old (Call.Until cycle) result self.new }
+        ensures { CallMeetsSpec self.old (Call.Until cycle) result self.new }
     {
         self.call(Call::Until(cycle))
     }
@@ -117,7 +117,7 @@ impl<T: Tape> Session<T> {
     ///
     /// `Address`, `FieldOutside`.
     pub fn set_cell(&mut self, address: u64, cell: Cell) -> Result<Standing, Refusal>
-        ensures { Answers self.old (Call.SetCell address cell) result self.new }
+        ensures { CallMeetsSpec self.old (Call.SetCell address cell) result self.new }
     {
         self.call(Call::SetCell(address, cell))
     }
@@ -128,7 +128,7 @@ impl<T: Tape> Session<T> {
     ///
     /// `Count` for more than 1,000,000 cells; `Address`, also if the first address is above the last; `FieldOutside`.
     pub fn fill(&mut self, from: u64, to: u64, cell: Cell) -> Result<Standing, Refusal>
-        ensures { Answers self.old (Call.Fill from to cell) result self.new }
+        ensures { CallMeetsSpec self.old (Call.Fill from to cell) result self.new }
     {
         self.call(Call::Fill(from, to, cell))
     }
@@ -144,7 +144,7 @@ impl<T: Tape> Session<T> {
         place: u64,
         address: u64,
     ) -> Result<Standing, Refusal>
-        ensures { Answers self.old (Call.MoveProcess warrior place address) result self.new }
+        ensures { CallMeetsSpec self.old (Call.MoveProcess warrior place address) result self.new }
     {
         self.call(Call::MoveProcess(warrior, place, address))
     }
@@ -155,7 +155,7 @@ impl<T: Tape> Session<T> {
     ///
     /// `NoSuchWarrior`, `NoSuchProcess`.
     pub fn kill(&mut self, warrior: u64, place: u64) -> Result<Standing, Refusal>
-        ensures { Answers self.old (Call.Kill warrior place) result self.new }
+        ensures { CallMeetsSpec self.old (Call.Kill warrior place) result self.new }
     {
         self.call(Call::Kill(warrior, place))
     }
@@ -166,7 +166,7 @@ impl<T: Tape> Session<T> {
     ///
     /// `Address`, `NoSuchWarrior`, `WarriorDead`, `QueueFull`.
     pub fn spawn(&mut self, warrior: u64, address: u64) -> Result<Standing, Refusal>
-        ensures { Answers self.old (Call.Spawn warrior address) result self.new }
+        ensures { CallMeetsSpec self.old (Call.Spawn warrior address) result self.new }
     {
         self.call(Call::Spawn(warrior, address))
     }
@@ -177,7 +177,7 @@ impl<T: Tape> Session<T> {
     ///
     /// If there is none, `Forgotten` if a place was ever evicted, otherwise `NothingToUndo`.
     pub fn undo(&mut self) -> Result<Standing, Refusal>
-        ensures { Answers self.old Call.Undo result self.new }
+        ensures { CallMeetsSpec self.old Call.Undo result self.new }
     {
         self.call(Call::Undo)
     }
@@ -188,7 +188,7 @@ impl<T: Tape> Session<T> {
     ///
     /// `NothingToRedo` if there is none.
     pub fn redo(&mut self) -> Result<Standing, Refusal>
-        ensures { Answers self.old Call.Redo result self.new }
+        ensures { CallMeetsSpec self.old Call.Redo result self.new }
     {
         self.call(Call::Redo)
     }
@@ -199,14 +199,14 @@ impl<T: Tape> Session<T> {
     ///
     /// `NotInHistory` with the turns of the first and of the last place if there is none; it passes no place then.
     pub fn goto(&mut self, turns: u64) -> Result<Standing, Refusal>
-        ensures { Answers self.old (Call.Goto turns) result self.new }
+        ensures { CallMeetsSpec self.old (Call.Goto turns) result self.new }
     {
         self.call(Call::Goto(turns))
     }
 
     /// Executes a call.
     pub fn call(&mut self, call: Call) -> Result<Standing, Refusal>
-        ensures { Answers self.old call result self.new }
+        ensures { CallMeetsSpec self.old call result self.new }
     {
         let Session { tape, limit } = self;
         let limit = *limit;
@@ -251,7 +251,7 @@ impl<T: Tape> Session<T> {
     /// Returns an error and executes nothing if there is no memory for all replies.
     pub fn apply_all(&mut self, calls: &[Call], out: &mut Vec<Reply>) -> Result<(), AllocError>
         ensures ok { OnOk result ((replies : List (Result Standing Refusal)) × (out.new.items ≡ out.old.items ++ replies)
-            × EachAnswers self.old calls.now replies self.new) }
+            × CallsMeetSpec self.old calls.now replies self.new) }
         ensures enough { vec_len out.old + length calls.now ≤ vec_capacity out.old → IsOk result }
         ensures err { OnErr result ((self.new ≡ self.old) × (out.new.items ≡ out.old.items)) }
     {

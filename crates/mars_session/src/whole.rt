@@ -27,10 +27,10 @@ pub struct WholeTape {
 
 impl Model for WholeTape {
     ghost use Rattle.std.specs.Prelude.{◌+◌, ◌-◌, length};
-    ghost use Rattle.mars_session.specs.Tapes.{Taped};
+    ghost use Rattle.mars_session.specs.Tapes.{TapeValue};
     ghost use Rattle.mars_session.specs.Code.Whole.{IsWhole, whole_history};
 
-    ghost Value = { Taped };
+    ghost Value = { TapeValue };
 
     ghost view = { λ t. record { history = whole_history t.copies.items t.at t.len; room = length t.copies.items - (t.at + 1) } };
 
@@ -38,7 +38,7 @@ impl Model for WholeTape {
 }
 
 /// Copies the present battle to the next copy.
-fn copy_on(copies: &mut [Snapshot], at: usize)
+fn append_copy(copies: &mut [Snapshot], at: usize)
     requires next { at + 1 < length copies.old }
     requires shapes { SameShape (snapshot_at copies.old at).battle (snapshot_at copies.old (at + 1)).battle }
     ensures { copies.new ≡ slice_set copies.old (at + 1) (record { battle = (snapshot_at copies.old at).battle; mark = false }) }
@@ -51,27 +51,27 @@ fn copy_on(copies: &mut [Snapshot], at: usize)
 }
 
 /// Makes the next copy the present battle after a turn.
-fn turn_on(copies: &mut Vec<Snapshot>, at: usize)
+fn append_turn(copies: &mut Vec<Snapshot>, at: usize)
     requires next { at + 1 < vec_len copies.old }
     requires shapes { SameShape (snapshot_at copies.old.items at).battle (snapshot_at copies.old.items (at + 1)).battle }
     requires runs { is_over_of (snapshot_at copies.old.items at).battle ≡ false }
     ensures { copies.new.items ≡ slice_set copies.old.items (at + 1)
         (record { battle = turn_of (snapshot_at copies.old.items at).battle; mark = false }) }
 {
-    copy_on(copies, at);
+    append_copy(copies, at);
     let snapshot = &mut copies[at + 1];
     let _ = snapshot.battle.turn();
 }
 
 /// Makes the next copy the present battle after an edit.
-fn edit_on(copies: &mut Vec<Snapshot>, at: usize, edit: Edit)
+fn append_edit(copies: &mut Vec<Snapshot>, at: usize, edit: Edit)
     requires next { at + 1 < vec_len copies.old }
     requires shapes { SameShape (snapshot_at copies.old.items at).battle (snapshot_at copies.old.items (at + 1)).battle }
     requires accepted { edit_fault (snapshot_at copies.old.items at).battle edit ≡ None }
     ensures { copies.new.items ≡ slice_set copies.old.items (at + 1)
         (record { battle = edited (snapshot_at copies.old.items at).battle edit; mark = false }) }
 {
-    copy_on(copies, at);
+    append_copy(copies, at);
     let snapshot = &mut copies[at + 1];
     let _ = snapshot.battle.edit(edit);
 }
@@ -197,13 +197,13 @@ impl Tape for WholeTape {
     }
 
     fn turn(&mut self) {
-        turn_on(&mut self.copies, self.at);
+        append_turn(&mut self.copies, self.at);
         self.at += 1;
         self.len = self.at + 1;
     }
 
     fn edit(&mut self, edit: Edit) {
-        edit_on(&mut self.copies, self.at, edit);
+        append_edit(&mut self.copies, self.at, edit);
         self.at += 1;
         self.len = self.at + 1;
     }

@@ -7,7 +7,7 @@ use Rattle.redcode_text.specs.Expansion.{ProgramValue}
 use Rattle.redcode_text.specs.Lines.{Predefined}
 use Rattle.redcode_asm.specs.declared.fault.AsmFault.{AsmFault}
 use Rattle.redcode_asm.specs.Assembly.{Placed, at_line, cell_of, cells_of}
-use Rattle.redcode_asm.specs.Outcomes.{Answers}
+use Rattle.redcode_asm.specs.Outcomes.{IsResult}
 
 abbrev count_in : Result (List Cell) AsmFault → ℕ
 count_in (Ok cells) = length cells
@@ -24,6 +24,6 @@ cells-counted ps m source [] cells e = sym (ap count_in e)
 cells-counted ps m source (p ∷ is) cells e = count-by (at_line p.line.number (cell_of ps m source p)) (cells_of ps m source is) (length is) cells (cells-counted ps m source is) e
 
 pub each_counted : {A : Type 0} (ps : Predefined) (m : ℕ) (source : ProgramValue) (is : List Placed) (r : Result (Vec Cell A) AsmFault)
-    → Answers (λ cells. cells.items) r (cells_of ps m source is) → IfOk r (λ cells. vec_len cells ≡ length is)
+    → IsResult (λ cells. cells.items) r (cells_of ps m source is) → IfOk r (λ cells. vec_len cells ≡ length is)
 each_counted ps m source is (Ok cells) h = let each : length cells.items ≡ length is = cells-counted ps m source is cells.items h in omega (arith, cells.ok.0)
 each_counted ps m source is (Err fault) h = tt

@@ -8,7 +8,7 @@ use Rattle.redcode_text.specs.Expansion.{ProgramValue}
 use Rattle.redcode_text.specs.Lines.{Line, is_instruction, name_at}
 use Rattle.redcode_asm.specs.Assembly.{Placed, index_after, placed_from}
 use Rattle.redcode_asm.specs.SourceLines.{instruction_text, labels_at, labels_text, program_lines}
-use Rattle.redcode_asm.specs.Code.Lines.{lines_behind}
+use Rattle.redcode_asm.specs.Code.Lines.{remaining_lines}
 
 -- The labels of a line, if `here` says that it has the index in question.
 abbrev labels_if : Bool → List ℕ → List ℕ
@@ -31,10 +31,10 @@ further true index i less = omega arith
 further false index i less = less
 
 -- Lines after the next instruction have no labels of the index `i`.
-none_behind : (names : List (List ℕ)) (index i : ℕ) (ls : List Line) → i < index → labels_at (placed_from names index ls) i ≡ []
-none_behind names index i [] less = refl
-none_behind names index i (l ∷ ls) less =
-    let rest = none_behind names (index_after names index l) i ls (further (is_instruction names l.operation l.rest) index i less) in
+no_labels_after : (names : List (List ℕ)) (index i : ℕ) (ls : List Line) → i < index → labels_at (placed_from names index ls) i ≡ []
+no_labels_after names index i [] less = refl
+no_labels_after names index i (l ∷ ls) less =
+    let rest = no_labels_after names (index_after names index l) i ls (further (is_instruction names l.operation l.rest) index i less) in
     rw (ahead index i l.labels less) rest
 
 -- No line in `before` has a label of an index above `index`.
@@ -64,7 +64,7 @@ texts names all ps = flat_map (λ p. instruction_text names p (labels_at all p.i
 
 abbrev Waits : List (List ℕ) → List Line → Type 0
 Waits names ls = (before : List Placed) (index : ℕ) → IsUpTo before index
-    → texts names (before ++ placed_from names index ls) (placed_from names index ls) ≡ lines_behind names (labels_text names (labels_at before index)) ls
+    → texts names (before ++ placed_from names index ls) (placed_from names index ls) ≡ remaining_lines names (labels_text names (labels_at before index)) ls
 
 -- The text of the labels that wait at a line and of its own labels.
 abbrev own_text : List (List ℕ) → List Placed → ℕ → Line → List ℕ
@@ -80,8 +80,8 @@ WaitsBy names before index l ls b =
     (cond b (one index l ∷ filter (λ p. is_instruction names p.line.operation p.line.rest) (rest_by b names index ls))
     (filter (λ p. is_instruction names p.line.operation p.line.rest) (rest_by b names index ls)))
     ≡ (elim b as (λ _. List ℕ) [
-      | true ↦ with_newline (decimal l.number ++ own_text names before index l) ++ lines_behind names [] ls
-      | false ↦ lines_behind names (own_text names before index l) ls
+      | true ↦ with_newline (decimal l.number ++ own_text names before index l) ++ remaining_lines names [] ls
+      | false ↦ remaining_lines names (own_text names before index l) ls
     ])
 
 waits_by : (b : Bool) (names : List (List ℕ)) (l : Line) (ls : List Line) → Waits names ls
@@ -92,11 +92,11 @@ waits_by true names l ls inner before index none =
     let now = before ++ p ∷ [] in
     let split : before ++ p ∷ rest ≡ now ++ rest = sym (append_assoc before (p ∷ []) rest) in
     let own : labels_at (now ++ rest) index ≡ labels_at before index ++ l.labels =
-    labels_of_both now rest index ∙ ap (λ more. labels_at now index ++ more) (none_behind names (index + 1) index ls (omega arith))
+    labels_of_both now rest index ∙ ap (λ more. labels_at now index ++ more) (no_labels_after names (index + 1) index ls (omega arith))
     ∙ append-nil (labels_at now index) ∙ labels_up_to before index l in
-    let later : texts names (now ++ rest) rest ≡ lines_behind names [] ls =
+    let later : texts names (now ++ rest) rest ≡ remaining_lines names [] ls =
     inner now (index + 1) (up_to_next before index l none)
-    ∙ ap (λ labels. lines_behind names (labels_text names labels) ls) (up_to_more before index l none (index + 1) (omega arith)) in
+    ∙ ap (λ labels. remaining_lines names (labels_text names labels) ls) (up_to_more before index l none (index + 1) (omega arith)) in
     let spelled : instruction_text names p (labels_at (now ++ rest) index) ≡ with_newline (decimal l.number ++ own_text names before index l) =
     ap (instruction_text names p) own ∙ ap (λ text. with_newline (decimal l.number ++ text)) (text_of_both names (labels_at before index) l.labels) in
     ap (λ all. instruction_text names p (labels_at all index) ++ texts names all rest) split
@@ -109,12 +109,12 @@ waits_by false names l ls inner before index none =
     let split : before ++ p ∷ rest ≡ now ++ rest = sym (append_assoc before (p ∷ []) rest) in
     let labels : labels_text names (labels_at now index) ≡ own_text names before index l =
     ap (labels_text names) (labels_up_to before index l) ∙ text_of_both names (labels_at before index) l.labels in
-    ap (λ all. texts names all rest) split ∙ inner now index (up_to_more before index l none) ∙ ap (λ text. lines_behind names text ls) labels
+    ap (λ all. texts names all rest) split ∙ inner now index (up_to_more before index l none) ∙ ap (λ text. remaining_lines names text ls) labels
 
 waits : (names : List (List ℕ)) (ls : List Line) → Waits names ls
 waits names [] before index none = refl
 waits names (l ∷ ls) before index none = waits_by (is_instruction names l.operation l.rest) names l ls (waits names ls) before index none
 
 -- The text of a program's lines is the one that the code builds.
-pub lines_are : (source : ProgramValue) → program_lines source ≡ lines_behind source.names [] source.lines
+pub lines_are : (source : ProgramValue) → program_lines source ≡ remaining_lines source.names [] source.lines
 lines_are source = waits source.names source.lines [] 0 (λ j less. refl)

@@ -52,8 +52,8 @@ with_line_in_front l source = record source { lines = l ∷ source.lines }
 -- An instruction in front moves nothing. If the instruction `l` has no label, and no name of the program is CURLINE, then
 -- the cells of the longer program are the cell of `l`, followed by the unchanged cells of `source`. An error in `l` comes
 -- first, and an error in another instruction is unchanged.
-abbrev pub InstructionsInFrontMoveNothing : Type 0
-InstructionsInFrontMoveNothing = (ps : Predefined) (m : ℕ) (source : ProgramValue) (l : Line) → is_instruction source.names l.operation l.rest ≡ true → l.labels ≡ []
+abbrev pub PrependedInstructionsKeepCells : Type 0
+PrependedInstructionsKeepCells = (ps : Predefined) (m : ℕ) (source : ProgramValue) (l : Line) → is_instruction source.names l.operation l.rest ≡ true → l.labels ≡ []
     → ((n : ℕ) → name_at source.names n ≢ codes "CURLINE") →
     let front = with_line_in_front l source in
     cells_of ps m front (instructions front)

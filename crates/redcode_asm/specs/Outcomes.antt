@@ -10,6 +10,6 @@ FailsAt OutOfMemory fault defined = fault.line ≡ 0
 FailsAt problem fault defined = defined ≡ Err fault
 
 -- The result, mapped by `f`, is the defined one, or memory ran out.
-abbrev pub Answers : {X Y : Type 0} → (Y → X) → Result Y AsmFault → Result X AsmFault → Type 0
-Answers f (Ok y) defined = defined ≡ Ok (f y)
-Answers f (Err fault) defined = FailsAt fault.problem fault defined
+abbrev pub IsResult : {X Y : Type 0} → (Y → X) → Result Y AsmFault → Result X AsmFault → Type 0
+IsResult f (Ok y) defined = defined ≡ Ok (f y)
+IsResult f (Err fault) defined = FailsAt fault.problem fault defined

@@ -4,7 +4,7 @@ ghost use Rattle.mars_cell.specs.Cells.{FitsCore};
 ghost use Rattle.redcode_text.specs.Views.{predefined_of};
 ghost use Rattle.redcode_text.specs.Expansion.{expansion};
 ghost use Rattle.redcode_asm.specs.Assembly.{assembly, predefined, text_read};
-ghost use Rattle.redcode_asm.specs.Outcomes.{Answers};
+ghost use Rattle.redcode_asm.specs.Outcomes.{IsResult};
 
 use crate::fault::AsmFault;
 use crate::warriors::program_warrior;
@@ -37,7 +37,7 @@ pub fn read_program(
     source: &[u8],
     predefined: &PredefinedNames,
 ) -> Result<Program, AsmFault>
-    ensures { Answers (λ program. program) result (text_read (expansion (predefined_of predefined.now) source.now)) }
+    ensures { IsResult (λ program. program) result (text_read (expansion (predefined_of predefined.now) source.now)) }
 {
     match expand(alloc, source, predefined) {
         Ok(program) => Ok(program),
@@ -71,7 +71,7 @@ pub fn assemble(
     rounds: u32,
     warriors: u32,
 ) -> Result<Warrior, AsmFault>
-    ensures value { Answers (λ warrior. warrior) result (assembly params.now rounds warriors source.now) }
+    ensures value { IsResult (λ warrior. warrior) result (assembly params.now rounds warriors source.now) }
     ensures fits { IfOk result (λ warrior. All (FitsCore params.now.core_size) warrior.cells) }
 {
     let predefined = predefined_names(params, rounds, warriors);

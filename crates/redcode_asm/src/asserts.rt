@@ -2,7 +2,7 @@
 ghost use Rattle.std.specs.Prelude.{◌≡◌, map};
 ghost use Rattle.redcode_text.specs.Views.{assert_of, predefined_of};
 ghost use Rattle.redcode_asm.specs.Assembly.{assert_holds, asserts_hold, at_line, holds};
-ghost use Rattle.redcode_asm.specs.Outcomes.{Answers};
+ghost use Rattle.redcode_asm.specs.Outcomes.{IsResult};
 ghost use Rattle.redcode_asm.specs.Code.Problems.{Gives};
 
 use crate::fault::{AsmFault, AsmProblem};
@@ -11,7 +11,7 @@ use redcode_text::{Assert, eval};
 use std::alloc::Global;
 
 /// Checks the value of an assert, which holds if the value isn't 0.
-fn judge_value(value: i64) -> Result<(), AsmProblem>
+fn check_value(value: i64) -> Result<(), AsmProblem>
     ensures { result ≡ holds value }
 {
     if value == 0 {
@@ -29,14 +29,14 @@ impl<'a> Source<'a> {
     {
         let tokens = self.replace(alloc, &assert.tokens)?;
         match eval(&tokens, &self.assert_names(assert.current_line)) {
-            Ok(value) => judge_value(value),
+            Ok(value) => check_value(value),
             Err(fault) => Err(AsmProblem::Expression(fault)),
         }
     }
 
     /// Checks one assert, and adds its line to an error.
     fn check_assert_at(&self, alloc: Global, assert: &Assert) -> Result<(), AsmFault>
-        ensures { let a = assert_of assert.now in Answers (λ done. done) result
+        ensures { let a = assert_of assert.now in IsResult (λ done. done) result
             (at_line a.number (assert_holds (predefined_of self.now.predefined.now) self.now.program.now a)) }
     {
         match self.check_assert(alloc, assert) {
@@ -47,7 +47,7 @@ impl<'a> Source<'a> {
 
     /// Checks asserts in order.
     fn check_each(&self, alloc: Global, asserts: &[Assert]) -> Result<(), AsmFault>
-        ensures { Answers (λ done. done) result
+        ensures { IsResult (λ done. done) result
             (asserts_hold (predefined_of self.now.predefined.now) self.now.program.now (map assert_of asserts.now)) }
     {
         for assert in asserts {
@@ -58,7 +58,7 @@ impl<'a> Source<'a> {
 
     /// Checks all asserts of the source in order.
     pub fn check_asserts(&self, alloc: Global) -> Result<(), AsmFault>
-        ensures { Answers (λ done. done) result
+        ensures { IsResult (λ done. done) result
             (asserts_hold (predefined_of self.now.predefined.now) self.now.program.now self.now.program.now.asserts) }
     {
         self.check_each(alloc, self.program.asserts())

@@ -5,7 +5,7 @@ ghost use Rattle.redcode_text.specs.Equates.{limit};
 ghost use Rattle.redcode_text.specs.Views.{line_of, predefined_of};
 ghost use Rattle.redcode_text.specs.Lines.{is_instruction};
 ghost use Rattle.redcode_asm.specs.Assembly.{at_line, cell_of, cells_of, instructions};
-ghost use Rattle.redcode_asm.specs.Outcomes.{Answers};
+ghost use Rattle.redcode_asm.specs.Outcomes.{IsResult};
 ghost use Rattle.redcode_asm.specs.Code.Problems.{Gives};
 ghost use Rattle.redcode_asm.specs.Code.Sources.{cells_among, placed_of};
 
@@ -43,7 +43,7 @@ impl<'a> Source<'a> {
     /// Assembles one instruction to its cell, and adds its line to an error.
     fn cell_at(&self, alloc: Global, core_size: u32, place: Place<'_>) -> Result<Cell, AsmFault>
         requires { 0 < core_size }
-        ensures value { let placed = placed_of place.entry in Answers (λ cell. cell) result
+        ensures value { let placed = placed_of place.entry in IsResult (λ cell. cell) result
             (at_line placed.line.number (cell_of (predefined_of self.now.predefined.now) core_size self.now.program.now placed)) }
         ensures fits { IfOk result (FitsCore core_size) }
     {
@@ -62,7 +62,7 @@ impl<'a> Source<'a> {
     ) -> Result<Vec<Cell>, AsmFault>
         requires core { 0 < core_size }
         requires few { length lines.now ≤ limit }
-        ensures value { Answers (λ cells. cells.items) result
+        ensures value { IsResult (λ cells. cells.items) result
             (cells_among (predefined_of self.now.predefined.now) core_size self.now.program.now 0 (map line_of lines.now)) }
         ensures fits { IfOk result (λ cells. All (FitsCore core_size) cells.items) }
         ensures few { IfOk result (λ cells. vec_len cells ≤ limit) }
@@ -82,7 +82,7 @@ impl<'a> Source<'a> {
     /// Returns the cells of all instructions, or the first error.
     pub fn cells(&self, alloc: Global, core_size: u32) -> Result<Vec<Cell>, AsmFault>
         requires { 0 < core_size }
-        ensures value { Answers (λ cells. cells.items) result
+        ensures value { IsResult (λ cells. cells.items) result
             (cells_of (predefined_of self.now.predefined.now) core_size self.now.program.now
             (instructions self.now.program.now)) }
         ensures fits { IfOk result (λ cells. All (FitsCore core_size) cells.items) }

@@ -14,7 +14,7 @@ use std::alloc::Global;
 use std::marker::Model;
 
 /// The maximum number of bytes of a formula.
-const LONGEST: usize = 256;
+const MAX_FORMULA_LEN: usize = 256;
 
 /// A score formula: an expression in W, the number of warriors, and S, the number of survivors.
 #[derive(Drop)]
@@ -110,7 +110,7 @@ impl Formula {
     pub fn new(alloc: Global, text: &[u8]) -> Result<Formula, FormulaFault>
         ensures { Checks result (formula_of text.now) }
     {
-        if text.len() > LONGEST {
+        if text.len() > MAX_FORMULA_LEN {
             return Err(FormulaFault::Expression(ExprFault::Syntax));
         }
         let line = match scan(alloc, text) {

@@ -1,5 +1,5 @@
 //! Laws of the definitions. The functions do nothing; their contracts are the laws.
-ghost use Rattle.redcode_asm.specs.Laws.{AssembledLoadIsRead, InstructionsInFrontMoveNothing, NamesAreFree, ScoresHaveValues};
+ghost use Rattle.redcode_asm.specs.Laws.{AssembledLoadIsRead, PrependedInstructionsKeepCells, NamesAreFree, ScoresHaveValues};
 
 /// `Formula::score` of a formula that `Formula::new` accepted returns a value, unless the error is `DivideByZero` or
 /// `Range`.
@@ -21,6 +21,6 @@ pub fn names_are_free()
 /// unchanged.
 ///
 /// An error in the new instruction comes first, and an error in another instruction is unchanged.
-pub fn instructions_in_front_move_nothing()
-    ensures { InstructionsInFrontMoveNothing }
+pub fn prepended_instructions_keep_cells()
+    ensures { PrependedInstructionsKeepCells }
 {}

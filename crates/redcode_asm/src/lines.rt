@@ -2,8 +2,8 @@
 ghost use Rattle.std.specs.Prelude.{◌≡◌, ◌++◌, IfOk, OnOk, decimal, map};
 ghost use Rattle.mars_cell.specs.Written.{with_newline};
 ghost use Rattle.redcode_text.specs.Views.{line_of, predefined_of};
-ghost use Rattle.redcode_asm.specs.Code.Lines.{lines_behind};
-ghost use Rattle.redcode_asm.specs.Outcomes.{Answers};
+ghost use Rattle.redcode_asm.specs.Code.Lines.{remaining_lines};
+ghost use Rattle.redcode_asm.specs.Outcomes.{IsResult};
 ghost use Rattle.redcode_asm.specs.SourceLines.{assembled_lines, labels_text, program_lines, source_lines};
 
 use crate::assembler::{predefined_names, read_program};
@@ -46,7 +46,7 @@ fn push_lines(
     labels: &mut Vec<u8>,
     text: &mut Vec<u8>,
 ) -> Result<(), AllocError>
-    ensures { OnOk result (text.new.items ≡ text.old.items ++ lines_behind names.now labels.old.items (map line_of lines.now)) }
+    ensures { OnOk result (text.new.items ≡ text.old.items ++ remaining_lines names.now labels.old.items (map line_of lines.now)) }
 {
     for line in lines {
         push_labels(names, &line.labels, labels)?;
@@ -74,7 +74,7 @@ fn assembled_lines(
     predefined: &PredefinedNames,
     params: &Params,
 ) -> Result<Vec<u8>, AsmFault>
-    ensures { Answers (λ text. text.items) result (assembled_lines (predefined_of predefined.now) params.now program.now) }
+    ensures { IsResult (λ text. text.items) result (assembled_lines (predefined_of predefined.now) params.now program.now) }
 {
     let warrior = program_warrior(alloc, program, predefined, params)?;
     drop(warrior);
@@ -98,7 +98,7 @@ pub fn source_lines(
     rounds: u32,
     warriors: u32,
 ) -> Result<Vec<u8>, AsmFault>
-    ensures { Answers (λ text. text.items) result (source_lines params.now rounds warriors source.now) }
+    ensures { IsResult (λ text. text.items) result (source_lines params.now rounds warriors source.now) }
 {
     let predefined = predefined_names(params, rounds, warriors);
     let program = read_program(alloc, source, &predefined)?;

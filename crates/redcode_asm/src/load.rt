@@ -1,6 +1,6 @@
 //! Load files of sources.
 ghost use Rattle.redcode_asm.specs.LoadFiles.{assembled_load};
-ghost use Rattle.redcode_asm.specs.Outcomes.{Answers};
+ghost use Rattle.redcode_asm.specs.Outcomes.{IsResult};
 
 use crate::assembler::assemble;
 use crate::fault::AsmFault;
@@ -21,7 +21,7 @@ pub fn assemble_load(
     rounds: u32,
     warriors: u32,
 ) -> Result<Vec<u8>, AsmFault>
-    ensures { Answers (λ text. text.items) result (assembled_load params.now rounds warriors source.now) }
+    ensures { IsResult (λ text. text.items) result (assembled_load params.now rounds warriors source.now) }
 {
     let warrior = assemble(alloc, source, params, rounds, warriors)?;
     Ok(write_load(alloc, &warrior, params.core_size())?)

@@ -2,7 +2,7 @@
 ghost use Rattle.std.specs.Prelude.{◌≡◌, ◌+◌, ◌<◌, ◌≤◌, length, map, option_map, drop, filter, [], nat_eq, IfOk, OnOk};
 ghost use Rattle.redcode_text.specs.Equates.{limit};
 ghost use Rattle.redcode_text.specs.Views.{line_of};
-ghost use Rattle.redcode_text.specs.Lines.{is_instruction, is_spelled};
+ghost use Rattle.redcode_text.specs.Lines.{is_instruction, is_keyword};
 ghost use Rattle.redcode_asm.specs.Assembly.{index_after, last_where, none_past, placed_from};
 ghost use Rattle.redcode_asm.specs.Code.Sources.{placed_of};
 ghost use Rattle.std.specs.Map.{lookup};
@@ -10,7 +10,7 @@ ghost use Rattle.redcode_asm.specs.Code.Labels.{table_with, with_label, with_lab
 
 use crate::fault::{AsmFault, AsmProblem};
 use indexmap::IndexMap;
-use redcode_text::{Line, NameTable, is_instruction, is_spelled};
+use redcode_text::{Line, NameTable, is_instruction, is_keyword};
 use std::alloc::{AllocError, Global};
 use std::marker::Model;
 
@@ -38,12 +38,12 @@ pub fn index_after(names: &NameTable, index: u32, line: &Line) -> u32
 pub fn last_line<'a>(names: &NameTable, lines: &'a [Line], word: &[u8]) -> Option<Place<'a>>
     requires { length lines.now ≤ limit }
     ensures { option_map placed_of result
-        ≡ last_where (λ l. is_spelled names.now word.now l.operation) (placed_from names.now 0 (map line_of lines.now)) }
+        ≡ last_where (λ l. is_keyword names.now word.now l.operation) (placed_from names.now 0 (map line_of lines.now)) }
 {
     let mut found = None;
     let mut index = 0;
     for line in lines {
-        if is_spelled(names, word, line.operation) {
+        if is_keyword(names, word, line.operation) {
             found = Some(Place { index, line });
         }
         index = index_after(names, index, line);

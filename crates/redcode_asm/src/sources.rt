@@ -1,7 +1,7 @@
 //! A source, and the values of its names.
 ghost use Rattle.std.specs.Prelude.{◌≡◌, [], pos, ◌-ℤ◌, option_map};
 ghost use Rattle.redcode_text.specs.Views.{predefined_of};
-ghost use Rattle.redcode_text.specs.Lines.{is_spelled, name_at, predefined_value, with_current_line};
+ghost use Rattle.redcode_text.specs.Lines.{is_keyword, name_at, predefined_value, with_current_line};
 ghost use Rattle.redcode_asm.specs.Assembly.{last_where, placed, replaced};
 ghost use Rattle.redcode_asm.specs.Code.Labels.{table_with};
 ghost use Rattle.redcode_asm.specs.Code.Problems.{Gives};
@@ -138,7 +138,7 @@ impl<'a> Source<'a> {
     /// Returns the last line whose operation is `word`, in either case.
     pub fn last_line(&self, word: &[u8]) -> Option<Place<'a>>
         ensures { option_map placed_of result
-            ≡ last_where (λ l. is_spelled self.now.program.now.names word.now l.operation) (placed self.now.program.now) }
+            ≡ last_where (λ l. is_keyword self.now.program.now.names word.now l.operation) (placed self.now.program.now) }
     {
         last_line(self.program.names(), self.program.lines(), word)
     }

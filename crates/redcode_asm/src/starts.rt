@@ -2,7 +2,7 @@
 ghost use Rattle.std.specs.Prelude.{◌≡◌, ◌<◌, IfOk, option_map};
 ghost use Rattle.redcode_text.specs.Views.{predefined_of};
 ghost use Rattle.redcode_asm.specs.Assembly.{as_start, at_line, end_start, org_start, start_at, start_by, start_of};
-ghost use Rattle.redcode_asm.specs.Outcomes.{Answers};
+ghost use Rattle.redcode_asm.specs.Outcomes.{IsResult};
 ghost use Rattle.redcode_asm.specs.Code.Problems.{Gives};
 ghost use Rattle.redcode_asm.specs.Code.Sources.{placed_of};
 
@@ -64,7 +64,7 @@ impl<'a> Source<'a> {
     /// Returns the start that an ORG sets, and adds its line to an error.
     fn org_start_at(&self, alloc: Global, count: u32, place: Place<'_>) -> Result<u32, AsmFault>
         ensures below { IfOk result (λ start. start < count) }
-        ensures value { let placed = placed_of place.entry in Answers (λ start. start) result
+        ensures value { let placed = placed_of place.entry in IsResult (λ start. start) result
             (at_line placed.line.number (org_start (predefined_of self.now.predefined.now) self.now.program.now count placed)) }
     {
         match self.org_start(alloc, count, place) {
@@ -76,7 +76,7 @@ impl<'a> Source<'a> {
     /// Returns the start that an END sets, and adds its line to an error.
     fn end_start_at(&self, alloc: Global, count: u32, place: Place<'_>) -> Result<u32, AsmFault>
         ensures below { 0 < count → IfOk result (λ start. start < count) }
-        ensures value { let placed = placed_of place.entry in Answers (λ start. start) result
+        ensures value { let placed = placed_of place.entry in IsResult (λ start. start) result
             (at_line placed.line.number (end_start (predefined_of self.now.predefined.now) self.now.program.now count placed)) }
     {
         match self.end_start(alloc, count, place) {
@@ -94,7 +94,7 @@ impl<'a> Source<'a> {
         end: Option<Place<'_>>,
     ) -> Result<u32, AsmFault>
         ensures below { 0 < count → IfOk result (λ start. start < count) }
-        ensures value { Answers (λ start. start) result
+        ensures value { IsResult (λ start. start) result
             (start_by (predefined_of self.now.predefined.now) self.now.program.now count (option_map placed_of org.entry) (option_map placed_of end.entry)) }
     {
         match (org, end) {
@@ -106,7 +106,7 @@ impl<'a> Source<'a> {
 
     /// Returns the start that the last ORG sets, or else END, or else 0. `count` is the number of instructions.
     pub fn start(&self, alloc: Global, count: u32) -> Result<u32, AsmFault>
-        ensures value { Answers (λ start. start) result (start_of (predefined_of self.now.predefined.now) self.now.program.now count) }
+        ensures value { IsResult (λ start. start) result (start_of (predefined_of self.now.predefined.now) self.now.program.now count) }
         ensures below { 0 < count → IfOk result (λ start. start < count) }
     {
         self.start_by(alloc, count, self.last_line(b"org"), self.last_line(b"end"))

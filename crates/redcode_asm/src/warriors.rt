@@ -3,7 +3,7 @@ ghost use Rattle.std.specs.Prelude.{◌≡◌, ◌<◌, length, All, IfOk, Ok};
 ghost use Rattle.mars_cell.specs.Cells.{FitsCore};
 ghost use Rattle.redcode_text.specs.Views.{predefined_of};
 ghost use Rattle.redcode_asm.specs.Assembly.{instructions, length_checked, warrior_of};
-ghost use Rattle.redcode_asm.specs.Outcomes.{Answers};
+ghost use Rattle.redcode_asm.specs.Outcomes.{IsResult};
 ghost use Rattle.redcode_asm.specs.Code.Sources.{warrior_from};
 
 use crate::fault::{AsmFault, AsmProblem};
@@ -21,7 +21,7 @@ fn named_warrior(
     start: u32,
 ) -> Result<Warrior, AsmFault>
     requires { start < length cells.items }
-    ensures { Answers (λ warrior. warrior) result (Ok (warrior_from program.now cells.items start)) }
+    ensures { IsResult (λ warrior. warrior) result (Ok (warrior_from program.now cells.items start)) }
 {
     let name = String::from_str(alloc, program.name())?;
     let author = String::from_str(alloc, program.author())?;
@@ -51,7 +51,7 @@ impl<'a> Source<'a> {
 
     /// Returns the warrior of the source, or its first error.
     fn warrior(&self, alloc: Global, params: &Params) -> Result<Warrior, AsmFault>
-        ensures value { Answers (λ warrior. warrior) result
+        ensures value { IsResult (λ warrior. warrior) result
             (warrior_of (predefined_of self.now.predefined.now) params.now self.now.program.now) }
         ensures fits { IfOk result (λ warrior. All (FitsCore params.now.core_size) warrior.cells) }
     {
@@ -70,7 +70,7 @@ pub fn program_warrior<'p>(
     predefined: &'p PredefinedNames,
     params: &Params,
 ) -> Result<Warrior, AsmFault>
-    ensures value { Answers (λ warrior. warrior) result (warrior_of (predefined_of predefined.now) params.now program.now) }
+    ensures value { IsResult (λ warrior. warrior) result (warrior_of (predefined_of predefined.now) params.now program.now) }
     ensures fits { IfOk result (λ warrior. All (FitsCore params.now.core_size) warrior.cells) }
 {
     let labels = Labels::of_lines(alloc, program.names(), program.lines())?;

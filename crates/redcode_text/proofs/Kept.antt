@@ -7,7 +7,7 @@ use Rattle.redcode_text.specs.declared.fault.TextProblem.TheVariants.{BadToken, 
 use Rattle.redcode_text.specs.declared.token.Token.{Token}
 use Rattle.redcode_text.specs.Expansion.{rof_line}
 use Rattle.redcode_text.specs.Expression.{kinds}
-use Rattle.redcode_text.specs.Lines.{Reading, Step, Parts, Predefined, WithTokens, each_line, equated, line_read, name_in_front, ordinary_line, ordinary_with, parts_of, parts_read, plain_line, comment_line, assert_line, row_tokens, tokens_before, tokens_after, tokens_counted, tokens_line, unless_ended, before_first, behind_last, before_comment, operation_lines, unless_empty, directive_value, is_equate, is_label, is_predefined, with_line}
+use Rattle.redcode_text.specs.Lines.{Reading, Step, Parts, Predefined, WithTokens, each_line, equated, line_read, name_in_front, ordinary_line, ordinary_with, parts_of, parts_read, plain_line, comment_line, assert_line, row_tokens, tokens_before, tokens_after, tokens_counted, tokens_line, unless_ended, prepend_to_first, append_to_last, before_comment, operation_lines, unless_empty, directive_value, is_equate, is_label, is_predefined, with_line}
 use Rattle.redcode_text.specs.Equates.{limit}
 use Rattle.redcode_text.specs.Source.{SourceRow, LineKind, RofLine, ForLine, EquLine, OtherLine, line_kind, is_comment, directive_text, directive_text_at, has_directive_word}
 use Rattle.redcode_text.specs.Tokens.{OpenLoop, Scanned, tokens}
@@ -78,7 +78,7 @@ Deeper (Some o) = (ts : List Token) (st : Reading) → Kept loops_of st.loops (o
 parts-kept : (deeper : Option (List Token → Step)) → Deeper deeper → (number : ℕ) (p : Parts) (ls : Option (List (List Token))) (st : Reading) → Kept loops_of st.loops (parts_read deeper number p ls st)
 parts-kept deeper d number p None st = refl
 parts-kept None d number p (Some ls) st = tt
-parts-kept (Some o) d number p (Some ls) st = each-kept o d (behind_last (before_first p.label_tokens ls) p.rest) st
+parts-kept (Some o) d number p (Some ls) st = each-kept o d (append_to_last (prepend_to_first p.label_tokens ls) p.rest) st
 
 with-kept : (ps : Predefined) (number : ℕ) (deeper : Option (List Token → Step)) → Deeper deeper → (ts : List Token) (st : Reading) → Kept loops_of st.loops (ordinary_with ps number deeper ts st)
 with-kept ps number deeper d ts st = kept-bind loops_of st.loops (parts_of ps st ts) (λ p. parts_read deeper number p (operation_lines st p.operation) st) (λ p. parts-kept deeper d number p (operation_lines st p.operation) st)

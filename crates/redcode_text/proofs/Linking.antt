@@ -15,7 +15,7 @@ use Rattle.redcode_text.specs.declared.expression.evaluation.Pending.TheVariants
 use Rattle.redcode_text.specs.Code.Progress.{Progress}
 use Rattle.redcode_text.specs.Expression.{precedence, binary, kinds, known, shape, next_state}
 use Rattle.redcode_text.specs.Code.Climbing.{Left, State, signed, reduced, placed, before_mark, after_mark, move, run, operand, waiting_all, seen}
-use Rattle.redcode_text.specs.Code.Positions.{Stands, reduced_on, popped, taken, before_on, after_on, advance, run_on}
+use Rattle.redcode_text.specs.Code.Positions.{Corresponds, reduced_on, popped, taken, before_on, after_on, advance, run_on}
 use Rattle.redcode_text.proofs.Climbs.{assoc}
 use Rattle.redcode_text.proofs.Reducing.{none-between}
 use Rattle.redcode_text.proofs.Standing.{stands-next, bind-ok, ok}
@@ -100,7 +100,7 @@ bind-along (Ok x) f g h = h x refl
 bind-along (Err e) f g h = refl
 
 -- Both evaluations have the same result.
-pub linked : (names : ℕ → Option ℤ) (ts rest : List Token) (n : ℕ) (r : Progress) (p : ShapeState) → drop n ts ≡ rest → Stands n r p → shape p (kinds rest) ≡ Ok tt → run names (seen ts n r) (kinds rest) ≡ run_on names ts n r rest
+pub linked : (names : ℕ → Option ℤ) (ts rest : List Token) (n : ℕ) (r : Progress) (p : ShapeState) → drop n ts ≡ rest → Corresponds n r p → shape p (kinds rest) ≡ Ok tt → run names (seen ts n r) (kinds rest) ≡ run_on names ts n r rest
 linked names ts [] n r p e st h =
     ap (λ y. y >>= λ x. Ok x.0) (reduced-seen ts 5 r.stack r.value)
     ∙ assoc (reduced_on 5 r.stack r.value) (λ p. Ok (p.0, waiting_all ts p.1)) (λ x. Ok x.0)

@@ -3,7 +3,7 @@ use Rattle.std.proofs.Common.{◌≡◌, ℕ, zero, suc, ◌-◌, List, Option, 
 use Rattle.redcode_text.specs.Results.{◌>>=◌}
 use Rattle.redcode_text.specs.declared.fault.TextProblem.{TextProblem}
 use Rattle.redcode_text.specs.declared.token.Token.{Token}
-use Rattle.redcode_text.specs.Lines.{Parts, Predefined, Reading, Step, before_first, behind_last, each_line, line_added, on_line, operation_lines, ordinary_line, parts_of, parts_read}
+use Rattle.redcode_text.specs.Lines.{Parts, Predefined, Reading, Step, prepend_to_first, append_to_last, each_line, line_added, on_line, operation_lines, ordinary_line, parts_of, parts_read}
 use Rattle.redcode_text.specs.Code.Problems.{Fails}
 use Rattle.redcode_text.proofs.Failing.{fails-bind}
 
@@ -20,10 +20,10 @@ module _ (ps : Predefined) (number : ℕ) (ts : List Token) (st : Reading) where
   ordinary-plain (suc depth) p h none = ap (λ r. r >>= then_read (Some (ordinary_line ps number depth))) h ∙ ap (λ o. parts_read (Some (ordinary_line ps number depth)) number p o st) none
 
   pub ordinary-used : (depth : ℕ) (p : Parts) (lines : List (List Token)) → ¬ (depth ≡ 0) → parts_of ps st ts ≡ Ok p → operation_lines st p.operation ≡ Some lines
-      → ordinary_line ps number depth ts st ≡ each_line (ordinary_line ps number (depth - 1)) (behind_last (before_first p.label_tokens lines) p.rest) st
+      → ordinary_line ps number depth ts st ≡ each_line (ordinary_line ps number (depth - 1)) (append_to_last (prepend_to_first p.label_tokens lines) p.rest) st
   ordinary-used zero p lines positive h some = absurd (positive refl)
   ordinary-used (suc depth) p lines positive h some =
       let e : depth ≡ suc depth - 1 = omega arith in
       ap (λ r. r >>= then_read (Some (ordinary_line ps number depth))) h
       ∙ ap (λ o. parts_read (Some (ordinary_line ps number depth)) number p o st) some
-      ∙ ap (λ d. each_line (ordinary_line ps number d) (behind_last (before_first p.label_tokens lines) p.rest) st) e
+      ∙ ap (λ d. each_line (ordinary_line ps number d) (append_to_last (prepend_to_first p.label_tokens lines) p.rest) st) e

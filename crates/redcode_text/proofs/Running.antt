@@ -11,7 +11,7 @@ use Rattle.redcode_text.specs.declared.expression.shape.ShapeState.{ShapeState}
 use Rattle.redcode_text.specs.Code.Progress.{Progress}
 use Rattle.redcode_text.specs.Expression.{kinds, shape, start, next_state, value_of}
 use Rattle.redcode_text.specs.Code.Climbing.{wants, run, waiting_all, seen, AreInside}
-use Rattle.redcode_text.specs.Code.Positions.{Stands, IsOrdered, reduced_on, advance, run_on, finished}
+use Rattle.redcode_text.specs.Code.Positions.{Corresponds, IsOrdered, reduced_on, advance, run_on, finished}
 use Rattle.redcode_text.proofs.Reducing.{none-between}
 use Rattle.redcode_text.proofs.Standing.{stands-next, bind-ok, rest_of}
 use Rattle.redcode_text.proofs.Linking.{linked}
@@ -42,7 +42,7 @@ module _ (names : ℕ → Option ℤ) (ts : List Token) (n : ℕ) (r : Progress)
       let e = subst (λ o. IfSome o (λ t. advance names ts n r t.kind ≡ Err f)) a.found h in
       ap (run_on names ts n r) a.rest ∙ ap (λ y. y >>= λ q. run_on names ts (n + 1) q (drop (n + 1) ts)) e
 
-  pub step-stands : (next : Progress) → IfSome (slice_get ts n) (λ t. advance names ts n r t.kind ≡ Ok next) → (p : ShapeState) × Stands n r p × (shape p (kinds (drop n ts)) ≡ Ok tt) → (p : ShapeState) × Stands (n + 1) next p × (shape p (kinds (drop (n + 1) ts)) ≡ Ok tt)
+  pub step-stands : (next : Progress) → IfSome (slice_get ts n) (λ t. advance names ts n r t.kind ≡ Ok next) → (p : ShapeState) × Corresponds n r p × (shape p (kinds (drop n ts)) ≡ Ok tt) → (p : ShapeState) × Corresponds (n + 1) next p × (shape p (kinds (drop (n + 1) ts)) ≡ Ok tt)
   step-stands next h s =
       let a = at ts n lt in
       let e = subst (λ o. IfSome o (λ t. advance names ts n r t.kind ≡ Ok next)) a.found h in
@@ -50,7 +50,7 @@ module _ (names : ℕ → Option ℤ) (ts : List Token) (n : ℕ) (r : Progress)
       let q = bind-ok (next_state s.0 a.token.kind) (λ q. shape q (kinds (drop (n + 1) ts))) tt shaped in
       (q.0, stands-next names ts n r next s.0 q.0 a.token.kind s.1 q.1 e, q.2)
 
-pub room_after : (n places : ℕ) (r : Progress) (p : ShapeState) → Stands n r p → length r.stack < places
+pub room_after : (n places : ℕ) (r : Progress) (p : ShapeState) → Corresponds n r p → length r.stack < places
     → (k : ℕ) (w : ℤ) (stack : List Pending) → reduced_on k r.stack r.value ≡ Ok (w, stack) → length stack < places
 room_after n places r p s small k w stack e =
     let rest = rest_of n k p.opened r.stack r.value w stack e s.ordered s.inside in omega (arith, rest.shorter, small)
@@ -62,7 +62,7 @@ finish names ts n r le = sym (ap (run_on names ts n r) (nothing (drop n ts) (let
     nothing [] e = refl
     nothing (x ∷ l) e = absurd (omega arith)
 
-pub begins : (ts : List Token) (r : Progress) → r.stack ≡ [] → r.first_sign ≡ 0 → r.after_operand ≡ false → Stands 0 r start
+pub begins : (ts : List Token) (r : Progress) → r.stack ≡ [] → r.first_sign ≡ 0 → r.after_operand ≡ false → Corresponds 0 r start
 begins ts r a b c = record {
   ordered = subst (λ s. IsOrdered s 0) (sym a) refl;
   opened = omega arith;

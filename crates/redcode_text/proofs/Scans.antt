@@ -11,7 +11,7 @@ use Rattle.redcode_text.specs.declared.token.Sign.{Sign}
 use Rattle.redcode_text.specs.declared.token.Spelled.{Spelled}
 use Rattle.redcode_text.proofs.Failing.{bind-ok, fails-bind, fails-itself}
 use Rattle.redcode_text.specs.Code.Problems.{Gives, Fails}
-use Rattle.redcode_text.specs.Code.Scanning.{with_names, found_alone}
+use Rattle.redcode_text.specs.Code.Scanning.{with_names, found_without_names}
 use Rattle.redcode_text.specs.Code.Scanning.{one_token}
 use Rattle.redcode_text.specs.Tokens.{OpenLoop, Found, Scanned, is_blank, begins_word, token_at, word_token, word_len, look_up, one_byte_signs, two_byte_signs, sign_found, sign_token, scan_from, with_room, with_token}
 
@@ -26,19 +26,19 @@ renamed-sign names (Some s) one = refl
 renamed-sign names None (Some s) = refl
 renamed-sign names None None = refl
 
-gives-renamed : (names : List (List ℕ)) (r : Result Spelled TextProblem) → Gives (with_names names) r (renamed names (found_alone r))
+gives-renamed : (names : List (List ℕ)) (r : Result Spelled TextProblem) → Gives (with_names names) r (renamed names (found_without_names r))
 gives-renamed names (Ok x) = refl
 gives-renamed names (Err e) = fails-itself Found e
 
 -- Reading a sign doesn't change the names.
-sign-gives : (names : List (List ℕ)) (two one : Option Sign) (r : Result Spelled TextProblem) → found_alone r ≡ sign_found [] two one → Gives (with_names names) r (sign_found names two one)
+sign-gives : (names : List (List ℕ)) (two one : Option Sign) (r : Result Spelled TextProblem) → found_without_names r ≡ sign_found [] two one → Gives (with_names names) r (sign_found names two one)
 sign-gives names two one r e = subst (Gives (with_names names) r) (ap (renamed names) e ∙ renamed-sign names two one) (gives-renamed names r)
 
 token-is-sign : (loops : List OpenLoop) (names : List (List ℕ)) (b : ℕ) (bs : List ℕ) → is_ascii b ≡ true → begins_word (b ∷ bs) ≡ false → sign_token names (b ∷ bs) ≡ token_at loops names (b ∷ bs)
 token-is-sign loops names b bs a w = sym (λ i. cond (not (a i && true)) (Err NotAscii) (cond (w i) (word_token loops names (take (word_len (b ∷ bs)) (b ∷ bs))) (sign_token names (b ∷ bs))))
 
 pub sign-at : (loops : List OpenLoop) (names : List (List ℕ)) (bs : List ℕ) (r : Result Spelled TextProblem) → 0 < length bs → is_ascii (get_or bs 0 0) ≡ true → begins_word bs ≡ false
-    → found_alone r ≡ sign_token [] bs → Gives (with_names names) r (token_at loops names bs)
+    → found_without_names r ≡ sign_token [] bs → Gives (with_names names) r (token_at loops names bs)
 sign-at loops names [] r some a w e = absurd (omega arith)
 sign-at loops names (b ∷ bs) r some a w e = subst (Gives (with_names names) r) (token-is-sign loops names b bs a w) (sign-gives names (look_up two_byte_signs (take 2 (b ∷ bs))) (look_up one_byte_signs (take 1 (b ∷ bs))) r e)
 

@@ -4,16 +4,16 @@ use Rattle.std.proofs.Math.Seq.{drop-cons}
 use Rattle.redcode_text.specs.Results.{◌>>=◌}
 use Rattle.redcode_text.specs.declared.fault.TextProblem.{TextProblem}
 use Rattle.redcode_text.specs.declared.token.Token.{Token}
-use Rattle.redcode_text.specs.Lines.{Reading, Step, before_first, behind_last, each_line, unless_ended}
+use Rattle.redcode_text.specs.Lines.{Reading, Step, prepend_to_first, append_to_last, each_line, unless_ended}
 use Rattle.redcode_text.specs.Code.Problems.{Fails}
 use Rattle.redcode_text.specs.Code.Used.{before_line, lines_under, read_one, used}
 use Rattle.redcode_text.proofs.Failing.{fails-bind}
 
-behind-used : (l : List Token) (ls : List (List Token)) (behind : List Token) → used [] (l ∷ ls) behind ≡ behind_last (l ∷ ls) behind
+behind-used : (l : List Token) (ls : List (List Token)) (behind : List Token) → used [] (l ∷ ls) behind ≡ append_to_last (l ∷ ls) behind
 behind-used l [] behind = refl
 behind-used l (m ∷ ls) behind = ap (λ r. l ∷ r) (behind-used m ls behind)
 
-pub used-is : (before : List Token) (lines : List (List Token)) (behind : List Token) → used before lines behind ≡ behind_last (before_first before lines) behind
+pub used-is : (before : List Token) (lines : List (List Token)) (behind : List Token) → used before lines behind ≡ append_to_last (prepend_to_first before lines) behind
 used-is before [] behind = refl
 used-is before (l ∷ []) behind = refl
 used-is before (l ∷ m ∷ ls) behind = ap (λ r. (before ++ l) ∷ r) (behind-used m ls behind)

@@ -36,21 +36,21 @@ precedence Or = 5
 precedence _ = 0
 
 -- The maximum number of unary operators in a row, and the maximum number of open parentheses.
-abbrev pub most_signs : ℕ
-most_signs = 64
+abbrev pub max_signs : ℕ
+max_signs = 64
 
-abbrev pub most_parens : ℕ
-most_parens = 64
+abbrev pub max_parens : ℕ
+max_parens = 64
 
 abbrev pub one_more_sign : ShapeState → Result ShapeState ExprFault
-one_more_sign p = if nat_le most_signs p.signs then Err Depth else Ok (record { opened = p.opened; signs = p.signs + 1; after_operand = false })
+one_more_sign p = if nat_le max_signs p.signs then Err Depth else Ok (record { opened = p.opened; signs = p.signs + 1; after_operand = false })
 
 -- The state after a sign where an operand is expected.
 abbrev pub before_sign : ShapeState → Sign → Result ShapeState ExprFault
 before_sign p Plus = one_more_sign p
 before_sign p Minus = one_more_sign p
 before_sign p Bang = one_more_sign p
-before_sign p OpenParen = if nat_le most_parens p.opened then Err Depth else Ok (record { opened = p.opened + 1; signs = 0; after_operand = false })
+before_sign p OpenParen = if nat_le max_parens p.opened then Err Depth else Ok (record { opened = p.opened + 1; signs = 0; after_operand = false })
 before_sign p _ = Err Syntax
 
 -- The state after a sign where a binary operator is expected.

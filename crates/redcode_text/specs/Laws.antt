@@ -14,21 +14,21 @@ use Rattle.redcode_text.specs.Lines.{Reading, Predefined}
 use Rattle.redcode_text.specs.Expansion.{Head, expansion, flat, head_line, nothing_read}
 
 -- Lines before the first `;redcode` have no effect.
-abbrev pub LinesBeforeRedcodeAreUnread : Type 0
-LinesBeforeRedcodeAreUnread = (before rows : List SourceRow) → list_any begins_redcode before ≡ false → list_any begins_redcode rows ≡ true
+abbrev pub LinesBeforeRedcodeAreIgnored : Type 0
+LinesBeforeRedcodeAreIgnored = (before rows : List SourceRow) → list_any begins_redcode before ≡ false → list_any begins_redcode rows ≡ true
     → tree_of_rows (read_rows (before ++ rows)) ≡ tree_of_rows (read_rows rows)
 
 -- Lines after END have no effect, unless one of them begins with `;redcode`: then the lines before that one would not be
 -- read. `source` is a source that reads up to an END, and 10 (LF) ends its last line.
-abbrev pub LinesBehindEndAreUnread : Type 0
-LinesBehindEndAreUnread = (ps : Predefined) (source behind : List ℕ) (read : Reading)
+abbrev pub LinesAfterEndAreIgnored : Type 0
+LinesAfterEndAreIgnored = (ps : Predefined) (source behind : List ℕ) (read : Reading)
     → flat ps (tree_of (source ++ 10 ∷ [])) nothing_read ≡ Ok read → read.ended ≡ true → list_any (has_directive (codes "redcode")) (lines_of behind) ≡ false
     → expansion ps (source ++ 10 ∷ behind) ≡ expansion ps (source ++ 10 ∷ [])
 
 -- The body of a loop with no iterations has no effect: replacing it by another body changes nothing. Both bodies are given
 -- as items, since a FOR without its ROF, or a ROF without its FOR, would change which lines are the body.
-abbrev pub LinesInNoRoundAreUnread : Type 0
-LinesInNoRoundAreUnread = (ps : Predefined) (head rof : SourceRow) (body other rest : Items) (st : Reading)
+abbrev pub ZeroIterationBodiesAreIgnored : Type 0
+ZeroIterationBodiesAreIgnored = (ps : Predefined) (head rof : SourceRow) (body other rest : Items) (st : Reading)
     → IfOk (head_line ps head st) (λ (h : Head). h.count ≡ 0)
     → flat ps (Loop head body rof rest) st ≡ flat ps (Loop head other rof rest) st
 

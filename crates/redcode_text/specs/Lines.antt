@@ -180,15 +180,15 @@ abbrev pub parts_of : Predefined → Reading → List Token → Result Parts Tex
 parts_of ps st ts = parts_within ps st (length ts) [] [] ts
 
 -- The operation is `word`, in either case.
-abbrev pub is_spelled : List (List ℕ) → List ℕ → Option ℕ → Bool
-is_spelled names word (Some n) = str_eq_ignore_ascii_case (name_at names n) word
-is_spelled names word None = false
+abbrev pub is_keyword : List (List ℕ) → List ℕ → Option ℕ → Bool
+is_keyword names word (Some n) = str_eq_ignore_ascii_case (name_at names n) word
+is_keyword names word None = false
 
 abbrev pub is_org : List (List ℕ) → Option ℕ → Bool
-is_org names operation = is_spelled names (codes "org") operation
+is_org names operation = is_keyword names (codes "org") operation
 
 abbrev pub is_end : List (List ℕ) → Option ℕ → Bool
-is_end names operation = is_spelled names (codes "end") operation
+is_end names operation = is_keyword names (codes "end") operation
 
 -- A line is an instruction if it has an operation or any token after its labels, and is not ORG or END.
 abbrev pub is_instruction : List (List ℕ) → Option ℕ → List Token → Bool
@@ -213,14 +213,14 @@ abbrev pub on_line : ℕ → List Token → List Token
 on_line number ts = map (token_on_line number) ts
 
 -- The lines with `ts` put before the first one; and the lines with `ts` put after the last one.
-abbrev pub before_first : List Token → List (List Token) → List (List Token)
-before_first ts [] = ts ∷ []
-before_first ts (l ∷ ls) = (ts ++ l) ∷ ls
+abbrev pub prepend_to_first : List Token → List (List Token) → List (List Token)
+prepend_to_first ts [] = ts ∷ []
+prepend_to_first ts (l ∷ ls) = (ts ++ l) ∷ ls
 
-abbrev pub behind_last : List (List Token) → List Token → List (List Token)
-behind_last [] ts = ts ∷ []
-behind_last (l ∷ []) ts = (l ++ ts) ∷ []
-behind_last (l ∷ m ∷ ls) ts = l ∷ behind_last (m ∷ ls) ts
+abbrev pub append_to_last : List (List Token) → List Token → List (List Token)
+append_to_last [] ts = ts ∷ []
+append_to_last (l ∷ []) ts = (l ++ ts) ∷ []
+append_to_last (l ∷ m ∷ ls) ts = l ∷ append_to_last (m ∷ ls) ts
 
 -- Continues with `rest`, unless an END was read.
 abbrev pub unless_ended : {E : Type 0} → Reading → (Reading → Result Reading E) → Result Reading E
@@ -240,7 +240,7 @@ operation_lines st None = None
 abbrev pub parts_read : Option (List Token → Step) → ℕ → Parts → Option (List (List Token)) → Step
 parts_read deeper number p None st = Ok (line_added number (record p { rest = on_line number p.rest }) st)
 parts_read None number p (Some lines) st = Err EquDepth
-parts_read (Some ordinary) number p (Some lines) st = each_line ordinary (behind_last (before_first p.label_tokens lines) p.rest) st
+parts_read (Some ordinary) number p (Some lines) st = each_line ordinary (append_to_last (prepend_to_first p.label_tokens lines) p.rest) st
 
 abbrev pub ordinary_with : Predefined → ℕ → Option (List Token → Step) → List Token → Step
 ordinary_with ps number deeper ts st = parts_of ps st ts >>= λ p. parts_read deeper number p (operation_lines st p.operation) st
@@ -256,13 +256,13 @@ abbrev pub printable : ℕ → ℕ
 printable b = elim (nat_le first_printed b && nat_le b last_printed) [ true ↦ b | false ↦ question_mark ]
 
 -- The maximum number of bytes of a name or an author.
-abbrev pub longest_name : ℕ
-longest_name = 60
+abbrev pub max_name_len : ℕ
+max_name_len = 60
 
 -- The value of `;name` or `;author`: its text without whitespace at both ends, with `?` for bytes that are not printable,
 -- and at most 60 bytes.
 abbrev pub directive_value : List ℕ → List ℕ
-directive_value text = take longest_name (map printable (reverse (without_blanks (reverse (without_blanks text)))))
+directive_value text = take max_name_len (map printable (reverse (without_blanks (reverse (without_blanks text)))))
 
 abbrev pub unless_empty : List ℕ → List ℕ → List ℕ
 unless_empty [] old = old

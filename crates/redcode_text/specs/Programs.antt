@@ -3,11 +3,11 @@ use Rattle.std.specs.Prelude.{ℕ, ◌≤◌, List, length, All}
 use Rattle.redcode_text.specs.Bytes.{first_printed, last_printed}
 use Rattle.redcode_text.specs.Equates.{limit}
 use Rattle.redcode_text.specs.Expansion.{ProgramValue}
-use Rattle.redcode_text.specs.Lines.{longest_name}
+use Rattle.redcode_text.specs.Lines.{max_name_len}
 
 -- At most 60 printable characters of ASCII.
 pub record IsPrinted (bytes : List ℕ) : Type 0 where
-  pub short : length bytes ≤ longest_name
+  pub short : length bytes ≤ max_name_len
   pub printed : All (λ b. (first_printed ≤ b) × (b ≤ last_printed)) bytes
 
 -- A program has at most `limit` lines, and its name and author are printable.

@@ -5,7 +5,7 @@ use Rattle.redcode_text.specs.declared.token.TokenKind.TheVariants.{Number, Name
 use Rattle.redcode_text.specs.declared.token.TokenKind.TheVariants as token
 use Rattle.redcode_text.specs.declared.token.Sign.{Sign}
 use Rattle.redcode_text.specs.declared.token.Sign.TheVariants.{Plus, Minus, Bang, OpenParen, CloseParen}
-use Rattle.redcode_text.specs.Expression.{most_parens, most_signs, precedence, Tree, Numeral, Named, Parens, Unary, Binary, Missing}
+use Rattle.redcode_text.specs.Expression.{max_parens, max_signs, precedence, Tree, Numeral, Named, Parens, Unary, Binary, Missing}
 
 -- The tokens that spell a tree.
 abbrev pub spelling : Tree → List TokenKind
@@ -39,7 +39,7 @@ IsLevelled Missing = ⊥
 -- The numbers of unary operators in a row and of open parentheses are within their limits, if `opened` parentheses are open
 -- before the tree and `signs` unary operators directly precede it.
 abbrev pub IsWithin : ℕ → ℕ → Tree → Type 0
-IsWithin opened signs (Parens t) = (opened < most_parens) × IsWithin (opened + 1) 0 t
-IsWithin opened signs (Unary s t) = (signs < most_signs) × IsWithin opened (signs + 1) t
+IsWithin opened signs (Parens t) = (opened < max_parens) × IsWithin (opened + 1) 0 t
+IsWithin opened signs (Unary s t) = (signs < max_signs) × IsWithin opened (signs + 1) t
 IsWithin opened signs (Binary l s r) = IsWithin opened signs l × IsWithin opened 0 r
 IsWithin opened signs _ = ⊤

@@ -3,7 +3,7 @@ ghost use Rattle.std.specs.Prelude.{◌≡◌, ◌≤◌, [], ◌∷◌, ◌++�
 ghost use Rattle.redcode_text.specs.declared.limits.TheConstants.{MAX_REPLACED};
 ghost use Rattle.redcode_text.specs.Equates.{Replaced, equate_lines, token_lines, one_line, one_more, kept_token, replaced_name, replaced_token, each_replaced, replacing, depth_limit, each_replaced_at_line, substitution};
 ghost use Rattle.redcode_text.specs.Lines.{with_line};
-ghost use Rattle.redcode_text.specs.Outcomes.{Answers};
+ghost use Rattle.redcode_text.specs.Outcomes.{IsResult};
 ghost use Rattle.redcode_text.specs.Code.Problems.{Gives};
 ghost use Rattle.redcode_text.specs.Tokens.{at_line};
 
@@ -158,7 +158,7 @@ impl Equates {
 impl Equates {
     /// Appends a token of a source, or its expansion, to `replaced`. An error gets the line of the token.
     fn place_at_line(&self, token: Token, replaced: &mut Replaced) -> Result<(), TextFault>
-        ensures { Answers (λ _. replaced.new) result
+        ensures { IsResult (λ _. replaced.new) result
             (at_line token.line (replaced_token (replacing depth_limit self.now) replaced.old token
             (token_lines self.now token.kind))) }
     {
@@ -170,7 +170,7 @@ impl Equates {
 
     /// Appends tokens of a source, with each EQU name expanded, to `replaced`. An error gets the line of its token.
     fn place_each(&self, tokens: &[Token], replaced: &mut Replaced) -> Result<(), TextFault>
-        ensures { Answers (λ _. replaced.new) result (each_replaced_at_line self.now replaced.old tokens.now) }
+        ensures { IsResult (λ _. replaced.new) result (each_replaced_at_line self.now replaced.old tokens.now) }
     {
         for token in tokens {
             self.place_at_line(*token, replaced)?;
@@ -180,7 +180,7 @@ impl Equates {
 
     /// Replaces each EQU name by its definition, and the names in the definition in turn, at most 32 deep.
     pub fn substitute(&self, alloc: Global, tokens: &[Token]) -> Result<Vec<Token>, TextFault>
-        ensures value { Answers (λ made. made.items) result (substitution self.now tokens.now) }
+        ensures value { IsResult (λ made. made.items) result (substitution self.now tokens.now) }
         ensures few { IfOk result (λ made. vec_len made ≤ MAX_REPLACED) }
     {
         let mut replaced = Replaced {

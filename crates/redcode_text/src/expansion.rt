@@ -5,7 +5,7 @@ ghost use Rattle.redcode_text.specs.Views.{predefined_of};
 ghost use Rattle.redcode_text.specs.Code.Readings.{reading_of};
 ghost use Rattle.redcode_text.specs.Code.Loops.{RowsFit};
 ghost use Rattle.redcode_text.specs.Code.Rows.{row_of};
-ghost use Rattle.redcode_text.specs.Outcomes.{Answers};
+ghost use Rattle.redcode_text.specs.Outcomes.{IsResult};
 ghost use Rattle.redcode_text.specs.Source.{tree_of, tree_of_rows};
 
 use crate::fault::{TextFault, TextProblem};
@@ -50,7 +50,7 @@ fn read_from_rows(
     names: &PredefinedNames,
 ) -> Result<Reading, TextFault>
     requires fits { RowsFit rows.now }
-    ensures { Answers (λ reading. reading_of reading) result
+    ensures { IsResult (λ reading. reading_of reading) result
         (flat (predefined_of names.now) (tree_of_rows (map row_of rows.now)) nothing_read) }
 {
     let Ok(mut reading) = Reading::new(alloc) else {
@@ -69,7 +69,7 @@ fn read_from_rows(
 /// Reads a source.
 #[tactic(auto, using(crate::proofs::SourceRows::rows_fit))]
 fn read_source(alloc: Global, bytes: &[u8], names: &PredefinedNames) -> Result<Reading, TextFault>
-    ensures { Answers (λ reading. reading_of reading) result (flat (predefined_of names.now) (tree_of bytes.now) nothing_read) }
+    ensures { IsResult (λ reading. reading_of reading) result (flat (predefined_of names.now) (tree_of bytes.now) nothing_read) }
 {
     let Ok(rows) = rows_of(alloc, bytes) else {
         return Err(TextProblem::OutOfMemory.at_line(0));
@@ -101,7 +101,7 @@ fn read_source(alloc: Global, bytes: &[u8], names: &PredefinedNames) -> Result<R
 /// `OutOfMemory`, with the line 0, replaces any error that would have been found after the allocation that failed.
 #[tactic(auto, unfolding(crate::specs::Expansion::expansion))]
 pub fn expand(alloc: Global, bytes: &[u8], names: &PredefinedNames) -> Result<Program, TextFault>
-    ensures { Answers (λ program. program) result (expansion (predefined_of names.now) bytes.now) }
+    ensures { IsResult (λ program. program) result (expansion (predefined_of names.now) bytes.now) }
 {
     match read_source(alloc, bytes, names) {
         Ok(reading) => Ok(program_of(reading)),

@@ -1,25 +1,25 @@
 //! Laws of the definitions: the meaning of a source's text, independent of how it is read. The functions do nothing;
 //! their contracts are the laws.
-ghost use Rattle.redcode_text.specs.Laws.{LinesBeforeRedcodeAreUnread, LinesBehindEndAreUnread, LinesInNoRoundAreUnread, MisshapenAtFirst, ShapesAreTrees, TreesHaveShapes};
+ghost use Rattle.redcode_text.specs.Laws.{LinesBeforeRedcodeAreIgnored, LinesAfterEndAreIgnored, ZeroIterationBodiesAreIgnored, MisshapenAtFirst, ShapesAreTrees, TreesHaveShapes};
 
 /// Lines before the first `;redcode` have no effect.
-pub fn lines_before_redcode_are_unread()
-    ensures { LinesBeforeRedcodeAreUnread }
+pub fn lines_before_redcode_are_ignored()
+    ensures { LinesBeforeRedcodeAreIgnored }
 {}
 
 /// Lines after END have no effect, unless one of them begins with `;redcode`.
 ///
 /// This includes a FOR or ROF without its counterpart, and bytes that form no valid line.
-pub fn lines_behind_end_are_unread()
-    ensures { LinesBehindEndAreUnread }
+pub fn lines_after_end_are_ignored()
+    ensures { LinesAfterEndAreIgnored }
 {}
 
 /// The body of a loop with no iterations has no effect: it can be replaced by another body between the same FOR and ROF.
 ///
 /// The law is about trees, in which each FOR of a body has its ROF. A FOR or ROF without its counterpart would change
 /// which lines are the body.
-pub fn lines_in_no_round_are_unread()
-    ensures { LinesInNoRoundAreUnread }
+pub fn zero_iteration_bodies_are_ignored()
+    ensures { ZeroIterationBodiesAreIgnored }
 {}
 
 /// Tokens with a valid shape are the spelling of their tree.

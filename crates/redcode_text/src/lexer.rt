@@ -1,9 +1,9 @@
 //! The tokens of a line.
 ghost use Rattle.std.specs.Prelude.{◌≡◌, ◌≤◌, ◌<◌, ◌+◌, ◌^◌, [], drop, length, vec_len, IfOk, OnOk};
-ghost use Rattle.redcode_text.specs.Outcomes.{Answers};
+ghost use Rattle.redcode_text.specs.Outcomes.{IsResult};
 ghost use Rattle.redcode_text.specs.Views.{scan_of};
 ghost use Rattle.redcode_text.specs.Code.Problems.{Gives};
-ghost use Rattle.redcode_text.specs.Code.Scanning.{found_alone, one_token, with_names};
+ghost use Rattle.redcode_text.specs.Code.Scanning.{found_without_names, one_token, with_names};
 ghost use Rattle.redcode_text.specs.Code.SourceLoops.{loops_of};
 ghost use Rattle.redcode_text.specs.Tokens.{begins_word, is_blank, scan_from, scanned, sign_token, token_at};
 
@@ -31,7 +31,7 @@ pub struct Text<'a> {
 
 /// Reads the sign at the start of `bytes`. A sign of two bytes has precedence over one of one byte.
 fn read_sign(bytes: &[u8]) -> Result<Spelled, TextProblem>
-    ensures value { found_alone result ≡ sign_token [] bytes.now }
+    ensures value { found_without_names result ≡ sign_token [] bytes.now }
     ensures len { IfOk result (λ s. (1 ≤ s.len) × (s.len ≤ length bytes.now)) }
 {
     let [first, rest @ ..] = bytes else {
@@ -155,7 +155,7 @@ pub struct LineTokens {
 /// - `NotAscii` or `BadToken` for the first byte that starts no token; LF and `;` start none
 /// - `OutOfMemory`, with the line 0, replaces any error that would have been found after the allocation that failed
 pub fn scan(alloc: Global, text: &[u8]) -> Result<LineTokens, TextFault>
-    ensures { Answers (λ s. scan_of s.tokens s.names) result (scanned text.now) }
+    ensures { IsResult (λ s. scan_of s.tokens s.names) result (scanned text.now) }
 {
     let mut tokens = Vec::new(alloc);
     let mut names = SourceNames::new(alloc);

@@ -36,7 +36,7 @@
 //!   `specs/Equates` defines it.
 //! - `PredefinedNames` has the values of the predefined names, `PredefinedNames::value_at` returns one of them, and
 //!   `NameTable` has the names of a text.
-//! - `is_instruction` returns whether a line is an instruction, and `is_spelled` whether an operation is a given word.
+//! - `is_instruction` returns whether a line is an instruction, and `is_keyword` whether an operation is a given word.
 //! - `scan` returns the tokens and the names of a text of one line, or its first error, as `specs/Tokens` defines them.
 //! - `check_shape` checks whether tokens have the shape of an expression, and `eval` returns the value of an expression
 //!   for given values of names, or its first error, as `specs/Expression` defines it. They don't allocate.
@@ -65,5 +65,5 @@ pub use fault::{ExprFault, TextFault, TextProblem};
 pub use lexer::{LineTokens, scan};
 pub use names::NameTable;
 pub use names::predefined::PredefinedNames;
-pub use program::{Assert, Line, Program, is_instruction, is_spelled};
+pub use program::{Assert, Line, Program, is_instruction, is_keyword};
 pub use token::{Sign, Token, TokenKind};

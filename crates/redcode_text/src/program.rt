@@ -1,6 +1,6 @@
 //! Programs: the part of a source that the assembler needs.
 ghost use Rattle.std.specs.Prelude.{◌≡◌};
-ghost use Rattle.redcode_text.specs.Lines.{is_end, is_instruction, is_spelled};
+ghost use Rattle.redcode_text.specs.Lines.{is_end, is_instruction, is_keyword};
 
 use crate::equates::Equates;
 use crate::fault::TextFault;
@@ -77,7 +77,7 @@ impl Program {
     ghost use Rattle.std.specs.Prelude.{◌≡◌, ◌≤◌, IfOk, length, map, option_map, vec_len};
     ghost use Rattle.redcode_text.specs.Equates.{equate_lines, limit, substitution};
     ghost use Rattle.redcode_text.specs.Views.{assert_of, line_of};
-    ghost use Rattle.redcode_text.specs.Outcomes.{Answers};
+    ghost use Rattle.redcode_text.specs.Outcomes.{IsResult};
     ghost use Rattle.redcode_text.specs.Programs.{IsPrinted};
 
     /// Returns the names, in the order of their first use. Tokens refer to them by index.
@@ -137,7 +137,7 @@ impl Program {
     /// name whose definition has several lines, or `TooLong` for more than 65,536 tokens or replacements. It has the line
     /// of its token among `tokens`, which is the line of the use. `OutOfMemory` has the line 0.
     pub fn substitute(&self, alloc: Global, tokens: &[Token]) -> Result<Vec<Token>, TextFault>
-        ensures value { Answers (λ made. made.items) result (substitution self.now.equates tokens.now) }
+        ensures value { IsResult (λ made. made.items) result (substitution self.now.equates tokens.now) }
         ensures few { IfOk result (λ made. vec_len made ≤ limit) }
     {
         self.equates.substitute(alloc, tokens)
@@ -145,8 +145,8 @@ impl Program {
 }
 
 /// Returns whether an operation, given as an index into the names, is `word`, in either case.
-pub fn is_spelled(names: &NameTable, word: &[u8], operation: Option<usize>) -> bool
-    ensures { result ≡ is_spelled names.now word.now operation }
+pub fn is_keyword(names: &NameTable, word: &[u8], operation: Option<usize>) -> bool
+    ensures { result ≡ is_keyword names.now word.now operation }
 {
     match operation {
         Some(name) => names.is_word(name, word),
@@ -158,7 +158,7 @@ pub fn is_spelled(names: &NameTable, word: &[u8], operation: Option<usize>) -> b
 pub(crate) fn is_end(names: &NameTable, operation: Option<usize>) -> bool
     ensures { result ≡ is_end names.now operation }
 {
-    is_spelled(names, b"end", operation)
+    is_keyword(names, b"end", operation)
 }
 
 /// Returns whether a line is an instruction: it has an operation or other tokens after its labels, and isn't ORG or END.
@@ -166,5 +166,5 @@ pub fn is_instruction(names: &NameTable, operation: Option<usize>, rest: &[Token
     ensures { result ≡ is_instruction names.now operation rest.now }
 {
     (operation.is_some() || !rest.is_empty())
-        && !(is_spelled(names, b"org", operation) || is_end(names, operation))
+        && !(is_keyword(names, b"org", operation) || is_end(names, operation))
 }

@@ -18,7 +18,7 @@ use Rattle.mars_cell.specs.Output.{CutShort}
 use Rattle.mars_app.specs.Debugger.Transcript.{Transcript, GoesOn, Completes, WriteFails, answer, until_quit}
 use Rattle.mars_app.specs.Debugger.Transcript.EndsIn.{at_newline, at_end}
 use Rattle.mars_app.specs.Debugger.Transcript.Transcript.{none, line}
-use Rattle.mars_app.specs.Code.Steps.{GoesThrough, Quits, Breaks, ReadsOn, Quitting, Finishes, BreaksAtEnd}
+use Rattle.mars_app.specs.Code.Steps.{GoesThrough, Quits, WriteFailsWithin, ReadsOn, Quitting, Finishes, WriteFailsAtEnd}
 use Rattle.mars_app.proofs.Transcripts.LinesOf.{executed_lines, last_of, lines_of-line, lines_of-lines, until_quit-lines, until_quit-one, until_quit-quit}
 
 -- ---- The core size under another name
@@ -118,7 +118,7 @@ module _ (core : ℕ) where
   -- The byte ends the line, and a write of its reply fails.
   pub breaks_at_line : (a : LineBuffer) (t u : SessionState) (v w : Option (List ℕ)) (request : Request) (poor : Bool)
       → ((l : List ℕ) → Holds a l → request ≡ line_asks core l)
-      → u ≡ (answer poor t request).0 → CutShort v w (answer poor t request).1 → Breaks core (10 ∷ []) a t v u w
+      → u ≡ (answer poor t request).0 → CutShort v w (answer poor t request).1 → WriteFailsWithin core (10 ∷ []) a t v u w
   breaks_at_line a t u v w request poor asks tape cut s bytes text r =
       let e = asks r.rest r.holds in (
         take cut.0 (answer poor t request).1,
@@ -160,7 +160,7 @@ module _ (core : ℕ) where
       (p.0 ++ q.0, Appends-trans v w z p.0 q.0 p.1 q.1, rw (← append_assoc bytes x y, ← append_assoc text p.0 q.0) q.2)
 
   pub breaks_after : (x y : List ℕ) (a b : LineBuffer) (t u m : SessionState) (v w z : Option (List ℕ))
-      → GoesThrough core x a t v b u w → Breaks core y b u w m z → Breaks core (x ++ y) a t v m z
+      → GoesThrough core x a t v b u w → WriteFailsWithin core y b u w m z → WriteFailsWithin core (x ++ y) a t v m z
   breaks_after x y a b t u m v w z first second s bytes text r =
       let p = first s bytes text r in
       let q = second s (bytes ++ x) (text ++ p.0) p.2 in
@@ -187,7 +187,7 @@ module _ (core : ℕ) where
         },
       )
 
-  pub breaks_early : (x y : List ℕ) (a : LineBuffer) (t u : SessionState) (v w : Option (List ℕ)) → Breaks core x a t v u w → Breaks core (x ++ y) a t v u w
+  pub breaks_early : (x y : List ℕ) (a : LineBuffer) (t u : SessionState) (v w : Option (List ℕ)) → WriteFailsWithin core x a t v u w → WriteFailsWithin core (x ++ y) a t v u w
   breaks_early x y a t u v w h s bytes text r =
       let p = h s bytes text r in (
         p.0,
@@ -221,7 +221,7 @@ module _ (core : ℕ) where
     quits_inside a b t u m v w z p q = rw around (quits_early _ (drop (i + 1) xs) a t m v z (quits_after _ _ a b t u m v w z p q))
 
     pub breaks_inside : (a b : LineBuffer) (t u m : SessionState) (v w z : Option (List ℕ))
-        → GoesThrough core (take i xs) a t v b u w → Breaks core (byte ∷ []) b u w m z → Breaks core xs a t v m z
+        → GoesThrough core (take i xs) a t v b u w → WriteFailsWithin core (byte ∷ []) b u w m z → WriteFailsWithin core xs a t v m z
     breaks_inside a b t u m v w z p q = rw around (breaks_early _ (drop (i + 1) xs) a t m v z (breaks_after _ _ a b t u m v w z p q))
 
   -- ---- The end of the input
@@ -264,7 +264,7 @@ module _ (core : ℕ) where
   -- The unfinished line is executed, and a write of its reply fails.
   pub breaks_at_last : (a : LineBuffer) (t u : SessionState) (v w : Option (List ℕ)) (request : Request) (poor : Bool)
       → ((l : List ℕ) → Holds a l → request ≡ line_asks core l)
-      → u ≡ (answer poor t request).0 → CutShort v w (answer poor t request).1 → BreaksAtEnd core a t v u w
+      → u ≡ (answer poor t request).0 → CutShort v w (answer poor t request).1 → WriteFailsAtEnd core a t v u w
   breaks_at_last a t u v w request poor asks tape cut s bytes text r =
       let e = asks r.rest r.holds in (
         take cut.0 (answer poor t request).1,
@@ -362,7 +362,7 @@ module _ (core : ℕ) where
               (λ more. quits_all t (so_far.0 ++ chunk) m (so_far.1 ++ p.0) more p.2);
         }
 
-    pub reads_break : Breaks core chunk a u w m z → WriteFails core input then t v m z
+    pub reads_break : WriteFailsWithin core chunk a u w m z → WriteFails core input then t v m z
     reads_break h =
         let p = h t so_far.0 so_far.1 so_far.4 in
         record {
@@ -396,7 +396,7 @@ module _ (core : ℕ) where
           all = Consumes-whole input then so_far.0 (λ xs. Transcript core t (until_quit core (lines_of xs)) m (so_far.1 ++ p.0)) all_consumed end p.2;
         }
 
-    pub reads_break_at_end : BreaksAtEnd core a u w m z → WriteFails core input then t v m z
+    pub reads_break_at_end : WriteFailsAtEnd core a u w m z → WriteFails core input then t v m z
     reads_break_at_end h =
         let p = h t so_far.0 so_far.1 so_far.4 in
         record {

@@ -1,9 +1,9 @@
 -- The conditions on options, as the program uses them.
 use Rattle.std.specs.Prelude.{◌≡◌, ℕ, ◌+◌, ◌≤◌, false, true, IfSome, vec_len}
-use Rattle.mars_core.specs.Limits.{most_warriors}
-use Rattle.mars_app.specs.Limits.{longest_history, most_rounds}
-use Rattle.mars_match.specs.Placement.{greatest_seed}
-use Rattle.mars_cell.specs.Limits.{largest_core, most_cycles, most_processes}
+use Rattle.mars_core.specs.Limits.{max_warriors}
+use Rattle.mars_app.specs.Limits.{max_history, max_rounds}
+use Rattle.mars_match.specs.Placement.{max_seed}
+use Rattle.mars_cell.specs.Limits.{max_core_size, max_cycles, max_processes}
 use Rattle.mars_app.specs.declared.options.Options.{Options}
 
 -- `n` is in the range from `least` to `greatest`, both included.
@@ -12,7 +12,7 @@ IsBetween least greatest n = (least ≤ n) × (n ≤ greatest)
 
 -- The options have a number of files that is allowed.
 pub record HaveFiles (o : Options) : Type 0 where
-  pub count : IsBetween 1 most_warriors (vec_len o.files)
+  pub count : IsBetween 1 max_warriors (vec_len o.files)
   pub load : o.load ≡ true → vec_len o.files ≡ 1
   pub league : o.league ≡ true → 2 ≤ vec_len o.files
 
@@ -29,16 +29,16 @@ HaveFittingPosition o = IfSome o.fixed (IsFittingPosition o)
 
 -- Each number of the options is in its range.
 pub record HaveNumbers (o : Options) : Type 0 where
-  pub rounds : IsBetween 1 most_rounds o.rounds
-  pub core : IsBetween 1 largest_core o.core
-  pub cycles : IsBetween 1 most_cycles o.cycles
-  pub processes : IsBetween 1 most_processes o.processes
-  pub longest : IsBetween 1 largest_core o.longest
-  pub distance : IsBetween 1 largest_core o.distance
-  pub seed : IsBetween 1 greatest_seed o.seed
-  pub history : IsBetween 1 longest_history o.history
-  pub read_limit : IfSome o.read_limit (IsBetween 1 largest_core)
-  pub write_limit : IfSome o.write_limit (IsBetween 1 largest_core)
+  pub rounds : IsBetween 1 max_rounds o.rounds
+  pub core : IsBetween 1 max_core_size o.core
+  pub cycles : IsBetween 1 max_cycles o.cycles
+  pub processes : IsBetween 1 max_processes o.processes
+  pub longest : IsBetween 1 max_core_size o.longest
+  pub distance : IsBetween 1 max_core_size o.distance
+  pub seed : IsBetween 1 max_seed o.seed
+  pub history : IsBetween 1 max_history o.history
+  pub read_limit : IfSome o.read_limit (IsBetween 1 max_core_size)
+  pub write_limit : IfSome o.write_limit (IsBetween 1 max_core_size)
 
 -- The conditions on options that the program uses.
 pub record AreInRange (o : Options) : Type 0 where

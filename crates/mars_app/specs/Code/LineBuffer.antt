@@ -1,10 +1,10 @@
 -- The content of the buffer for a line.
 use Rattle.std.specs.Prelude.{◌≡◌, ℕ, ◌<◌, List, length, true, false}
 use Rattle.mars_app.specs.declared.debugger.line_buffer.LineBuffer.{LineBuffer}
-use Rattle.mars_app.specs.Debugger.Lines.{longest}
+use Rattle.mars_app.specs.Debugger.Lines.{max_line_len}
 
 -- The buffer has the whole line unless the line is too long. If it is too long, the buffer knows this and is full.
 pub record Holds (buffer : LineBuffer) (line : List ℕ) : Type 0 where
   pub short : buffer.is_overlong ≡ false → buffer.bytes.items ≡ line
-  pub long : buffer.is_overlong ≡ true → longest < length line
-  pub full : buffer.is_overlong ≡ true → length buffer.bytes.items ≡ longest
+  pub long : buffer.is_overlong ≡ true → max_line_len < length line
+  pub full : buffer.is_overlong ≡ true → length buffer.bytes.items ≡ max_line_len

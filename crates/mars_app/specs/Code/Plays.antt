@@ -13,7 +13,7 @@ use Rattle.redcode_asm.specs.Formula.{formula_of}
 use Rattle.redcode_asm.specs.declared.fault.FormulaFault.TheVariants.{Expression}
 use Rattle.redcode_text.specs.declared.fault.ExprFault.{ExprFault}
 use Rattle.mars_app.specs.Contests.{ContestFails, contest, listing}
-use Rattle.mars_app.specs.Debugging.{DebugsInPart, DebugsWell, StartsNothing, first_round, session_at}
+use Rattle.mars_app.specs.Debugging.{DebugsInPart, DebugSucceeds, StartsNothing, first_round, session_at}
 use Rattle.mars_app.specs.Options.{parameters_of}
 use Rattle.mars_app.specs.Streams.{StreamsValue, Writes}
 use Rattle.mars_app.specs.declared.fault.RunFault.{RunFault}
@@ -29,9 +29,9 @@ IsRefused o f = (f ≡ fault.OutOfMemory)
     × (e : ExprFault) × (formula_of (string_bytes o.score) ≡ Err e) × (f ≡ fault.Formula (Expression e))))
 
 -- The battle of the first round was debugged, or the match or league was run, without an error.
-abbrev pub PlaysWell : Options → Setup → List WarriorValue → StreamsValue → StreamsValue → Type 0
-PlaysWell o setup ws old new =
-    ((o.debugger ≡ true) × (s : State) × (first_round setup ws ≡ Ok s) × DebugsWell (session_at o.history s) old new)
+abbrev pub PlaySucceeds : Options → Setup → List WarriorValue → StreamsValue → StreamsValue → Type 0
+PlaySucceeds o setup ws old new =
+    ((o.debugger ≡ true) × (s : State) × (first_round setup ws ≡ Ok s) × DebugSucceeds (session_at o.history s) old new)
     ⊎ ((o.debugger ≡ false) × (rows : List RowValue) × (contest o.league setup ws ≡ Ok rows)
     × Writes old new (listing setup.params.core_size o.brief ws ++ results_text rows o.sorted))
 

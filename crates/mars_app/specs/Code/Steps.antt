@@ -55,8 +55,8 @@ Quits core_size taken a t v u w = (s : SessionState) (bytes text : List ℕ) →
     → (added : List ℕ) × Appends v w added × Quitting core_size s (bytes ++ taken) u (text ++ added)
 
 -- Whatever was read and written before, a write failed after taking the bytes `taken`.
-abbrev pub Breaks : ℕ → List ℕ → LineBuffer → SessionState → Option (List ℕ) → SessionState → Option (List ℕ) → Type 0
-Breaks core_size taken a t v u w = (s : SessionState) (bytes text : List ℕ) → ReadsOn core_size s bytes a t text
+abbrev pub WriteFailsWithin : ℕ → List ℕ → LineBuffer → SessionState → Option (List ℕ) → SessionState → Option (List ℕ) → Type 0
+WriteFailsWithin core_size taken a t v u w = (s : SessionState) (bytes text : List ℕ) → ReadsOn core_size s bytes a t text
     → (added : List ℕ) × Appends v w added × Breaking core_size s (bytes ++ taken) u (text ++ added)
 
 -- Whatever was read and written before, the unfinished line at the end of the input was executed, if there is one and it is not
@@ -66,7 +66,7 @@ Finishes core_size a t v u w = (s : SessionState) (bytes text : List ℕ) → Re
     → (added : List ℕ) × Appends v w added × Transcript core_size s (until_quit core_size (lines_of bytes)) u (text ++ added)
 
 -- Whatever was read and written before, a write failed in the reply to the unfinished line at the end of the input.
-abbrev pub BreaksAtEnd : ℕ → LineBuffer → SessionState → Option (List ℕ) → SessionState → Option (List ℕ) → Type 0
-BreaksAtEnd core_size a t v u w = (s : SessionState) (bytes text : List ℕ) → ReadsOn core_size s bytes a t text
+abbrev pub WriteFailsAtEnd : ℕ → LineBuffer → SessionState → Option (List ℕ) → SessionState → Option (List ℕ) → Type 0
+WriteFailsAtEnd core_size a t v u w = (s : SessionState) (bytes text : List ℕ) → ReadsOn core_size s bytes a t text
     → (added : List ℕ) × (lines : List (List ℕ)) × (last : List ℕ) × Appends v w added
     × (bytes ≡ flat_map with_newline lines ++ last) × AllByRecursion IsLine (lines ++ last ∷ []) × AllByRecursion (GoesOn core_size) lines × BrokenAt core_size s lines last u (text ++ added)

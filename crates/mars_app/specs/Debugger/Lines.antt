@@ -7,12 +7,12 @@ use Rattle.mars_app.specs.declared.debugger.request.Request.{Request}
 use Rattle.mars_app.specs.declared.debugger.request.Request.TheVariants.{Unknown}
 
 -- The maximum length of a line in bytes.
-abbrev pub longest : ℕ
-longest = 256
+abbrev pub max_line_len : ℕ
+max_line_len = 256
 
 -- The request of a line in a core of size `core_size`. A line of more than 256 bytes is unknown as a whole.
 abbrev pub line_asks : ℕ → List ℕ → Request
-line_asks core_size l = if nat_lt longest (length l) then Unknown else request_of core_size l
+line_asks core_size l = if nat_lt max_line_len (length l) then Unknown else request_of core_size l
 
 -- A line contains no LF.
 abbrev pub IsLine : List ℕ → Type 0

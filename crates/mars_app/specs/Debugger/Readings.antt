@@ -26,13 +26,13 @@ line_at s address i =
     let there = (address + i) % s.params.core_size in cell_line s.params.core_size there (cell_at s.core there)
 
 -- The maximum number of cells of one list.
-abbrev pub most_listed : ℕ
-most_listed = 1000000
+abbrev pub max_listed : ℕ
+max_listed = 1000000
 
 -- The reply to `list`: the lines of `n` cells from `address` on, or a refusal.
 unfoldable pub list_text : State → ℕ → ℕ → List ℕ
 list_text s address n =
-    if n == 0 || nat_lt most_listed n then refusal_text Count
+    if n == 0 || nat_lt max_listed n then refusal_text Count
     else if nat_le s.params.core_size address then refusal_text Address
     else texts (line_at s address) n
 

@@ -5,12 +5,12 @@ ghost use Rattle.mars_app.specs.Debugger.Lines.{line_asks};
 use crate::debugger::request::{Request, read_request};
 use arrayvec::ArrayVec;
 
-pub const LONGEST_LINE: usize = 256;
+pub const MAX_LINE_LEN: usize = 256;
 
 /// The unfinished line, of which at most 256 bytes are stored.
 #[derive(Drop)]
 pub struct LineBuffer {
-    bytes: ArrayVec<u8, LONGEST_LINE>,
+    bytes: ArrayVec<u8, MAX_LINE_LEN>,
     is_overlong: bool,
 }
 

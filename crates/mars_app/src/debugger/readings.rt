@@ -6,7 +6,7 @@ ghost use Rattle.mars_cell.specs.Output.{CutShort};
 ghost use Rattle.mars_core.specs.State.{cell_at, queue_of};
 ghost use Rattle.arrayvec.specs.ArrayString.{array_string_len};
 ghost use Rattle.mars_app.specs.Debugger.Replies.{refusal_text};
-ghost use Rattle.mars_app.specs.Debugger.Readings.{cell_line, line_at, list_text, most_listed, texts, queue_text, queue_head, process_text, warrior_text, life_text, death_of, show_text, end_text};
+ghost use Rattle.mars_app.specs.Debugger.Readings.{cell_line, line_at, list_text, max_listed, texts, queue_text, queue_head, process_text, warrior_text, life_text, death_of, show_text, end_text};
 
 use crate::debugger::pending::PendingText;
 use crate::debugger::replies::{fixed, refusal_line, standing_line};
@@ -44,7 +44,7 @@ fn write_cells<W: Write>(
     count: u64,
 ) -> Result<(), WriteFault>
     requires address { address < battle.now.params.core_size }
-    requires count { count ≤ most_listed }
+    requires count { count ≤ max_listed }
     ensures ok { OnOk result (Appends (W.contents writer.old) (W.contents writer.new) (texts (line_at battle.now address) count)) }
     ensures err { OnErr result (CutShort (W.contents writer.old) (W.contents writer.new) (texts (line_at battle.now address) count)) }
 {
@@ -61,7 +61,7 @@ fn write_cells<W: Write>(
 }
 
 /// Maximum number of cells of one list.
-const MOST_LISTED: u64 = 1_000_000;
+const MAX_LISTED: u64 = 1_000_000;
 
 /// Writes `count` cells from `address` on, modulo the core size, or a refusal.
 #[tactic(auto, unfolding(crate::specs::Debugger::Readings::list_text))]
@@ -74,7 +74,7 @@ pub fn write_list<W: Write>(
     ensures ok { OnOk result (Appends (W.contents writer.old) (W.contents writer.new) (list_text battle.now address count)) }
     ensures err { OnErr result (CutShort (W.contents writer.old) (W.contents writer.new) (list_text battle.now address count)) }
 {
-    if count == 0 || count > MOST_LISTED {
+    if count == 0 || count > MAX_LISTED {
         return write_refusal(writer, Refusal::Count);
     }
     if address >= u64::from(battle.params().core_size()) {

@@ -1,6 +1,6 @@
 //! Streams that fail or break off.
 
-use super::{answer, memory_files, run_words};
+use super::{answer, memory_files, run_args};
 use mars_app::Streams;
 use std::alloc::Global;
 use std::io;
@@ -16,7 +16,7 @@ fn run_over<R: Read, W: Write, E: Write>(
     faults: &mut E,
 ) -> Result<u8, Fail> {
     let files = memory_files(alloc)?;
-    let status = run_words(alloc, &files, words, streams, faults);
+    let status = run_args(alloc, &files, words, streams, faults);
     drop(files);
     status
 }

@@ -156,7 +156,7 @@ const GREATEST_WORDS: &[&str] = &[
     "greatest.red",
 ];
 
-const LONGEST_HISTORY: &[Played] = &[(
+const MAX_HISTORY: &[Played] = &[(
     &[
         "-e",
         "--history",
@@ -182,7 +182,7 @@ const LEAST_AND_GREATEST_POSITION: &[&[&str]] = &[
 fn least_and_greatest_numbers(rt: HostRuntime) -> Result<(), Fail> {
     check_taken(&rt, rt.alloc(), LEAST_WORDS)?;
     check_taken(&rt, rt.alloc(), GREATEST_WORDS)?;
-    check_played(&rt, rt.alloc(), LONGEST_HISTORY)?;
+    check_played(&rt, rt.alloc(), MAX_HISTORY)?;
     check_well(&rt, rt.alloc(), LEAST_AND_GREATEST_POSITION)
 }
 

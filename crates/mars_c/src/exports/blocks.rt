@@ -18,8 +18,8 @@ use crate::cells::MarsCell;
 use crate::debugging::transcript;
 use crate::edits::MarsEdit;
 use crate::entrants::Entrants;
-use crate::exports::{answer, give_text};
-use crate::faults::{MarsFault, block_fault, given, told};
+use crate::exports::{answer, copy_to_buffer};
+use crate::faults::{MarsFault, block_fault, given, to_c_fault};
 use crate::records::MarsRecord;
 use crate::settings::MarsSettings;
 use crate::touches::MarsTouched;
@@ -56,7 +56,7 @@ pub extern "C" fn mars_start(
 {
     match started(alloc, settings, Entrants { cells, warriors }, round) {
         Ok(start) => answer(fault, given(put_if_fits(&start, battle))),
-        Err(refusal) => answer(fault, told(refusal)),
+        Err(refusal) => answer(fault, to_c_fault(refusal)),
     }
 }
 
@@ -132,7 +132,7 @@ pub extern "C" fn mars_debug(
     ensures kept { result ≢ 0 → buffer.new ≡ buffer.old }
 {
     match transcript(alloc, battle, history, lines) {
-        Ok(text) => answer(fault, given(give_text(&text, buffer, length))),
+        Ok(text) => answer(fault, given(copy_to_buffer(&text, buffer, length))),
         Err(refusal) => answer(fault, block_fault(refusal)),
     }
 }

@@ -8,7 +8,7 @@ use Rattle.std.proofs.lemmas.List.{length-map}
 use Rattle.std.proofs.lemmas.List.Folds.{list_all-append}
 use Rattle.std.proofs.lemmas.Bool.{and_parts, le-leb, le-ltb, lt-ltb}
 use Rattle.std.proofs.lemmas.Fmt.{decimal_nonempty, first_decimal, length-decimal-le}
-use Rattle.mars_cell.specs.Limits.{largest_core}
+use Rattle.mars_cell.specs.Limits.{max_core_size}
 use Rattle.mars_cell.specs.declared.instruction.Op.{Op}
 use Rattle.mars_cell.specs.declared.instruction.Op.TheVariants as op
 use Rattle.mars_cell.specs.declared.instruction.Modifier.{Modifier}
@@ -20,9 +20,9 @@ use Rattle.mars_cell.specs.declared.statements.Statement.{Statement}
 use Rattle.mars_cell.specs.declared.statements.Statement.TheVariants as statement
 use Rattle.mars_cell.specs.Cells.{FitsCore}
 use Rattle.mars_cell.specs.Grammar.{cell_of}
-use Rattle.mars_cell.specs.Header.{HeaderValue, header_of, name_of, size_in, size_of, tells_version}
+use Rattle.mars_cell.specs.Header.{HeaderValue, header_of, name_of, size_in, size_of, has_version}
 use Rattle.mars_cell.specs.Laws.{carried}
-use Rattle.mars_cell.specs.Load.{body, cell_in, end_in, line_statement, lines_of, load, lone_number, origin_in, statement_of, statements, before_comment, warrior_of}
+use Rattle.mars_cell.specs.Load.{body, cell_in, end_in, line_statement, lines_of, load, only_number, origin_in, statement_of, statements, before_comment, warrior_of}
 use Rattle.mars_cell.specs.Numbers.{parse_digits, parse_number}
 use Rattle.mars_cell.specs.ParameterFaults.{is_within}
 use Rattle.mars_cell.specs.Parts.{begins_word, joins, parts}
@@ -213,7 +213,7 @@ unfolding begins_word
 origin_parts n h = origin_part (decimal n) ∙ ap (λ ps. codes "ORG" ∷ ps) (rw (append-nil, parts_nil) at (digits_part (decimal n) [] (decimal_nonempty n h) (numeral n h).digits refl))
 
 statement_of-org : (m size : ℕ) (p : List ℕ) → statement_of m size (codes "ORG" ∷ p ∷ []) ≡ option_map (λ n. statement.Origin n) (parse_number p)
-unfolding statement_of lone_number
+unfolding statement_of only_number
 statement_of-org m size p = refl
 
 statement_of-origin : (m size n : ℕ) → n < 2 ^ 32 → line_statement m size (codes "ORG " ++ decimal n) ≡ Some (statement.Origin (pos n))
@@ -231,17 +231,17 @@ no_zero_first : (ds : List ℕ) → 48 < get_or ds 0 0 → starts_with nat_eq ds
 no_zero_first [] h = absurd (omega arith)
 no_zero_first (d ∷ ds) h = let other : nat_eq 48 d ≡ false = grind arith in rw other refl
 
-parse_digits-decimal : (n : ℕ) → n ≤ largest_core → parse_digits (decimal n) ≡ Some n
+parse_digits-decimal : (n : ℕ) → n ≤ max_core_size → parse_digits (decimal n) ≡ Some n
 unfolding parse_digits
 parse_digits-decimal n small =
     let d = numeral n (omega arith) in
     let few : length (decimal n) ≤ 18 = length-decimal-le 18 n (omega arith) (omega arith) (omega arith) in
     rw (lt-ltb 0 (length (decimal n)) (decimal_nonempty n (omega arith)), le-leb (length (decimal n)) 18 few, d.digits) (ap Some d.value)
 
-size_in-decimal : (m : ℕ) → 1 ≤ m → m ≤ largest_core → size_in (codes ";load 2 " ++ decimal m) ≡ Some m
+size_in-decimal : (m : ℕ) → 1 ≤ m → m ≤ max_core_size → size_in (codes ";load 2 " ++ decimal m) ≡ Some m
 unfolding size_of
 size_in-decimal m some most =
-    rw (no_zero_first (decimal m) (first_decimal m some (omega arith)), parse_digits-decimal m most, le-leb 1 m some, le-leb m largest_core most) refl
+    rw (no_zero_first (decimal m) (first_decimal m some (omega arith)), parse_digits-decimal m most, le-leb 1 m some, le-leb m max_core_size most) refl
 
 -- A name is read back: its bytes are printable.
 within : (b : ℕ) → 32 ≤ b → b ≤ 126 → is_within 32 126 b ≡ true
@@ -258,7 +258,7 @@ unfolding name_of
 name_of-name name is = rw (le-leb (length name) 60 is.short, each_printed name is.printed) refl
 
 -- The whole header is read back.
-header_of-written : (m : ℕ) (w : WarriorValue) → 1 ≤ m → m ≤ largest_core → IsWarrior w → header_of (load_lines m w) ≡ Ok (record { written = m; name = w.name; author = w.author })
+header_of-written : (m : ℕ) (w : WarriorValue) → 1 ≤ m → m ≤ max_core_size → IsWarrior w → header_of (load_lines m w) ≡ Ok (record { written = m; name = w.name; author = w.author })
 unfolding header_of
 header_of-written m w some most is = rw (size_in-decimal m some most, name_of-name w.name is.name, name_of-name w.author is.author) refl
 
@@ -275,7 +275,7 @@ behind_is_line word bs e h = record { each = rw (list_all-append goes_on word bs
 pub name_line : (word name : List ℕ) → list_all goes_on word ≡ true → IsName name → IsLine (word ++ name)
 name_line word name e is = behind_is_line word name e (name_is_line name (each_printed name is.printed))
 
-pub size_line : (m : ℕ) → m ≤ largest_core → IsLine (codes ";load 2 " ++ decimal m)
+pub size_line : (m : ℕ) → m ≤ max_core_size → IsLine (codes ";load 2 " ++ decimal m)
 size_line m most = behind_is_line (codes ";load 2 ") (decimal m) refl (each_goes_on (decimal m) (decimal_is_plain m (omega arith)))
 
 -- ---- the whole file
@@ -313,7 +313,7 @@ statements-written : (m size k : ℕ) (w : WarriorValue) → m < 2 ^ 32 → w.st
 unfolding statements
 statements-written m size k w small low all = rw (statements, statement_of-origin m size w.start low, statements-cells m size (k + 1) w.cells small all) refl
 
-lines_of-written : (m : ℕ) (w : WarriorValue) → m ≤ largest_core → w.start < 2 ^ 64 → IsWarrior w → AllByRecursion (FitsCore m) w.cells → lines_of (load_text m w) ≡ load_lines m w
+lines_of-written : (m : ℕ) (w : WarriorValue) → m ≤ max_core_size → w.start < 2 ^ 64 → IsWarrior w → AllByRecursion (FitsCore m) w.cells → lines_of (load_text m w) ≡ load_lines m w
 lines_of-written m w most low is all = lines_of-with_newline (load_lines m w)
     (size_line m most, (name_line (codes ";name ") w.name refl is.name, (name_line (codes ";author ") w.author refl is.author, (plain_line (origin_is_plain w.start low), cell_lines m w.cells (omega arith) all))))
 
@@ -329,21 +329,21 @@ body-written h size longest k w small short inside few all =
     let same = length-map w.cells (carried h.written size) in
     rw (body, statements-written h.written size k w small (omega arith) all) (warrior_of-written h longest w.start (map (carried h.written size) w.cells) (omega (arith, same)) (omega (arith, same)))
 
-tells_version-written : (m : ℕ) (w : WarriorValue) → tells_version (load_text m w) ≡ true
-unfolding tells_version
-tells_version-written m w = refl
+has_version-written : (m : ℕ) (w : WarriorValue) → has_version (load_text m w) ≡ true
+unfolding has_version
+has_version-written m w = refl
 
 some_size : (m : ℕ) (cells : List Cell) → 0 < length cells → All (FitsCore m) cells → 1 ≤ m
 some_size m [] some all = absurd (omega arith)
 some_size m (c ∷ cells) some all = let fits = all 0 c (omega arith) in let below = fits.a in omega arith
 
-pub load-written : (m size longest : ℕ) (w : WarriorValue) → m ≤ largest_core → longest < 2 ^ 32 → IsWarrior w → length w.cells ≤ longest → All (FitsCore m) w.cells
+pub load-written : (m size longest : ℕ) (w : WarriorValue) → m ≤ max_core_size → longest < 2 ^ 32 → IsWarrior w → length w.cells ≤ longest → All (FitsCore m) w.cells
     → load size longest (load_text m w) ≡ Ok (record w { cells = map (carried m size) w.cells })
 unfolding load
 load-written m size longest w most short is few all =
     let inside = is.start in
     let all' = by_recursion m w.cells all in
-    rw (load, tells_version-written m w, lines_of-written m w most (omega arith) is all', header_of-written m w (some_size m w.cells (omega arith) all) most is)
+    rw (load, has_version-written m w, lines_of-written m w most (omega arith) is all', header_of-written m w (some_size m w.cells (omega arith) all) most is)
     (body-written (record { written = m; name = w.name; author = w.author }) size longest 4 w (omega arith) short inside few all')
 
 -- In a core of the same size, carried cells are unchanged.

@@ -7,8 +7,8 @@ use Rattle.mars_cell.specs.declared.instruction.Mode.TheVariants.{Immediate, Dir
 use Rattle.mars_cell.specs.declared.instruction.Cell.{Cell}
 use Rattle.mars_cell.specs.declared.fault.LoadFault.TheVariants as fault
 use Rattle.mars_cell.specs.Grammar.{cell_of, comma_at, default_modifier, mode_at, modifier_at, number_at, op_at, operand_at, suffix_at}
-use Rattle.mars_cell.specs.Header.{header_of, name_of, size_of, tells_version}
-use Rattle.mars_cell.specs.Load.{body, end_of, lines_of, load, lone_number, statement_of, statements}
+use Rattle.mars_cell.specs.Header.{header_of, name_of, size_of, has_version}
+use Rattle.mars_cell.specs.Load.{body, end_of, lines_of, load, only_number, statement_of, statements}
 use Rattle.mars_cell.specs.Numbers.{nearest, parse_digits, parse_number, split_sign}
 use Rattle.mars_cell.specs.Parts.{begins_word, joins, parts}
 use Rattle.mars_cell.specs.Warriors.{WarriorValue}
@@ -35,7 +35,7 @@ pub files_are_read :
     × (load 8 2 (codes "NOP 0, 0\nNOP 0, 0") ≡ Ok (nameless (nop ∷ nop ∷ []) 0))
     × (load 8 8 (codes "; a comment\n\n  \nNOP 0, 0 ; another ; one\r\n") ≡ Ok (nameless (nop ∷ []) 0))
     × (load 8 8 (codes ";load it\nNOP 0, 0") ≡ Ok (nameless (nop ∷ []) 0))
-unfolding parts joins begins_word cell_of op_at suffix_at modifier_at mode_at number_at operand_at comma_at op_of modifier_of mode_of parse_number parse_digits split_sign nearest default_modifier load tells_version body statements lines_of statement_of lone_number end_of
+unfolding parts joins begins_word cell_of op_at suffix_at modifier_at mode_at number_at operand_at comma_at op_of modifier_of mode_of parse_number parse_digits split_sign nearest default_modifier load has_version body statements lines_of statement_of only_number end_of
 files_are_read = (refl, refl, refl, refl, refl, refl, refl, refl, refl, refl)
 
 -- The first invalid line is reported before every other error, even if it comes after a cell too many.
@@ -58,7 +58,7 @@ pub first_fault :
     × (load 8 8 (codes "ORG 1\nNOP 0, 0") ≡ Err fault.BadOrigin)
     × (load 8 8 (codes "ORG-1\nNOP 0, 0") ≡ Err fault.BadOrigin)
     × (load 8 8 (codes "NOP 0, 0\nEND 1") ≡ Err fault.BadOrigin)
-unfolding parts joins begins_word cell_of op_at suffix_at modifier_at mode_at number_at operand_at comma_at op_of modifier_of mode_of parse_number parse_digits split_sign nearest default_modifier load tells_version body statements lines_of statement_of lone_number end_of
+unfolding parts joins begins_word cell_of op_at suffix_at modifier_at mode_at number_at operand_at comma_at op_of modifier_of mode_of parse_number parse_digits split_sign nearest default_modifier load has_version body statements lines_of statement_of only_number end_of
 first_fault = (refl, refl, refl, refl, refl, refl, refl, refl, refl, refl, refl, refl, refl, refl, refl, refl, refl, refl)
 
 -- A file of version 2 has names, which may contain spaces and `;`, and its numbers have the values that they had in its own core.
@@ -71,7 +71,7 @@ pub files_keep_names :
     × (load 8 8 (codes ";load it\nNOP 0, 0") ≡ Ok (nameless (nop ∷ []) 0))
     × (load 8 8 (codes " ;load 2 8\nNOP 0, 0") ≡ Ok (nameless (nop ∷ []) 0))
     × (load 8 8 (codes ";LOAD 3 8\nNOP 0, 0") ≡ Ok (nameless (nop ∷ []) 0))
-unfolding parts joins begins_word cell_of op_at suffix_at modifier_at mode_at number_at operand_at comma_at op_of modifier_of mode_of parse_number parse_digits split_sign nearest default_modifier load tells_version header_of size_of name_of body statements lines_of statement_of lone_number end_of
+unfolding parts joins begins_word cell_of op_at suffix_at modifier_at mode_at number_at operand_at comma_at op_of modifier_of mode_of parse_number parse_digits split_sign nearest default_modifier load has_version header_of size_of name_of body statements lines_of statement_of only_number end_of
 files_keep_names = (refl, refl, refl, refl, refl, refl, refl, refl)
 
 -- An error of the version comes first, then the first invalid line.
@@ -96,7 +96,7 @@ pub first_fault_of_a_head :
     × (load 8000 8 (codes ";load 2 8\n;name Imp\n;author Dewdney\n\nx") ≡ Err (fault.Syntax 5))
     × (load 8000 8 (codes ";load 2 8\n;name Imp\n;author Dewdney") ≡ Err fault.Empty)
     × (load 8000 8 (codes ";load 2 8\n;name Imp\n;author Dewdney\nORG -1\nNOP 0, 0") ≡ Err fault.BadOrigin)
-unfolding parts joins begins_word cell_of op_at suffix_at modifier_at mode_at number_at operand_at comma_at op_of modifier_of mode_of parse_number parse_digits split_sign nearest default_modifier load tells_version header_of size_of name_of body statements lines_of statement_of lone_number end_of
+unfolding parts joins begins_word cell_of op_at suffix_at modifier_at mode_at number_at operand_at comma_at op_of modifier_of mode_of parse_number parse_digits split_sign nearest default_modifier load has_version header_of size_of name_of body statements lines_of statement_of only_number end_of
 first_fault_of_a_head = (refl, refl, refl, refl, refl, refl, refl, refl, refl, refl, refl, refl, refl, refl, refl, refl, refl, refl, refl, refl)
 
 -- A name has at most 60 bytes, from the space to the tilde.
@@ -106,7 +106,7 @@ pub long_names :
     × (load 8000 8 (codes ";load 2 8000\n;name " ++ replicate 60 120 ++ codes "\n;author \nMOV 0, 1") ≡ Ok (imp_by (replicate 60 120) [] 1))
     × (load 8000 8 (codes ";load 2 8000\n;name " ++ replicate 61 120 ++ codes "\n;author \nMOV 0, 1") ≡ Err (fault.Syntax 2))
     × (load 8000 8 (codes ";load 2 8000\n;name x\n;author " ++ replicate 61 120 ++ codes "\nMOV 0, 1") ≡ Err (fault.Syntax 3))
-unfolding parts joins begins_word cell_of op_at suffix_at modifier_at mode_at number_at operand_at comma_at op_of modifier_of mode_of parse_number parse_digits split_sign nearest default_modifier load tells_version header_of size_of name_of body statements lines_of statement_of lone_number end_of
+unfolding parts joins begins_word cell_of op_at suffix_at modifier_at mode_at number_at operand_at comma_at op_of modifier_of mode_of parse_number parse_digits split_sign nearest default_modifier load has_version header_of size_of name_of body statements lines_of statement_of only_number end_of
 long_names = (refl, refl, refl, refl, refl)
 
 -- The last line may have no LF; an LF at the end begins no other line.

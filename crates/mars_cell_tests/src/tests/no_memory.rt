@@ -72,7 +72,7 @@ fn anns(alloc: Global, len: usize, start: u32) -> Option<Result<Warrior, Warrior
 }
 
 /// Returns whether the result is such a warrior, or this error.
-fn is_told(
+fn is_as_expected(
     found: &Result<Warrior, WarriorFault>,
     len: usize,
     start: u32,
@@ -96,7 +96,7 @@ fn warriors(rt: HostRuntime) {
         (0, 0, Some(WarriorFault::Empty)),
     ] {
         if let Some(found) = anns(rt.alloc(), len, start) {
-            assert!(rt; is_told(&found, len, start, fault));
+            assert!(rt; is_as_expected(&found, len, start, fault));
         }
     }
 }

@@ -14,7 +14,7 @@ use Rattle.mars_cell.specs.Parameters.{Parameters, AreInRange}
 use Rattle.mars_core.specs.State.{State, cell_at, queue_of, is_over_of}
 use Rattle.mars_core.specs.Turn.{front_of, front_execution, accepted, queue_after, executed, turn_of, after_turns}
 use Rattle.mars_core.specs.Touched.{touched, touched_in_turn}
-use Rattle.mars_core.specs.Apart.{touched_in, KeepsTo, IsLeftTo, own_turns, AgreesOn}
+use Rattle.mars_core.specs.Apart.{touched_in, StaysWithin, OthersLeaveUnchanged, own_turns, AgreesOn}
 use Rattle.mars_core.specs.Validity.{IsCore, IsValid}
 use Rattle.mars_core.proofs.ForLaws.Alike.{AlikeExecution}
 use Rattle.mars_core.proofs.CallerLemmas.{shape-turn_of}
@@ -90,24 +90,24 @@ abbrev pub LeavesAlone : (ℕ → Bool) → ℕ → State → Type 0
 LeavesAlone part w t = t.next ≢ w → (a : ℕ) → part a ≡ true → cell_at (turn_of t).core a ≡ cell_at t.core a
 
 module _ (part : ℕ → Bool) (w n : ℕ) (s : State) (over : is_over_of s ≡ false) where
-  pub left_first : IsLeftTo part w (suc n) s → LeavesAlone part w s
+  pub left_first : OthersLeaveUnchanged part w (suc n) s → LeavesAlone part w s
   left_first left = left 0 (omega arith) over
 
-  pub left_later : IsLeftTo part w (suc n) s → IsLeftTo part w n (turn_of s)
+  pub left_later : OthersLeaveUnchanged part w (suc n) s → OthersLeaveUnchanged part w n (turn_of s)
   left_later left k h runs =
       subst (LeavesAlone part w) (turn_first k s over) (left (suc k) (omega (arith, h)) (subst (λ t. is_over_of t ≡ false) (sym (turn_first k s over)) runs))
 
   -- The warrior keeps to the part in the first turn and in each later one.
-  pub keeps_first : KeepsTo part w (suc n) s → s.next ≡ w → AllPass part (touched_in_turn s)
+  pub keeps_first : StaysWithin part w (suc n) s → s.next ≡ w → AllPass part (touched_in_turn s)
   keeps_first keeps own =
       let mine : (s.next == w) ≡ true = ap (λ v. v == w) own ∙ same_eq w in
       All-left (λ a. part a ≡ true) (touched_in_turn s) (touched_in w n (turn_of s)) (rw (over, mine) at keeps)
 
-  pub keeps_later : KeepsTo part w (suc n) s → KeepsTo part w n (turn_of s)
+  pub keeps_later : StaysWithin part w (suc n) s → StaysWithin part w n (turn_of s)
   keeps_later keeps = All-right (λ a. part a ≡ true) (cond (s.next == w) (touched_in_turn s) []) (touched_in w n (turn_of s)) (rw over at keeps)
 
 -- The warrior keeps to the part in each of its turns.
-keeps_at : (part : ℕ → Bool) (w k n : ℕ) (s : State) → k < n → is_over_of (after_turns k s) ≡ false → (after_turns k s).next ≡ w → KeepsTo part w n s → AllPass part (touched_in_turn (after_turns k s))
+keeps_at : (part : ℕ → Bool) (w k n : ℕ) (s : State) → k < n → is_over_of (after_turns k s) ≡ false → (after_turns k s).next ≡ w → StaysWithin part w n s → AllPass part (touched_in_turn (after_turns k s))
 keeps_at part w k zero s h runs own keeps = absurd (omega (arith, h))
 keeps_at part w zero (suc n) s h runs own keeps = keeps_first part w n s runs keeps own
 keeps_at part w (suc k) (suc n) s h runs own keeps =
@@ -130,7 +130,7 @@ module _ (part : ℕ → Bool) (w v : ℕ) where
       agrees_back part v w (turn_of t) s (other_turn part v w t s (λ same. other (sym same)) (agrees_back part w v s t g) left)
 
   -- The warrior has no more turns in the second battle.
-  rest : (n : ℕ) (s t : State) → IsValid t → AgreesOn part w s v t → IsLeftTo part v n t → own_turns v n t ≡ 0 → AgreesOn part w s v (after_turns n t)
+  rest : (n : ℕ) (s t : State) → IsValid t → AgreesOn part w s v t → OthersLeaveUnchanged part v n t → own_turns v n t ≡ 0 → AgreesOn part w s v (after_turns n t)
   rest zero s t u g left none = g
   rest (suc n) s t u g left none =
       elim (is_over_of t) as (λ b. is_over_of t ≡ b → (if b then 0 else cond (t.next == v) 1 0 + own_turns v n (turn_of t)) ≡ 0 → AgreesOn part w s v (if b then t else after_turns n (turn_of t))) [
@@ -147,8 +147,8 @@ module _ (part : ℕ → Bool) (w v : ℕ) where
 
   -- The warrior has its turn in the first battle, and the second battle is followed up to its turn there.
   meets : (m : ℕ) (s : State) → IsValid s → s.next ≡ w → AllPass part (touched_in_turn s)
-      → ((n : ℕ) (t : State) → IsValid t → AgreesOn part w (turn_of s) v t → IsLeftTo part v n t → own_turns w m (turn_of s) ≡ own_turns v n t → AgreesOn part w (after_turns m (turn_of s)) v (after_turns n t))
-      → (n : ℕ) (t : State) → IsValid t → AgreesOn part w s v t → IsLeftTo part v n t → suc (own_turns w m (turn_of s)) ≡ own_turns v n t
+      → ((n : ℕ) (t : State) → IsValid t → AgreesOn part w (turn_of s) v t → OthersLeaveUnchanged part v n t → own_turns w m (turn_of s) ≡ own_turns v n t → AgreesOn part w (after_turns m (turn_of s)) v (after_turns n t))
+      → (n : ℕ) (t : State) → IsValid t → AgreesOn part w s v t → OthersLeaveUnchanged part v n t → suc (own_turns w m (turn_of s)) ≡ own_turns v n t
       → AgreesOn part w (after_turns m (turn_of s)) v (after_turns n t)
   meets m s valid own keeps on zero t u g left turns = absurd (omega (arith, turns))
   meets m s valid own keeps on (suc n) t u g left turns =
@@ -171,7 +171,7 @@ module _ (part : ℕ → Bool) (w v : ℕ) where
       ] refl turns
 
   -- After equally many turns of its own, the warrior is alike in both battles.
-  pub fights_alike : (m n : ℕ) (s t : State) → IsValid s → IsValid t → AgreesOn part w s v t → KeepsTo part w m s → IsLeftTo part w m s → IsLeftTo part v n t → own_turns w m s ≡ own_turns v n t → AgreesOn part w (after_turns m s) v (after_turns n t)
+  pub fights_alike : (m n : ℕ) (s t : State) → IsValid s → IsValid t → AgreesOn part w s v t → StaysWithin part w m s → OthersLeaveUnchanged part w m s → OthersLeaveUnchanged part v n t → own_turns w m s ≡ own_turns v n t → AgreesOn part w (after_turns m s) v (after_turns n t)
   fights_alike zero n s t valid u g keeps left left_there turns = rest n s t u g left_there (sym turns)
   fights_alike (suc m) n s t valid u g keeps left left_there turns =
       elim (is_over_of s) as (λ b. is_over_of s ≡ b → (if b then 0 else cond (s.next == w) 1 0 + own_turns w m (turn_of s)) ≡ own_turns v n t → AgreesOn part w (if b then s else after_turns m (turn_of s)) v (after_turns n t)) [
@@ -192,7 +192,7 @@ module _ (part : ℕ → Bool) (w v : ℕ) where
       ] refl turns
 
 -- If each warrior keeps to its own cells, no other warrior changes one of them.
-pub own_cells_left : (owner : ℕ → ℕ) (n : ℕ) (s : State) → IsValid s → ((w : ℕ) → w < length s.queues → KeepsTo (λ a. owner a == w) w n s) → (w : ℕ) → IsLeftTo (λ a. owner a == w) w n s
+pub own_cells_left : (owner : ℕ → ℕ) (n : ℕ) (s : State) → IsValid s → ((w : ℕ) → w < length s.queues → StaysWithin (λ a. owner a == w) w n s) → (w : ℕ) → OthersLeaveUnchanged (λ a. owner a == w) w n s
 own_cells_left owner n s valid keeps w k h over other a mine =
     let t = after_turns k s in
     let valid_then = valid_after k s valid in

@@ -5,7 +5,7 @@ use Rattle.std.proofs.lemmas.Bool.{cases_lt}
 use Rattle.std.proofs.lemmas.Bool.Decides.{nat_tests}
 use Rattle.mars_core.specs.State.{State, queue_of, survivors_of, is_over_of, ends, advanced, clock_of}
 use Rattle.mars_core.specs.Turn.{executed, turn_of, after_turns}
-use Rattle.mars_core.specs.Apart.{GoesOn, own_turns, KeepsTo, IsLeftTo, AgreesOn}
+use Rattle.mars_core.specs.Apart.{GoesOn, own_turns, StaysWithin, OthersLeaveUnchanged, AgreesOn}
 use Rattle.mars_core.specs.Validity.{IsValid}
 use Rattle.mars_core.specs.declared.deaths.Death.{Death}
 use Rattle.mars_core.specs.declared.machine.clock.Clock.{Clock}
@@ -77,6 +77,6 @@ turns_of_two w (suc (suc n)) s t v u two two_there next on on_there =
     ap (λ i. cond (i == w) 1 0 + own_turns w (suc n) (turn_of s)) next ∙ ap (λ i. cond (t.next == w) 1 0 + i) more in
     one_turn w (suc n) s over ∙ joined ∙ sym (one_turn w (suc n) t over_there)
 
-pub two_alike : (part : ℕ → Bool) (w n : ℕ) (s t : State) → IsValid s → IsValid t → length s.queues ≡ 2 → length t.queues ≡ 2 → s.next ≡ t.next → GoesOn n s → GoesOn n t → AgreesOn part w s w t → KeepsTo part w n s → IsLeftTo part w n s → IsLeftTo part w n t → AgreesOn part w (after_turns n s) w (after_turns n t)
+pub two_alike : (part : ℕ → Bool) (w n : ℕ) (s t : State) → IsValid s → IsValid t → length s.queues ≡ 2 → length t.queues ≡ 2 → s.next ≡ t.next → GoesOn n s → GoesOn n t → AgreesOn part w s w t → StaysWithin part w n s → OthersLeaveUnchanged part w n s → OthersLeaveUnchanged part w n t → AgreesOn part w (after_turns n s) w (after_turns n t)
 two_alike part w n s t v u two two_there next on on_there g keeps left left_there =
     fights_alike part w w n n s t v u g keeps left left_there (turns_of_two w n s t v u two two_there next on on_there)

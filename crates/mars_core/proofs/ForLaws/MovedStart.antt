@@ -14,7 +14,7 @@ use Rattle.mars_cell.specs.Parameters.{Parameters, AreInRange}
 use Rattle.mars_cell.specs.Warriors.{WarriorValue}
 use Rattle.mars_core.specs.Addresses.{address_after}
 use Rattle.mars_core.specs.Moved.{moved_core, moved}
-use Rattle.mars_core.specs.Start.{addresses_from, loaded_addresses, is_in, has_duplicate, overlap, start_fault, laid, all_laid, first_processes, start_state}
+use Rattle.mars_core.specs.Start.{addresses_from, loaded_addresses, is_in, has_duplicate, overlap, start_fault, with_warrior, with_warriors, first_processes, start_state}
 use Rattle.mars_core.proofs.ForLaws.Alike.{Alike, set_alike}
 use Rattle.mars_core.proofs.Fits.{address_inside}
 use Rattle.mars_core.proofs.ForLaws.Relative.{one, corresponds, moved_alike, one_core}
@@ -41,17 +41,17 @@ module _ (p : Parameters) (r : AreInRange p) (k : ℕ) (h : k < p.core_size) whe
   unfolding address_after
   start_there s = mod-eq_of_lt (mod-lt (s + k) r.core_least) ∙ sym (mod-add-mod s m k)
 
-  laid_alike : (cells : List Cell) (a a' : ℕ) (core core' : List Cell) → a' % m ≡ there (a % m) → AreAlike core core' → AreAlike (laid m a cells core) (laid m a' cells core')
-  laid_alike [] a a' core core' e alike = alike
-  laid_alike (cell ∷ cells) a a' core core' e alike =
-      laid_alike cells (a + 1) (a' + 1) _ _ (further a a' 1 e)
+  with_warrior_alike : (cells : List Cell) (a a' : ℕ) (core core' : List Cell) → a' % m ≡ there (a % m) → AreAlike core core' → AreAlike (with_warrior m a cells core) (with_warrior m a' cells core')
+  with_warrior_alike [] a a' core core' e alike = alike
+  with_warrior_alike (cell ∷ cells) a a' core core' e alike =
+      with_warrior_alike cells (a + 1) (a' + 1) _ _ (further a a' 1 e)
       (rw e (set_alike p there (λ a. a < m) 0 (there 0) (corresponds p r k h 0 r.core_least) core core' (a % m) cell (mod-lt a r.core_least) alike))
 
-  all_laid_alike : (ws : List WarriorValue) (starts : List ℕ) (core core' : List Cell) → AreAlike core core' → AreAlike (all_laid m ws starts core) (all_laid m ws (map there starts) core')
-  all_laid_alike [] starts core core' alike = alike
-  all_laid_alike (w ∷ ws) [] core core' alike = alike
-  all_laid_alike (w ∷ ws) (s ∷ starts) core core' alike =
-      all_laid_alike ws starts _ _ (laid_alike w.cells s (there s) core core' (start_there s) alike)
+  with_warriors_alike : (ws : List WarriorValue) (starts : List ℕ) (core core' : List Cell) → AreAlike core core' → AreAlike (with_warriors m ws starts core) (with_warriors m ws (map there starts) core')
+  with_warriors_alike [] starts core core' alike = alike
+  with_warriors_alike (w ∷ ws) [] core core' alike = alike
+  with_warriors_alike (w ∷ ws) (s ∷ starts) core core' alike =
+      with_warriors_alike ws starts _ _ (with_warrior_alike w.cells s (there s) core core' (start_there s) alike)
 
   first_there : (ws : List WarriorValue) (starts : List ℕ) → first_processes m ws (map there starts) ≡ map there (first_processes m ws starts)
   first_there [] starts = refl
@@ -70,10 +70,10 @@ module _ (p : Parameters) (r : AreInRange p) (k : ℕ) (h : k < p.core_size) whe
         get_or-replicate m (there a) empty_cell empty_cell (address_inside m a k r.core_least) ∙ sym (get_or-replicate m a empty_cell empty_cell l);
   }
 
-  core_there : (ws : List WarriorValue) (starts : List ℕ) → all_laid m ws (map there starts) (replicate m empty_cell) ≡ moved_core m k (all_laid m ws starts (replicate m empty_cell))
+  core_there : (ws : List WarriorValue) (starts : List ℕ) → with_warriors m ws (map there starts) (replicate m empty_cell) ≡ moved_core m k (with_warriors m ws starts (replicate m empty_cell))
   core_there ws starts =
-      let core = all_laid m ws starts (replicate m empty_cell) in
-      let alike = all_laid_alike ws starts _ _ blank_alike in
+      let core = with_warriors m ws starts (replicate m empty_cell) in
+      let alike = with_warriors_alike ws starts _ _ blank_alike in
       one_core p r k h core _ _ alike (moved_alike p r k h core alike.size)
 
   -- The loaded addresses are shifted, too, and two of them are equal exactly if they were before.

@@ -17,8 +17,8 @@ use Rattle.mars_cell.specs.Warriors.{WarriorValue}
 use Rattle.mars_core.specs.Start.{start_fault, start_state}
 use Rattle.mars_core.specs.State.{State, cell_at}
 use Rattle.mars_core.specs.Turn.{after_turns}
-use Rattle.mars_core.specs.Apart.{GoesOn, KeepsTo, own_turns, touched_in, AgreesOn}
-use Rattle.mars_core.specs.Laws.{UntouchedIsAlone}
+use Rattle.mars_core.specs.Apart.{GoesOn, StaysWithin, own_turns, touched_in, AgreesOn}
+use Rattle.mars_core.specs.Laws.{DisjointRunAsIfAlone}
 use Rattle.mars_core.specs.Validity.{IsValid}
 use Rattle.mars_core.specs.Examples.{the_machine, cell_of, imp, of_eight, eight, battle_of, lone}
 
@@ -70,7 +70,7 @@ unfolding the_machine
 touched_first = (refl, refl)
 
 -- In 200 turns, neither warrior touches a cell of the other.
-pub each_keeps_to_its_own : (w : ℕ) → w < 2 → KeepsTo (λ address. owner address == w) w 200 fight
+pub each_keeps_to_its_own : (w : ℕ) → w < 2 → StaysWithin (λ address. owner address == w) w 200 fight
 unfolding the_machine
 each_keeps_to_its_own zero h = AllPass-from_list_all (λ address. owner address == 0) (touched_in 0 200 fight) refl
 each_keeps_to_its_own (suc zero) h = AllPass-from_list_all (λ address. owner address == 1) (touched_in 1 200 fight) refl
@@ -103,7 +103,7 @@ each_starts_as_alone = (
 )
 
 -- By the law, after 100 turns of its own each warrior is as in a battle of its own, since battles that start are valid.
-pub each_fights_as_alone : UntouchedIsAlone → IsValid fight → IsValid lone_imp → IsValid lone_dwarf →
+pub each_fights_as_alone : DisjointRunAsIfAlone → IsValid fight → IsValid lone_imp → IsValid lone_dwarf →
     AgreesOn (λ address. owner address == 0) 0 (after_turns 200 fight) 0 (after_turns 100 lone_imp)
     × AgreesOn (λ address. owner address == 1) 1 (after_turns 200 fight) 0 (after_turns 100 lone_dwarf)
 unfolding the_machine
@@ -128,7 +128,7 @@ abbrev reading : State
 reading = battle_of of_eight (eight (cell_of Sne I Direct 0 Direct 4 ∷ [])) ((0 ∷ []) ∷ (4 ∷ []) ∷ [])
 
 -- `SNE.I $0, $4` reads a cell of the other warrior, so the warrior does not keep to its own cells.
-pub reading_is_touching : KeepsTo (λ address. address / 4 == 0) 0 1 reading → ⊥
+pub reading_is_touching : StaysWithin (λ address. address / 4 == 0) 0 1 reading → ⊥
 unfolding the_machine
 reading_is_touching keeps = true≢false (sym (keeps 2 0 (ltb_yes tt)))
 

@@ -56,11 +56,11 @@ unfolding the_machine
 field_outside = refl
 
 -- The B-number is checked, too, and so are the numbers of later warriors.
-pub each_field_is_judged :
+pub each_field_is_checked :
     (start_fault of_eight (warrior (numbers 0 8 ∷ []) 0 ∷ []) (7 ∷ []) ≡ Some FieldOutside)
     × (start_fault of_eight (warrior (nop 0 ∷ []) 0 ∷ warrior (nop 0 ∷ nop 8 ∷ []) 0 ∷ []) (0 ∷ 1 ∷ []) ≡ Some FieldOutside)
 unfolding the_machine
-each_field_is_judged = (refl, refl)
+each_field_is_checked = (refl, refl)
 
 pub no_warrior : start_fault of_eight [] [] ≡ Some NoWarrior
 unfolding the_machine

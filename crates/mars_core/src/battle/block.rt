@@ -3,7 +3,7 @@
 ghost use Rattle.std.specs.Prelude.{◌≡◌, ◌≢◌, ◌++◌, ◌+◌, ◌*◌, ◌≤◌, All, IfErr, IfOk, drop, if◌then◌else◌, length, sum, true};
 ghost use Rattle.std.specs.List.{concat};
 ghost use Rattle.mars_cell.specs.Parameters.{AreInRange};
-ghost use Rattle.mars_core.specs.Limits.{most_warriors};
+ghost use Rattle.mars_core.specs.Limits.{max_warriors};
 ghost use Rattle.mars_core.specs.State.{State, is_over_of, state_of};
 ghost use Rattle.mars_core.specs.Validity.{IsCore, IsQueue, IsValid};
 ghost use Rattle.mars_core.specs.Queue.{Queue, addresses_of};
@@ -21,7 +21,7 @@ use crate::battle::block::deaths::{death_words, read_deaths};
 use crate::battle::block::parts::{Parts, params_of, parts_of};
 use crate::battle::block::queues::{count_words, processes_of, read_queues, write_queues};
 use crate::battle::block::validity::{are_deaths, is_clock};
-use crate::deaths::{Death, MOST_WARRIORS};
+use crate::deaths::{Death, MAX_WARRIORS};
 use crate::machine::clock::Clock;
 use crate::packed::PackedCell;
 use crate::queue::ProcessQueue;
@@ -76,7 +76,7 @@ pub enum BlockFault {
 }
 
 /// Returns the maximum length in words of the block of a battle with these parameters and this number of warriors.
-pub fn most_words(params: &Params, warriors: usize) -> usize
+pub fn max_words(params: &Params, warriors: usize) -> usize
     requires { warriors ≤ 16 }
     ensures { result ≡ head_words + 3 * params.now.core_size + warriors * params.now.processes }
 {
@@ -107,7 +107,7 @@ impl Battle {
         ensures value { result ≡ head_words + 3 * self.now.params.core_size + length self.now.queues * self.now.params.processes }
         ensures enough { length (block_of self.now) ≤ result }
     {
-        most_words(&self.params, self.queues.len())
+        max_words(&self.params, self.queues.len())
     }
 
     /// Writes the block of this battle to the front of `words`, and leaves the rest unchanged.
@@ -214,7 +214,7 @@ fn battle_of(alloc: Global, parts: &Parts<'_>) -> Result<Battle, BlockFault>
     requires head { length parts.now.head.now ≡ head_words }
     requires cells { length parts.now.cells.now ≡ 3 * (params_in parts.now.head.now).core_size }
     requires some { 1 ≤ length parts.now.counts.now }
-    requires few { length parts.now.counts.now ≤ most_warriors }
+    requires few { length parts.now.counts.now ≤ max_warriors }
     requires processes { sum parts.now.counts.now ≡ length parts.now.processes.now }
     ensures core { IfOk result (λ battle. core_words battle.core ≡ parts.now.cells.now) }
     ensures queues { IfOk result (λ battle. concat battle.queues ≡ parts.now.processes.now) }
@@ -256,12 +256,12 @@ fn resumed(
     queues: Vec<ProcessQueue>,
     clock: Clock,
     turns: u32,
-    deaths: ArrayVec<Death, MOST_WARRIORS>,
+    deaths: ArrayVec<Death, MAX_WARRIORS>,
 ) -> Result<Battle, BlockFault>
     requires params { AreInRange params }
     requires core { IsCore params.core_size core.items }
     requires some { 1 ≤ length queues.items }
-    requires few { length queues.items ≤ most_warriors }
+    requires few { length queues.items ≤ max_warriors }
     requires limits { All (λ (q : Queue). q.limit ≡ params.processes) queues.items }
     requires queues { All (IsQueue params.core_size params.processes) (addresses_of queues.items) }
     ensures state { IfOk result (λ battle. battle ≡ state_of params core.items queues.items clock.next clock.cycle turns deaths.items) }

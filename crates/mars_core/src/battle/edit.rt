@@ -1,13 +1,13 @@
 //! Manual changes of a battle.
 ghost use Rattle.std.specs.Prelude.{◌≡◌, ◌<◌, ◌≤◌, length, IfOk, MatchOption, if◌then◌else◌};
-ghost use Rattle.mars_core.specs.Limits.{most_warriors};
+ghost use Rattle.mars_core.specs.Limits.{max_warriors};
 ghost use Rattle.mars_core.specs.State.{advanced as spec_advanced};
 ghost use Rattle.mars_core.specs.Queue.{addresses_of};
 ghost use Rattle.mars_core.specs.Validity.{IsValid};
 ghost use Rattle.mars_core.specs.Leads.{Leads};
-ghost use Rattle.mars_core.specs.Edit.{address_fault as spec_address_fault, cell_fault as spec_cell_fault, warrior_fault, process_fault, life_fault, room_fault, edit_fault as spec_edit_fault, edited, edit_record, IsProcess, CanSpawn};
+ghost use Rattle.mars_core.specs.Edit.{address_fault as spec_address_fault, cell_fault as spec_cell_fault, warrior_fault, process_fault, dead_warrior_fault, full_queue_fault, edit_fault as spec_edit_fault, edited, edit_record, IsProcess, CanSpawn};
 ghost use Rattle.mars_cell.specs.Cells.{FitsCore};
-ghost use Rattle.mars_cell.specs.Limits.{most_cycles};
+ghost use Rattle.mars_cell.specs.Limits.{max_cycles};
 
 use crate::battle::Battle;
 use crate::deaths::note_death;
@@ -15,7 +15,7 @@ use crate::machine::clock::{Clock, advanced};
 use crate::machine::writes::CellChange;
 use crate::packed::PackedCell;
 use crate::queue::ProcessQueue;
-use crate::record::{Atom, Work, quiet_atom};
+use crate::record::{Atom, Work, atom_without_death};
 use arrayvec::ArrayVec;
 use mars_cell::Cell;
 use thiserror::Error;
@@ -82,8 +82,8 @@ impl Battle {
                 .or(self.process_fault(warrior, place)),
             Edit::Spawn(warrior, address) => address_fault(core_size, address)
                 .or(self.warrior_fault(warrior))
-                .or(self.life_fault(warrior))
-                .or(self.room_fault(warrior)),
+                .or(self.dead_warrior_fault(warrior))
+                .or(self.full_queue_fault(warrior)),
         }
     }
 
@@ -107,8 +107,8 @@ impl Battle {
         }
     }
 
-    fn life_fault(&self, warrior: u64) -> Option<EditFault>
-        ensures { result ≡ life_fault self.now warrior }
+    fn dead_warrior_fault(&self, warrior: u64) -> Option<EditFault>
+        ensures { result ≡ dead_warrior_fault self.now warrior }
     {
         if self.alive(warrior as usize) {
             None
@@ -117,8 +117,8 @@ impl Battle {
         }
     }
 
-    fn room_fault(&self, warrior: u64) -> Option<EditFault>
-        ensures { result ≡ room_fault self.now warrior }
+    fn full_queue_fault(&self, warrior: u64) -> Option<EditFault>
+        ensures { result ≡ full_queue_fault self.now warrior }
     {
         if self.queue_len(warrior as usize) < self.params.processes() as usize {
             None
@@ -179,7 +179,7 @@ impl Battle {
             before,
             after,
         });
-        quiet_atom(Work::SetCell, cells, self.next)
+        atom_without_death(Work::SetCell, cells, self.next)
     }
 
     #[tactic(auto, unfolding(crate::specs::Edit::edited, crate::specs::Edit::edit_record))]
@@ -192,7 +192,7 @@ impl Battle {
         let queue = &mut self.queues[warrior as usize];
         let from = queue.replace(place as usize, address);
         let work = Work::MoveProcess(warrior, place, from, address);
-        quiet_atom(work, ArrayVec::new(), self.next)
+        atom_without_death(work, ArrayVec::new(), self.next)
     }
 
     #[tactic(auto, unfolding(crate::specs::Edit::edited, crate::specs::Edit::killed, crate::specs::Edit::edit_record))]
@@ -231,7 +231,7 @@ impl Battle {
     {
         let queue = &mut self.queues[warrior as usize];
         queue.push(address);
-        quiet_atom(Work::Spawn(warrior, address), ArrayVec::new(), self.next)
+        atom_without_death(Work::Spawn(warrior, address), ArrayVec::new(), self.next)
     }
 }
 
@@ -259,8 +259,8 @@ fn cell_fault(core_size: u32, cell: Cell) -> Option<EditFault>
 
 /// Returns the clock after a process was removed from a queue; it advances if its warrior died.
 fn clock_after_kill(queues: &[ProcessQueue], clock: Clock, died: bool) -> Clock
-    requires few { length queues.now ≤ most_warriors }
-    requires cycle { clock.cycle ≤ most_cycles }
+    requires few { length queues.now ≤ max_warriors }
+    requires cycle { clock.cycle ≤ max_cycles }
     ensures { result ≡ (if died then spec_advanced (addresses_of queues.now) clock clock.next else clock) }
 {
     if died {

@@ -4,8 +4,8 @@ ghost use Rattle.mars_core.specs.State.{State};
 ghost use Rattle.mars_core.specs.Leads.{Leads};
 
 use crate::battle::Battle;
-use crate::deaths::forget_death;
-use crate::record::redo::{note_recorded_death, renew_queue, rewrite_cells};
+use crate::deaths::remove_last_death;
+use crate::record::redo::{note_recorded_death, reapply_to_queue, rewrite_cells};
 use crate::record::undo::{restore_cells, restore_queue};
 use crate::record::{Atom, cycles_of, turns_of};
 
@@ -19,7 +19,7 @@ impl Battle {
     {
         restore_cells(&mut self.core, atom.cells.as_slice());
         restore_queue(&mut self.queues, atom.work, atom.queued.len());
-        forget_death(&mut self.deaths, atom.died);
+        remove_last_death(&mut self.deaths, atom.died);
         self.next = atom.next_before;
         self.cycle -= cycles_of(atom.cycle_added);
         self.turns -= turns_of(atom.work);
@@ -33,7 +33,7 @@ impl Battle {
         ensures { (after : State) → Leads self.old atom.now after → self.new ≡ after }
     {
         rewrite_cells(&mut self.core, atom.cells.as_slice());
-        renew_queue(&mut self.queues, atom.work, atom.queued.as_slice());
+        reapply_to_queue(&mut self.queues, atom.work, atom.queued.as_slice());
         self.turns += turns_of(atom.work);
         note_recorded_death(&mut self.deaths, atom.work, atom.died, self.turns);
         self.next = atom.next_after;

@@ -1,11 +1,11 @@
 //! How a battle starts: the errors, the warriors in the core, and their first processes.
 ghost use Rattle.std.specs.Prelude.{◌≡◌, length, IfOk, IsOk, IfSome, IfErr, MatchOption, nat_lt, ◌+◌, ◌%◌, ◌≤◌, ◌∷◌, [], map, All, true};
-ghost use Rattle.mars_core.specs.Start.{start_fault, start_state, is_inside as spec_is_inside, fields_inside as spec_fields_inside, laid, all_laid, first_processes, overlap};
+ghost use Rattle.mars_core.specs.Start.{start_fault, start_state, is_inside as spec_is_inside, fields_inside as spec_fields_inside, with_warrior, with_warriors, first_processes, overlap};
 ghost use Rattle.std.specs.List.{list_all};
 ghost use Rattle.mars_cell.specs.Parameters.{AreInRange};
 ghost use Rattle.std.proofs.Common.{replicate};
 ghost use Rattle.mars_cell.specs.Cells.{empty_cell, FitsCore};
-ghost use Rattle.mars_cell.specs.Limits.{largest_core};
+ghost use Rattle.mars_cell.specs.Limits.{max_core_size};
 ghost use Rattle.mars_core.specs.Validity.{IsCore};
 ghost use Rattle.mars_core.specs.Queue.{addresses_of, Queue};
 
@@ -13,7 +13,7 @@ mod overlap;
 
 use crate::battle::Battle;
 use crate::battle::start::overlap::has_overlap;
-use crate::deaths::MOST_WARRIORS;
+use crate::deaths::MAX_WARRIORS;
 use crate::packed::PackedCell;
 use crate::queue::ProcessQueue;
 use arrayvec::ArrayVec;
@@ -68,7 +68,7 @@ impl Battle {
         if let Some(fault) = find_fault(params, warriors, starts) {
             return Err(fault);
         }
-        let Ok(core) = lay_all(alloc, params, warriors, starts) else {
+        let Ok(core) = core_with_warriors(alloc, params, warriors, starts) else {
             return Err(BattleFault::OutOfMemory);
         };
         let Ok(queues) = first_queues(alloc, params, warriors, starts) else {
@@ -101,7 +101,7 @@ impl Battle {
         if let Some(fault) = find_fault(&self.params, warriors, starts) {
             return Err(fault);
         }
-        lay_anew(&mut self.core, &self.params, warriors, starts);
+        reload(&mut self.core, &self.params, warriors, starts);
         refill_queues(&self.params, &mut self.queues, warriors, starts);
         self.next = 0;
         self.cycle = 0;
@@ -121,7 +121,7 @@ fn find_fault(params: &Params, warriors: &[Warrior], starts: &[u32]) -> Option<B
     if warriors.is_empty() {
         return Some(BattleFault::NoWarrior);
     }
-    if warriors.len() > MOST_WARRIORS {
+    if warriors.len() > MAX_WARRIORS {
         return Some(BattleFault::TooMany);
     }
     if has_overlap(core_size, warriors, starts) {
@@ -165,7 +165,7 @@ fn cells_inside(core_size: u32, cells: &[Cell]) -> bool
 }
 
 /// Returns an empty core with each warrior loaded at its starting position.
-pub fn lay_all(
+pub fn core_with_warriors(
     alloc: Global,
     params: &Params,
     warriors: &[Warrior],
@@ -173,26 +173,26 @@ pub fn lay_all(
 ) -> Result<Vec<PackedCell>, AllocError>
     requires starts { length starts.now ≡ length warriors.now }
     requires inside { spec_fields_inside params.now.core_size warriors.now ≡ true }
-    ensures laid { IfOk result (λ core. core.items
-        ≡ all_laid params.now.core_size warriors.now starts.now (replicate params.now.core_size empty_cell)) }
+    ensures with_warrior { IfOk result (λ core. core.items
+        ≡ with_warriors params.now.core_size warriors.now starts.now (replicate params.now.core_size empty_cell)) }
     ensures core { IfOk result (λ core. IsCore params.now.core_size core.items) }
 {
     let core_size = params.core_size();
     let mut core = vec![in alloc; PackedCell::empty(); core_size as usize]?;
-    lay_each(core.as_mut_slice(), core_size, warriors, starts);
+    lay_warriors(core.as_mut_slice(), core_size, warriors, starts);
     Ok(core)
 }
 
 /// Empties a core and loads each warrior at its starting position.
-pub fn lay_anew(core: &mut [PackedCell], params: &Params, warriors: &[Warrior], starts: &[u32])
+pub fn reload(core: &mut [PackedCell], params: &Params, warriors: &[Warrior], starts: &[u32])
     requires core { length core.old ≡ params.now.core_size }
     requires starts { length starts.now ≡ length warriors.now }
     requires inside { spec_fields_inside params.now.core_size warriors.now ≡ true }
-    ensures laid { core.new ≡ all_laid params.now.core_size warriors.now starts.now (replicate params.now.core_size empty_cell) }
+    ensures with_warrior { core.new ≡ with_warriors params.now.core_size warriors.now starts.now (replicate params.now.core_size empty_cell) }
     ensures core { IsCore params.now.core_size core.new }
 {
     clear(core);
-    lay_each(core, params.core_size(), warriors, starts);
+    lay_warriors(core, params.core_size(), warriors, starts);
 }
 
 /// Empties cells: the first half in the same way, and the rest as a copy of it, since copying many cells costs less than
@@ -212,28 +212,28 @@ fn clear(cells: &mut [PackedCell])
 
 /// Loads each warrior at its starting position.
 #[tactic(auto, using(crate::proofs::StartState::inside_at))]
-fn lay_each(core: &mut [PackedCell], core_size: u32, warriors: &[Warrior], starts: &[u32])
+fn lay_warriors(core: &mut [PackedCell], core_size: u32, warriors: &[Warrior], starts: &[u32])
     requires core { IsCore core_size core.old }
     requires positive { 1 ≤ core_size }
-    requires size { core_size ≤ largest_core }
+    requires size { core_size ≤ max_core_size }
     requires starts { length starts.now ≡ length warriors.now }
     requires inside { spec_fields_inside core_size warriors.now ≡ true }
-    ensures laid { core.new ≡ all_laid core_size warriors.now starts.now core.old }
+    ensures with_warrior { core.new ≡ with_warriors core_size warriors.now starts.now core.old }
     ensures core { IsCore core_size core.new }
 {
     for i in 0..warriors.len() {
-        lay(core, core_size, starts[i], warriors[i].cells());
+        lay_warrior(core, core_size, starts[i], warriors[i].cells());
     }
 }
 
 /// Loads cells from `start` on.
 #[tactic(auto, using(crate::proofs::Words::Back::fits_largest))]
-fn lay(core: &mut [PackedCell], core_size: u32, start: u32, cells: &[Cell])
+fn lay_warrior(core: &mut [PackedCell], core_size: u32, start: u32, cells: &[Cell])
     requires core { IsCore core_size core.old }
     requires positive { 1 ≤ core_size }
-    requires size { core_size ≤ largest_core }
+    requires size { core_size ≤ max_core_size }
     requires cells { All (FitsCore core_size) cells.now }
-    ensures laid { core.new ≡ laid core_size start cells.now core.old }
+    ensures with_warrior { core.new ≡ with_warrior core_size start cells.now core.old }
     ensures core { IsCore core_size core.new }
 {
     for (i, cell) in cells.iter().enumerate() {

@@ -1,12 +1,12 @@
 //! Sums of addresses, modulo the size of the core, and pointers under a limit (`specs/Addresses`).
 ghost use Rattle.std.specs.Prelude.{◌≡◌, ◌<◌, ◌≤◌, false, ◌+◌, ◌%◌};
-ghost use Rattle.mars_cell.specs.Limits.{largest_core};
+ghost use Rattle.mars_cell.specs.Limits.{max_core_size};
 ghost use Rattle.mars_core.specs.Addresses.{address_after as spec_address_after, fold, raised as spec_raised, lowered as spec_lowered};
 
 /// Returns `number % core_size` without a division, for a number below twice the size of the core.
 #[inline(always)]
 pub fn remainder(core_size: u32, number: u32) -> u32
-    requires size { core_size ≤ largest_core }
+    requires size { core_size ≤ max_core_size }
     requires number { number < core_size + core_size }
     ensures value { result ≡ number % core_size }
     ensures inside { result < core_size }
@@ -20,7 +20,7 @@ pub fn remainder(core_size: u32, number: u32) -> u32
 #[inline(always)]
 #[tactic(auto, unfolding(crate::specs::Addresses::address_after))]
 pub fn address_after(core_size: u32, address: u32, distance: u32) -> u32
-    requires size { core_size ≤ largest_core }
+    requires size { core_size ≤ max_core_size }
     requires address { address < core_size }
     requires distance { distance < core_size }
     ensures value { result ≡ spec_address_after core_size address distance }
@@ -33,7 +33,7 @@ pub fn address_after(core_size: u32, address: u32, distance: u32) -> u32
 #[inline(always)]
 #[tactic(auto, unfolding(crate::specs::Addresses::address_after, crate::specs::Addresses::raised))]
 pub fn next_address(core_size: u32, address: u32) -> u32
-    requires size { core_size ≤ largest_core }
+    requires size { core_size ≤ max_core_size }
     requires address { address < core_size }
     ensures value { result ≡ spec_address_after core_size address 1 }
     ensures inside { result < core_size }
@@ -45,7 +45,7 @@ pub fn next_address(core_size: u32, address: u32) -> u32
 #[inline(always)]
 #[tactic(auto, using(crate::proofs::Folding::after_next))]
 pub fn skip_address(core_size: u32, address: u32) -> u32
-    requires size { core_size ≤ largest_core }
+    requires size { core_size ≤ max_core_size }
     requires address { address < core_size }
     ensures value { result ≡ spec_address_after core_size address 2 }
     ensures inside { result < core_size }
@@ -57,7 +57,7 @@ pub fn skip_address(core_size: u32, address: u32) -> u32
 #[inline(always)]
 #[tactic(auto, using(crate::proofs::Folding::fold_whole), unfolding(crate::specs::Addresses::fold))]
 pub fn folded<const LIMITED: bool>(core_size: u32, limit: u32, pointer: u32) -> u32
-    requires size { core_size ≤ largest_core }
+    requires size { core_size ≤ max_core_size }
     requires limit_least { 1 ≤ limit }
     requires limit_most { limit ≤ core_size }
     requires pointer { pointer < core_size + core_size }
@@ -110,7 +110,7 @@ fn folded_at(core_size: u32, limit: u32, pointer: u32) -> u32
 #[inline(always)]
 #[tactic(auto, unfolding(crate::specs::Addresses::raised))]
 pub fn raised(core_size: u32, number: u32) -> u32
-    requires size { core_size ≤ largest_core }
+    requires size { core_size ≤ max_core_size }
     requires number { number < core_size }
     ensures value { result ≡ spec_raised core_size number }
     ensures inside { result < core_size }
@@ -123,7 +123,7 @@ pub fn raised(core_size: u32, number: u32) -> u32
 #[inline(always)]
 #[tactic(auto, unfolding(crate::specs::Addresses::lowered))]
 pub fn lowered(core_size: u32, number: u32) -> u32
-    requires size { core_size ≤ largest_core }
+    requires size { core_size ≤ max_core_size }
     requires number { number < core_size }
     ensures value { result ≡ spec_lowered core_size number }
     ensures inside { result < core_size }

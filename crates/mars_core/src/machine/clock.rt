@@ -1,9 +1,9 @@
 //! The next warrior, the cycle, and whether the battle is over (the clock of `specs/State`).
 ghost use Rattle.std.specs.Prelude.{◌≡◌, ◌==◌, ◌&&◌, ◌+◌, ◌<◌, ◌≤◌, length, ℕ, List, IfSome};
-ghost use Rattle.mars_core.specs.Limits.{most_warriors};
+ghost use Rattle.mars_core.specs.Limits.{max_warriors};
 ghost use Rattle.mars_core.specs.State.{advanced as spec_advanced, live_from, survivors_of, ends, is_empty};
 ghost use Rattle.mars_core.specs.Queue.{addresses_of};
-ghost use Rattle.mars_cell.specs.Limits.{most_cycles};
+ghost use Rattle.mars_cell.specs.Limits.{max_cycles};
 
 use crate::queue::ProcessQueue;
 
@@ -18,9 +18,9 @@ pub struct Clock {
 #[inline(always)]
 #[tactic(auto, using(crate::proofs::Live::advanced_next, crate::proofs::Live::advanced_round))]
 pub fn clock_after_turn(queues: &[ProcessQueue], clock: Clock) -> Clock
-    requires few { length queues.now ≤ most_warriors }
+    requires few { length queues.now ≤ max_warriors }
     requires next { clock.next < length queues.now }
-    requires cycle { clock.cycle ≤ most_cycles }
+    requires cycle { clock.cycle ≤ max_cycles }
     ensures { result ≡ spec_advanced (addresses_of queues.now) clock (clock.next + 1) }
 {
     let next = clock.next as usize + 1;
@@ -44,8 +44,8 @@ pub fn clock_after_turn(queues: &[ProcessQueue], clock: Clock) -> Clock
 /// next cycle.
 #[tactic(auto, unfolding(crate::specs::State::advanced))]
 pub fn advanced(queues: &[ProcessQueue], clock: Clock, from: usize) -> Clock
-    requires few { length queues.now ≤ most_warriors }
-    requires cycle { clock.cycle ≤ most_cycles }
+    requires few { length queues.now ≤ max_warriors }
+    requires cycle { clock.cycle ≤ max_cycles }
     ensures { result ≡ spec_advanced (addresses_of queues.now) clock from }
 {
     if let Some(next) = least_live(queues, from) {

@@ -1,7 +1,7 @@
 //! The evaluation of operands (`specs/Operand`).
 ghost use Rattle.std.specs.Prelude.{◌≡◌, ◌<◌, ◌≤◌, false, length};
 ghost use Rattle.mars_cell.specs.Cells.{field_of};
-ghost use Rattle.mars_cell.specs.Limits.{largest_core};
+ghost use Rattle.mars_cell.specs.Limits.{max_core_size};
 ghost use Rattle.mars_core.specs.State.{cell_at as spec_cell_at};
 ghost use Rattle.mars_core.specs.Addresses.{address_after as spec_address_after, raised as spec_raised, lowered as spec_lowered};
 ghost use Rattle.mars_core.specs.Validity.{IsCore};
@@ -197,7 +197,7 @@ fn address_through<const LIMITED: bool>(
     through: u32,
     number: u32,
 ) -> u32
-    requires size { core_size ≤ largest_core }
+    requires size { core_size ≤ max_core_size }
     requires pc { pc < core_size }
     requires pointer { pointer < core_size }
     requires through { through < core_size }
@@ -267,7 +267,7 @@ fn number_at(core_size: u32, core: &[PackedCell], field: Field, address: u32) ->
 #[tactic(auto, unfolding(crate::specs::Writes::write_field, crate::specs::Writes::write_cell))]
 fn raise_field(core_size: u32, core: &mut [PackedCell], field: Field, address: u32)
     requires core { IsCore core_size core.old }
-    requires size { core_size ≤ largest_core }
+    requires size { core_size ≤ max_core_size }
     requires inside { address < core_size }
     ensures core_is { core.new ≡ (write_field (spec_raised core_size) field (unwritten core.old) address).core }
     ensures core { IsCore core_size core.new }
@@ -282,7 +282,7 @@ fn raise_field(core_size: u32, core: &mut [PackedCell], field: Field, address: u
 #[tactic(auto, unfolding(crate::specs::Writes::write_field, crate::specs::Writes::write_cell))]
 fn lower_field(core_size: u32, core: &mut [PackedCell], field: Field, address: u32)
     requires core { IsCore core_size core.old }
-    requires size { core_size ≤ largest_core }
+    requires size { core_size ≤ max_core_size }
     requires inside { address < core_size }
     ensures core_is { core.new ≡ (write_field (spec_lowered core_size) field (unwritten core.old) address).core }
     ensures core { IsCore core_size core.new }

@@ -1,13 +1,13 @@
 //! Applying a record to the parts of a battle.
 ghost use Rattle.std.specs.Prelude.{◌≡◌, ℕ, ◌<◌, length, All, true};
 ghost use Rattle.arrayvec.specs.ArrayVec.{array_vec_len};
-ghost use Rattle.mars_core.specs.Limits.{most_warriors};
+ghost use Rattle.mars_core.specs.Limits.{max_warriors};
 ghost use Rattle.mars_core.specs.Record.{rewritten, warrior_of as spec_warrior_of, queue_after_work, with_queue, deaths_after};
 ghost use Rattle.mars_core.specs.Queue.{addresses_of, Queue as Contents};
 ghost use Rattle.mars_core.specs.Code.Records.{CanRequeue, HasQueue};
 ghost use Rattle.mars_core.specs.declared.machine.writes.CellChange.{CellChange as Change};
 
-use crate::deaths::{Death, MOST_WARRIORS, note_death};
+use crate::deaths::{Death, MAX_WARRIORS, note_death};
 use crate::machine::writes::CellChange;
 use crate::packed::PackedCell;
 use crate::queue::ProcessQueue;
@@ -26,7 +26,7 @@ pub fn rewrite_cells(core: &mut [PackedCell], changes: &[CellChange])
 
 /// Changes the queue of the work's warrior, if there is one, to what it is after the work, which queues the addresses
 /// in `queued`.
-pub fn renew_queue(queues: &mut [ProcessQueue], work: Work, queued: &[u32])
+pub fn reapply_to_queue(queues: &mut [ProcessQueue], work: Work, queued: &[u32])
     requires { (limit : ℕ) × All (λ (q : Contents). q.limit ≡ limit) queues.old
         × HasQueue (spec_warrior_of work) (CanRequeue limit work (length queued.now)) (addresses_of queues.old) }
     ensures addresses { addresses_of queues.new
@@ -59,12 +59,12 @@ fn renew(queue: &mut ProcessQueue, work: Work, queued: &[u32])
 
 /// Appends the death of the work's warrior if `died`.
 pub fn note_recorded_death(
-    deaths: &mut ArrayVec<Death, MOST_WARRIORS>,
+    deaths: &mut ArrayVec<Death, MAX_WARRIORS>,
     work: Work,
     died: bool,
     turns: u32,
 )
-    requires { died ≡ true → array_vec_len deaths.old < most_warriors }
+    requires { died ≡ true → array_vec_len deaths.old < max_warriors }
     ensures { deaths.new.items ≡ deaths_after (spec_warrior_of work) died turns deaths.old.items }
 {
     if let Some(warrior) = warrior_of(work) {

@@ -46,17 +46,17 @@ tallied p warriors formula fixed (suc n) k seed tallies =
     tallied p warriors formula fixed n (k + 1) placed.1 (all_added outcome 0 tallies)
 
 -- The maximum number of rounds of a match.
-abbrev pub most_rounds : ℕ
-most_rounds = 4294967295
+abbrev pub max_rounds : ℕ
+max_rounds = 4294967295
 
 -- The number of rounds of 65,536 matches. No warrior of a league has more rounds against the warriors after it.
-abbrev pub most_row : ℕ
-most_row = 281474976645120
+abbrev pub max_row_rounds : ℕ
+max_row_rounds = 281474976645120
 
 -- The number of rounds of 4,294,967,294 matches. It bounds the rounds that a league of 65,536 warriors has before any of
 -- its matches.
-abbrev pub most_before : ℕ
-most_before = 18446744060824649730
+abbrev pub max_rounds_before : ℕ
+max_rounds_before = 18446744060824649730
 
 -- The tally is one of at most `k` rounds.
 pub record IsOf (k : ℕ) (t : Tally) : Type 0 where

@@ -154,7 +154,7 @@ fn fates_of_rounds(
 }
 
 #[test]
-fn fates_are_told(rt: HostRuntime) -> Result<(), Fail> {
+fn fates_are_reported(rt: HostRuntime) -> Result<(), Fail> {
     let setup = setup_of(rt.alloc(), 2)?;
     let warriors = warriors_of(rt.alloc(), &[STAY, DEAD, IMP])?;
     let fates = fates_of_rounds(&rt, rt.alloc(), &setup, warriors.as_slice())

@@ -42,10 +42,10 @@ none_under : (f : ℕ → ℕ) (o : Option ℕ) → option_map f o ≡ None → 
 none_under f None e = refl
 none_under f (Some k) e = absurd (cc)
 
-nobody_lives : (queues : List (List ℕ)) → first_live queues ≡ None → survivors_of queues ≡ 0
-nobody_lives [] e = refl
-nobody_lives ([] ∷ queues) e = let rest = nobody_lives queues (none_under suc (first_live queues) e) in omega (arith, rest)
-nobody_lives ((p ∷ ps) ∷ queues) e = absurd (cc)
+none_survive : (queues : List (List ℕ)) → first_live queues ≡ None → survivors_of queues ≡ 0
+none_survive [] e = refl
+none_survive ([] ∷ queues) e = let rest = none_survive queues (none_under suc (first_live queues) e) in omega (arith, rest)
+none_survive ((p ∷ ps) ∷ queues) e = absurd (cc)
 
 over_by : (b : Bool) (n alive : ℕ) → 1 ≤ n → alive ≡ 0 → (b || (nat_le 2 n && nat_le alive 1) || (n == 1 && alive == 0)) ≡ true
 over_by b n alive l e = grind (common_steps, arith)
@@ -53,7 +53,7 @@ over_by b n alive l e = grind (common_steps, arith)
 over_when_nobody : (cycles cycle : ℕ) (queues : List (List ℕ)) → 1 ≤ length queues → live_from queues 0 ≡ None → ends cycles cycle queues ≡ true
 unfolding ends
 over_when_nobody cycles cycle queues l e =
-    over_by (nat_eq cycle cycles) (length queues) (survivors_of queues) l (nobody_lives queues (none_under (λ j. 0 + j) (first_live queues) e))
+    over_by (nat_eq cycle cycles) (length queues) (survivors_of queues) l (none_survive queues (none_under (λ j. 0 + j) (first_live queues) e))
 
 -- The distance of a clock from the start in turns, with `w` warriors.
 abbrev distance : ℕ → Clock → ℕ

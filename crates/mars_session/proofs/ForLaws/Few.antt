@@ -12,8 +12,8 @@ use Rattle.mars_session.specs.declared.calls.Refusal.{Refusal}
 use Rattle.mars_session.specs.declared.calls.Refusal.TheVariants.{NothingToRedo}
 use Rattle.mars_session.specs.History.{Place, History, position_of, marked, cut, append, append_all, after_command, marked_before, undo, marked_after, redo}
 use Rattle.mars_session.specs.Retention.{Retention, retained}
-use Rattle.mars_session.specs.Script.{kind_of, Outcome, outcome, no_undo, script, first, rest}
-use Rattle.mars_session.specs.Laws.{times, is_command, accepted_count, GoesBackAndOn, appended_by, appended_together, FewCommandsAreUndone}
+use Rattle.mars_session.specs.Script.{kind_of, Outcome, outcome, undo_refusal, script, first, rest}
+use Rattle.mars_session.specs.Laws.{times, is_command, accepted_count, UndoRedoRoundTrip, appended_by, total_appended, FewCommandsAreUndone}
 use Rattle.mars_session.proofs.Appending.{take_fewer}
 use Rattle.mars_session.proofs.Undoing.{base, Accepted, accepted_call, same_most, position_append_all, Undone, one_undone}
 use Rattle.mars_session.proofs.ForLaws.Scripted.{refusals_change_nothing, none_after, all_moved}
@@ -188,19 +188,19 @@ module _ (k limit : ℕ) where
       none_whole k n (accepted_count others) total h start end (rw stays at (later start (rw stays same)))
 
   few_reached : (m : Retention) (calls : List Call) (poor : List Bool) (h start : History) → m.most ≡ Some k → Same k h start → IsTrue (list_all is_command (map kind_of calls))
-      → FewReached k (accepted_count (script m limit calls poor h).replies) (appended_together m limit calls poor h) h start (script m limit calls poor h).history
+      → FewReached k (accepted_count (script m limit calls poor h).replies) (total_appended m limit calls poor h) h start (script m limit calls poor h).history
   few_reached m [] poor h start e same c = inl (refl, refl)
   few_reached m (call ∷ calls) poor h start e same c =
       let commands = and_parts (is_command (kind_of call)) (list_all is_command (map kind_of calls)) c in
       let one : Outcome = outcome m limit call (first poor) h in
       let most : one.retention.most ≡ Some k = same_most m limit call (first poor) h ∙ e in
-      one_few m (appended_by (kind_of call) h.present.state) (appended_together one.retention limit calls (rest poor) one.history) one.reply
+      one_few m (appended_by (kind_of call) h.present.state) (total_appended one.retention limit calls (rest poor) one.history) one.reply
       (script one.retention limit calls (rest poor) one.history).replies h start one.history (script one.retention limit calls (rest poor) one.history).history e same
       (λ ok. accepted_call m limit call (first poor) h commands.0 ok) (λ err. (refusals_change_nothing m limit call (first poor) h err).0)
       (λ next alike. few_reached one.retention calls (rest poor) one.history next most alike commands.1)
 
   few_back_and_on : (m : Retention) (n total : ℕ) (up rp : List Bool) (h end : History) → total ≤ k → FewReached k n total h h end
-      → GoesBackAndOn m limit n up rp h (script m limit (replicate n Undo) up end).history end
+      → UndoRedoRoundTrip m limit n up rp h (script m limit (replicate n Undo) up end).history end
   few_back_and_on m n total up rp h end l (inl none) =
       rw (none.0, none.1) (record { undone = refl; retention = refl; state = refl; redone = refl; same = refl })
   few_back_and_on m n total up rp h end l (inr r) =
@@ -209,7 +209,7 @@ module _ (k limit : ℕ) where
       let all : j + (position_of r.whole - position_of h) ≡ k = omega (arith, r.within, l) in
       let back : times n undo (retained (Some k) r.whole) ≡ Some (retained (Some j) start) = rw all at (many_undone n j r.whole start r.undone.back).found in
       let on : times n redo (retained (Some j) start) ≡ Some (retained (Some k) r.whole) = rw all at (many_redone n j start r.whole r.undone.again).found in
-      let undos = all_moved m limit n Undo (no_undo m) undo up end (retained (Some j) start) (λ b x. refl) (rw r.is back) in
+      let undos = all_moved m limit n Undo (undo_refusal m) undo up end (retained (Some j) start) (λ b x. refl) (rw r.is back) in
       let redos = all_moved m limit n Redo NothingToRedo redo rp (retained (Some j) start) end (λ b x. refl) (rw r.is on) in
       record {
         undone = undos.accepted;
@@ -223,5 +223,5 @@ pub few_commands_are_undone : FewCommandsAreUndone
 few_commands_are_undone k forgotten limit calls poor up rp h c l =
     let m : Retention = record { most = Some k; forgotten = forgotten } in
     let reached = few_reached k limit m calls poor h h refl (record { state = refl; before = refl }) c in
-    few_back_and_on k limit (script m limit calls poor h).retention (accepted_count (script m limit calls poor h).replies) (appended_together m limit calls poor h) up rp h
+    few_back_and_on k limit (script m limit calls poor h).retention (accepted_count (script m limit calls poor h).replies) (total_appended m limit calls poor h) up rp h
     (script m limit calls poor h).history l reached

@@ -16,7 +16,7 @@ use Rattle.mars_session.specs.History.{Place, History, beginning, append, append
 use Rattle.mars_session.specs.Commands.{command_limit, States, turns_until, stops_at, step_states, run_states, until_bound, until_states, unless_fault, edit_states, fills, cells_between, fill_states}
 use Rattle.mars_session.specs.Retention.{Retention, never, retained}
 use Rattle.mars_session.specs.declared.calls.Call.{Call}
-use Rattle.mars_session.specs.Script.{move_outcome, no_undo, no_room, appended, command_outcome, outcome, first, rest, Outcome, script}
+use Rattle.mars_session.specs.Script.{move_outcome, undo_refusal, room_refusal, appended, command_outcome, outcome, first, rest, Outcome, script}
 use Rattle.mars_session.specs.Tapes.{Follows, FollowsAll, Steps, IsTape, IsTapeOf}
 use Rattle.mars_session.specs.Laws.{BeginningIsTape, CallsKeepTapes, ScriptsKeepTapes, ScriptsForgetTapes}
 use Rattle.mars_session.proofs.Turns.{fault_kept, fault_below}
@@ -207,7 +207,7 @@ module _ (m : Retention) (P : History → Type 0) (keeps : Keeps m P) where
 
   commanded_keeps : (limit bound : ℕ) (poor : Bool) (h : History) (x : Result States Refusal) → P h → Reached h.present.state x → P (command_outcome m limit bound poor h x).history
   commanded_keeps limit bound poor h (Err r) t c = t
-  commanded_keeps limit bound poor h (Ok states) t c = appended_keeps h states (no_room m limit bound poor h) t c
+  commanded_keeps limit bound poor h (Ok states) t c = appended_keeps h states (room_refusal m limit bound poor h) t c
 
   edit_keeps : (limit : ℕ) (poor : Bool) (h : History) (e : Edit) → P h → P (command_outcome m limit 1 poor h (edit_states e h.present.state)).history
   edit_keeps limit poor h e t = commanded_keeps limit 1 poor h (edit_states e h.present.state) t (edit_reached e h.present.state)
@@ -248,7 +248,7 @@ module _ (m : Retention) (P : History → Type 0) (keeps : Keeps m P) where
   calls_keep limit (MoveProcess w i address) poor h t = edit_keeps limit poor h (edits.MoveProcess w i address) t
   calls_keep limit (Kill w i) poor h t = edit_keeps limit poor h (edits.KillProcess w i) t
   calls_keep limit (Spawn w address) poor h t = edit_keeps limit poor h (edits.Spawn w address) t
-  calls_keep limit Undo poor h t = moved_keeps h (no_undo m) (undo h) t (undo_found h.before h.present h.after t)
+  calls_keep limit Undo poor h t = moved_keeps h (undo_refusal m) (undo h) t (undo_found h.before h.present h.after t)
   calls_keep limit Redo poor h t = moved_keeps h NothingToRedo (redo h) t (redo_found h.before h.present h.after t)
   calls_keep limit (Goto n) poor h t =
       let r : History = rewound h in

@@ -17,7 +17,7 @@ use Rattle.mars_session.specs.declared.calls.Refusal.TheVariants.{Count, Address
 use Rattle.mars_session.specs.History.{Place, History, position_of, last_of, following, append, cut, marked, after_command, undo, redo, rewound, goto, first_turns, last_turns}
 use Rattle.mars_session.specs.Commands.{command_limit, States, turns_until, stops_at, step_states, run_states, until_bound, until_states, unless_fault, edit_states, fills, cells_between, fill_states}
 use Rattle.mars_session.specs.Retention.{never}
-use Rattle.mars_session.specs.Script.{move_outcome, no_room, appended, command_outcome}
+use Rattle.mars_session.specs.Script.{move_outcome, room_refusal, appended, command_outcome}
 use Rattle.mars_session.specs.Tapes.{Follows, FollowsAll}
 use Rattle.mars_session.specs.Laws.{CallsKeepLimit}
 use Rattle.mars_session.proofs.Undoing.{after_append_all, position_append_all}
@@ -97,7 +97,7 @@ no_fault : (b : Bool) (x : Refusal) (y : Option Refusal) → (if b then Some x e
 no_fault true x y e = absurd (cc)
 no_fault false x y e = refl
 
-appended_limit : (limit bound : ℕ) (poor : Bool) (h : History) (states : States) (o : Option Refusal) → no_room never limit bound poor h ≡ o → suc (length states.1) ≤ bound → last_of h ≤ limit
+appended_limit : (limit bound : ℕ) (poor : Bool) (h : History) (states : States) (o : Option Refusal) → room_refusal never limit bound poor h ≡ o → suc (length states.1) ≤ bound → last_of h ≤ limit
     → last_of (appended never h states o).history ≤ limit
 appended_limit limit bound poor h states (Some r) e few l = l
 appended_limit limit bound poor h states None e few l =
@@ -107,7 +107,7 @@ appended_limit limit bound poor h states None e few l =
 
 commanded_limit : (limit bound : ℕ) (poor : Bool) (h : History) (x : Result States Refusal) → Within bound x → last_of h ≤ limit → last_of (command_outcome never limit bound poor h x).history ≤ limit
 commanded_limit limit bound poor h (Err r) few l = l
-commanded_limit limit bound poor h (Ok states) few l = appended_limit limit bound poor h states (no_room never limit bound poor h) refl few l
+commanded_limit limit bound poor h (Ok states) few l = appended_limit limit bound poor h states (room_refusal never limit bound poor h) refl few l
 
 edit_limit : (limit : ℕ) (poor : Bool) (h : History) (e : Edit) → last_of h ≤ limit → last_of (command_outcome never limit 1 poor h (edit_states e h.present.state)).history ≤ limit
 edit_limit limit poor h e l =

@@ -14,8 +14,8 @@ use Rattle.mars_core.specs.State.{State}
 use Rattle.mars_session.specs.History.{History, position_of, after_command, undo, redo}
 use Rattle.mars_session.specs.Commands.{States}
 use Rattle.mars_session.specs.Retention.{Retention, never}
-use Rattle.mars_session.specs.Script.{CallKind, Command, Move, kind_of, Outcome, outcome_of, outcome, command_outcome, appended, move_outcome, no_room, script, first, rest}
-use Rattle.mars_session.specs.Laws.{CallsAreScripts, times, is_command, accepted_count, appended_by, RefusalsChangeNothing, GoesBackAndOn, CommandsAreUndone}
+use Rattle.mars_session.specs.Script.{CallKind, Command, Move, kind_of, Outcome, outcome_of, outcome, command_outcome, appended, move_outcome, room_refusal, script, first, rest}
+use Rattle.mars_session.specs.Laws.{CallsAreScripts, times, is_command, accepted_count, appended_by, RefusalsChangeNothing, UndoRedoRoundTrip, CommandsAreUndone}
 use Rattle.mars_session.proofs.Undoing.{base, base_accepted, Accepted, accepted_call, stays_never, Undone, one_undone}
 
 pub calls_are_scripts : CallsAreScripts
@@ -37,7 +37,7 @@ appended_stays m h states None e = absurd (cc)
 
 commanded_stays : (m : Retention) (limit bound : ℕ) (poor : Bool) (h : History) (x : Result States Refusal) → Stays m h (command_outcome m limit bound poor h x)
 commanded_stays m limit bound poor h (Err r) e = (refl, refl)
-commanded_stays m limit bound poor h (Ok states) e = appended_stays m h states (no_room m limit bound poor h) e
+commanded_stays m limit bound poor h (Ok states) e = appended_stays m h states (room_refusal m limit bound poor h) e
 
 moved_stays : (m : Retention) (h : History) (r : Refusal) (x : Option History) → Stays m h (move_outcome m h r x)
 moved_stays m h r None e = (refl, refl)
@@ -109,7 +109,7 @@ all_moved m limit (suc n) call r move poor h end is t =
     one_moved m limit n call r move poor h end (move h) (is (first poor) h) t (λ k u. all_moved m limit n call r move (rest poor) k end is u)
 
 back_and_on : (limit n : ℕ) (up rp : List Bool) (h end : History) → Reached n h end
-    → let back = (script never limit (replicate n Undo) up end).history in GoesBackAndOn never limit n up rp h back end × (position_of back ≡ position_of h)
+    → let back = (script never limit (replicate n Undo) up end).history in UndoRedoRoundTrip never limit n up rp h back end × (position_of back ≡ position_of h)
 back_and_on limit n up rp h end (inl none) =
     rw (none.0, none.1) (record { undone = refl; retention = refl; state = refl; redone = refl; same = refl }, refl)
 back_and_on limit n up rp h end (inr u) =

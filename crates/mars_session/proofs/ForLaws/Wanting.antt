@@ -17,7 +17,7 @@ use Rattle.mars_session.specs.declared.calls.Refusal.TheVariants.{Count, Address
 use Rattle.mars_session.specs.History.{History, undo, redo, goto, first_turns, last_turns}
 use Rattle.mars_session.specs.Retention.{Retention}
 use Rattle.mars_session.specs.Commands.{command_limit, States, turns_until, stops_at, step_states, run_states, until_bound, until_states, refusal_of, unless_fault, edit_states, fills, cells_between, fill_states}
-use Rattle.mars_session.specs.Script.{outcome, command_outcome, move_outcome, no_undo}
+use Rattle.mars_session.specs.Script.{outcome, command_outcome, move_outcome, undo_refusal}
 use Rattle.mars_session.specs.Laws.{NeverFull}
 
 -- The refusal is `JournalFull` or `OutOfMemory`.
@@ -101,7 +101,7 @@ module _ (k : ℕ) (forgotten : Bool) (limit : ℕ) (poor : Bool) (h : History) 
   judged (MoveProcess w i address) = commanded_judged 1 (edit_states (edits.MoveProcess w i address) h.present.state) (edit_judged (edits.MoveProcess w i address) h.present.state)
   judged (Kill w i) = commanded_judged 1 (edit_states (edits.KillProcess w i) h.present.state) (edit_judged (edits.KillProcess w i) h.present.state)
   judged (Spawn w address) = commanded_judged 1 (edit_states (edits.Spawn w address) h.present.state) (edit_judged (edits.Spawn w address) h.present.state)
-  judged Undo = moved_judged (no_undo retention) (undo h) (undo_judged forgotten)
+  judged Undo = moved_judged (undo_refusal retention) (undo h) (undo_judged forgotten)
   judged Redo = moved_judged NothingToRedo (redo h) refl
   judged (Goto t) = moved_judged (NotInHistory (first_turns h) (last_turns h)) (goto t h) refl
 

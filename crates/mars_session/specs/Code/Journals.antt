@@ -6,7 +6,7 @@ use Rattle.mars_core.specs.Leads.{Leads}
 use Rattle.mars_core.specs.Record.{reverted, applied}
 use Rattle.mars_core.specs.declared.record.Atom.{Atom}
 use Rattle.mars_core.specs.declared.record.Work.TheVariants as work
-use Rattle.mars_session.specs.Limits.{longest_history}
+use Rattle.mars_session.specs.Limits.{max_history}
 use Rattle.mars_session.specs.History.{Place, History, first_turns, last_turns}
 
 -- The entry that reading past the end of the list returns.
@@ -80,5 +80,5 @@ pub record HasEnds (h : History) (from to : ℕ) : Type 0 where
 pub record IsRing (es : List (Atom × Bool)) (most at : ℕ) (s : State) : Type 0 where
   pub journal : IsJournal es at s
   pub some : 1 ≤ most
-  pub few : most ≤ longest_history
+  pub few : most ≤ max_history
   pub within : length es ≤ most

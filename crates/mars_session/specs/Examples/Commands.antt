@@ -69,26 +69,26 @@ abbrev at : ℕ → ℕ → ℕ → ℕ → ℕ → ℕ → Result Standing Refu
 at turns cycle next alive position last = Ok (record { turns = turns; cycle = cycle; next = next; alive = alive; position = position; last = last })
 
 -- The replies to calls over the three warriors.
-abbrev Answers : List Call → List (Result Standing Refusal) → Type 0
-Answers calls replies = (script never 100 calls [] (beginning three)).replies ≡ replies
+abbrev HasReplies : List Call → List (Result Standing Refusal) → Type 0
+HasReplies calls replies = (script never 100 calls [] (beginning three)).replies ≡ replies
 
 -- A warrior is killed when its turn is next, then all others but one, so that the battle is over. A battle that is over can be
 -- edited and the edit undone, but it has no turn.
-pub warriors_are_killed : Answers
+pub warriors_are_killed : HasReplies
     (Step ∷ Kill 1 0 ∷ Undo ∷ Step ∷ Kill 2 0 ∷ Kill 0 0 ∷ Step ∷ SetCell 7 nop ∷ Undo ∷ Undo ∷ Step ∷ [])
     (at 1 0 1 3 1 1 ∷ at 1 0 2 2 2 2 ∷ at 1 0 1 3 1 2 ∷ at 2 0 2 3 2 2 ∷ at 2 1 0 2 3 3 ∷ at 2 1 1 1 4 4 ∷ Err Over ∷ at 2 1 1 1 5 5 ∷ at 2 1 1 1 4 5 ∷ at 2 1 0 2 3 5 ∷ at 3 1 1 2 4 4 ∷ [])
 unfolding the_machine
 warriors_are_killed = refl
 
 -- The third warrior is dead, so a cycle has two turns, but the command needs room for three.
-pub until_a_cycle : Answers
+pub until_a_cycle : HasReplies
     (Kill 2 0 ∷ Until 1 ∷ Until 2 ∷ Until 2 ∷ Until 1 ∷ [])
     (at 0 0 0 2 1 1 ∷ at 2 1 0 2 3 3 ∷ at 4 2 0 2 5 5 ∷ Err (CyclePassed 2) ∷ Err (CyclePassed 2) ∷ [])
 unfolding the_machine
 until_a_cycle = refl
 
 -- Processes are added, moved and killed. A dead warrior gets no process.
-pub processes_are_edited : Answers
+pub processes_are_edited : HasReplies
     (Spawn 0 7 ∷ Spawn 0 6 ∷ MoveProcess 0 1 5 ∷ Kill 0 0 ∷ Kill 2 0 ∷ Spawn 2 0 ∷ Kill 2 0 ∷ [])
     (at 0 0 0 3 1 1 ∷ Err QueueFull ∷ at 0 0 0 3 2 2 ∷ at 0 0 0 3 3 3 ∷ at 0 0 0 2 4 4 ∷ Err WarriorDead ∷ Err NoSuchProcess ∷ [])
 unfolding the_machine

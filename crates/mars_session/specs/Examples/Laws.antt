@@ -4,9 +4,9 @@ use Rattle.mars_core.specs.Examples.{the_machine}
 use Rattle.mars_session.specs.declared.calls.Call.{Call}
 use Rattle.mars_session.specs.declared.calls.Call.TheVariants.{Step, Run, Undo}
 use Rattle.mars_session.specs.History.{History, beginning}
-use Rattle.mars_session.specs.Laws.{GoesBackAndOn, appended_together}
+use Rattle.mars_session.specs.Laws.{UndoRedoRoundTrip, total_appended}
 use Rattle.mars_session.specs.Retention.{Retention, never}
-use Rattle.mars_session.specs.Script.{Scripted, script}
+use Rattle.mars_session.specs.Script.{ScriptResult, script}
 use Rattle.mars_session.specs.Examples.{imp}
 
 -- A step and a run of two turns.
@@ -14,13 +14,13 @@ abbrev calls : List Call
 calls = Step ∷ Run 2 ∷ []
 
 -- The result of these commands with the retention `m`, and the history after two undos.
-abbrev done : Retention → Scripted
+abbrev done : Retention → ScriptResult
 done m = script m 100 calls [] (beginning imp)
 
 abbrev back : Retention → History
 back m = (script (done m).retention 100 (replicate 2 Undo) [] (done m).history).history
 
-pub two_commands_are_undone : GoesBackAndOn never 100 2 [] [] (beginning imp) (back never) (done never).history
+pub two_commands_are_undone : UndoRedoRoundTrip never 100 2 [] [] (beginning imp) (back never) (done never).history
 unfolding the_machine
 two_commands_are_undone = record { undone = refl; retention = refl; state = refl; redone = refl; same = refl }
 
@@ -28,16 +28,16 @@ two_commands_are_undone = record { undone = refl; retention = refl; state = refl
 abbrev three : Retention
 three = record { most = Some 3; forgotten = false }
 
-pub three_places_are_appended : appended_together three 100 calls [] (beginning imp) ≡ 3
+pub three_places_are_appended : total_appended three 100 calls [] (beginning imp) ≡ 3
 unfolding the_machine
 three_places_are_appended = refl
 
-pub kept_commands_are_undone : GoesBackAndOn (done three).retention 100 2 [] [] (beginning imp) (back three) (done three).history
+pub kept_commands_are_undone : UndoRedoRoundTrip (done three).retention 100 2 [] [] (beginning imp) (back three) (done three).history
 unfolding the_machine
 kept_commands_are_undone = record { undone = refl; retention = refl; state = refl; redone = refl; same = refl }
 
 -- If only two places are kept, the second undo would need a place that was evicted, so the commands cannot be undone.
 pub forgotten_commands_are_not : let two : Retention = record { most = Some 2; forgotten = false } in
-    GoesBackAndOn (done two).retention 100 2 [] [] (beginning imp) (back two) (done two).history → ⊥
+    UndoRedoRoundTrip (done two).retention 100 2 [] [] (beginning imp) (back two) (done two).history → ⊥
 unfolding the_machine
 forgotten_commands_are_not goes = cc (goes.undone)

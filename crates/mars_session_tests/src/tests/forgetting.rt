@@ -1,6 +1,6 @@
 //! A tape that evicts the oldest places.
 ghost use Rattle.std.specs.Prelude.{◌≤◌};
-ghost use Rattle.mars_session.specs.Limits.{longest_history};
+ghost use Rattle.mars_session.specs.Limits.{max_history};
 
 use super::{BLANK, Check, IDLE, check_script, gives, imp_battle};
 use mars_cell::Cell;
@@ -12,7 +12,7 @@ use std::test::Fail;
 /// A session of the imp over a tape that keeps `most` places beside the last one.
 fn forgetful_imp(alloc: Global, most: usize) -> Result<Session<RingTape>, Fail>
     requires some { 1 ≤ most }
-    requires few { most ≤ longest_history }
+    requires few { most ≤ max_history }
 {
     let battle = imp_battle(alloc)?;
     let tape = RingTape::new(alloc, battle, most).ok().ok_or("tape")?;

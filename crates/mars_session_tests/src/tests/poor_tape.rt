@@ -21,9 +21,9 @@ pub struct PoorTape<T: Tape> {
 impl<T: Tape> Model for PoorTape<T> {
     ghost use Rattle.std.specs.Prelude.{◌≡◌, ◌≤◌, false};
     ghost use Rattle.mars_session.specs.History.{following};
-    ghost use Rattle.mars_session.specs.Tapes.{Taped};
+    ghost use Rattle.mars_session.specs.Tapes.{TapeValue};
 
-    ghost Value = { Taped };
+    ghost Value = { TapeValue };
 
     ghost view = { λ t. record { history = T.history t.tape; room = t.room } };
 

@@ -5,9 +5,9 @@ use Rattle.redcode_text.specs.Lines.{Line, is_instruction}
 use Rattle.redcode_asm.specs.SourceLines.{labels_text}
 
 -- The text of the given lines. `labels` is the text of the labels that wait for the next instruction.
-abbrev pub lines_behind : List (List ℕ) → List ℕ → List Line → List ℕ
-lines_behind names labels [] = []
-lines_behind names labels (l ∷ ls) = elim (is_instruction names l.operation l.rest) [
-  | true ↦ with_newline (decimal l.number ++ (labels ++ labels_text names l.labels)) ++ lines_behind names [] ls
-  | false ↦ lines_behind names (labels ++ labels_text names l.labels) ls
+abbrev pub remaining_lines : List (List ℕ) → List ℕ → List Line → List ℕ
+remaining_lines names labels [] = []
+remaining_lines names labels (l ∷ ls) = elim (is_instruction names l.operation l.rest) [
+  | true ↦ with_newline (decimal l.number ++ (labels ++ labels_text names l.labels)) ++ remaining_lines names [] ls
+  | false ↦ remaining_lines names (labels ++ labels_text names l.labels) ls
 ]

@@ -19,8 +19,8 @@ abbrev pub placed_of : Place → Placed
 placed_of place = record { index = place.index; line = line_of place.line.now }
 
 -- `cells` followed by the cells of the result `rest`.
-abbrev pub behind_cells : List Cell → Result (List Cell) AsmFault → Result (List Cell) AsmFault
-behind_cells cells rest = rest >>= λ more. Ok (cells ++ more)
+abbrev pub prepend_cells : List Cell → Result (List Cell) AsmFault → Result (List Cell) AsmFault
+prepend_cells cells rest = rest >>= λ more. Ok (cells ++ more)
 
 -- The cells of the instructions among `ls`. `index` instructions precede the first of the lines.
 abbrev pub cells_among : Predefined → ℕ → ProgramValue → ℕ → List Line → Result (List Cell) AsmFault

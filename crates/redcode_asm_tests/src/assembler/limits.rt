@@ -146,7 +146,7 @@ fn limits_of_lines_and_signs(rt: HostRuntime) -> Result<(), Fail> {
 }
 
 #[test]
-fn most_signs(rt: HostRuntime) -> Result<(), Fail> {
+fn max_signs(rt: HostRuntime) -> Result<(), Fail> {
     let params = core_of(8000)?;
     let source = repeated(rt.alloc(), b"DAT ", b"-", 64, b"1")?;
     let listed = check_listing(&rt, rt.alloc(), &params, &source, "ORG 0\nDAT.F $0, $1\n");

@@ -10,7 +10,7 @@ use Rattle.redcode_text.specs.declared.fault.TextProblem.TheVariants.{BadToken, 
 use Rattle.redcode_text.specs.declared.token.Token.{Token}
 use Rattle.redcode_text.specs.Expression.{kinds}
 use Rattle.redcode_text.specs.Expansion.{Head, ProgramValue, expansion, flat, head_line, in_round, nothing_read, program_of, rof_line, rounds, unpaired_line}
-use Rattle.redcode_text.specs.Lines.{Reading, Step, Parts, Predefined, WithTokens, assert_line, before_comment, before_first, behind_last, comment_line, directive_value, each_line, equated, is_equate, is_label, is_predefined, line_read, name_in_front, operation_lines, ordinary_line, ordinary_with, parts_of, parts_read, plain_line, printable, row_tokens, tokens_after, tokens_before, tokens_counted, tokens_line, unless_empty, unless_ended, with_line}
+use Rattle.redcode_text.specs.Lines.{Reading, Step, Parts, Predefined, WithTokens, assert_line, before_comment, prepend_to_first, append_to_last, comment_line, directive_value, each_line, equated, is_equate, is_label, is_predefined, line_read, name_in_front, operation_lines, ordinary_line, ordinary_with, parts_of, parts_read, plain_line, printable, row_tokens, tokens_after, tokens_before, tokens_counted, tokens_line, unless_empty, unless_ended, with_line}
 use Rattle.redcode_text.specs.Equates.{limit}
 use Rattle.redcode_text.specs.Programs.{IsPrinted}
 use Rattle.redcode_text.specs.Source as source
@@ -93,7 +93,7 @@ Deeper (Some o) = (ts : List Token) → Steady (o ts)
 parts-keep : (deeper : Option (List Token → Step)) → Deeper deeper → (number : ℕ) (p : Parts) (ls : Option (List (List Token))) → Steady (parts_read deeper number p ls)
 parts-keep deeper d number p None st q = q
 parts-keep None d number p (Some ls) st q = tt
-parts-keep (Some o) d number p (Some ls) st q = each-keeps o d (behind_last (before_first p.label_tokens ls) p.rest) st q
+parts-keep (Some o) d number p (Some ls) st q = each-keeps o d (append_to_last (prepend_to_first p.label_tokens ls) p.rest) st q
 
 with-keeps : (ps : Predefined) (number : ℕ) (deeper : Option (List Token → Step)) → Deeper deeper → (ts : List Token) → Steady (ordinary_with ps number deeper ts)
 with-keeps ps number deeper d ts st q = keeps-bind (parts_of ps st ts) (λ p. parts_read deeper number p (operation_lines st p.operation) st) (λ p. parts-keep deeper d number p (operation_lines st p.operation) st q)

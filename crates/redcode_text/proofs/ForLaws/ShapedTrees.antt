@@ -135,35 +135,35 @@ begun p = go p.opened p.signs p.after_operand
     go o n false = (Number (pos 0) ∷ closes o, closed o 0)
 
 -- The kind of a token's error: `Depth` or `Syntax`, and the reason for it.
-abbrev Told : ShapeState → TokenKind → ExprFault → Type 0
-Told p x f = ((f ≡ Depth) × (leads_operand x ≡ true) × Begun p (Number (pos 0) ∷ [])) ⊎ ((f ≡ Syntax) × (leads_operand x ≡ true → Begun p (Number (pos 0) ∷ []) → ⊥))
+abbrev IsFaultOfToken : ShapeState → TokenKind → ExprFault → Type 0
+IsFaultOfToken p x f = ((f ≡ Depth) × (leads_operand x ≡ true) × Begun p (Number (pos 0) ∷ [])) ⊎ ((f ≡ Syntax) × (leads_operand x ≡ true → Begun p (Number (pos 0) ∷ []) → ⊥))
 
 guard-err : (b : Bool) (e f : ExprFault) (q : ShapeState) → cond b (Err e) (Ok q) ≡ Err f → f ≡ e
 guard-err true e f q h = cc
 guard-err false e f q h = cc
 
-deep : (o n : ℕ) (x : TokenKind) (f : ExprFault) → f ≡ Depth → leads_operand x ≡ true → Told (at o n false) x f
+deep : (o n : ℕ) (x : TokenKind) (f : ExprFault) → f ≡ Depth → leads_operand x ≡ true → IsFaultOfToken (at o n false) x f
 deep o n x f is leads = inl (is, leads, (closes o, closed o 0))
 
 -- No operand may follow an operand.
-no-operand : (o n : ℕ) (x : TokenKind) (f : ExprFault) → f ≡ Syntax → Told (at o n true) x f
+no-operand : (o n : ℕ) (x : TokenKind) (f : ExprFault) → f ≡ Syntax → IsFaultOfToken (at o n true) x f
 no-operand o n x f is = inr (is, λ leads b. cc)
 
-wrong : (o n : ℕ) (x : TokenKind) (f : ExprFault) → f ≡ Syntax → leads_operand x ≡ false → Told (at o n false) x f
+wrong : (o n : ℕ) (x : TokenKind) (f : ExprFault) → f ≡ Syntax → leads_operand x ≡ false → IsFaultOfToken (at o n false) x f
 wrong o n x f is other = inr (is, λ leads b. cc)
 
-told : (o n : ℕ) (after : Bool) (x : TokenKind) (f : ExprFault) → next_state (at o n after) x ≡ Err f → Told (at o n after) x f
-told o n true (Number v) f h = no-operand o n (Number v) f cc
-told o n true (Name v) f h = no-operand o n (Name v) f cc
-told o n true (token.Sign CloseParen) f h = no-operand o n (token.Sign CloseParen) f (guard-err (eqb o 0) Syntax f (at (o - 1) 0 true) h)
-told o n true (token.Sign s) f h = no-operand o n (token.Sign s) f (guard-err (eqb (precedence s) 0) Syntax f (at o 0 false) h)
-told o n false (Number v) f h = cc
-told o n false (Name v) f h = cc
-told o n false (token.Sign Plus) f h = deep o n (token.Sign Plus) f (guard-err (leb 64 n) Depth f (at o (n + 1) false) h) refl
-told o n false (token.Sign Minus) f h = deep o n (token.Sign Minus) f (guard-err (leb 64 n) Depth f (at o (n + 1) false) h) refl
-told o n false (token.Sign Bang) f h = deep o n (token.Sign Bang) f (guard-err (leb 64 n) Depth f (at o (n + 1) false) h) refl
-told o n false (token.Sign OpenParen) f h = deep o n (token.Sign OpenParen) f (guard-err (leb 64 o) Depth f (at (o + 1) 0 false) h) refl
-told o n false (token.Sign s) f h = wrong o n (token.Sign s) f (cc) refl
+is_fault_of_token : (o n : ℕ) (after : Bool) (x : TokenKind) (f : ExprFault) → next_state (at o n after) x ≡ Err f → IsFaultOfToken (at o n after) x f
+is_fault_of_token o n true (Number v) f h = no-operand o n (Number v) f cc
+is_fault_of_token o n true (Name v) f h = no-operand o n (Name v) f cc
+is_fault_of_token o n true (token.Sign CloseParen) f h = no-operand o n (token.Sign CloseParen) f (guard-err (eqb o 0) Syntax f (at (o - 1) 0 true) h)
+is_fault_of_token o n true (token.Sign s) f h = no-operand o n (token.Sign s) f (guard-err (eqb (precedence s) 0) Syntax f (at o 0 false) h)
+is_fault_of_token o n false (Number v) f h = cc
+is_fault_of_token o n false (Name v) f h = cc
+is_fault_of_token o n false (token.Sign Plus) f h = deep o n (token.Sign Plus) f (guard-err (leb 64 n) Depth f (at o (n + 1) false) h) refl
+is_fault_of_token o n false (token.Sign Minus) f h = deep o n (token.Sign Minus) f (guard-err (leb 64 n) Depth f (at o (n + 1) false) h) refl
+is_fault_of_token o n false (token.Sign Bang) f h = deep o n (token.Sign Bang) f (guard-err (leb 64 n) Depth f (at o (n + 1) false) h) refl
+is_fault_of_token o n false (token.Sign OpenParen) f h = deep o n (token.Sign OpenParen) f (guard-err (leb 64 o) Depth f (at (o + 1) 0 false) h) refl
+is_fault_of_token o n false (token.Sign s) f h = wrong o n (token.Sign s) f (cc) refl
 
 -- A misplaced token, from the state `p` on.
 record Placed (p : ShapeState) (xs : List TokenKind) (f : ExprFault) : Type 0 where
@@ -220,7 +220,7 @@ first p (x ∷ xs) f h = go (next_state p x) refl h (λ q. first q xs f)
           parts = refl;
           start = begun p;
           refused = λ b. let no : shape p (x ∷ b.0) ≡ Err g = ap (λ r. r >>= λ q. shape q b.0) e in cc;
-          kind = told p.opened p.signs p.after_operand x f (e ∙ ap Err is);
+          kind = is_fault_of_token p.opened p.signs p.after_operand x f (e ∙ ap Err is);
         })
 
 pub misshapen : (xs : List TokenKind) (f : ExprFault) → shape start xs ≡ Err f → (((rest : List TokenKind) × (shape start (xs ++ rest) ≡ Ok tt)) × (f ≡ Syntax)) ⊎ Misplaced xs f

@@ -7,7 +7,7 @@ use Rattle.redcode_text.specs.Bytes.{semicolon}
 use Rattle.redcode_text.specs.declared.fault.TextProblem.{TextProblem}
 use Rattle.redcode_text.specs.declared.source.directives.Comment.{Comment}
 use Rattle.redcode_text.specs.declared.source.directives.Comment.TheVariants.{Name, Author, Assert, Other}
-use Rattle.redcode_text.specs.Lines.{Reading, longest_name, printable, row_tokens, unless_empty}
+use Rattle.redcode_text.specs.Lines.{Reading, max_name_len, printable, row_tokens, unless_empty}
 use Rattle.redcode_text.specs.Source.{SourceRow, blank_len, ends_word, without_blanks}
 
 -- A text without the whitespace at both ends.
@@ -16,7 +16,7 @@ trimmed text = reverse (without_blanks (reverse (without_blanks text)))
 
 -- The value of `;name` or `;author`, from a text without whitespace at both ends.
 abbrev pub printed_value : List ℕ → List ℕ
-printed_value text = take longest_name (map printable text)
+printed_value text = take max_name_len (map printable text)
 
 abbrev pub with_name_text : List ℕ → Reading → Reading
 with_name_text text st = record st { name = unless_empty (printed_value text) st.name }

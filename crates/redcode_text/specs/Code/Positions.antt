@@ -13,7 +13,7 @@ use Rattle.redcode_text.specs.declared.expression.evaluation.Pending.{Pending}
 use Rattle.redcode_text.specs.declared.expression.evaluation.Pending.TheVariants.{Value, Open}
 use Rattle.redcode_text.specs.declared.expression.shape.ShapeState.{ShapeState}
 use Rattle.redcode_text.specs.Code.Progress.{Progress}
-use Rattle.redcode_text.specs.Expression.{most_parens, precedence, binary, kinds, known}
+use Rattle.redcode_text.specs.Expression.{max_parens, precedence, binary, kinds, known}
 use Rattle.redcode_text.specs.Code.Climbing.{signed, AreInside}
 
 abbrev pub reduced_on : ℕ → List Pending → ℤ → Result (ℤ × List Pending) ExprFault
@@ -82,9 +82,9 @@ IsOrdered (Open from to ∷ stack) n = (0 < n) × IsOrdered stack (n - 1)
 
 -- The code's state `r` before the token `n` corresponds to the state `p` of the shape. The stack has at most one entry for
 -- each token read.
-pub record Stands (n : ℕ) (r : Progress) (p : ShapeState) : Type 0 where
+pub record Corresponds (n : ℕ) (r : Progress) (p : ShapeState) : Type 0 where
   pub ordered : IsOrdered r.stack p.opened
-  pub opened : p.opened ≤ most_parens
+  pub opened : p.opened ≤ max_parens
   pub after : r.after_operand ≡ p.after_operand
   pub inside : AreInside n r.stack
   pub first : r.first_sign ≤ n

@@ -10,9 +10,9 @@ abbrev pub with_names : List (List ℕ) → Spelled → Found
 with_names names s = record { kind = s.kind; len = s.len; names = names }
 
 -- The result of the code for an operator or punctuation, which adds no name to the empty list of names.
-abbrev pub found_alone : Result Spelled TextProblem → Result Found TextProblem
-found_alone (Ok s) = Ok (with_names [] s)
-found_alone (Err e) = Err e
+abbrev pub found_without_names : Result Spelled TextProblem → Result Found TextProblem
+found_without_names (Ok s) = Ok (with_names [] s)
+found_without_names (Err e) = Err e
 
 -- The number of bytes of the token at the start of the text, and what has been scanned including it.
 abbrev pub one_token : List OpenLoop → ℕ → ℕ → ℕ → List ℕ → Scanned → Result (ℕ × Scanned) TextProblem

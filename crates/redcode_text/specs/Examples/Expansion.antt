@@ -141,19 +141,19 @@ pub row_ordinary :
 unfolding expansion value_of tree_within digits
 row_ordinary = (refl, refl, refl, refl, refl, refl, refl)
 
-record Told : Type 0 where
+record Metadata : Type 0 where
   name : List ℕ
   author : List ℕ
   asserts : List (ℕ × ℕ × List Shown)
 
-abbrev told : List (List ℕ) → Result Told TextFault
+abbrev metadata_of : List (List ℕ) → Result Metadata TextFault
 unfolding expansion
-told ls = elim (expansion predefined (text ls)) [ Ok st ↦ Ok (record { name = st.name; author = st.author; asserts = map (λ a. (a.number, a.current_line, map (shown_token st.names) (kinds a.tokens))) st.asserts }) | Err e ↦ Err e ]
+metadata_of ls = elim (expansion predefined (text ls)) [ Ok st ↦ Ok (record { name = st.name; author = st.author; asserts = map (λ a. (a.number, a.current_line, map (shown_token st.names) (kinds a.tokens))) st.asserts }) | Err e ↦ Err e ]
 
 -- Directives: names with their defaults, and asserts with the number of instructions before them.
 row_directives :
-    (told (codes "NOP" ∷ []) ≡ Ok (record { name = codes "Unknown"; author = codes "Anonymous"; asserts = [] }))
-    × (told (codes ";name  Imp ;x " ∷ codes " ;AUTHOR A." ∷ codes ";name" ∷ codes ";names y" ∷ codes ";name;y" ∷ []) ≡ Ok (record { name = codes "Imp ;x"; author = codes "A."; asserts = [] }))
-    × (told (codes "NOP" ∷ codes ";assert 1 ; no" ∷ codes ";assert" ∷ []) ≡ Ok (record { name = codes "Unknown"; author = codes "Anonymous"; asserts = (2, 1, N 1 ∷ []) ∷ (3, 1, []) ∷ [] }))
+    (metadata_of (codes "NOP" ∷ []) ≡ Ok (record { name = codes "Unknown"; author = codes "Anonymous"; asserts = [] }))
+    × (metadata_of (codes ";name  Imp ;x " ∷ codes " ;AUTHOR A." ∷ codes ";name" ∷ codes ";names y" ∷ codes ";name;y" ∷ []) ≡ Ok (record { name = codes "Imp ;x"; author = codes "A."; asserts = [] }))
+    × (metadata_of (codes "NOP" ∷ codes ";assert 1 ; no" ∷ codes ";assert" ∷ []) ≡ Ok (record { name = codes "Unknown"; author = codes "Anonymous"; asserts = (2, 1, N 1 ∷ []) ∷ (3, 1, []) ∷ [] }))
 unfolding expansion value_of tree_within digits
 row_directives = (refl, refl, refl)

@@ -9,7 +9,7 @@ ghost use Rattle.redcode_text.specs.Code.Readings.{reading_of};
 ghost use Rattle.redcode_text.specs.Code.SourceLoops.{loops_of};
 ghost use Rattle.redcode_text.specs.Lines.{name_at};
 ghost use Rattle.redcode_text.specs.Code.Loops.{IsFor, IsPlain, ReadTo, RowsFit};
-ghost use Rattle.redcode_text.specs.Outcomes.{Answers};
+ghost use Rattle.redcode_text.specs.Outcomes.{IsResult};
 ghost use Rattle.redcode_text.specs.Code.Problems.{Gives};
 ghost use Rattle.redcode_text.specs.Code.Rows.{row_of};
 ghost use Rattle.redcode_text.specs.Code.Pairs.{AreEnds, here_from};
@@ -78,7 +78,7 @@ fn read_for_row(
     ensures loops { OnOk result (loops_of reading.new.names ≡ loops_of reading.old.names) }
     ensures depth { OnOk result (length (loops_of reading.old.names) < MAX_LOOPS) }
     ensures there { IfOk result (λ head. IsThere reading.new.names.table head.counter) }
-    ensures gives { Answers (head_of (reading_of reading.new)) result
+    ensures gives { IsResult (head_of (reading_of reading.new)) result
         (at_line row.entry.number (head_line (predefined_of names.now) (row_of row.entry) (reading_of reading.old))) }
 {
     match reading.read_head(alloc, names, row, word_at) {
@@ -91,7 +91,7 @@ fn read_for_row(
 fn read_rof_row(alloc: Global, row: SourceRow<'_>, reading: &mut Reading) -> Result<(), TextFault>
     requires fits { row.at + length row.bytes.now < 2 ^ 64 }
     ensures loops { OnOk result (loops_of reading.new.names ≡ loops_of reading.old.names) }
-    ensures gives { Answers (λ _. reading_of reading.new) result
+    ensures gives { IsResult (λ _. reading_of reading.new) result
         (at_line row.entry.number (rof_line (row_of row.entry) (reading_of reading.old))) }
 {
     match reading.read_rof(alloc, row) {
@@ -106,7 +106,7 @@ fn refuse_unpaired(
     problem: TextProblem,
     reading: &mut Reading,
 ) -> Result<(), TextFault>
-    ensures gives { Answers (λ _. reading_of reading.new) result
+    ensures gives { IsResult (λ _. reading_of reading.new) result
         (at_line row.entry.number (unpaired_line problem (reading_of reading.old))) }
 {
     match reading.count_line() {
@@ -138,7 +138,7 @@ fn read_items(
     requires ends { AreEnds source.rows.now source.ends.now }
     requires within { first ≤ length source.rows.now }
     requires depth { length (loops_of reading.old.names) ≤ MAX_LOOPS }
-    ensures gives { Answers (λ _. reading_of reading.new) result
+    ensures gives { IsResult (λ _. reading_of reading.new) result
         (flat (predefined_of names.now) (here_from source.entry.rows.now first) (reading_of reading.old)) }
     ensures loops { OnOk result (loops_of reading.new.names ≡ loops_of reading.old.names) }
 {
@@ -205,7 +205,7 @@ fn read_rounds(
     requires within { first < length source.rows.now }
     requires depth { length (loops_of reading.old.names) < MAX_LOOPS }
     requires there { IsThere reading.old.names.table head.counter }
-    ensures gives { Answers (λ _. reading_of reading.new) result
+    ensures gives { IsResult (λ _. reading_of reading.new) result
         (rounds (flat (predefined_of names.now) (here_from source.entry.rows.now first)) (option_map (name_at reading.old.names.table) head.counter) 1 head.count (reading_of reading.old)) }
     ensures loops { OnOk result (loops_of reading.new.names ≡ loops_of reading.old.names) }
 {
@@ -237,7 +237,7 @@ pub fn read_all(
     requires fits { RowsFit rows.now }
     requires depth { length (loops_of reading.old.names) ≤ MAX_LOOPS }
     requires going { reading.old.ended ≡ false }
-    ensures { Answers (λ _. reading_of reading.new) result
+    ensures { IsResult (λ _. reading_of reading.new) result
         (flat (predefined_of names.now) (tree_of_rows (map row_of rows.now)) (reading_of reading.old)) }
 {
     let Ok(ends) = ends_of(alloc, rows) else {

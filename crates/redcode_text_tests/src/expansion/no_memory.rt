@@ -4,7 +4,7 @@
 use super::{NAMES, NoNames};
 use redcode_text::{
     ExprFault, Line, Program, Sign, Token, TokenKind, check_shape, eval, expand, is_instruction,
-    is_spelled,
+    is_keyword,
 };
 use std::alloc::Global;
 use std::process::Abort;
@@ -52,7 +52,7 @@ fn check_texts(rt: &impl Abort, program: &Program) {
 
 /// Checks that a line is a DAT instruction.
 fn check_line(rt: &impl Abort, program: &Program, line: &Line) {
-    assert!(rt; is_spelled(program.names(), b"dat", line.operation));
+    assert!(rt; is_keyword(program.names(), b"dat", line.operation));
     assert!(rt; is_instruction(program.names(), line.operation, &line.rest));
 }
 

@@ -3,7 +3,7 @@ use Rattle.mars_app.specs.Contests.{listed, listing_from}
 use Rattle.std.proofs.KnownBytes.{Appends-trans}
 use Rattle.std.proofs.lemmas.Result.{err_from_is_err_and}
 use Rattle.mars_app.proofs.Listings.{listing-one_more, listing-around}
-use Rattle.mars_app.proofs.Writing.{BreaksOff-after}
+use Rattle.mars_app.proofs.Writing.{WriteCutShort-after}
 use Rattle.mars_app.proofs.contest.write_listing.Goals as goal
 
 pub loop-number-preserved : goal.loop-number-preserved
@@ -22,4 +22,4 @@ returns-in_err-write_warrior-clause-err g c =
     let there : get_or ws i d ≡ d = sym c.index-warriors-number.is in
     let count : 0 + i ≡ i = omega arith in
     let r = listing-around c.args.core_size 0 i ws d c.loop-number-test.true in
-    rw (p.1, p.2, c.if-brief.false, r.1, there, count) (BreaksOff-after _ _ _ _ (listing_from c.args.core_size 0 (take i ws)) (listed c.args.core_size i d) r.0 c.loop-number.invariant c.in_err-write_warrior.ensures.err)
+    rw (p.1, p.2, c.if-brief.false, r.1, there, count) (WriteCutShort-after _ _ _ _ (listing_from c.args.core_size 0 (take i ws)) (listed c.args.core_size i d) r.0 c.loop-number.invariant c.in_err-write_warrior.ensures.err)

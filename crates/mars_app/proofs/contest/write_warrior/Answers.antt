@@ -3,7 +3,7 @@ use Rattle.std.proofs.KnownBytes.{Appends-trans}
 use Rattle.std.proofs.lemmas.Result.{err_from_is_err_and, on_ok_weaker}
 use Rattle.mars_cell.specs.Written.{load_text}
 use Rattle.mars_app.specs.Contests.{listing_head}
-use Rattle.mars_app.proofs.Writing.{BreaksOff-back, BreaksOff-front, last_breaks}
+use Rattle.mars_app.proofs.Writing.{WriteCutShort-back, WriteCutShort-front, last_breaks}
 use Rattle.mars_app.proofs.contest.write_warrior.Goals as goal
 
 pub returns-in_err-write_load_file-clause-err : goal.returns-in_err-write_load_file-clause-err
@@ -13,7 +13,7 @@ returns-in_err-write_load_file-clause-err g c =
     let head = listing_head c.args.number c.args.warrior.now in
     let file = load_text c.args.core_size c.args.warrior.now in
     let before = rw (c.as_bytes.ensures.value, c.as_str.ensures.value, c.listing_head-head.ensures) at c.in_ok-write_part.ensures.ok in
-    rw (p.1, p.2) (BreaksOff-front f _ _ (head ++ file) (codes "\n") (BreaksOff-back f _ _ _ head file before c.in_err-write_load_file.ensures.err))
+    rw (p.1, p.2) (WriteCutShort-front f _ _ (head ++ file) (codes "\n") (WriteCutShort-back f _ _ _ head file before c.in_err-write_load_file.ensures.err))
 
 pub returns-clause-err : goal.returns-clause-err
 returns-clause-err g c =

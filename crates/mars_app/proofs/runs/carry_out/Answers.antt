@@ -5,7 +5,7 @@ use Rattle.mars_cell.specs.Written.{load_text}
 use Rattle.mars_app.specs.Faults.{FailsToLoad, FirstFails}
 use Rattle.mars_app.specs.Faults.RunFails.{not_loaded, not_written}
 use Rattle.mars_app.specs.Loading.{IsLoaded}
-use Rattle.mars_app.specs.Runs.RunsWell.{written}
+use Rattle.mars_app.specs.Runs.RunSucceeds.{written}
 use Rattle.mars_app.specs.Streams.{Writes, WritesInPart}
 use Rattle.mars_app.proofs.Asking.{all_play_in_part, all_play_well, asked_for, texts_alone}
 use Rattle.mars_app.proofs.Loaded.{alone_fails, loaded_alone}

@@ -69,7 +69,7 @@ fn lines_that_ask_for_nothing_known(rt: HostRuntime) -> Result<(), Fail> {
 }
 
 #[test]
-fn what_is_judged_after_reading(rt: HostRuntime) -> Result<(), Fail> {
+fn what_is_checked_after_reading(rt: HostRuntime) -> Result<(), Fail> {
     let input =
         b"list 0 0\nlist 0 1000001\nlist 8 0\nlist 8 1\nlist 999999999999999999 1\nedit 8 NOP.F $0\nqueue 999999999999999999\nkill 999999999999999999 0\nspawn 0 999999999999999999\ngoto 999999999999999999\n";
     let expected = "refused 1 Count\n\

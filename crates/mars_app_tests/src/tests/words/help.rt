@@ -183,7 +183,7 @@ const STARTS: &[Start] = &[
 ];
 
 #[test]
-fn words_behind_the_name(rt: HostRuntime) -> Result<(), Fail> {
+fn words_after_the_program(rt: HostRuntime) -> Result<(), Fail> {
     for (arguments, status, output, faults) in STARTS {
         let answer = started(rt.alloc(), arguments)?;
         let written = (answer.output.as_slice(), answer.faults.as_slice());

@@ -2,7 +2,7 @@
 ghost use Rattle.std.specs.Prelude.{◌≡◌, ◌≢◌, ◌*◌, ◌≤◌, ◌∷◌, [], length, IfErr, IfNone, IfOk, IfSome, List};
 ghost use Rattle.mars_cell.specs.Cells.{FitsCore, mode_index, modifier_index, op_index};
 ghost use Rattle.mars_cell.specs.declared.instruction.Cell.{Cell as CellValue};
-ghost use Rattle.mars_cell.specs.Limits.{largest_core};
+ghost use Rattle.mars_cell.specs.Limits.{max_core_size};
 ghost use Rattle.mars_core.specs.Block.{cell_words, core_words, tags_word};
 ghost use Rattle.mars_core.specs.Validity.{IsCore};
 
@@ -137,7 +137,7 @@ pub fn read_cells(
     words: &[u32],
 ) -> Result<Vec<PackedCell>, BlockFault>
     requires words { length words.now ≡ 3 * core_size }
-    requires size { core_size ≤ largest_core }
+    requires size { core_size ≤ max_core_size }
     ensures words { IfOk result (λ cells. core_words cells.items ≡ words.now) }
     ensures core { IfOk result (λ cells. IsCore core_size cells.items) }
     ensures none { IfErr result (λ fault. fault ≢ BlockFault.OutOfMemory

@@ -1,12 +1,12 @@
 //! The positions of the parts of a block in its words.
 ghost use Rattle.std.specs.Prelude.{◌≡◌, ◌++◌, ◌*◌, ◌≤◌, IfErr, IfOk, length, sum, take};
 ghost use Rattle.mars_cell.specs.Parameters.{AreInRange};
-ghost use Rattle.mars_core.specs.Limits.{most_warriors};
+ghost use Rattle.mars_core.specs.Limits.{max_warriors};
 ghost use Rattle.mars_core.specs.State.{State};
 ghost use Rattle.mars_core.specs.Block.{AreParts, Spells, head_words, params_in};
 
 use crate::battle::block::{BLOCK_MARK, BlockFault, HEAD_WORDS};
-use crate::deaths::MOST_WARRIORS;
+use crate::deaths::MAX_WARRIORS;
 use mars_cell::Params;
 
 /// The parts of a block.
@@ -27,7 +27,7 @@ pub fn parts_of(words: &[u32]) -> Result<Parts<'_>, BlockFault>
     ensures head { IfOk result (λ parts. length parts.head.now ≡ head_words) }
     ensures cells { IfOk result (λ parts. length parts.cells.now ≡ 3 * (params_in parts.head.now).core_size) }
     ensures some { IfOk result (λ parts. 1 ≤ length parts.counts.now) }
-    ensures few { IfOk result (λ parts. length parts.counts.now ≤ most_warriors) }
+    ensures few { IfOk result (λ parts. length parts.counts.now ≤ max_warriors) }
     ensures processes { IfOk result (λ parts. sum parts.counts.now ≡ length parts.processes.now) }
     ensures words { IfOk result (λ parts. take (length (parts.head.now ++ parts.cells.now ++ parts.processes.now)) words.now
         ≡ parts.head.now ++ parts.cells.now ++ parts.processes.now) }
@@ -47,7 +47,7 @@ pub fn parts_of(words: &[u32]) -> Result<Parts<'_>, BlockFault>
         Err(fault) => return Err(fault),
     };
     let warriors = head[9] as usize;
-    if warriors < 1 || warriors > MOST_WARRIORS {
+    if warriors < 1 || warriors > MAX_WARRIORS {
         return Err(BlockFault::Warriors);
     }
     let counts = &head[16..16 + warriors];
@@ -80,7 +80,7 @@ pub fn params_of(head: &[u32]) -> Result<Params, BlockFault>
 
 /// Returns the sum of the counts.
 fn total(counts: &[u32]) -> usize
-    requires { length counts.now ≤ most_warriors }
+    requires { length counts.now ≤ max_warriors }
     ensures { result ≡ sum counts.now }
 {
     let mut total = 0;

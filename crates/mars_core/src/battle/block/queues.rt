@@ -1,23 +1,23 @@
 //! Queues as words: the number of processes in each queue, and the addresses of all processes, queue by queue.
 ghost use Rattle.std.specs.Prelude.{◌≡◌, ◌≢◌, ◌++◌, ◌≤◌, ℕ, All, IfErr, IfOk, List, drop, length, sum, true};
 ghost use Rattle.std.specs.List.{concat};
-ghost use Rattle.mars_core.specs.Limits.{most_warriors};
+ghost use Rattle.mars_core.specs.Limits.{max_warriors};
 ghost use Rattle.mars_core.specs.Queue.{Queue as Contents, addresses_of};
 ghost use Rattle.mars_core.specs.Validity.{IsQueue};
-ghost use Rattle.mars_cell.specs.Limits.{most_processes};
+ghost use Rattle.mars_cell.specs.Limits.{max_processes};
 ghost use Rattle.mars_core.specs.Block.{lengths_of};
 
 use crate::battle::block::BlockFault;
-use crate::deaths::MOST_WARRIORS;
+use crate::deaths::MAX_WARRIORS;
 use crate::queue::ProcessQueue;
 use arrayvec::ArrayVec;
 use mars_cell::Params;
 use std::alloc::Global;
 
 /// Returns the number of processes in each queue.
-pub fn count_words(queues: &[ProcessQueue]) -> ArrayVec<u32, MOST_WARRIORS>
-    requires few { length queues.now ≤ most_warriors }
-    requires short { All (λ (q : Contents). q.limit ≤ most_processes) queues.now }
+pub fn count_words(queues: &[ProcessQueue]) -> ArrayVec<u32, MAX_WARRIORS>
+    requires few { length queues.now ≤ max_warriors }
+    requires short { All (λ (q : Contents). q.limit ≤ max_processes) queues.now }
     ensures { result.items ≡ lengths_of (addresses_of queues.now) }
 {
     let mut counts = ArrayVec::new();
@@ -29,8 +29,8 @@ pub fn count_words(queues: &[ProcessQueue]) -> ArrayVec<u32, MOST_WARRIORS>
 
 /// Returns the number of processes in all queues together.
 pub fn processes_of(queues: &[ProcessQueue]) -> usize
-    requires few { length queues.now ≤ most_warriors }
-    requires short { All (λ (q : Contents). q.limit ≤ most_processes) queues.now }
+    requires few { length queues.now ≤ max_warriors }
+    requires short { All (λ (q : Contents). q.limit ≤ max_processes) queues.now }
     ensures { result ≡ sum (lengths_of (addresses_of queues.now)) }
 {
     let mut count = 0;
@@ -60,7 +60,7 @@ pub fn read_queues(
     counts: &[u32],
     words: &[u32],
 ) -> Result<Vec<ProcessQueue>, BlockFault>
-    requires few { length counts.now ≤ most_warriors }
+    requires few { length counts.now ≤ max_warriors }
     requires words { sum counts.now ≡ length words.now }
     ensures words { IfOk result (λ queues. concat (addresses_of queues.items) ≡ words.now) }
     ensures counts { IfOk result (λ queues. lengths_of (addresses_of queues.items) ≡ counts.now) }

@@ -1,6 +1,6 @@
 //! Checks that the deaths and the clock of a block agree with its queues (`specs/Validity`).
 ghost use Rattle.std.specs.Prelude.{◌≡◌, ◌≤◌, length, true};
-ghost use Rattle.mars_core.specs.Limits.{most_warriors};
+ghost use Rattle.mars_core.specs.Limits.{max_warriors};
 ghost use Rattle.mars_core.specs.Queue.{addresses_of};
 ghost use Rattle.mars_core.specs.Validity.{AreDeaths, IsClock, times_died as spec_times_died};
 
@@ -39,7 +39,7 @@ pub fn are_deaths(queues: &[ProcessQueue], deaths: &[Death]) -> bool
 
 /// Returns whether the clock agrees with the queues after `made` turns.
 pub fn is_clock(cycles: u32, queues: &[ProcessQueue], clock: Clock, made: u32) -> bool
-    requires few { length queues.now ≤ most_warriors }
+    requires few { length queues.now ≤ max_warriors }
     ensures yes { result ≡ true → IsClock cycles (addresses_of queues.now) clock made }
     ensures no { IsClock cycles (addresses_of queues.now) clock made → result ≡ true }
 {

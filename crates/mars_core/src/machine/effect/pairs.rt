@@ -1,7 +1,7 @@
 //! The pairs of fields that a modifier selects, and what an opcode does with the numbers of each pair.
 ghost use Rattle.std.specs.Prelude.{◌≡◌, ◌<◌, ◌≤◌, true};
 ghost use Rattle.mars_cell.specs.Cells.{FitsCore};
-ghost use Rattle.mars_cell.specs.Limits.{largest_core};
+ghost use Rattle.mars_cell.specs.Limits.{max_core_size};
 ghost use Rattle.mars_core.specs.Effect.{pairs_of, takes_whole_cells as spec_takes_whole_cells, with_pairs as spec_with_pairs, all_pairs_pass as spec_all_pairs_pass, are_equal_cells as spec_are_equal_cells, are_equal as spec_are_equal};
 ghost use Rattle.mars_core.specs.Code.Opcodes.{new_number as spec_new_number, passes_test as spec_passes_test};
 
@@ -27,7 +27,7 @@ pub fn with_pairs(
     b: PackedCell,
     target: PackedCell,
 ) -> PackedCell
-    requires core_size { (1 ≤ core_size) × (core_size ≤ largest_core) }
+    requires core_size { (1 ≤ core_size) × (core_size ≤ max_core_size) }
     requires a { FitsCore core_size a }
     requires b { FitsCore core_size b }
     requires target { FitsCore core_size target }
@@ -52,7 +52,7 @@ pub fn with_pairs(
 /// Returns the result of an opcode for the number `x` of the A-copy and the number `y` of the B-copy.
 #[inline(always)]
 pub fn new_number(core_size: u32, op: Op, x: u32, y: u32) -> u32
-    requires core_size { (1 ≤ core_size) × (core_size ≤ largest_core) }
+    requires core_size { (1 ≤ core_size) × (core_size ≤ max_core_size) }
     requires x { x < core_size }
     requires y { y < core_size }
     requires divisor { op ≡ Op.Div → 1 ≤ x }
@@ -76,7 +76,7 @@ pub fn new_number(core_size: u32, op: Op, x: u32, y: u32) -> u32
 #[inline(always)]
 #[tactic(auto, unfolding(crate::specs::Effect::are_equal))]
 pub fn are_equal(core_size: u32, modifier: Modifier, a: PackedCell, b: PackedCell) -> bool
-    requires core_size { (1 ≤ core_size) × (core_size ≤ largest_core) }
+    requires core_size { (1 ≤ core_size) × (core_size ≤ max_core_size) }
     requires b { FitsCore core_size b }
     ensures { result ≡ spec_are_equal modifier a b }
 {
@@ -104,7 +104,7 @@ pub fn all_pairs_pass(
     a: PackedCell,
     b: PackedCell,
 ) -> bool
-    requires core_size { (1 ≤ core_size) × (core_size ≤ largest_core) }
+    requires core_size { (1 ≤ core_size) × (core_size ≤ max_core_size) }
     requires b { FitsCore core_size b }
     ensures { result ≡ spec_all_pairs_pass (spec_passes_test core_size op) a b (pairs_of modifier) }
 {
@@ -125,7 +125,7 @@ pub fn all_pairs_pass(
 /// Returns whether the number `x` of the A-copy and the number `y` of the B-copy pass the test of the opcode.
 #[inline(always)]
 fn passes_test(core_size: u32, op: Op, x: u32, y: u32) -> bool
-    requires core_size { (1 ≤ core_size) × (core_size ≤ largest_core) }
+    requires core_size { (1 ≤ core_size) × (core_size ≤ max_core_size) }
     requires y { y < core_size }
     ensures { result ≡ spec_passes_test core_size op x y }
 {

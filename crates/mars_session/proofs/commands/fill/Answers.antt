@@ -5,7 +5,7 @@ use Rattle.mars_core.specs.Edit.{edit_fault, edited}
 use Rattle.mars_core.specs.declared.battle.edit.Edit.TheVariants as edits
 use Rattle.mars_session.specs.History.{cut, marked}
 use Rattle.mars_session.specs.Commands.{command_limit, fills, cells_between}
-use Rattle.mars_session.specs.Script.{no_room}
+use Rattle.mars_session.specs.Script.{room_refusal}
 use Rattle.mars_session.specs.Code.Appending.{Kept, go_on, go_on_all}
 use Rattle.mars_session.proofs.Appending.{command_made}
 use Rattle.mars_session.proofs.Turns.{filled}
@@ -27,7 +27,7 @@ returns-clause-answer g c =
     let rest : List State = fills (c.args.to - c.args.from) (c.args.from + 1) c.args.cell next in
     let others : all ≡ go_on_all one rest = rw here at c.fill_cells.ensures in
     let count : c.args.to - c.args.from + 1 ≡ cells_between c.args.from c.args.to = omega (arith, c.if-to-from.false) in
-    let room : no_room m c.args.limit (cells_between c.args.from c.args.to) false h ≡ None = rw count at c.in_ok-prepare.ensures.room in
+    let room : room_refusal m c.args.limit (cells_between c.args.from c.args.to) false h ≡ None = rw count at c.in_ok-prepare.ensures.room in
     let few : c.args.to - c.args.from < command_limit =
     elim c.else-from-to.branch [
       | else-from-to-via-then-from-to+else-to-from-ge-COMMAND_LIMIT w ↦ omega (arith, w.if-to-from-ge-COMMAND_LIMIT)
@@ -35,5 +35,5 @@ returns-clause-answer g c =
     ] in
     let none : edit_fault h.present.state (edits.SetCell c.args.to c.args.cell) ≡ None = search rules in
     rw (filled c.args.from c.args.to c.args.cell h.present.state c.if-to-from.false few none)
-    (command_made m (retention c.set_mark.new.self) h (history c.set_mark.new.self) next rest (no_room m c.args.limit (cells_between c.args.from c.args.to) false h) one all c.standing.result
+    (command_made m (retention c.set_mark.new.self) h (history c.set_mark.new.self) next rest (room_refusal m c.args.limit (cells_between c.args.from c.args.to) false h) one all c.standing.result
     room first others c.set_mark.ensures.places c.set_mark.ensures.retention c.standing.ensures)

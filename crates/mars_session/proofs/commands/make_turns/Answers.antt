@@ -4,7 +4,7 @@ use Rattle.mars_core.specs.State.{State}
 use Rattle.mars_core.specs.Turn.{turn_of}
 use Rattle.mars_session.specs.History.{cut, marked}
 use Rattle.mars_session.specs.Commands.{turns_until, stops_at}
-use Rattle.mars_session.specs.Script.{no_room}
+use Rattle.mars_session.specs.Script.{room_refusal}
 use Rattle.mars_session.specs.Code.Appending.{Kept, go_on, go_on_all}
 use Rattle.mars_session.proofs.Appending.{command_made}
 use Rattle.mars_session.proofs.commands.make_turns.Goals as goal
@@ -23,5 +23,5 @@ returns-clause-answer g c =
     let here : (history c.turn.new.self).present.state ≡ next = ap (λ (k : Kept). k.history.present.state) first in
     let rest : List State = turns_until (stops_at c.args.cycle) (c.args.count - 1) next in
     let others : all ≡ go_on_all one rest = rw here at c.turn_until.ensures in
-    command_made m (retention c.set_mark.new.self) h (history c.set_mark.new.self) next rest (no_room m c.args.limit c.args.count false h) one all c.standing.result
+    command_made m (retention c.set_mark.new.self) h (history c.set_mark.new.self) next rest (room_refusal m c.args.limit c.args.count false h) one all c.standing.result
     c.in_ok-prepare.ensures.room first others c.set_mark.ensures.places c.set_mark.ensures.retention c.standing.ensures

@@ -8,4 +8,4 @@ returns-then-is_empty-clause-line c = lines_of-none c.args.self.now.rest.now (se
 pub returns-clause-line : goal.returns-clause-line
 returns-clause-line c =
     let back = rw c.line_len.ensures at c.split_at.ensures.back in
-    rw (c.split_at.ensures.front, c.line_len.ensures) (lines_of-some c.args.self.now.rest.now c.behind_newline-self.result.now (rw (← back) c.behind_newline-self.ensures) (search rules))
+    rw (c.split_at.ensures.front, c.line_len.ensures) (lines_of-some c.args.self.now.rest.now c.after_newline-self.result.now (rw (← back) c.after_newline-self.ensures) (search rules))

@@ -7,8 +7,8 @@ use Rattle.mars_core.specs.Validity.{IsValid}
 use Rattle.mars_core.proofs.BlockParts.{length-block_of, room_words}
 use Rattle.mars_core.proofs.battle.Battle.block_room.Goals as goal
 
-pub most_words-requires : goal.most_words-requires
-most_words-requires c =
+pub max_words-requires : goal.max_words-requires
+max_words-requires c =
     let many = length-map c.self.inside.queues.items (λ (q : Queue). q.addresses) in
     omega (arith, many, c.len.ensures, c.self.inside.queues.ok.0, c.self.invariant.valid.few)
 
@@ -17,7 +17,7 @@ returns-clause-value c =
     let queues : length (addresses_of c.self.inside.queues.items) ≡ length c.args.self.now.queues = ap (λ (s : State). length s.queues) c.self.view_is in
     let many : c.len.result ≡ length c.args.self.now.queues = omega (arith, queues, length-map c.self.inside.queues.items (λ (q : Queue). q.addresses), c.len.ensures, c.self.inside.queues.ok.0) in
     let params : c.self.inside.params ≡ c.args.self.now.params = ap (λ (s : State). s.params) c.self.view_is in
-    c.most_words.ensures
+    c.max_words.ensures
     ∙ ap (λ (p : Parameters). 64 + 3 * p.core_size + c.len.result * p.processes) params
     ∙ ap (λ (n : ℕ). 64 + 3 * c.args.self.now.params.core_size + n * c.args.self.now.params.processes) many
 
@@ -27,7 +27,7 @@ returns-clause-enough c =
     let queues : length (addresses_of c.self.inside.queues.items) ≡ length c.args.self.now.queues = ap (λ (s : State). length s.queues) c.self.view_is in
     let many : c.len.result ≡ length c.args.self.now.queues = omega (arith, queues, length-map c.self.inside.queues.items (λ (q : Queue). q.addresses), c.len.ensures, c.self.inside.queues.ok.0) in
     let params : c.self.inside.params ≡ c.args.self.now.params = ap (λ (s : State). s.params) c.self.view_is in
-    let value = c.most_words.ensures
+    let value = c.max_words.ensures
     ∙ ap (λ (p : Parameters). 64 + 3 * p.core_size + c.len.result * p.processes) params
     ∙ ap (λ (n : ℕ). 64 + 3 * c.args.self.now.params.core_size + n * c.args.self.now.params.processes) many in
     omega (arith, value, length-block_of c.args.self.now v, room_words c.args.self.now v)

@@ -56,7 +56,7 @@ returns-clause-record c =
     let asked = subst (λ (s : State). IsProcess s c.args.warrior c.args.place) (sym c.self.view_is) c.requires.process in
     let at = queue_at i.params i.core.items i.queues.items i.next i.cycle i.turns i.deaths.items c.self.invariant.valid c.args.warrior asked.warrior q q c.index_mut-queue.ensures.value in
     let from = c.replace-from.ensures.address ∙ ap (λ l. get_or l c.args.place 0) (sym at) in
-    c.quiet_atom.ensures ∙ rw c.new.ensures (
+    c.atom_without_death.ensures ∙ rw c.new.ensures (
     move_record (state_of i.params i.core.items i.queues.items i.next i.cycle i.turns i.deaths.items) c.args.warrior c.args.place c.args.address c.replace-from.result from
     ∙ ap (λ (s : State). edit_record s (edit.MoveProcess c.args.warrior c.args.place c.args.address)) c.self.view_is
     )

@@ -38,10 +38,10 @@ invariant_of-self c =
     let core_is = refilled core i.core.items i.core.len cells (omega (arith, i.core.ok.0)) in
     let queues_is = refilled queues i.queues.items i.queues.len warriors (omega (arith, i.queues.ok.0)) in
     let is =
-    reverted_state i.params i.core.items i.queues.items i.next i.cycle i.turns i.deaths.items c.args.atom.now core queues c.cycles_of.result c.turns_of.result c.forget_death.new.deaths.items
+    reverted_state i.params i.core.items i.queues.items i.next i.cycle i.turns i.deaths.items c.args.atom.now core queues c.cycles_of.result c.turns_of.result c.remove_last_death.new.deaths.items
     (rw (c.as_slice.ensures.value, c.deref_mut.ensures.value) at c.restore_cells.ensures)
     (rw (c.len.ensures.value, c.deref_mut-2.ensures.value) at c.restore_queue.ensures.addresses)
-    c.cycles_of.ensures c.turns_of.ensures c.forget_death.ensures
+    c.cycles_of.ensures c.turns_of.ensures c.remove_last_death.ensures
     ∙ ap (reverted c.args.atom.now) c.self.view_is in
     let valid = subst IsValid (sym (is ∙ record_reverted c.requires.0 c.args.atom.now c.args.self.now c.requires.1)) (led_valid c.requires.0 c.args.self.now c.args.atom.now c.requires.1) in
     let counted = valid_counted _ valid in
@@ -61,10 +61,10 @@ returns c = λ before led.
     let core_is = refilled core i.core.items i.core.len cells (omega (arith, i.core.ok.0)) in
     let queues_is = refilled queues i.queues.items i.queues.len warriors (omega (arith, i.queues.ok.0)) in
     rw (core_is, queues_is) (
-    reverted_state i.params i.core.items i.queues.items i.next i.cycle i.turns i.deaths.items c.args.atom.now core queues c.cycles_of.result c.turns_of.result c.forget_death.new.deaths.items
+    reverted_state i.params i.core.items i.queues.items i.next i.cycle i.turns i.deaths.items c.args.atom.now core queues c.cycles_of.result c.turns_of.result c.remove_last_death.new.deaths.items
     (rw (c.as_slice.ensures.value, c.deref_mut.ensures.value) at c.restore_cells.ensures)
     (rw (c.len.ensures.value, c.deref_mut-2.ensures.value) at c.restore_queue.ensures.addresses)
-    c.cycles_of.ensures c.turns_of.ensures c.forget_death.ensures
+    c.cycles_of.ensures c.turns_of.ensures c.remove_last_death.ensures
     ∙ ap (reverted c.args.atom.now) c.self.view_is
     ∙ record_reverted before c.args.atom.now c.args.self.now led
     )

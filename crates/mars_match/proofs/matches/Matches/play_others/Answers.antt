@@ -2,7 +2,7 @@ use Rattle.std.proofs.Common.{◌≡◌, ◌∙◌, ◌∷◌, [], sym, ap, refl
 use Rattle.std.proofs.lemmas.List.Elements.{All-get_or}
 use Rattle.std.proofs.lemmas.Grind.{common_steps}
 use Rattle.std.proofs.lemmas.Result.{err_from_is_err_and}
-use Rattle.mars_match.specs.Code.Tallies.{IsOf, most_before, most_rounds, most_row, no_rounds}
+use Rattle.mars_match.specs.Code.Tallies.{IsOf, max_rounds_before, max_rounds, max_row_rounds, no_rounds}
 use Rattle.mars_match.specs.Code.LeagueSteps.{after_matches}
 use Rattle.mars_match.proofs.Outcomes.{fault_answer}
 use Rattle.mars_match.proofs.Pairs.{IsOf-more, all_more, set_both, other_bound, set_both_bounds, from_first, from_one, lined_up, match_err, match_more}
@@ -14,7 +14,7 @@ loop-j-init c =
     let plan = c.args.setup.now.plan in
     record {
       sums = ap (λ pairs. after_matches c.args.setup.now.params plan.formula plan.fixed plan.rounds plan.seed pairs c.args.tallies.now) (from_first c.args.warriors.now i c.requires.inside);
-      bounds = all_more (i * most_row) (i * most_row + (i + 1) * most_rounds) c.args.tallies.now (omega arith) c.requires.bounds;
+      bounds = all_more (i * max_row_rounds) (i * max_row_rounds + (i + 1) * max_rounds) c.args.tallies.now (omega arith) c.requires.bounds;
       kept = c.requires.kept;
       two = rw c.in_ok-lineup.ensures refl;
       first = rw (c.in_ok-lineup.ensures, from_one c.args.warriors.now i c.index-warriors-i.result c.requires.inside c.index-warriors-i.is) refl;
@@ -28,27 +28,27 @@ play_pair-requires-clause-kept c =
 pub joined-requires-clause-before : goal.joined-requires-clause-before
 joined-requires-clause-before c =
     let i = c.args.i in
-    let m = i * most_row + c.loop-j.j * most_rounds in
+    let m = i * max_row_rounds + c.loop-j.j * max_rounds in
     let xs = c.loop-j.tallies in
     let inside : i < length xs = omega arith in
-    IsOf-more m most_before (get_or xs i no_rounds) (omega arith) (All-get_or (IsOf m) xs i no_rounds inside c.loop-j.invariant.bounds)
+    IsOf-more m max_rounds_before (get_or xs i no_rounds) (omega arith) (All-get_or (IsOf m) xs i no_rounds inside c.loop-j.invariant.bounds)
 
 pub joined-requires-in-loop-j-clause-before : goal.joined-requires-in-loop-j-clause-before
 joined-requires-in-loop-j-clause-before c =
     let i = c.args.i in
     let j = c.loop-j.j in
-    let m = i * most_row + j * most_rounds in
+    let m = i * max_row_rounds + j * max_rounds in
     let xs = c.loop-j.tallies in
     let before : i < j = omega arith in
     let inside : j < length xs = omega arith in
     let a = c.joined.result in
-    IsOf-more m most_before (get_or (set xs i a) j no_rounds) (omega arith) (other_bound xs i j c.in_ok-one.one c.in_ok-one.other a _ no_rounds before inside c.joined.ensures refl m c.loop-j.invariant.bounds)
+    IsOf-more m max_rounds_before (get_or (set xs i a) j no_rounds) (omega arith) (other_bound xs i j c.in_ok-one.one c.in_ok-one.other a _ no_rounds before inside c.joined.ensures refl m c.loop-j.invariant.bounds)
 
 pub loop-j-preserved : goal.loop-j-preserved
 loop-j-preserved c =
     let i = c.args.i in
     let j = c.loop-j.j in
-    let m = i * most_row + j * most_rounds in
+    let m = i * max_row_rounds + j * max_rounds in
     let xs = c.loop-j.tallies in
     let ws = c.args.warriors.now in
     let plan = c.args.setup.now.plan in
@@ -63,11 +63,11 @@ loop-j-preserved c =
     let both : c.replace_second.new.self ≡ c.index-warriors-i.result ∷ c.index-warriors-j.result ∷ [] =
     lined_up ws c.loop-j.lineup c.replace_second.new.self i c.index-warriors-i.result c.index-warriors-j.result first c.index-warriors-i.is c.loop-j.invariant.first c.in_ok-replace_second.ensures in
     let two : length c.replace_second.new.self ≡ 2 = ap length both in
-    let bounds = set_both_bounds xs i j t u a b no_rounds before inside c.joined.ensures c.joined-in-loop-j.ensures m most_rounds c.loop-j.invariant.bounds c.in_ok-one.ensures.bounds.0 c.in_ok-one.ensures.bounds.1 in
+    let bounds = set_both_bounds xs i j t u a b no_rounds before inside c.joined.ensures c.joined-in-loop-j.ensures m max_rounds c.loop-j.invariant.bounds c.in_ok-one.ensures.bounds.0 c.in_ok-one.ensures.bounds.1 in
     record {
       sums = rw (set_both xs i j t u a b no_rounds before inside c.joined.ensures c.joined-in-loop-j.ensures)
           (match_more c.args.setup.now.params plan.formula plan.fixed plan.rounds plan.seed ws i j c.index-warriors-i.result c.index-warriors-j.result xs t u first second c.index-warriors-i.is c.index-warriors-j.is (c.in_ok-one.ensures.table c.index-warriors-i.result c.index-warriors-j.result both) ∙ c.loop-j.invariant.sums);
-      bounds = all_more (m + most_rounds) (i * most_row + (j + 1) * most_rounds) (set (set xs i a) j b) (omega arith) bounds;
+      bounds = all_more (m + max_rounds) (i * max_row_rounds + (j + 1) * max_rounds) (set (set xs i a) j b) (omega arith) bounds;
       kept = rw two at c.in_ok-one.ensures.kept;
       two = two;
       first = rw (both, from_one ws i c.index-warriors-i.result first c.index-warriors-i.is) refl;
@@ -89,4 +89,4 @@ returns-in_err-one-clause-sums c =
 
 pub returns-clause-bounds : goal.returns-clause-bounds
 returns-clause-bounds c =
-    all_more (c.args.i * most_row + c.loop-j.j * most_rounds) ((c.args.i + 1) * most_row) c.loop-j.tallies (omega arith) c.loop-j.invariant.bounds
+    all_more (c.args.i * max_row_rounds + c.loop-j.j * max_rounds) ((c.args.i + 1) * max_row_rounds) c.loop-j.tallies (omega arith) c.loop-j.invariant.bounds

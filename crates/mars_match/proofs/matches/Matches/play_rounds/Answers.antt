@@ -4,7 +4,7 @@ use Rattle.std.proofs.lemmas.Int.{to_z-of_z}
 use Rattle.std.proofs.lemmas.Result.{err_from_is_err_and}
 use Rattle.std.specs.Int.RustNames.{FitsSigned}
 use Rattle.mars_match.specs.Rounds.{placed_for, round_outcome}
-use Rattle.mars_match.specs.Code.Tallies.{all_added, most_rounds, outcome_by}
+use Rattle.mars_match.specs.Code.Tallies.{all_added, max_rounds, outcome_by}
 use Rattle.mars_match.proofs.Outcomes.{tallied_place_err, tallied_round_err, tallied_more, fault_answer}
 use Rattle.mars_match.proofs.Pairs.{all_more}
 use Rattle.mars_match.proofs.matches.Matches.play_rounds.Goals as goal
@@ -54,4 +54,4 @@ loop-number-preserved c =
     }
 
 pub returns-clause-bounds : goal.returns-clause-bounds
-returns-clause-bounds c = all_more c.loop-number.number most_rounds c.loop-number.tallies (omega arith) c.loop-number.invariant.bounds
+returns-clause-bounds c = all_more c.loop-number.number max_rounds c.loop-number.tallies (omega arith) c.loop-number.invariant.bounds

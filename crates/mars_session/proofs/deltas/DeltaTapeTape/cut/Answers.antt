@@ -1,5 +1,5 @@
 use Rattle.std.proofs.Common.{◌∙◌, ap, true}
-use Rattle.mars_session.specs.Tapes.{Taped}
+use Rattle.mars_session.specs.Tapes.{TapeValue}
 use Rattle.mars_session.specs.History.{cut}
 use Rattle.mars_session.proofs.Ends.{journal_ends_cut}
 use Rattle.mars_session.proofs.Stepping.{journal_cut, cut_kept}
@@ -15,4 +15,4 @@ invariant_of-self c =
 
 pub returns-clause-places : goal.returns-clause-places
 returns-clause-places c =
-    rw c.truncate.ensures.items (journal_cut true c.self.inside.entries.items c.self.inside.at c.self.inside.battle c.self.invariant.0.inside) ∙ ap (λ (t : Taped). cut t.history) c.self.view_is
+    rw c.truncate.ensures.items (journal_cut true c.self.inside.entries.items c.self.inside.at c.self.inside.battle c.self.invariant.0.inside) ∙ ap (λ (t : TapeValue). cut t.history) c.self.view_is

@@ -1,7 +1,7 @@
 use Rattle.std.proofs.Common.{◌<◌, ◌∙◌, ap, length, arith, true}
 use Rattle.mars_core.specs.Record.{applied}
 use Rattle.mars_session.specs.Code.Journals.{entry_at}
-use Rattle.mars_session.specs.Tapes.{Taped}
+use Rattle.mars_session.specs.Tapes.{TapeValue}
 use Rattle.mars_session.specs.History.{forward}
 use Rattle.mars_session.proofs.Ends.{journal_ends_forward}
 use Rattle.mars_session.proofs.Stepping.{journal_forward, forward_kept, leads_on, gone_on, read_entry}
@@ -31,4 +31,4 @@ returns-then-self-len-clause-places c =
     let inside : s.at < length s.entries.items = omega (arith, c.if-self-len.true, c.len.ensures, s.entries.ok.0) in
     let read = read_entry s.entries.items s.at c.index.result.now inside c.index.ensures in
     let is = gone_on s.entries.items s.at s.battle c.apply.new.self c.index.result.now.0 inside c.self.invariant.0.on read c.apply.ensures in
-    rw is (journal_forward true s.entries.items s.at s.battle inside c.self.invariant.0 ∙ ap (λ (t : Taped). forward t.history) c.self.view_is)
+    rw is (journal_forward true s.entries.items s.at s.battle inside c.self.invariant.0 ∙ ap (λ (t : TapeValue). forward t.history) c.self.view_is)

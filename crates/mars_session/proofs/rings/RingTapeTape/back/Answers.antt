@@ -1,7 +1,7 @@
 use Rattle.std.proofs.Common.{◌-◌, ◌∙◌, ap}
 use Rattle.mars_core.specs.Record.{reverted}
 use Rattle.mars_session.specs.Code.Journals.{entry_at}
-use Rattle.mars_session.specs.Tapes.{Ringed}
+use Rattle.mars_session.specs.Tapes.{RingTapeValue}
 use Rattle.mars_session.specs.History.{back}
 use Rattle.mars_session.proofs.Ends.{journal_ends_back}
 use Rattle.mars_session.proofs.Stepping.{journal_back, back_kept, leads_here, gone_back}
@@ -32,4 +32,4 @@ returns-then-self-gt0-clause-places c =
     let at = s.records.at in
     let i = c.self.invariant.0 in
     let is = gone_back es at s.battle c.revert.new.self c.last.result.now c.if-self-gt0.true i.journal.here c.last.ensures c.revert.ensures in
-    rw is (journal_back s.records.first_mark es at s.battle c.if-self-gt0.true i.journal ∙ ap (λ (t : Ringed). back t.history) c.self.view_is)
+    rw is (journal_back s.records.first_mark es at s.battle c.if-self-gt0.true i.journal ∙ ap (λ (t : RingTapeValue). back t.history) c.self.view_is)

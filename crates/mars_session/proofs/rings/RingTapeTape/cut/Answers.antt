@@ -1,6 +1,6 @@
 use Rattle.std.proofs.Common.{◌∙◌, ap}
 use Rattle.mars_session.specs.History.{cut}
-use Rattle.mars_session.specs.Tapes.{Ringed}
+use Rattle.mars_session.specs.Tapes.{RingTapeValue}
 use Rattle.mars_session.proofs.Ends.{journal_ends_cut}
 use Rattle.mars_session.proofs.Stepping.{journal_cut}
 use Rattle.mars_session.proofs.Forgetting.{cut_ring}
@@ -18,4 +18,4 @@ pub returns-clause-places : goal.returns-clause-places
 returns-clause-places c =
     let r = c.self.inside.records in
     rw c.truncate_back.ensures
-    (journal_cut r.first_mark r.ring.items r.at c.self.inside.battle c.self.invariant.0.journal.inside ∙ ap (λ (t : Ringed). cut t.history) c.self.view_is)
+    (journal_cut r.first_mark r.ring.items r.at c.self.inside.battle c.self.invariant.0.journal.inside ∙ ap (λ (t : RingTapeValue). cut t.history) c.self.view_is)

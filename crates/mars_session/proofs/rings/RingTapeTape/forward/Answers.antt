@@ -1,7 +1,7 @@
 use Rattle.std.proofs.Common.{◌<◌, ◌∙◌, ap, length, arith}
 use Rattle.mars_core.specs.Record.{applied}
 use Rattle.mars_session.specs.Code.Journals.{entry_at}
-use Rattle.mars_session.specs.Tapes.{Ringed}
+use Rattle.mars_session.specs.Tapes.{RingTapeValue}
 use Rattle.mars_session.specs.History.{forward}
 use Rattle.mars_session.proofs.Ends.{journal_ends_forward}
 use Rattle.mars_session.proofs.Stepping.{journal_forward, forward_kept, leads_on, gone_on}
@@ -35,4 +35,4 @@ returns-then-self-len-clause-places c =
     let i = c.self.invariant.0 in
     let inside : at < length es = omega (arith, c.if-self-len.true, c.len.ensures.len) in
     let is = gone_on es at s.battle c.apply.new.self c.next.result.now inside i.journal.on c.next.ensures c.apply.ensures in
-    rw is (journal_forward s.records.first_mark es at s.battle inside i.journal ∙ ap (λ (t : Ringed). forward t.history) c.self.view_is)
+    rw is (journal_forward s.records.first_mark es at s.battle inside i.journal ∙ ap (λ (t : RingTapeValue). forward t.history) c.self.view_is)

@@ -1,6 +1,6 @@
 use Rattle.std.proofs.Common.{◌∙◌, ap}
 use Rattle.mars_session.specs.History.{marked}
-use Rattle.mars_session.specs.Tapes.{Ringed}
+use Rattle.mars_session.specs.Tapes.{RingTapeValue}
 use Rattle.mars_session.proofs.Ends.{ends_marked}
 use Rattle.mars_session.specs.Code.Journals.{journal_history}
 use Rattle.mars_session.proofs.Forgetting.{ring_marked, marked_ring}
@@ -20,4 +20,4 @@ pub returns-clause-places : goal.returns-clause-places
 returns-clause-places c =
     let s = c.self.inside in
     rw (c.set_mark.ensures.ring, c.set_mark.ensures.at, c.set_mark.ensures.first_mark)
-    (ring_marked s.records.first_mark s.records.ring s.records.at s.battle c.self.invariant.0 ∙ ap (λ (t : Ringed). marked t.history) c.self.view_is)
+    (ring_marked s.records.first_mark s.records.ring s.records.at s.battle c.self.invariant.0 ∙ ap (λ (t : RingTapeValue). marked t.history) c.self.view_is)

@@ -2,7 +2,7 @@ use Rattle.std.proofs.Common.{◌≡◌, ◌≤◌, ◌+◌, ◌-◌, ◌++◌, 
 use Rattle.std.specs.Prelude.{vec_capacity}
 use Rattle.mars_session.specs.declared.calls.Standing.{Standing}
 use Rattle.mars_session.specs.declared.calls.Refusal.{Refusal}
-use Rattle.mars_session.specs.Script.{EachAnswers}
+use Rattle.mars_session.specs.Script.{CallsMeetSpec}
 use Rattle.mars_session.proofs.sessions.Session.apply_all.Given as goal
 
 -- The replies so far are those to the calls so far.
@@ -10,7 +10,7 @@ abbrev pub invariant-loop-call : goal.invariant-loop-call
 invariant-loop-call g l = record {
   replies : List (Result Standing Refusal);
   items : l.out.items ≡ l.fn.out.items ++ replies;
-  each : EachAnswers l.fn.self (take l.call-index l.calls) replies l.self;
+  each : CallsMeetSpec l.fn.self (take l.call-index l.calls) replies l.self;
   limit : l.self.state.limit ≡ l.fn.self.state.limit;
   room : vec_len l.out + (length l.calls - l.call-index) ≤ vec_capacity l.out;
 }

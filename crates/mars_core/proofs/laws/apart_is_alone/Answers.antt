@@ -1,5 +1,0 @@
-use Rattle.mars_core.proofs.ForLaws.ApartAlone.{fights_alone}
-use Rattle.mars_core.proofs.laws.apart_is_alone.Goals as goal
-
-pub returns : goal.returns
-returns c = fights_alone

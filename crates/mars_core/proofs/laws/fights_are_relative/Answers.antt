@@ -1,5 +1,0 @@
-use Rattle.mars_core.proofs.ForLaws.Relative.{turns_moved}
-use Rattle.mars_core.proofs.laws.fights_are_relative.Goals as goal
-
-pub returns : goal.returns
-returns c = turns_moved

@@ -1,5 +1,0 @@
-use Rattle.mars_core.proofs.ForLaws.Apart.{own_cells_left}
-use Rattle.mars_core.proofs.laws.own_cells_are_left.Goals as goal
-
-pub returns : goal.returns
-returns c = own_cells_left

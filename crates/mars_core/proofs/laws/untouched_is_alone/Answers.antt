@@ -1,5 +1,0 @@
-use Rattle.mars_core.proofs.ForLaws.ApartAlone.{untouched_alone}
-use Rattle.mars_core.proofs.laws.untouched_is_alone.Goals as goal
-
-pub returns : goal.returns
-returns c = untouched_alone
