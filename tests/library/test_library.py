@@ -251,7 +251,12 @@ MOVES = st.one_of(
 @given(matches(), st.lists(MOVES, max_size=12))
 def test_transcripts(tmp_path, fight, lines):
     """What the debugger answers is what that of the program does."""
-    words = ["-e", f"--seed={fight.seed}", *words_of(fight.settings), *files_of([one.load for one in fight.warriors], tmp_path)]
+    words = [
+        "-e",
+        f"--seed={fight.seed}",
+        *words_of(fight.settings),
+        *files_of([one.load for one in fight.warriors], tmp_path),
+    ]
     answers = started(*words, input="".join(f"{line}\n" for line in lines).encode())
     told = called(lambda: corewar.Battle(fight).debug(lines))
     assert told == (answers if isinstance(answers, str) else answers.decode())

@@ -1,0 +1,48 @@
+"""The calls of the library for C at the greatest sizes that their ranges allow: none runs out of memory."""
+import corewar
+from corewar.engine.warriors import read_load
+from corewar.model.settings import MOST_WARRIORS
+
+LARGEST = 1_048_576
+PROCESSES = 65_536
+IMP = [(1, 6, 1, 1, 0, 1)]
+# Splits each turn, so that a warrior has as many processes as it may.
+SPLITTER = [(14, 1, 1, 1, 0, 0), (7, 1, 1, 1, LARGEST - 1, 0)]
+HUGE = corewar.Settings(core=LARGEST, processes=PROCESSES, cycles=10, longest=LARGEST, distance=LARGEST)
+
+
+def test_longest_warrior():
+    """A warrior as long as the largest core, through its load file and in a battle."""
+    warrior = corewar.Warrior.from_cells(IMP * LARGEST, settings=HUGE)
+    again = read_load(warrior.load, HUGE)
+    assert again.cells.tolist() == warrior.cells.tolist()
+    battle = corewar.Battle(corewar.Match((warrior,), settings=HUGE))
+    battle.play(10)
+    assert battle.turns == 10
+
+
+def test_most_warriors():
+    """The most warriors, each with the most processes, in the largest core."""
+    settings = corewar.Settings(core=LARGEST, processes=PROCESSES, cycles=140_000, longest=2, distance=2)
+    splitter = corewar.Warrior.from_cells(SPLITTER, settings=settings)
+    battle = corewar.Battle(corewar.Match((splitter,) * MOST_WARRIORS, settings=settings))
+    battle.play(140_000 * MOST_WARRIORS - 1)
+    assert [len(queue) for queue in battle.queues] == [PROCESSES] * MOST_WARRIORS
+    rows = corewar.match([splitter] * MOST_WARRIORS, settings=settings)
+    assert [row.ties for row in rows] == [1] * MOST_WARRIORS
+
+
+def test_longest_history():
+    """A history of a million places, all of which are used."""
+    imp = corewar.assemble("MOV 0, 1")
+    battle = corewar.Battle(corewar.Match((imp, imp), settings=corewar.Settings(cycles=500_000)))
+    lines = battle.debug(["run 1000000", "goto 0", "goto 1000000"], 1_000_000)
+    assert not [line for line in lines if line.startswith("refused")]
+
+
+def test_large_league():
+    """A league of 300 warriors, and as many rounds as a match may have."""
+    settings = corewar.Settings(core=80, processes=80, cycles=5, longest=5, distance=5)
+    imp = corewar.Warrior.from_cells(IMP, settings=settings)
+    assert [row.ties for row in corewar.league([imp] * 300, settings=settings)] == [299] * 300
+    assert corewar.match([imp] * 2, settings=settings, rounds=100_000)[0].ties == 100_000
