@@ -103,8 +103,13 @@ def test_names():
     for name in ("x" * 300, "x" * 5000, "\u00e4" * 150, "k\u00e4fer.red", "\u4e16\u754c.red"):
         assert run(name) == (1, "", f"mars: {name}: cannot read\n"), f"{name[:10]}, {len(name)} letters"
     assert run("-b", "no\nsuch\x1b[1m\x85\x9b.red") == (1, "", "mars: no?such?[1m??.red: cannot read\n")
-    Path("b\u00f6se.red").write_text("NOP\nHOP 1\n")
-    assert run("b\u00f6se.red") == (1, "", "mars: b\u00f6se.red: line 2: 2 Operation\n")
+    for line in (2, 10, 1000):
+        Path("b\u00f6se.red").write_text("NOP\n" * (line - 1) + "HOP 1\n")
+        assert run("-l", "1000", "-d", "1000", "b\u00f6se.red") == (
+            1,
+            "",
+            f"mars: b\u00f6se.red: line {line}: 2 Operation\n",
+        )
     longest = "n" * 251 + ".red"
     Path(longest).write_text("MOV 0, 1\n")
     assert load(longest) == load("imp.red")
@@ -128,8 +133,8 @@ def test_files():
     os.symlink("loop.red", "loop.red")
     for name in ("larger.red", "/dev/zero"):
         assert run("--load", name) == (1, "", f"mars: {name}: too large\n"), name
-    for name in ("folder.red", "none.red", "imp.red/none.red", "loop.red"):
-        assert run("--load", name) == (1, "", f"mars: {name}: cannot read\n"), name
+    for name in ("folder.red", "none.red", "imp.red/none.red", "loop.red", "-"):
+        assert run("--load", name, input=b"MOV 0, 1\n") == (1, "", f"mars: {name}: cannot read\n"), name
     assert load("link.red") == load("imp.red")
     assert run("none.red", "larger.red") == (1, "", "mars: none.red: cannot read\n")
 

@@ -1,27 +1,31 @@
-#!/usr/bin/python3
-"""Measures the site in Chromium and Firefox: its size, how soon it shows a fight, turns, drawings and memory.
+"""The site in Chromium and Firefox: its size, how soon it shows a fight, turns, drawings and memory.
 
-usage: bench/site      (after `make site`)
+Times are medians in milliseconds. The battles are `silk` against `paper` in 94nop (160,000 turns) and in 94x
+(1,000,000). """
+from __future__ import annotations
 
-Times are medians in milliseconds. The battles are `silk` against `paper` in 94nop (160,000 turns) and in 94x (1,000,000).
-"""
+import argparse
 import gzip
 import os
-import sys
+from pathlib import Path
 
-sys.dont_write_bytecode = True
-TOP = os.path.dirname(os.path.dirname(os.path.abspath(__file__)))
-sys.path.insert(0, os.path.join(TOP, "tests"))
-from browsers import chromium, firefox, served
+from browsers import Browser, chromium, firefox, served
+from program import TOP
 
-SITE = os.path.join(TOP, "build", "site")
-FIRST = """while (!performance.getEntriesByName("first fight").length) await new Promise(done => setTimeout(done, 5));
+SITE = Path(TOP, "build", "site")
+FIRST = """const pause = () => new Promise(done => setTimeout(done, 5));
+while (!performance.getEntriesByName("first fight").length) await pause();
 const paint = performance.getEntriesByName("first-contentful-paint")[0]?.startTime ?? 0;
 return [paint, performance.getEntriesByName("first fight")[0].startTime];"""
-BATTLE = """const {session, examples, terms} = corewar, median = times => times.sort((a, b) => a - b)[times.length >> 1];
+BATTLE = """const {session, examples, terms} = corewar;
+const median = times => times.sort((a, b) => a - b)[times.length >> 1];
 const timed = async (count, act) => {
   const times = [];
-  for (let i = 0; i < count; i++) { const then = performance.now(); await act(); times.push(performance.now() - then); }
+  for (let i = 0; i < count; i++) {
+    const then = performance.now();
+    await act();
+    times.push(performance.now() - then);
+  }
   return [median(times), times.at(-1)];
 };
 const drawings = async way => {
@@ -36,27 +40,26 @@ const drawings = async way => {
 session.stop();
 hill.value = given[0];
 hill.onchange();
-const fight = {...terms.value, round: 0, warriors: ["silk.red", "paper.red"].map(name => examples.find(one => one.name === name)), edits: []};
+const warriors = ["silk.red", "paper.red"].map(name => examples.find(one => one.name === name));
+const fight = {...terms.value, round: 0, warriors, edits: []};
 const opened = await timed(3, () => session.open(fight, {plays: false}));
 const turn = () => Math.floor(Math.random() * (session.end - 1)) + 1;
-const shown = await timed(200, () => session.desk.turn(0, turn())), told = await timed(50, () => session.desk.move(0, turn()));
+const shown = await timed(200, () => session.desk.turn(0, turn()));
+const told = await timed(50, () => session.desk.move(0, turn()));
 await session.go(session.end >> 2);
 const {machine, marks} = await session.desk.memory();
 return {turns: session.end, opened: opened[0], turn: shown[0], "slowest turn": shown[1], "what a turn did": told[0],
   "drawings/s": await drawings(1), "backwards/s": await drawings(-1), "memory, MB": (machine + marks) / 1e6};"""
 
 
-def sizes():
-    total = 0
-    for name in sorted(os.listdir(SITE)):
-        with open(os.path.join(SITE, name), "rb") as file:
-            size = len(gzip.compress(file.read(), 9))
-        total += size if name != "one.html" else 0
+def print_sizes() -> None:
+    sizes = {path.name: len(gzip.compress(path.read_bytes(), 9)) for path in sorted(SITE.iterdir())}
+    for name, size in sizes.items():
         print(f"{name}: {size / 1000:.0f} kB gzipped")
-    print(f"the site without one.html: {total / 1000:.0f} kB gzipped")
+    print(f"the site without one.html: {(sum(sizes.values()) - sizes['one.html']) / 1000:.0f} kB gzipped")
 
 
-def measure(name, browser, address):
+def measure_browser(name: str, browser: Browser, address: str) -> None:
     starts = []
     for _ in range(7):
         browser.open("about:blank")
@@ -69,19 +72,14 @@ def measure(name, browser, address):
         print(f"{name}, {hill}: " + ", ".join(f"{what} {value:,.1f}" for what, value in found.items()))
 
 
-def main():
-    if sys.argv[1:]:
-        sys.exit(__doc__)
-    sizes()
+def measure(_words: argparse.Namespace) -> None:
+    print_sizes()
     with served(SITE) as address:
         for name, start in (("Chromium", chromium), ("Firefox", firefox)):
             browser = start()
             try:
                 browser.resize(1600, 1000)
-                measure(name, browser, f"{address}/index.html")
+                measure_browser(name, browser, f"{address}/index.html")
             finally:
                 browser.end()
     print(f"load of the machine: {os.getloadavg()[0]:.1f} on {os.cpu_count()} processors")
-
-
-main()

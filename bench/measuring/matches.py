@@ -1,0 +1,67 @@
+"""The cost of a turn in ten matches, of `mars` and of pMARS: machine instructions, and nanoseconds of CPU time.
+
+The ten matches are of two warriors of examples/, or of the paper and the stone of race.rattle (here in capitals), 4,000
+cells apart in a core of 8000, in which no warrior dies for 20,000 cycles: from imps, which keep one process, to papers,
+whose queues fill. A count is that of 20,001 cycles minus that of one, divided by the turns in between. A time is that
+of 501 rounds of 20,000 cycles minus that of one, the minimum of some runs, in which the programs alternate so that
+other work on the machine disturbs both. The last lines are the geometric means, and the allocations of a match of PAPER
+and PAPER, which do not grow with the rounds. """
+from __future__ import annotations
+
+import argparse
+import sys
+import tempfile
+from statistics import geometric_mean
+
+from program import find_program
+
+from .tools import allocations, find_pmars, instructions, run_well, warrior
+
+CYCLES, ROUNDS = 20_000, 500
+MATCHES = """imp imp, dwarf imp, PAPER PAPER, STONE STONE, boot STONE, bomber silk, gate silk, quick PAPER,
+    paper vampire, spiral PAPER"""
+
+
+def words_of(files: list[str], cycles: int = CYCLES, rounds: int = 1) -> list[str]:
+    return ["-b", "-F", "4000", "-c", str(cycles), "-r", str(rounds), *files]
+
+
+def refuse_deaths(program: str, files: list[str]) -> None:
+    """Exits if a warrior dies in the match, since the number of turns would be unknown."""
+    rows = run_well([program, *words_of(files, CYCLES + 1)]).output.decode().splitlines()[1:]
+    if any(row.split()[1:4] != ["0", "1", "0"] for row in rows):
+        sys.exit(f"measure: a warrior dies in {' '.join(files)}")
+
+
+def count(program: str, files: list[str]) -> float:
+    """Returns the machine instructions of a turn."""
+    short, long = (instructions([program, *words_of(files, cycles)])[0] for cycles in (1, CYCLES + 1))
+    return (long - short) / (2 * CYCLES)
+
+
+def times(programs: list[str], files: list[str], runs: int) -> list[float]:
+    """Returns the nanoseconds of a turn of each program."""
+    least = [[float("inf")] * 2 for _ in programs]
+    for _ in range(runs):
+        for program, best in zip(programs, least):
+            for index, rounds in enumerate((1, ROUNDS + 1)):
+                best[index] = min(best[index], run_well([program, *words_of(files, rounds=rounds)]).cpu)
+    return [(long - short) / (2 * CYCLES * ROUNDS) * 1e9 for short, long in least]
+
+
+def measure(words: argparse.Namespace) -> None:
+    pmars = find_pmars()
+    programs = [find_program(words.program)] + ([pmars] if pmars else [])
+    heads = [f"{name} {unit}" for unit in ("count", "ns") for name in ("mars", "pMARS")[: len(programs)]]
+    print(f"{'a turn of':<24}" + "".join(f"{head:>13}" for head in heads), flush=True)
+    costs = []
+    with tempfile.TemporaryDirectory() as place:
+        for match in MATCHES.split(","):
+            files = [warrior(place, name) for name in match.split()]
+            refuse_deaths(programs[0], files)
+            costs.append([*(count(program, files) for program in programs), *times(programs, files, words.runs)])
+            print(f"{', '.join(match.split()):<24}" + "".join(f"{cost:>13.1f}" for cost in costs[-1]), flush=True)
+        print(f"{'geometric mean':<24}" + "".join(f"{geometric_mean(column):>13.1f}" for column in zip(*costs)))
+        papers = [warrior(place, "PAPER")] * 2
+        made = [allocations([programs[0], *words_of(papers, 100, rounds)]) for rounds in (1, 10)]
+        print(f"allocations: {made[0]} in one round, {made[1]} in ten")
