@@ -1,5 +1,7 @@
-"""Builds what pyproject.toml cannot express: a wheel with libmars.so.2 and mars.h, which any Python on x86-64 Linux calls by cffi, and
-with the built site."""
+"""Builds what pyproject.toml cannot express: a wheel with libmars.so.2 and mars.h, which any Python on x86-64 Linux
+calls by cffi, and with the built site."""
+from __future__ import annotations
+
 import runpy
 import shutil
 from pathlib import Path
@@ -16,7 +18,7 @@ READER = "python/corewar/model/header.py"
 SHARE = Path("build/share")
 
 
-def write_types(header, path):
+def write_types(header: str, path: Path) -> None:
     """Writes the types of the header as a module, so that the package parses no header when it starts."""
     ffi = cffi.FFI()
     ffi.set_source("corewar.engine.declared", None)
@@ -27,7 +29,7 @@ def write_types(header, path):
 class BuildPackage(build_py):
     """Copies the library, its header and the site into the package."""
 
-    def run(self):
+    def run(self) -> None:
         super().run()
         for name in INSIDE:
             if not Path(name).is_file():
@@ -42,14 +44,14 @@ class BuildPackage(build_py):
 class Wheel(bdist_wheel):
     """Tags the wheel by the library, which requires glibc 2.14 and no particular Python."""
 
-    def get_tag(self):
+    def get_tag(self) -> tuple[str, str, str]:
         return "py3", "none", "manylinux_2_17_x86_64.manylinux2014_x86_64"
 
 
 class Binary(Distribution):
     """A package with compiled content."""
 
-    def has_ext_modules(self):
+    def has_ext_modules(self) -> bool:
         return True
 
 
@@ -57,6 +59,8 @@ setup(
     cmdclass={"build_py": BuildPackage, "bdist_wheel": Wheel},
     distclass=Binary,
     data_files=[
-        (str("share" / path.parent.relative_to(SHARE)), [str(path)]) for path in sorted(SHARE.rglob("*.*")) if path.is_file()
+        (str("share" / path.parent.relative_to(SHARE)), [str(path)])
+        for path in sorted(SHARE.rglob("*.*"))
+        if path.is_file()
     ],
 )

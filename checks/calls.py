@@ -4,12 +4,19 @@
 usage: checks/calls.py [CRATE..]
        checks/calls.py --contracts
 
-The first form prints a line for each call of the seven libraries and of the C library: the call, its file and line, the labels of its
-clauses (a contract with one clause may have none), and the definitions of specs/ that they cite, as FILE.NAME. The second form prints
-the whole contracts, which docs/dev/CONTRACTS.txt records; `checks/rules` compares the two, so that a change of a contract is a change
-of that file.
+The first form prints a line for each call of the seven libraries and of the C library: the call, its file and line, the
+labels of its clauses (a contract with one clause may have none), and the definitions of specs/ that they cite, as
+FILE.NAME. The second form prints the whole contracts, which docs/dev/CONTRACTS.txt records; `checks/rules` compares the
+two, so that a change of a contract is a change of that file.
 """
-import glob, os, re, sys, textwrap
+from __future__ import annotations
+
+import glob
+import os
+import re
+import sys
+import textwrap
+from collections.abc import Iterator
 from dataclasses import dataclass
 
 TOP = os.path.dirname(os.path.dirname(os.path.abspath(__file__)))
@@ -23,15 +30,16 @@ CITED = re.compile(r"ghost use Rattle\.(\w+)\.specs\.([\w.]+)\.\{(.*?)\};", re.S
 @dataclass
 class Call:
     """A public call, and what its head says."""
+
     name: str
     place: str
     head: str
     ensures: bool
-    labels: list
-    definitions: list
+    labels: list[str]
+    definitions: list[str]
 
 
-def cited(text):
+def cited(text: str) -> dict[str, str]:
     """The definitions of our crates that a file brings in, each under the name that it has there."""
     found = {}
     for crate, file, names in CITED.findall(text):
@@ -42,7 +50,9 @@ def cited(text):
     return found
 
 
-def calls_of(path, text, block, start, owner, wanted=None):
+def calls_of(
+    path: str, text: str, block: str, start: int, owner: str, wanted: set[str] | None = None
+) -> Iterator[Call]:
     """The calls of a block of a file, or those of these names."""
     names = cited(text)
     for head in HEAD.finditer(block):
@@ -56,30 +66,43 @@ def calls_of(path, text, block, start, owner, wanted=None):
         yield Call(f"{owner}{head[2]}", f"{path}:{line}", contract, "ensures" in contract, labels, used)
 
 
-def sources(crate):
+def sources(crate: str) -> Iterator[tuple[str, str]]:
     """The source files of a crate, each with its text."""
     folder = os.path.join(TOP, "crates", crate)
     for path in sorted(glob.glob(os.path.join(folder, "src", "**", "*.rt"), recursive=True)):
         yield os.path.relpath(path, folder), open(path).read()
 
 
-def exported(crate):
+def exported(crate: str) -> dict[str, str]:
     """Returns the names that a crate exports; those of a library for C are its exports to C."""
     lib = dict(sources(crate))["src/lib.rt"]
-    named = {name: module.replace("::", "/") for module, names in re.findall(r"^pub use ([\w:]+)::(\{[^}]*\}|\w+);", lib, re.M) for name in re.findall(r"\w+", names)}
+    named = {
+        name: module.replace("::", "/")
+        for module, names in re.findall(r"^pub use ([\w:]+)::(\{[^}]*\}|\w+);", lib, re.M)
+        for name in re.findall(r"\w+", names)
+    }
     return named | {"laws": "laws"} if "pub mod laws;" in lib else named
 
 
-def public_calls(crate):
+def public_calls(crate: str) -> Iterator[Call]:
     """Each public call of a crate: its functions, and the methods of its types and traits."""
     names = exported(crate)
     for path, text in sources(crate):
-        module = path[len("src/"):-len(".rt")]
+        module = path[len("src/") : -len(".rt")]
         if module == "laws" or module.split("/")[0] == "exports":
-            wanted, owner = {name for _, name in re.findall(r"^(pub )(?:extern \"C\" )?fn (\w+)", text, re.M)}, "laws::" if module == "laws" else ""
+            wanted, owner = {
+                name for _, name in re.findall(r"^(pub )(?:extern \"C\" )?fn (\w+)", text, re.M)
+            }, "laws::" if module == "laws" else ""
         else:
             wanted, owner = {name for name, home in names.items() if home == module}, ""
-        yield from calls_of(path, text, re.sub(r"^    .*fn ", lambda found: found[0].replace("fn ", "__ "), text, flags=re.M), 0, owner, wanted)
+        yield from calls_of(
+            path,
+            text,
+            re.sub(r"^    .*fn ", lambda found: found[0].replace("fn ", "__ "), text, flags=re.M),
+            0,
+            owner,
+            wanted,
+        )
         for block in BLOCK.finditer(text):
             if block[1] in names:
                 is_trait = block[0].startswith("pub trait")
@@ -88,7 +111,7 @@ def public_calls(crate):
                         yield call
 
 
-def contracts():
+def contracts() -> str:
     """The whole contract of each public call, crate by crate."""
     parts = []
     for crate in CRATES:
@@ -99,7 +122,7 @@ def contracts():
     return "\n".join(parts)
 
 
-def main():
+def main() -> None:
     if sys.argv[1:] == ["--contracts"]:
         print(contracts(), end="")
         return

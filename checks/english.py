@@ -1,9 +1,15 @@
 """Counts the forms of the project's old idiom, which docs/dev/STYLE.md replaces by the field's terms.
 
-The text that is read is prose: documents without their code, comments, docstrings, and the texts that a command prints. It has three
-parts: "documents", "messages" and "comments".
+The text that is read is prose: documents without their code, comments, docstrings, and the texts that a command prints.
+It has three parts: "documents", "messages" and "comments".
 """
-import ast, io, re, tokenize
+from __future__ import annotations
+
+import ast
+import io
+import re
+import tokenize
+from collections.abc import Iterable, Iterator
 
 # Each form, with what to write for it.
 FORMS = {
@@ -37,34 +43,40 @@ FORMS = {
 FORM = re.compile("|".join(rf"(?P<f{number}>\b(?:{form})\b)" for number, form in enumerate(FORMS)), re.I)
 WANTED = list(FORMS.values())
 
+# The part of a text, its line, and the text.
+Piece = tuple[str, int, str]
 PYTHON = re.compile(r"#!.*python")
 JAVASCRIPT_TEXT = re.compile(r"([\"'`])((?:\\.|(?!\1)[^\\\n])*)\1")
 
 
-def without_code(text):
+def without_code(text: str) -> str:
     """A document without its blocks, code spans and targets of links; lines stay where they are."""
-    keep_lines = lambda found: "\n" * found[0].count("\n")
-    text = re.sub(r"^```.*?^```", keep_lines, text, flags=re.M | re.S)
+    text = re.sub(r"^```.*?^```", lambda found: "\n" * found[0].count("\n"), text, flags=re.M | re.S)
     return re.sub(r"`[^`\n]*`|\]\([^)\s]*\)", " ", text)
 
 
-def docstrings(text):
+def docstrings(text: str) -> Iterator[tuple[int, bool]]:
     """The line of each docstring, and whether it is the help of a command."""
     for node in ast.walk(ast.parse(text)):
-        if isinstance(node, (ast.Module, ast.ClassDef, ast.FunctionDef, ast.AsyncFunctionDef)) and ast.get_docstring(node) is not None:
+        if (
+            isinstance(node, (ast.Module, ast.ClassDef, ast.FunctionDef, ast.AsyncFunctionDef))
+            and ast.get_docstring(node) is not None
+        ):
             decorators = getattr(node, "decorator_list", [])
             yield node.body[0].lineno, any("command" in ast.unparse(decorator) for decorator in decorators)
 
 
-def without_expressions(text):
+def without_expressions(text: str) -> str:
     """A text without the code in braces, which may be nested."""
     while text != (text := re.sub(r"\$?\{[^{}]*\}", " ", text)):
         pass
     return text
 
 
-def python_pieces(name, text):
-    """The comments, docstrings and texts of a Python source. The texts of scripts and tests are no messages of the product."""
+def python_pieces(name: str, text: str) -> Iterator[Piece]:
+    """The comments, docstrings and texts of a Python source. The texts of scripts and tests are no messages of the
+    product.
+    """
     is_help = dict(docstrings(text))
     for token in tokenize.generate_tokens(io.StringIO(text).readline):
         line = token.start[0]
@@ -74,7 +86,7 @@ def python_pieces(name, text):
             yield "messages", line, without_expressions(token.string)
 
 
-def marked_pieces(text, marks):
+def marked_pieces(text: str, marks: str) -> Iterator[Piece]:
     """What follows one of the marks of a comment, a line at a time."""
     for number, line in enumerate(text.split("\n"), 1):
         # A star is a mark only at the start of a line; elsewhere it is a pointer or a product.
@@ -83,7 +95,7 @@ def marked_pieces(text, marks):
             yield "comments", number, found[1]
 
 
-def pieces(name, text):
+def pieces(name: str, text: str) -> Iterator[Piece]:
     """The prose of a file: its part, its line, and the text."""
     if name.endswith(".md") or re.match(r"docs/.*\.1$", name):
         yield "documents", 1, without_code(text)
@@ -92,21 +104,27 @@ def pieces(name, text):
     elif name.endswith(".rt"):
         yield from marked_pieces(text, "//[/!]?")
         if name.endswith("/command_line.rt"):
-            yield from (("messages", text[: found.start()].count("\n") + 1, found[1]) for found in re.finditer(r'"([^"]* [^"]*)"', text))
+            yield from (
+                ("messages", text[: found.start()].count("\n") + 1, found[1])
+                for found in re.finditer(r'"([^"]* [^"]*)"', text)
+            )
     elif name.endswith(".antt"):
         yield from marked_pieces(text, "--")
     elif name.endswith((".js", ".c", ".h", ".rs", ".css")):
-        yield from marked_pieces(re.sub(r"(@\w+ )?\{+[^{}\n]*\}+( \w+)?", " ", text) if name.endswith(".js") else text, r"//[/!]?|/\*\*?")
+        yield from marked_pieces(
+            re.sub(r"(@\w+ )?\{+[^{}\n]*\}+( \w+)?", " ", text) if name.endswith(".js") else text, r"//[/!]?|/\*\*?"
+        )
         if name.endswith(".js"):
             for found in JAVASCRIPT_TEXT.finditer(text):
-                yield "messages", text[: found.start()].count("\n") + 1, without_expressions(found[2]) if " " in found[2] else ""
+                if " " in found[2]:
+                    yield "messages", text[: found.start()].count("\n") + 1, without_expressions(found[2])
     elif name.endswith((".html", ".j2")):
         yield "messages", 1, re.sub(r"\{[{%#].*?[}%#]\}|<[^>]*>", " ", text, flags=re.S)
 
 
-def found_forms(files):
+def found_forms(files: Iterable[tuple[str, str]]) -> dict[str, list[str]]:
     """The forms of each part, as FILE:LINE: FORM (what to write)."""
-    found = {"documents": [], "messages": [], "comments": []}
+    found: dict[str, list[str]] = {"documents": [], "messages": [], "comments": []}
     for name, text in files:
         for part, first, piece in pieces(name, text):
             for match in FORM.finditer(re.sub(r"`[^`\n]*`|--\w+", " ", piece)):
@@ -114,16 +132,22 @@ def found_forms(files):
                 if match[0].isupper():
                     continue
                 line = first + piece[: match.start()].count("\n")
-                found[part].append(f"{name}:{line}: {match[0]} ({WANTED[int(match.lastgroup[1:])]})")
+                found[part].append(f"{name}:{line}: {match[0]} ({WANTED[int(str(match.lastgroup)[1:])]})")
     return found
 
 
 if __name__ == "__main__":
-    import os, subprocess, sys
+    import os
+    import subprocess
+    import sys
 
     os.chdir(os.path.dirname(os.path.dirname(os.path.abspath(__file__))))
     names = subprocess.run(["git", "ls-files"], capture_output=True, text=True).stdout.split()
-    found = found_forms((name, open(name, errors="replace").read()) for name in names if os.path.isfile(name) and not name.endswith(".png"))
+    found = found_forms(
+        (name, open(name, errors="replace").read())
+        for name in names
+        if os.path.isfile(name) and not name.endswith(".png")
+    )
     for part, lines in found.items():
         if part in sys.argv[1:]:
             print(*lines, sep="\n")

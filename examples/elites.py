@@ -3,10 +3,12 @@
 
 usage: examples/elites.py [GENERATIONS]      [default: 100]
 
-A behaviour is how often a warrior starts another process, in powers of two, and how many cells it executes, reads or writes, in tens; both
-in one round against three opponents. Those who live in a cycle share its reward, 4 in a whole round. The table has the greatest mean reward
-of each behaviour. It requires the package `corewar` with its library.
+A behaviour is how often a warrior starts another process, in powers of two, and how many cells it executes, reads or
+writes, in tens; both in one round against three opponents. Those who live in a cycle share its reward, 4 in a whole
+round. The table has the greatest mean reward of each behaviour. It requires the package `corewar` with its library.
 """
+from __future__ import annotations
+
 import os
 import random
 import sys
@@ -16,31 +18,38 @@ import corewar  # noqa: E402
 import numpy as np  # noqa: E402
 
 NANO, SIZE, ROUNDS = corewar.HILLS["nano"], 100, 20
-OPPONENTS = [corewar.assemble(text, settings=NANO) for text in ("MOV 0, 1", "SPL 0, <-9\nMOV 3, <2\nJMP -1", "JMP 0, <-3")]
+OPPONENTS = [
+    corewar.assemble(text, settings=NANO) for text in ("MOV 0, 1", "SPL 0, <-9\nMOV 3, <2\nJMP -1", "JMP 0, <-3")
+]
 
 
-def cell(dice):
-    return tuple(dice.randrange(limit) for limit in (16, 7, 8, 8, 80, 80))
+def cell(dice: random.Random) -> tuple[int, int, int, int, int, int]:
+    opcode, modifier, a_mode, b_mode, a, b = (dice.randrange(limit) for limit in (16, 7, 8, 8, 80, 80))
+    return opcode, modifier, a_mode, b_mode, a, b
 
 
-def child(dice, parent):
+def child(dice: random.Random, parent: corewar.Warrior) -> corewar.Warrior:
     """A copy of a warrior with a random cell in place of one of its own."""
     cells = parent.cells.copy()
     cells[dice.randrange(len(cells))] = cell(dice)
     return corewar.Warrior.from_cells(cells, settings=NANO)
 
 
-def behaviour(warrior, seed):
+def behaviour(warrior: corewar.Warrior, seed: int) -> tuple[int, int]:
     """The row and the column of a warrior in the table, by the records of a battle."""
     battle = corewar.Battle(corewar.Match([warrior, *OPPONENTS], settings=NANO, seed=seed))
     records, touched = battle.play(records=4 * NANO.cycles, touched=4 * NANO.cycles)
     own = records["warrior"] == 0
     used = np.arange(touched["address"].shape[1]) < touched["count"][own, None]
-    return np.count_nonzero(records["queued"][own] == 2).bit_length(), len(np.unique(touched["address"][own][used])) // 10
+    return (
+        np.count_nonzero(records["queued"][own] == 2).bit_length(),
+        len(np.unique(touched["address"][own][used])) // 10,
+    )
 
 
-def main(generations):
-    dice, elites = random.Random(1), {}
+def main(generations: int) -> None:
+    dice = random.Random(1)
+    elites: dict[tuple[int, int], tuple[float, corewar.Warrior]] = {}
     warriors = [corewar.Warrior.from_cells([cell(dice) for _ in range(5)], settings=NANO) for _ in range(SIZE)]
     lineups = [[place, SIZE, SIZE + 1, SIZE + 2] for place in range(SIZE)]
     for _ in range(generations):

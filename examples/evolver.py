@@ -3,9 +3,12 @@
 
 usage: examples/evolver.py [SECONDS [SEED]]      [default: 60 seconds, seed 1]
 
-It requires the package `corewar` with its library; run scripts/setup and scripts/library first. In each generation the best warriors stay
-and the others are replaced by children of the best with changed cells. One call runs all matches of a generation.
+It requires the package `corewar` with its library; run scripts/setup and scripts/library first. In each generation the
+best warriors stay and the others are replaced by children of the best with changed cells. One call runs all matches of
+a generation.
 """
+from __future__ import annotations
+
 import os
 import random
 import sys
@@ -14,10 +17,12 @@ from dataclasses import dataclass
 
 sys.path.insert(0, os.path.join(os.path.dirname(os.path.realpath(__file__)), "..", "python"))
 try:
-    import corewar  # noqa: E402
+    import corewar
 except ImportError as fault:
     sys.exit(f"evolver: {fault}; install the dependencies of corewar with scripts/setup")
 
+# The numbers of an instruction.
+Cell = tuple[int, int, int, int, int, int]
 NANO = corewar.HILLS["nano"]
 
 OPPONENTS = [
@@ -32,50 +37,58 @@ MODIFIERS, MODES = "A B AB BA F X I I".split(), "#$$@*<>{}"
 SIZE, BEST, ROUNDS = 100, 15, 20
 
 
-def cell(dice):
+def cell(dice: random.Random) -> Cell:
     """A random cell."""
-    number = lambda: f"{dice.choice(MODES)}{dice.randrange(-9, 10) if dice.randrange(3) else dice.randrange(80)}"
-    return corewar.cell_of(f"{dice.choice(OPCODES)}.{dice.choice(MODIFIERS)} {number()}, {number()}", NANO.core)
+
+    def operand() -> str:
+        return f"{dice.choice(MODES)}{dice.randrange(-9, 10) if dice.randrange(3) else dice.randrange(80)}"
+
+    return corewar.cell_of(f"{dice.choice(OPCODES)}.{dice.choice(MODIFIERS)} {operand()}, {operand()}", NANO.core)
 
 
-def child(dice, one, other):
+def child(dice: random.Random, one: list[Cell], other: list[Cell]) -> list[Cell]:
     """Cells of two parents, some of them inserted, removed or replaced."""
-    cells = one[: dice.randrange(len(one) + 1)] + other[dice.randrange(len(other)) :] if dice.randrange(3) == 0 else list(one)
+    cells = list(one)
+    if dice.randrange(3) == 0:
+        cells = one[: dice.randrange(len(one) + 1)] + other[dice.randrange(len(other)) :]
     for _ in range(dice.choice([1, 1, 2])):
         place = dice.randrange(len(cells) + 1)
         cells[place : place + dice.randrange(2)] = [cell(dice)] * dice.randrange(2)
     return cells[:5] or [cell(dice)]
 
 
-def warrior(cells):
+def warrior(cells: list[Cell]) -> corewar.Warrior:
     return corewar.Warrior.from_cells(cells, name="Evolved", author="evolver.py", settings=NANO)
 
 
 @dataclass
 class Candidate:
     """Cells, and their points in each generation."""
-    cells: list
-    points: list
 
-    def mean(self):
+    cells: list[Cell]
+    points: list[int]
+
+    def mean(self) -> float:
         return sum(self.points) / len(self.points)
 
 
-def fight(candidates, opponents, seed):
+def fight(candidates: list[Candidate], opponents: list[corewar.Warrior], seed: int) -> None:
     """Runs the matches of all candidates against all opponents, and sorts the candidates by their mean points."""
-    rows = corewar.population([warrior(one.cells) for one in candidates], opponents, rounds=ROUNDS, seed=seed, settings=NANO)
+    rows = corewar.population(
+        [warrior(one.cells) for one in candidates], opponents, rounds=ROUNDS, seed=seed, settings=NANO
+    )
     for one, row in zip(candidates, rows):
         one.points.append(row.points)
     candidates.sort(key=Candidate.mean, reverse=True)
 
 
-def measure(cells, opponents):
+def measure(cells: list[Cell], opponents: list[corewar.Warrior]) -> float:
     """Returns the points per round, in many rounds that no generation has played."""
     row = corewar.population([warrior(cells)], opponents, rounds=2000, seed=1_000_000_007, settings=NANO)[0]
     return row.points / (2000 * len(opponents))
 
 
-def given():
+def given() -> tuple[int, int]:
     """Returns the seconds and the seed of the arguments."""
     words = sys.argv[1:]
     if {"-h", "--help"} & set(words):
@@ -83,10 +96,11 @@ def given():
     if len(words) > 2 or not all(word.isdigit() for word in words):
         print("usage: examples/evolver.py [SECONDS [SEED]]", file=sys.stderr)
         sys.exit(2)
-    return [int(word) for word in words] + [60, 1][len(words):]
+    seconds, seed = [int(word) for word in words] + [60, 1][len(words) :]
+    return seconds, seed
 
 
-def main():
+def main() -> None:
     seconds, seed = given()
     dice, end = random.Random(seed), time.monotonic() + seconds
     opponents = [corewar.assemble(text, settings=NANO) for text in OPPONENTS]
@@ -98,7 +112,9 @@ def main():
         best = candidates[:BEST]
         if count & (count - 1) == 0:
             print(f"generation {count}: {measure(best[0].cells, opponents):.2f} points per round", file=sys.stderr)
-        candidates = best + [Candidate(child(dice, dice.choice(best).cells, dice.choice(best).cells), []) for _ in range(SIZE - BEST)]
+        candidates = best + [
+            Candidate(child(dice, dice.choice(best).cells, dice.choice(best).cells), []) for _ in range(SIZE - BEST)
+        ]
     print(f"after {count} generations: {measure(candidates[0].cells, opponents):.2f} points per round", file=sys.stderr)
     print(warrior(candidates[0].cells), end="")
 

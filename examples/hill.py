@@ -3,32 +3,42 @@
 
 usage: examples/hill.py [--size N] [--rounds N] [--settings NAME] STATE [FILE]...
 
-Each FILE, a source or a load file, plays a match against every warrior on the hill. If there are then more than N warriors, the last of the
-table is pushed off, which may be the newcomer; the age of the others is the number of challenges that they have survived. The first
-challenge makes STATE, a JSON file, with the options [default: 20 warriors, 100 rounds, settings of 94nop], and each one replaces it as a
-whole. Without FILE the hill is only printed. It requires the package `corewar` with its library.
+Each FILE, a source or a load file, plays a match against every warrior on the hill. If there are then more than N
+warriors, the last of the table is pushed off, which may be the newcomer; the age of the others is the number of
+challenges that they have survived. The first challenge makes STATE, a JSON file, with the options [default: 20
+warriors, 100 rounds, settings of 94nop], and each one replaces it as a whole. Without FILE the hill is only printed. It
+requires the package `corewar` with its library.
 """
+from __future__ import annotations
+
 import argparse
 import json
 import os
 import random
 import sys
+from typing import Any
 
 sys.path.insert(0, os.path.join(os.path.dirname(os.path.realpath(__file__)), "..", "python"))
 try:
-    import corewar  # noqa: E402
+    import corewar
 except ImportError as fault:
     sys.exit(f"hill: {fault}; install the dependencies of corewar with scripts/setup")
 
+# A hill, and a warrior of it, as they are in the file.
+Hill = dict[str, Any]
+Entry = dict[str, Any]
 
-def rates(one, rounds):
-    """The score of a warrior, its points for 100 rounds with 3 for a win and 1 for a tie; and its percents of wins and ties."""
+
+def rates(one: Entry, rounds: int) -> tuple[float, float, float]:
+    """The score of a warrior, its points for 100 rounds with 3 for a win and 1 for a tie; and its percents of wins and
+    ties.
+    """
     matches = one["against"].values()
     wins, ties = (100 * sum(column) / (rounds * len(matches)) for column in zip(*matches)) if matches else (0, 0)
     return 3 * wins + ties, wins, ties
 
 
-def fight(hill, newcomer):
+def fight(hill: Hill, newcomer: corewar.Warrior) -> Any:
     """Returns the survivors of all rounds of a match of a newcomer against each warrior of the hill."""
     others = [corewar.assemble(one["load"], settings=hill["settings"]) for one in hill["warriors"]]
     lineups = [[0, place] for place in range(1, len(others) + 1)]
@@ -39,10 +49,11 @@ def fight(hill, newcomer):
     return made["survived"]
 
 
-def challenge(hill, newcomer):
+def challenge(hill: Hill, newcomer: corewar.Warrior) -> list[Entry]:
     """Lets a newcomer challenge the hill. Returns the warriors that are pushed off."""
     hill["challenges"] += 1
-    new = {"number": str(hill["challenges"]), "title": newcomer.title, "load": str(newcomer), "age": 0, "against": {}}
+    number = str(hill["challenges"])
+    new: Entry = {"number": number, "title": newcomer.title, "load": str(newcomer), "age": 0, "against": {}}
     for other, survived in zip(hill["warriors"], fight(hill, newcomer)):
         ties = int(survived.all(axis=1).sum())
         wins, losses = (int(lives) - ties for lives in survived.sum(axis=0))
@@ -57,16 +68,18 @@ def challenge(hill, newcomer):
     return gone
 
 
-def replace(path, hill):
+def replace(path: str, hill: Hill) -> None:
     """Replaces the file of a hill as a whole, so that it is complete at any time."""
     with open(f"{path}.new", "w") as file:
         json.dump(hill, file, indent=1)
     os.replace(f"{path}.new", path)
 
 
-def given():
+def given() -> argparse.Namespace:
     """Returns the arguments."""
-    parser = argparse.ArgumentParser(description=__doc__, formatter_class=argparse.RawDescriptionHelpFormatter, usage=argparse.SUPPRESS)
+    parser = argparse.ArgumentParser(
+        description=__doc__, formatter_class=argparse.RawDescriptionHelpFormatter, usage=argparse.SUPPRESS
+    )
     parser.add_argument("--size", type=int, default=20, help=argparse.SUPPRESS)
     parser.add_argument("--rounds", type=int, default=100, help=argparse.SUPPRESS)
     parser.add_argument("--settings", default="94nop", choices=corewar.HILLS, help=argparse.SUPPRESS)
@@ -78,7 +91,7 @@ def given():
     return words
 
 
-def main():
+def main() -> None:
     words = given()
     hill = {"settings": words.settings, "rounds": words.rounds, "size": words.size, "challenges": 0, "warriors": []}
     if os.path.exists(words.state):
@@ -86,8 +99,8 @@ def main():
             hill = json.load(file)
         if not isinstance(hill, dict) or "challenges" not in hill:
             sys.exit(f"hill: {words.state} is not a hill")
-    for file in words.files:
-        gone = challenge(hill, corewar.read(file, settings=hill["settings"], rounds=hill["rounds"]))
+    for path in words.files:
+        gone = challenge(hill, corewar.read(path, settings=hill["settings"], rounds=hill["rounds"]))
         replace(words.state, hill)
         for one in gone:
             print(f"{one['title']} is pushed off at age {one['age']}")

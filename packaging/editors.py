@@ -2,9 +2,12 @@
 
 In the files of `editors`, words such as @OPCODES@ stand for the names that the package has, separated by `|`.
 """
+from __future__ import annotations
+
 import json
 import sys
 from pathlib import Path
+from typing import Any
 
 from corewar import __version__
 from corewar.explain import words
@@ -21,19 +24,19 @@ PLACES = {
 }
 
 
-def sublime(grammar):
+def sublime(grammar: dict[str, Any]) -> str:
     """The grammar of TextMate in the form that Sublime Text and bat read; JSON is YAML, too."""
     rules = [{"match": one["match"], "scope": one["name"]} for one in grammar["patterns"]]
     names = {"name": grammar["name"], "scope": grammar["scopeName"], "file_extensions": grammar["fileTypes"]}
     return "%YAML 1.2\n---\n" + json.dumps({**names, "contexts": {"main": rules}}, indent=2) + "\n"
 
 
-def write(path, text):
+def write(path: Path, text: str) -> None:
     path.parent.mkdir(parents=True, exist_ok=True)
     path.write_text(text)
 
 
-def main():
+def main() -> None:
     share = Path(sys.argv[1])
     for path in sorted(path for path in HERE.rglob("*") if path.is_file()):
         folder, *below = path.relative_to(HERE).parts

@@ -1,18 +1,24 @@
 """Properties of the machine: the toolchain, processors, free memory, and Debian packages."""
-import os, re, shutil, subprocess
+from __future__ import annotations
 
-# The files with the limit and the use of a control group, of either version; without a limit the first has no number, or a huge one.
+import os
+import re
+import shutil
+import subprocess
+
+# The files with the limit and the use of a control group, of either version; without a limit the first has no number,
+# or a huge one.
 GROUPS = [("memory.max", "memory.current"), ("memory/memory.limit_in_bytes", "memory/memory.usage_in_bytes")]
 
 
-def toolchain():
+def toolchain() -> str | None:
     """Returns the folder of the Rattle toolchain, which has the guide that `rt doc` prints, or None without `rt`."""
     if not shutil.which("rt"):
         return None
     return os.path.dirname(subprocess.run(["rt", "doc"], capture_output=True, text=True).stdout.strip())
 
 
-def number_in(name, pattern=r"(\d+)\s*$"):
+def number_in(name: str, pattern: str = r"(\d+)\s*$") -> int | None:
     """Returns a number in a file of the system, or None."""
     try:
         with open(name) as file:
@@ -22,9 +28,9 @@ def number_in(name, pattern=r"(\d+)\s*$"):
     return int(found[1]) if found else None
 
 
-def free_memory():
+def free_memory() -> int:
     """Returns the free memory in bytes, of the machine or of the control group, whichever is less."""
-    free = [1024 * number_in("/proc/meminfo", r"MemAvailable: *(\d+)")]
+    free = [1024 * (number_in("/proc/meminfo", r"MemAvailable: *(\d+)") or 0)]
     for names in GROUPS:
         limit, used = (number_in(f"/sys/fs/cgroup/{name}") for name in names)
         if limit is not None and used is not None:
@@ -32,12 +38,12 @@ def free_memory():
     return min(free)
 
 
-def at_a_time(memory):
+def at_a_time(memory: int) -> int:
     """Returns for how many processes with this much memory, in bytes, there are processors and memory: at least one."""
     return max(1, min(len(os.sched_getaffinity(0)), free_memory() // memory))
 
 
-def is_missing(package):
+def is_missing(package: str) -> bool:
     """Returns whether neither the Debian package is installed nor a command of its name exists."""
     if shutil.which(package):
         return False

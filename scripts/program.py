@@ -1,4 +1,6 @@
 """The built program of this repository, or another one that was given."""
+from __future__ import annotations
+
 import os
 import shutil
 
@@ -12,10 +14,9 @@ class NoProgram(Exception):
     """There is no program to run; the text names it."""
 
 
-def find_program(given=None):
+def find_program(given: str | None = None) -> str:
     """Returns the file of the program: the given one, or the built one, or one on the path. Raises NoProgram."""
-    known = (path for path in (BUILT, shutil.which("mars")) if path and os.path.isfile(path))
-    program = given or next(known, BUILT)
+    program = given or (BUILT if os.path.isfile(BUILT) else shutil.which("mars") or BUILT)
     if not os.path.isfile(program) or not os.access(program, os.X_OK):
         raise NoProgram(f"{program}: no such program" + ("" if given else "; prove and build it with `./mars --help`"))
     return os.path.abspath(program)

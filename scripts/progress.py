@@ -1,21 +1,26 @@
 """Reports the progress of a build on standard error, with the remaining time."""
+from __future__ import annotations
+
 import json
 import shutil
 import sys
 import time
+from collections.abc import Iterator
 
 # The maximum time without a line if there is no terminal, in seconds.
 SILENCE = 20
 
 
-def clock(seconds):
+def clock(seconds: float) -> str:
     return f"{int(seconds) // 60} min {int(seconds) % 60} s"
 
 
 class Reckoning:
-    """The expected time of each crate, in seconds from the start of a build: as in the last build, from a file, or only that of the last crate."""
+    """The expected time of each crate, in seconds from the start of a build: as in the last build, from a file, or only
+    that of the last crate.
+    """
 
-    def __init__(self, path, crates, whole):
+    def __init__(self, path: str, crates: list[str], whole: float) -> None:
         self.path = path
         try:
             with open(path) as file:
@@ -24,48 +29,54 @@ class Reckoning:
         except (OSError, ValueError, LookupError, TypeError):
             self.due = {crates[-1]: whole}
 
-    def whole(self):
+    def whole(self) -> float:
         return max(self.due.values())
 
-    def left(self, proved, seconds):
-        """Returns the remaining seconds, at the pace of the crate that was proved last, or slower if another one is late."""
+    def left(self, proved: dict[str, float], seconds: float) -> float:
+        """Returns the remaining seconds, at the pace of the crate that was proved last, or slower if another one is
+        late.
+        """
         paces = [when / self.due[crate] for crate, when in proved.items() if crate in self.due]
         late = [seconds / when for crate, when in self.due.items() if crate not in proved]
         return self.whole() * max([paces[-1] if paces else 1, *late]) - seconds
 
-    def keep(self, proved):
+    def keep(self, proved: dict[str, float]) -> None:
         with open(self.path, "w") as file:
             json.dump(proved, file)
 
 
 class Progress:
-    """Reports the progress of a build: on a terminal in one line that is rewritten every second, otherwise in a line for each proved crate,
-    and one with the crates in progress after a while without a line."""
+    """Reports the progress of a build: on a terminal in one line that is rewritten every second, otherwise in a line
+    for each proved crate, and one with the crates in progress after a while without a line."""
 
-    def __init__(self, count, reckoning=None):
-        self.count, self.reckoning, self.proved = count, reckoning, {}
+    def __init__(self, count: int, reckoning: Reckoning | None = None) -> None:
+        self.count, self.reckoning = count, reckoning
+        self.proved: dict[str, float] = {}
         self.begun = self.told = time.monotonic()
         self.is_terminal = sys.stderr.isatty()
 
-    def add(self, crate):
+    def add(self, crate: str) -> None:
         """Reports a crate as proved."""
         self.proved[crate] = time.monotonic() - self.begun
         if not self.is_terminal:
             self.tell(f"mars: proved {crate}, {len(self.proved)} of {self.count} ({clock(self.proved[crate])})")
 
-    def go_on(self, at_work):
+    def go_on(self, at_work: list[str]) -> None:
         """Reports the crates in progress, if it is time to."""
         if time.monotonic() - self.told >= (1 if self.is_terminal else SILENCE):
             seconds = time.monotonic() - self.begun
-            parts = [f"mars: {len(self.proved)} of {self.count} crates proved in {clock(seconds)}", *self.time_left(seconds)]
+            parts = [
+                f"mars: {len(self.proved)} of {self.count} crates proved in {clock(seconds)}",
+                *self.time_left(seconds),
+            ]
             self.tell(f"{', '.join(parts)}; proving {' and '.join(at_work)}")
 
-    def time_left(self, seconds):
+    def time_left(self, seconds: float) -> Iterator[str]:
         left = self.reckoning.left(self.proved, seconds) if self.reckoning else 0
         if left > 0:
             yield f"about {left / 60:.0f} min left" if left >= 90 else "about a minute left"
 
-    def tell(self, line):
+    def tell(self, line: str) -> None:
         """Writes a line, on a terminal over the previous one."""
         self.told = time.monotonic()
         if self.is_terminal:
@@ -73,8 +84,12 @@ class Progress:
         else:
             print(line, file=sys.stderr, flush=True)
 
-    def end(self):
+    def end(self) -> None:
         """Ends the line on a terminal."""
         if self.is_terminal:
-            done = f"mars: proved {len(self.proved)} crates in {clock(time.monotonic() - self.begun)}\n" if len(self.proved) == self.count > 0 else ""
+            done = (
+                f"mars: proved {len(self.proved)} crates in {clock(time.monotonic() - self.begun)}\n"
+                if len(self.proved) == self.count > 0
+                else ""
+            )
             print(f"\r\033[K{done}", end="", file=sys.stderr, flush=True)

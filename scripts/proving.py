@@ -1,9 +1,12 @@
 """Two ways to prove crates: from scratch, given the statements of the crates below, or with stored work."""
+from __future__ import annotations
+
 import os
 import re
 import shutil
 import subprocess
 import tempfile
+from collections.abc import Iterable
 
 from machine import at_a_time, toolchain
 from program import BUILT as PROGRAM_FILE, CRATE, TOP
@@ -25,45 +28,49 @@ MEMORY_OF_A_JOB = 3_300_000_000
 class NotProved(Exception):
     """A crate could not be proved; `said` is the output of the prover."""
 
-    def __init__(self, name, said):
+    def __init__(self, name: str, said: str) -> None:
         super().__init__(f"cannot prove {crate_of(name)}")
         self.said = said
 
 
-def crate_of(name):
+def crate_of(name: str) -> str:
     return name.split()[0]
 
 
-def lines_of(*built):
+def lines_of(*built: str) -> dict[str, list[str]]:
     """Returns the lines of crates.txt for what is built and for everything that it uses, without crates of tests."""
     lines = crate_lines()
     wanted = {*built, *(name for one in built for name in all_below(one, lines))}
     return {name: lines[name] for name in lines if name in wanted}
 
 
-def folder_of(name):
+def folder_of(name: str) -> str:
     return os.path.join(TOP, "crates", crate_of(name))
 
 
-def made_of(name):
+def made_of(name: str) -> str:
     """Returns the result of proving a crate: the file that is built from it, or its statements."""
     return BUILT.get(name) or os.path.join(folder_of(name), "out", "rlib", f"{name}.rlib")
 
 
-def has_work(name):
+def has_work(name: str) -> bool:
     """Returns whether there is stored work for later checks."""
     return os.path.isdir(os.path.join(folder_of(name), "out", "incremental"))
 
 
-def time_of(path):
-    """Returns when a file was written, or a folder of statements; with a mark, when the proof of these began. None if there is none."""
-    written, mark = (os.path.join(path, "format"), os.path.join(os.path.dirname(path), MARK)) if os.path.isdir(path) else (path, "")
+def time_of(path: str) -> float | None:
+    """Returns when a file was written, or a folder of statements; with a mark, when the proof of these began. None if
+    there is none.
+    """
+    written, mark = (
+        (os.path.join(path, "format"), os.path.join(os.path.dirname(path), MARK)) if os.path.isdir(path) else (path, "")
+    )
     if not os.path.exists(written):
         return None
     return os.stat(mark if os.path.exists(mark) else written).st_mtime
 
 
-def is_newer(made, names):
+def is_newer(made: str, names: Iterable[str]) -> bool:
     """Returns whether a result is newer than all sources of these crates."""
     when = time_of(made)
     folders = [os.path.join(folder_of(name), part) for name in names for part in ("src", "specs", "proofs")]
@@ -71,52 +78,67 @@ def is_newer(made, names):
     return when is not None and all((time_of(path) or 0) < when for path in (os.path.join(TOP, "crates.txt"), *files))
 
 
-def built_anew(lines):
+def built_anew(lines: dict[str, list[str]]) -> set[str]:
     """Returns which of the program and the archive are newer than all their sources."""
     return {name for name in BUILT.keys() & lines.keys() if is_newer(BUILT[name], [name, *all_below(name, lines)])}
 
 
-def builder_of(library):
+def builder_of(library: str) -> str | None:
     """Returns the line of a library with the build of the prover that wrote it."""
     with open(os.path.join(library, "format"), errors="replace") as file:
         return next((line for line in file if line.startswith("rattle-build ")), None)
 
 
-def run(words, name, folder):
+def run(words: list[str], name: str, folder: str) -> str:
     """Runs a command in a folder and returns its output. Raises NotProved if it fails."""
-    done = subprocess.run(words, cwd=folder, stdout=subprocess.PIPE, stderr=subprocess.STDOUT, text=True, errors="replace")
+    done = subprocess.run(
+        words, cwd=folder, stdout=subprocess.PIPE, stderr=subprocess.STDOUT, text=True, errors="replace"
+    )
     if done.returncode:
         raise NotProved(name, done.stdout)
     return done.stdout
 
 
 class FromNothing:
-    """Proves each crate from scratch, given the statements of those below it, as `rt ci` does, and leaves its statements in the same place."""
+    """Proves each crate from scratch, given the statements of those below it, as `rt ci` does, and leaves its
+    statements in the same place.
+    """
 
-    def __init__(self, lines):
+    def __init__(self, lines: dict[str, list[str]]) -> None:
         self.lines, self.kit, self.most = lines, toolchain(), at_a_time(MEMORY_OF_A_JOB)
 
-    def jobs(self, at_once):
-        """Returns the number of jobs of each of `at_once` crates. All jobs are busy all the time, so the crates share them."""
+    def jobs(self, at_once: int) -> int:
+        """Returns the number of jobs of each of `at_once` crates. All jobs are busy all the time, so the crates share
+        them.
+        """
         return max(1, self.most // at_once)
 
-    def proved(self):
-        """Returns what need not be proved: unchanged since the program or the archive was built, or since the crate was proved in this way."""
+    def proved(self) -> set[str]:
+        """Returns what need not be proved: unchanged since the program or the archive was built, or since the crate was
+        proved in this way.
+        """
         found = built_anew(self.lines)
         for name in self.lines:
             made, below = made_of(name), [one for one in self.lines[name] if one in self.lines]
-            if name not in BUILT and found.issuperset(below) and self.is_stated(name) and all(time_of(made_of(one)) <= time_of(made) for one in below):
+            if (
+                name not in BUILT
+                and found.issuperset(below)
+                and self.is_stated(name)
+                and all((time_of(made_of(one)) or 0) <= (time_of(made) or 0) for one in below)
+            ):
                 found.add(name)
         return found
 
-    def is_stated(self, name):
-        """Returns whether the statements of a crate are newer than its sources, and written by this prover in this way."""
+    def is_stated(self, name: str) -> bool:
+        """Returns whether the statements of a crate are newer than its sources, and of this prover and this way."""
         made = made_of(name)
         is_whole = os.path.exists(os.path.join(os.path.dirname(made), "stamp"))
         return is_newer(made, [name]) and not is_whole and builder_of(made) == builder_of(f"{self.kit}/rlibs/std.rlib")
 
-    def prove(self, name, jobs):
-        """Proves a crate in `jobs` jobs. The program uses one, since every other one would read the statements of all crates again."""
+    def prove(self, name: str, jobs: int) -> None:
+        """Proves a crate in `jobs` jobs. The program uses one, since every other one would read the statements of all
+        crates again.
+        """
         made = made_of(name)
         if name not in BUILT:
             shutil.rmtree(os.path.dirname(made), ignore_errors=True)
@@ -136,27 +158,31 @@ class FromNothing:
             self.build(name, ["--toolchain", tools, "--jobs", "1", "-o", f"{made}.o"])
             self.link(f"{made}.o", made)
 
-    def build(self, name, words):
+    def build(self, name: str, words: list[str]) -> None:
         """Calls the prover to check a crate and build something from it."""
-        crate = crate_of(name)
-        command = [f"{self.kit}/bin/rattle", "build", "--crate-name", crate, "src/main.rt" if name == PROGRAM else "src/lib.rt"]
+        crate, root = crate_of(name), "src/main.rt" if name == PROGRAM else "src/lib.rt"
+        command = [f"{self.kit}/bin/rattle", "build", "--crate-name", crate, root]
         for library in ["std", *self.lines[name]]:
-            command += ["--extern", f"{library}={made_of(library) if library in self.lines else f'{self.kit}/rlibs/{library}.rlib'}"]
-        for folder in [f"{self.kit}/rlibs", *(os.path.dirname(made_of(one)) for one in sorted(all_below(name, self.lines)))]:
+            made = made_of(library) if library in self.lines else f"{self.kit}/rlibs/{library}.rlib"
+            command += ["--extern", f"{library}={made}"]
+        below = [os.path.dirname(made_of(one)) for one in sorted(all_below(name, self.lines))]
+        for folder in [f"{self.kit}/rlibs", *below]:
             command += ["-L", f"dependency={folder}"]
-        command += ["--links", f"{crate}=", "--antt-project", f"{self.kit}/rattle/logic/antt-project.json", "--logic-built", f"{self.kit}/logic_built"]
+        command += ["--links", f"{crate}=", "--antt-project", f"{self.kit}/rattle/logic/antt-project.json"]
+        command += ["--logic-built", f"{self.kit}/logic_built"]
         said = run([*command, *words], name, folder_of(name))
         if not re.search(r"^logic=proved ", said, re.M):
             raise NotProved(name, said)
 
-    def link(self, compiled, program):
+    def link(self, compiled: str, program: str) -> None:
         """Links the program and replaces an older one, which may be running."""
-        command = [f"{self.kit}/bin/rattle-link", "--target", "x86_64-unknown-linux-gnu", "--toolchain", f"{self.kit}/toolchain", "-o", f"{program}.new", compiled]
+        command = [f"{self.kit}/bin/rattle-link", "--target", "x86_64-unknown-linux-gnu"]
+        command += ["--toolchain", f"{self.kit}/toolchain", "-o", f"{program}.new", compiled]
         run([*command, f"{self.kit}/c/libos_c.a", f"{self.kit}/c/liblibc_c.a"], PROGRAM, TOP)
         os.replace(f"{program}.new", program)
         os.remove(compiled)
 
-    def tidy(self):
+    def tidy(self) -> None:
         """Removes what a build has left of the crates, except the built files."""
         for folder in (os.path.dirname(made_of(name)) for name in self.lines if name not in BUILT):
             if os.path.exists(os.path.join(folder, MARK)):
@@ -164,21 +190,26 @@ class FromNothing:
 
 
 class Kept:
-    """Proves crates with `rt lib` and `rt run`, which store work for later checks. `rt` runs one check at a time in a crate and in those below
-    it, so each is proved in a room of its own with links to them; the results are moved out of there."""
+    """Proves crates with `rt lib` and `rt run`, which store work for later checks. `rt` runs one check at a time in a
+    crate and in those below it, so each is proved in a room of its own with links to them; the results are moved out of
+    there."""
 
-    def __init__(self, lines, rooms):
+    def __init__(self, lines: dict[str, list[str]], rooms: str) -> None:
         self.lines, self.rooms, self.most = lines, rooms, at_a_time(MEMORY_OF_A_JOB)
 
-    def jobs(self, _at_once):
-        """Returns all jobs for each crate, since a check begins and ends with one busy job and leaves the others to other crates."""
+    def jobs(self, _at_once: int) -> int:
+        """Returns all jobs for each crate, since a check begins and ends with one busy job and leaves the others to
+        other crates.
+        """
         return self.most
 
-    def proved(self):
-        """Returns what need not be built again: unchanged, with all its work. Changes in the crates below are found by `rt`."""
+    def proved(self) -> set[str]:
+        """Returns what need not be built again: unchanged, with all its work. Changes in the crates below are found by
+        `rt`.
+        """
         return {name for name in built_anew(self.lines) if all(map(has_work, (name, *all_below(name, self.lines))))}
 
-    def prove(self, name, jobs):
+    def prove(self, name: str, jobs: int) -> None:
         """Proves a crate in `jobs` jobs, with those below it, and stores the results."""
         room = os.path.join(self.rooms, crate_of(name))
         wanted = {name, *all_below(name, self.lines)}
@@ -192,5 +223,5 @@ class Kept:
                 shutil.rmtree(kept, ignore_errors=True)
                 os.rename(os.path.join(made, "out"), kept)
 
-    def tidy(self):
-        """Everything is stored."""
+    def tidy(self) -> None:
+        """Leaves everything, since later checks use it."""

@@ -1,4 +1,7 @@
-"""Builds mars.wasm: the proved library for browsers and Node, from the module that the native library is compiled from."""
+"""Builds mars.wasm: the proved library for browsers and Node, from the module that the native library is compiled from.
+"""
+from __future__ import annotations
+
 import os
 import re
 import shutil
@@ -22,8 +25,20 @@ exec '{clang}' "$@"
 TARGET = "wasm64-unknown-unknown"
 LAYOUT = "e-m:e-p:64:64-p10:8:8-p20:8:8-i64:64-i128:128-n32:64-S128-ni:1:10:20"
 COMPILE = [f"--target={TARGET}", "-mcpu=lime1", "-mbulk-memory", "-O3", "--no-default-config"]
+# Writes a module as text, as it is.
+DISASSEMBLE = "-S -emit-llvm -Xclang -disable-llvm-passes --no-default-config -x ir".split()
+# The options of the native library.
+AS_NATIVE = ["-ffunction-sections", "-fno-vectorize", "-fno-slp-vectorize"]
 STACK, MAX_MEMORY = 1 << 20, 1 << 30
-LINK = ["-mwasm64", "--no-entry", "--gc-sections", "--stack-first", "-z", f"stack-size={STACK}", f"--max-memory={MAX_MEMORY}"]
+LINK = [
+    "-mwasm64",
+    "--no-entry",
+    "--gc-sections",
+    "--stack-first",
+    "-z",
+    f"stack-size={STACK}",
+    f"--max-memory={MAX_MEMORY}",
+]
 FEATURES = "memory64 bulk-memory sign-ext nontrapping-float-to-int multivalue mutable-globals".split()
 TABLE, ELEMENTS = 4, 9
 
@@ -32,7 +47,7 @@ class CannotBuild(Exception):
     """mars.wasm cannot be built; the text says why."""
 
 
-def keeping_toolchain(toolchain, folder, kept):
+def keeping_toolchain(toolchain: str, folder: str, kept: str) -> str:
     """Makes a folder like that of the toolchain, whose clang keeps its module in the file `kept`."""
     os.makedirs(os.path.join(folder, "bin"))
     for name in os.listdir(toolchain):
@@ -48,14 +63,14 @@ def keeping_toolchain(toolchain, folder, kept):
     return folder
 
 
-def run(*words, folder=None):
+def run(*words: str, folder: str | None = None) -> str:
     done = subprocess.run(words, cwd=folder, capture_output=True, text=True)
     if done.returncode:
         raise CannotBuild(f"{os.path.basename(words[0])}: {(done.stderr or done.stdout).strip()[-600:]}")
     return done.stdout
 
 
-def check_module(module, archive, toolchain, room):
+def check_module(module: str, archive: str, toolchain: str, room: str) -> None:
     """Checks that the module is the one that the archive was compiled from: compiled again, it has the same bytes."""
     with open(f"{module}.args") as file:
         words = file.read().splitlines()
@@ -68,18 +83,18 @@ def check_module(module, archive, toolchain, room):
             raise CannotBuild("the kept module is not that of the native library")
 
 
-def for_webassembly(text):
+def for_webassembly(text: str) -> str:
     """The text of a module of x86-64 as one of wasm64."""
     text = re.sub(r"^target datalayout = .*", f'target datalayout = "{LAYOUT}"', text, flags=re.M)
     text = re.sub(r"^target triple = .*", f'target triple = "{TARGET}"', text, flags=re.M)
     return re.sub(r' ?"(probe-stack|stack-probe-size|target-cpu)"="[^"]*"', "", text)
 
 
-def with_narrow_table(code):
+def with_narrow_table(code: bytes) -> bytes:
     """The module with 32-bit limits of its table, which is empty: Debian's binaryen reads no others."""
     code, at = bytearray(code), 8
 
-    def number(at):
+    def number(at: int) -> tuple[int, int]:
         value = shift = 0
         while True:
             byte, at = code[at], at + 1
@@ -90,6 +105,7 @@ def with_narrow_table(code):
     while at < len(code):
         kind, (size, body) = code[at], number(at + 1)
         if kind == TABLE:
+            # After the number of tables and the type of its elements: the flags of its limits, of which 4 is 64 bits.
             code[number(body)[1] + 1] &= ~4
         if kind == ELEMENTS:
             raise CannotBuild("the module has calls through a table, which cannot be lowered")
@@ -97,24 +113,31 @@ def with_narrow_table(code):
     return bytes(code)
 
 
-def exports():
-    """The calls of the header."""
+def exports() -> list[str]:
+    """Returns the names of the calls of the header, all that the module exports."""
     with open(HEADER) as file:
         return re.findall(r"^(?:uint32_t|size_t) (mars_\w+)\(", file.read(), re.M)
 
 
-def build_wasm(module, archive, toolchain, room, out):
-    """Builds mars.wasm in the file `out`. Raises CannotBuild."""
-    clang, text, linked = os.path.join(toolchain, "bin", "clang"), os.path.join(room, "module.ll"), os.path.join(room, "mars.wasm")
-    check_module(module, archive, toolchain, room)
-    run(clang, "-S", "-emit-llvm", "-x", "ir", module, "-o", text, "-Xclang", "-disable-llvm-passes", "--no-default-config")
+def compiled(module: str, toolchain: str, room: str) -> list[str]:
+    """Compiles the module, and the heap that it calls, for wasm64. Returns the files of both."""
+    clang, text = os.path.join(toolchain, "bin", "clang"), os.path.join(room, "module.ll")
+    run(clang, *DISASSEMBLE, module, "-o", text)
     with open(text) as file:
         source = for_webassembly(file.read())
     with open(text, "w") as file:
         file.write(source)
     objects = [os.path.join(room, "library.o"), os.path.join(room, "heap.o")]
-    run(clang, *COMPILE, "-ffunction-sections", "-fno-vectorize", "-fno-slp-vectorize", "-c", "-x", "ir", text, "-o", objects[0])
+    run(clang, *COMPILE, *AS_NATIVE, "-c", "-x", "ir", text, "-o", objects[0])
     run(clang, *COMPILE, "-ffreestanding", "-fno-builtin", "-c", HEAP, "-o", objects[1])
+    return objects
+
+
+def build_wasm(module: str, archive: str, toolchain: str, room: str, out: str) -> None:
+    """Builds mars.wasm in the file `out`. Raises CannotBuild."""
+    check_module(module, archive, toolchain, room)
+    objects, linked = compiled(module, toolchain, room), os.path.join(room, "mars.wasm")
+    # LLVM's linker is one program, which links for WebAssembly if it is called by this name.
     linker = os.path.join(room, "wasm-ld")
     os.symlink(os.path.join(toolchain, "bin", "ld.lld"), linker)
     run(linker, *LINK, *(f"--export={name}" for name in exports()), "-o", linked, *objects)

@@ -5,7 +5,7 @@ the same (`is_listed`).
 """
 from __future__ import annotations
 
-from collections.abc import Sequence
+from collections.abc import Callable, Sequence
 from typing import Any, NamedTuple
 
 import numpy as np
@@ -88,8 +88,8 @@ def edit_of(line: str, core: int) -> Edit:
     word, rest = line.split(" ", 1)
     count = {"edit": 1, "fill": 2}.get(word)
     if count is None:
-        make = {"move": Edit.move, "kill": Edit.kill, "spawn": Edit.add}[word]
-        return make(*map(int, rest.split()))
+        makers: dict[str, Callable[..., Edit]] = {"move": Edit.move, "kill": Edit.kill, "spawn": Edit.add}
+        return makers[word](*map(int, rest.split()))
     *places, cell = rest.split(" ", count)
     return Edit.fill(int(places[0]), int(places[-1]), cell_of(cell, core))
 

@@ -127,11 +127,11 @@ def chromium() -> Browser:
     path = shutil.which("chromedriver")
     if path is None:
         skip("Chromium", "there is no chromedriver", "chromium-driver")
-    options = webdriver.ChromeOptions()
+    options: Any = webdriver.ChromeOptions()
     for word in ("--headless=new", "--no-sandbox", "--disable-gpu", "--disable-dev-shm-usage"):
         options.add_argument(word)
     options.set_capability("goog:loggingPrefs", {"browser": "ALL"})
-    driver = webdriver.Chrome(service=Service(path), options=options)
+    driver: Any = webdriver.Chrome(service=Service(path), options=options)
     driver.set_script_timeout(120)
 
     def resize(width: int, height: int) -> None:

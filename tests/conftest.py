@@ -42,8 +42,8 @@ class Begun(subprocess.Popen[str]):
 
 def begin(*words: object, **how: Any) -> Begun:
     """`corewar` with words, as it is begun and not waited for."""
-    options = {"env": ENVIRONMENT, "stdout": subprocess.PIPE, "stderr": subprocess.PIPE, "text": True, **how}
-    return Begun([*COMMAND, *map(str, words)], **options)
+    options: dict[str, Any] = {"env": ENVIRONMENT, "stdout": subprocess.PIPE, "stderr": subprocess.PIPE, "text": True}
+    return Begun([*COMMAND, *map(str, words)], **{**options, **how})
 
 
 @pytest.fixture
@@ -88,6 +88,6 @@ def browser() -> Iterator[Any]:
 
 def until(browser: Any, condition: str) -> None:
     """Waits until something is so in the page."""
-    from selenium.webdriver.support.ui import WebDriverWait
+    from selenium.webdriver.support.wait import WebDriverWait
 
     WebDriverWait(browser, 20).until(lambda driver: driver.execute_script(f"return !!({condition})"))

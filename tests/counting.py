@@ -3,6 +3,7 @@ from __future__ import annotations
 
 import os
 from pathlib import Path
+from typing import NoReturn
 
 import pytest
 
@@ -12,6 +13,6 @@ SCRIPTS = os.path.join(TOP, "scripts")
 PROGRAM = os.path.abspath(os.environ.get("MARS") or f"{TOP}/crates/mars/out/mars")
 
 
-def skip(name: str, why: str, package: str | None = None) -> None:
+def skip(name: str, why: str, package: str | None = None) -> NoReturn:
     """Skips a test that can't run on this machine, and names the Debian package that it requires."""
     pytest.skip(f"{name}: {why}" + (f" (package {package})" if package else ""))

@@ -6,6 +6,7 @@ words that the library accepts are compared with `is_battle`, which is written f
 from __future__ import annotations
 
 import random
+from collections.abc import Callable
 from typing import Any
 
 import numpy as np
@@ -166,7 +167,12 @@ def test_errors_of_blocks(changes: dict[int, int], error: tuple[int, ...]) -> No
     for place, word in changes.items():
         words[place] = word
     before = words.copy()
-    for ask in (lambda: call("mars_check", *slices(words)), lambda: play(words, 1, 1), lambda: edit(words, 3)):
+    asks: list[Callable[[], object]] = [
+        lambda: call("mars_check", *slices(words)),
+        lambda: play(words, 1, 1),
+        lambda: edit(words, 3),
+    ]
+    for ask in asks:
         with pytest.raises(Fault) as found:
             ask()
         told = found.value
@@ -207,7 +213,8 @@ REFUSED = [
 def test_errors_of_edits(given: Any, number: int) -> None:
     """Each refusal of an edit, of a battle whose warrior 1 has all its processes and whose warrior 2 is dead."""
     words = three()
-    edit(words, 4, 1, 0, 5), edit(words, 4, 1, 0, 6), edit(words, 3, 2, 0)
+    for one in ((4, 1, 0, 5), (4, 1, 0, 6), (3, 2, 0)):
+        edit(words, *one)
     before = words.copy()
     with pytest.raises(Fault) as found:
         edit(words, *given)

@@ -75,7 +75,8 @@ def test_formats_for_programs(run: Run) -> None:
 
 def test_error(run: Run) -> None:
     """Of 4 rounds 2 give 3 points, so their sum has the variance 4 * 3, and the score the error 100 / 4 * 12 ** 0.5."""
-    for words in ([], ["--sum"]):
+    options: list[list[str]] = [[], ["--sum"]]
+    for words in options:
         told = run("challenge", "--format", "csv", *words, "-r", 4, "dead.red", "dead.red").stdout.splitlines()[1]
         assert told == "dead.red,Dead,Anonymous,6,2,0,2,6,4,50.0,0.0,50.0,150.0,86.6025"
 

@@ -67,8 +67,8 @@ def started(share: Path, *words: object, **more: str) -> str:
     home = share.parent
     environment = {**ENVIRONMENT, "HOME": str(home), "XDG_DATA_HOME": str(share), "XDG_CONFIG_HOME": str(home), **more}
     environment |= {"PATH": f"{home}/bin:{os.environ['PATH']}", "TERM": "dumb"}
-    options: dict[str, Any] = {"capture_output": True, "text": True, "timeout": 120}
-    done = subprocess.run([*map(str, words)], cwd=home, env=environment, **options)
+    command = [*map(str, words)]
+    done = subprocess.run(command, cwd=home, env=environment, capture_output=True, text=True, timeout=120)
     assert done.returncode == 0, done.stdout + done.stderr
     return done.stdout
 

@@ -1,7 +1,7 @@
 """A history is what the machine says of each turn, whatever the blocks and the edits."""
 from __future__ import annotations
 
-from collections.abc import Iterator
+from collections.abc import Callable, Iterator
 
 import numpy as np
 import pytest
@@ -247,7 +247,8 @@ def test_a_notebook_shows_its_end() -> None:
 def test_what_is_no_turn_is_rejected() -> None:
     history, edit = dwarf_and_imp(), Edit.kill(0, 0)
     for turn in (-1, history.end + 1):
-        for call in (history.state, history.owners, lambda turn: history.edited(turn, edit)):
+        calls: list[Callable[[int], object]] = [history.state, history.owners, lambda turn: history.edited(turn, edit)]
+        for call in calls:
             with pytest.raises(Refused, match=f"the battle has turns 0 to {history.end}"):
                 call(turn)
     for turn in (0, -1, history.end + 1):
@@ -312,7 +313,8 @@ def test_a_battle_is_checked() -> None:
     with pytest.raises(Fault, match="^block 2 Mark$"):
         Battle.of_bytes(b"\0" + bytes(battle)[1:])
     battle.cells[7] = (16, 0, 0, 0, 0, 0)
-    for use in (battle.check, battle.play, lambda: battle.edit(Edit.kill(0, 0))):
+    uses: list[Callable[[], object]] = [battle.check, battle.play, lambda: battle.edit(Edit.kill(0, 0))]
+    for use in uses:
         with pytest.raises(Fault, match="^block 5 Cell$") as fault:
             use()
         assert fault.value.line == 7

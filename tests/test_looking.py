@@ -171,7 +171,8 @@ def test_ctrl_c_ends_a_match(tmp_path: Path) -> None:
             time.sleep(0.05)
         time.sleep(0.5)
         process.send_signal(signal.SIGINT)
-        assert process.communicate(timeout=20) == (None, "\ncorewar: stopped\n") and process.returncode == 130
+        _, faults = process.communicate(timeout=20)
+        assert (faults, process.returncode) == ("\ncorewar: stopped\n", 130)
 
 
 def test_a_write_that_changes_nothing(run: Run, tmp_path: Path) -> None:

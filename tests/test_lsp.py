@@ -175,12 +175,13 @@ def edited(text: str, edit: Params) -> str:
 
 def test_no_error_of_an_answer_ends_the_server(editor: Editor, tmp_path: Path) -> None:
     assert editor.write(GOOD) == []
-    for method, params, code in (
+    asked: list[tuple[str, dict[str, Any], int]] = [
         ("textDocument/hover", {"textDocument": {"uri": URI}}, -32603),
         ("textDocument/hover", {"textDocument": {"uri": "file:///other.red"}, "position": {}}, -32803),
         ("textDocument/hover", {"textDocument": 5}, -32603),
         ("textDocument/formatting", {"textDocument": {"uri": URI}}, -32601),
-    ):
+    ]
+    for method, params, code in asked:
         assert editor.ask(method, **params)["error"]["code"] == code
     for body in (b"{", b"[]", b"\xff", b"", b"[" * 100_000):
         editor.process.stdin.write(b"Content-Length: %d\r\nX: y\r\n\r\n%s" % (len(body), body))

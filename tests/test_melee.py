@@ -8,6 +8,7 @@ import random
 import signal
 import time
 from pathlib import Path
+from typing import Any
 
 import numpy as np
 import pytest
@@ -42,10 +43,10 @@ def test_it_is_the_sum_of_its_matches(formula: str) -> None:
         for one, row in zip(lineup, rows):
             added = [row.points, 3, row.wins, row.ties, row.losses]
             sums[NAMES[one]] = [before + number for before, number in zip(sums[NAMES[one]], added)]
-    for one in table:
-        points, *rest = sums[Path(one.warrior.file).stem]
-        assert [one.points, one.rounds, one.wins, one.ties, one.losses] == [points, *rest]
-        assert one.score == 100 * points / one.rounds
+    for own in table:
+        points, *rest = sums[Path(own.warrior.file).stem]
+        assert [own.points, own.rounds, own.wins, own.ties, own.losses] == [points, *rest]
+        assert own.score == 100 * points / own.rounds
     assert [one.rank for one in table] == [1 + sum(other.score > one.score for other in table) for one in table]
 
 
@@ -74,15 +75,16 @@ def test_equal_scores_share_a_rank() -> None:
 def test_the_error_is_how_seeds_differ() -> None:
     """The scores of 60 seeds lie as far from each other as the error of each says."""
     dice, limits = random.Random(1), (16, 7, 8, 8, 80, 80)
-    cells = [[tuple(map(dice.randrange, limits)) for _ in range(5)] for _ in range(12)]
+    cells: Any = [[tuple(map(dice.randrange, limits)) for _ in range(5)] for _ in range(12)]
     warriors = [corewar.Warrior.from_cells(one, settings="nano") for one in cells]
     contests = [Contest(settings=HILLS["nano"], rounds=3, seed=1 + 7919 * seed) for seed in range(60)]
     tables = [melee(contest, warriors, 3, 60, 2) for contest in contests]
-    spreads, errors = [], []
+    spreads: list[float] = []
+    errors: list[float] = []
     for warrior in warriors:
         own = [one for table in tables for one in table if one.warrior is warrior]
-        spreads.append(np.std([one.score for one in own], ddof=1))
-        errors.append(np.mean([one.error for one in own]))
+        spreads.append(float(np.std([one.score for one in own], ddof=1)))
+        errors.append(float(np.mean([one.error or 0.0 for one in own])))
     assert abs(sum(spreads) / sum(errors) - 1) < 0.2
 
 
@@ -113,14 +115,15 @@ def test_the_command(run: Run, tmp_path: Path) -> None:
     assert left.returncode == 1 and len(left.stdout.splitlines()) == 7 and "bad.red: line 1: 2 Operation" in left.stderr
     few = run("melee", "bad.red", *files[:3])
     assert (few.returncode, few.stdout) == (1, "") and "3 warriors are left, but a match has 4" in few.stderr
-    for words, told in (
+    refusals: list[tuple[list[str | int], str]] = [
         (["--size", 17, *files], "expected a number from 2 to 16, not `17`"),
         (["--size", 8, *files], "expected at least 8 files for matches of 8, not 6"),
         (["--score", "W+", *files], "formula 1 Expression 1 Syntax"),
         (["-F", 400, *files], "settings 3 Position"),
         (["--size", 6, "-d", 2000, *files], "placement 1 NoRoom"),
         (["--lineups", 0, *files], "expected a number from 1 to 1000000"),
-    ):
+    ]
+    for words, told in refusals:
         refused = run("melee", *words)
         assert refused.returncode in (1, 2) and told in refused.stderr and not refused.stdout
 

@@ -131,7 +131,8 @@ def test_a_figure_is_the_picture(run: Run, tmp_path: Path, monkeypatch: pytest.M
     history.figure().savefig(tmp_path / "figure.png")
     assert (tmp_path / "figure.png").read_bytes() == (tmp_path / "fight.png").read_bytes()
     monkeypatch.delitem(sys.modules, "corewar.pictures.timeline")
-    monkeypatch.setitem(sys.modules, "matplotlib", None)
+    modules: dict[str, Any] = sys.modules
+    monkeypatch.setitem(modules, "matplotlib", None)
     with pytest.raises(ImportError, match="a figure requires matplotlib, Debian's python3-matplotlib: "):
         history.figure()
 

@@ -17,7 +17,7 @@ from corewar import Fault, Match, Refused, Settings, Warrior
 from corewar.battle.history import History
 from corewar.engine.outcomes import OUTCOME
 from corewar.engine.warriors import read_load
-from corewar.model.cells import MODES, MODIFIERS, OPCODES
+from corewar.model.cells import MODES, MODIFIERS, OPCODES, Cell
 
 
 @given(matches())
@@ -84,10 +84,12 @@ CELL = (1, 6, 1, 1, 0, 1)
 )
 def test_errors_of_warriors(given: dict[str, Any], name: str) -> None:
     """Each call reports a wrong warrior by name and index, and a wrong cell by its index."""
-    wrong, right = Warrior.from_cells(**{"cells": [CELL], **given}), Warrior.from_cells([CELL])
+    words: dict[str, Any] = {"cells": [CELL], **given}
+    wrong, right = Warrior.from_cells(**words), Warrior.from_cells([CELL])
     line = 1 if name in ("Cell", "Field") else 0
     if name != "Name":
-        for run in (corewar.match, corewar.league, corewar.outcomes, lambda both: corewar.Battle(Match(both))):
+        runs: list[Any] = [corewar.match, corewar.league, corewar.outcomes, lambda both: corewar.Battle(Match(both))]
+        for run in runs:
             with pytest.raises(Fault) as found:
                 run([right, wrong])
             told = found.value
@@ -117,9 +119,10 @@ def random_warriors(dice: random.Random, count: int) -> list[Warrior]:
     """Random warriors; what moves and splits is drawn more often, so that many live for a while."""
     weights = [9 if name in ("MOV", "SPL", "JMP") else 1 for name in OPCODES]
 
-    def cell() -> tuple[int, ...]:
-        kinds = dice.choices(range(16), weights)[0], dice.randrange(len(MODIFIERS))
-        return *kinds, dice.randrange(len(MODES)), dice.randrange(len(MODES)), dice.randrange(9), dice.randrange(9)
+    def cell() -> Cell:
+        opcode, modifier = dice.choices(range(16), weights)[0], dice.randrange(len(MODIFIERS))
+        modes = dice.randrange(len(MODES)), dice.randrange(len(MODES))
+        return opcode, modifier, *modes, dice.randrange(9), dice.randrange(9)
 
     return [Warrior.from_cells([cell() for _ in range(dice.randint(1, 10))], settings=SMALL) for _ in range(count)]
 
@@ -174,7 +177,7 @@ def test_lineups() -> None:
     assert corewar.outcomes(warriors, [], jobs=2).shape == (0, 1, 0) and corewar.outcomes(warriors).shape == (1, 1, 3)
     placed = corewar.outcomes(warriors, pairs, position=400)
     assert placed["start"].tolist() == [[[0, 400]]] * 3
-    for lineups, words, fault in (
+    faulty: list[tuple[Any, dict[str, Any], str]] = [
         ([[0, 3]], {}, "index 0: lineup 2 Index"),
         ([[0] * 16, [0] * 16, [3] * 16], {}, "index 2: lineup 2 Index"),
         ([[0, 1]] * 30 + [[0, 3]] * 2, {"jobs": 2}, "index 30: lineup 2 Index"),
@@ -186,15 +189,13 @@ def test_lineups() -> None:
         ([[0, 1, 2]], {"position": 400}, "settings 3 Position"),
         ([[-1, 0]], {}, "index 0: lineup 2 Index"),
         (pairs, {"seeds": [1, -1, 2**40]}, "settings 2 Seed"),
-    ):
+    ]
+    for lineups, words, fault in faulty:
         with pytest.raises(Fault) as found:
             corewar.outcomes(warriors, lineups, **words)
         assert str(found.value) == fault
-    for lineups, words in (
-        ([[0, 1], [2]], {}),
-        ([0, 1], {}),
-        (pairs, {"seeds": [1, 2]}),
-    ):
+    uneven: list[tuple[Any, dict[str, Any]]] = [([[0, 1], [2]], {}), ([0, 1], {}), (pairs, {"seeds": [1, 2]})]
+    for lineups, words in uneven:
         with pytest.raises(ValueError):
             corewar.outcomes(warriors, lineups, **words)
     with pytest.raises(Refused, match="a match has at most 16 warriors, not 17"):
@@ -208,8 +209,8 @@ def test_shares() -> None:
     made = np.zeros((1, 3), OUTCOME)
     made["cycles"] = [[1, 4, 10]]
     # Three share 2 cycles, two of them 3 more, and the last one has the other 5.
-    shared = [2 / 3, 2 / 3 + 3 / 2, 2 / 3 + 3 / 2 + 5]
-    assert np.allclose(corewar.shares(made, 10), [[share * 3 / 10 for share in shared]])
+    points = [2 / 3, 2 / 3 + 3 / 2, 2 / 3 + 3 / 2 + 5]
+    assert np.allclose(corewar.shares(made, 10), [[share * 3 / 10 for share in points]])
     with pytest.raises(Refused, match="expected 1 or more cycles, not 0"):
         corewar.shares(made, 0)
     dice = random.Random(3)

@@ -191,15 +191,12 @@ def test_its_errors_are_those_of_explain() -> None:
     texts = [text for text, fault, _ in SOURCES if "NotAscii" not in fault]
     texts += [text for text, _ in [*NEWCOMERS, *mutated(150)]]
     meanings = TOP / "python" / "corewar" / "explain" / "meanings.json"
-    words = ["node", SITE / "tests" / "errors.mjs", WASM, meanings]
+    words = ["node", *map(str, (SITE / "tests" / "errors.mjs", WASM, meanings))]
     done = subprocess.run(words, input=json.dumps(texts), capture_output=True, text=True)
     assert done.returncode == 0, done.stderr
     for text, answer in zip(texts, json.loads(done.stdout), strict=True):
         found = list(errors_of(text.encode(), assemble))
-        expected = [[line_to_correct(*error), " ".join(error[1])] for error in found]
         # The site has no options.
-        expected = [
-            [line, told.replace("; increase `-l`, and `-d` with it, which must be at least as large", "")]
-            for line, told in expected
-        ]
+        options = "; increase `-l`, and `-d` with it, which must be at least as large"
+        expected = [[line_to_correct(*error), " ".join(error[1]).replace(options, "")] for error in found]
         assert answer == expected, text

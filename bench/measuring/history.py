@@ -2,7 +2,8 @@
 
 The warriors are two imps, two papers, and two that split until each has 8,000 processes, in a core of 8000 cells; then
 processes are killed in the middle of a queue of 65,536. A figure is the difference between two runs that differ only in
-what is measured. That of memory is between two long runs, since a short one has less than its parent had. """
+what is measured. That of memory is between two long runs, since a short one has less than its parent had.
+"""
 from __future__ import annotations
 
 import argparse

@@ -1,7 +1,8 @@
 """The time from a change of a source to the errors that the language server reports, and of each kind of answer.
 
 A client changes a source of 100 and of 2,000 lines, with no error and with one, then with ten. There is a line for each
-with the median and the greatest time in milliseconds, which include the wait of the server for more changes. """
+with the median and the greatest time in milliseconds, which include the wait of the server for more changes.
+"""
 from __future__ import annotations
 
 import argparse
@@ -18,11 +19,11 @@ from program import TOP
 URI = "file:///source.red"
 PACKAGE = os.path.join(TOP, "python")
 COMMAND = ["/usr/bin/python3", "-P", os.path.join(PACKAGE, "corewar", "__main__.py"), "lsp", "-l", "4000", "-d", "4000"]
-HOVER: dict[str, object] = {"position": {"line": 20, "character": 24}}
+HOVER = {"position": {"line": 20, "character": 24}}
 REQUESTS: dict[str, dict[str, object]] = {
-    "hover": HOVER,
-    "rename": {**HOVER, "newName": "another"},
-    "completion": HOVER,
+    "hover": {**HOVER},
+    "rename": {"newName": "another", "position": HOVER["position"]},
+    "completion": {**HOVER},
     "semanticTokens/full": {},
     "documentSymbol": {},
 }
@@ -61,7 +62,7 @@ class Client:
         return list(self.receive()["params"]["diagnostics"])
 
     def ask(self, method: str, params: dict[str, object]) -> Any:
-        document = {"textDocument": {"uri": URI}, **params}
+        document: dict[str, object] = {"textDocument": {"uri": URI}, **params}
         self.wire.send({"id": 1, "method": f"textDocument/{method}", "params": document})
         return self.receive()["result"]
 

@@ -5,7 +5,8 @@ cells apart in a core of 8000, in which no warrior dies for 20,000 cycles: from 
 whose queues fill. A count is that of 20,001 cycles minus that of one, divided by the turns in between. A time is that
 of 501 rounds of 20,000 cycles minus that of one, the minimum of some runs, in which the programs alternate so that
 other work on the machine disturbs both. The last lines are the geometric means, and the allocations of a match of PAPER
-and PAPER, which do not grow with the rounds. """
+and PAPER, which do not grow with the rounds.
+"""
 from __future__ import annotations
 
 import argparse

@@ -3,7 +3,8 @@
 Random instructions are rarely among the most frequent ones of written warriors, for which the machine has shortcuts.
 The warriors have 1 to 5 cells, and a pair counts if both live 800 cycles in each of 21 rounds; most pairs don't. A
 figure is the count of 21 rounds minus that of one, divided by the turns in between. The warriors are the same in each
-run. """
+run.
+"""
 from __future__ import annotations
 
 import argparse

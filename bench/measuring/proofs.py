@@ -4,7 +4,8 @@ most.
 This reads what a first `rt check --jobs 1` of the crate, from scratch, has left. A check stores each part of its work
 as a file of out/incremental as soon as it is done, so the time between one file and the next is the cost of the second,
 if one job wrote them all. Parts that a later check replaced have wrong times, and what the check read before its first
-proof counts for the function that comes first. """
+proof counts for the function that comes first.
+"""
 from __future__ import annotations
 
 import argparse

@@ -2,7 +2,8 @@
 
 The warriors are two imps, two papers (a warrior that copies itself, with all kinds of operands), and two stones (a
 bomber that misses itself and the other, so that it runs long), in a core of 8000 cells. The program, race.rattle, is
-proved and built in a copy of the crates. """
+proved and built in a copy of the crates.
+"""
 from __future__ import annotations
 
 import argparse

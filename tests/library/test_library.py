@@ -1,16 +1,21 @@
 """Compares the library for C, through the package, with what the program gives.
 
-Assemblies, matches, leagues, transcripts and errors are those of the program; a population is the sum of its matches; two threads
-get what one does. (tests/test_blocks.py holds states, records and what turns touch against transcripts.) A C program calls each
-export with each request for memory refused in turn, as it is, under valgrind and under AddressSanitizer; the example in Rust is built.
+Assemblies, matches, leagues, transcripts and errors are those of the program; a population is the sum of its matches;
+two threads get what one does. (tests/test_blocks.py holds states, records and what turns touch against transcripts.) A
+C program calls each export with each request for memory refused in turn, as it is, under valgrind and under
+AddressSanitizer; the example in Rust is built.
 """
+from __future__ import annotations
+
 import os
 import random
 import re
 import shutil
 import subprocess
+from collections.abc import Callable, Iterator, Sequence
 from concurrent.futures import ThreadPoolExecutor
 from pathlib import Path
+from typing import Any
 
 import pytest
 from battles import edits, matches
@@ -78,7 +83,7 @@ dice = random.Random(1)
 
 
 @pytest.fixture(scope="module")
-def built(tmp_path_factory):
+def built(tmp_path_factory: pytest.TempPathFactory) -> str:
     """The folder with the library as it is built."""
     assert os.path.isfile(ARCHIVE), "no archive of the library; run scripts/library"
     folder = str(tmp_path_factory.mktemp("built"))
@@ -87,19 +92,19 @@ def built(tmp_path_factory):
     return folder
 
 
-def words_of(settings):
+def words_of(settings: corewar.Settings) -> list[str]:
     """The words of the program for settings."""
     return [f"{NUMBERS[name].word}={value}" for name, value in vars(settings).items() if value]
 
 
-def started(*words, **given):
+def started(*words: str, **given: Any) -> str | bytes:
     """Returns the output of the program, or its error without its own name and that of a file."""
     done = subprocess.run([PROGRAM, *words], capture_output=True, **given)
     told = done.stderr.decode().rstrip("\n")
     return re.sub(r"^mars: (\S+/\S+: )?", "", told) if done.returncode else done.stdout
 
 
-def called(call, *given, **named):
+def called(call: Callable[..., Any], *given: Any, **named: Any) -> Any:
     """Returns the result of a call, or the text of its error."""
     try:
         return call(*given, **named)
@@ -107,29 +112,29 @@ def called(call, *given, **named):
         return str(fault)
 
 
-def file_of(folder, name, data):
+def file_of(folder: Path, name: str, data: bytes) -> str:
     path = folder / name
     path.write_bytes(data)
     return str(path)
 
 
-def files_of(loads, folder):
+def files_of(loads: list[bytes], folder: Path) -> list[str]:
     """The load files in files."""
     return [file_of(folder, f"{number}.load", load) for number, load in enumerate(loads)]
 
 
-def plain(table):
+def plain(table: Any) -> Any:
     """Returns the rows of a table, as numbers; an error is returned unchanged."""
     if isinstance(table, str):
         return table
     return [corewar.Row(*map(int, line.split()[:4])) for line in table.splitlines()[1:]]
 
 
-def operand(modes):
+def operand(modes: Sequence[str]) -> str:
     return f"{dice.choice(modes)}{dice.randrange(-9, 10)}"
 
 
-def source():
+def source() -> str:
     """A source of random words; some are faulty."""
     modes, ops = MODES[: -1 if dice.randrange(30) else None], OPCODES[: -1 if dice.randrange(20) else None]
     lines = [f"{dice.choice(ops)} {operand(modes)}, {operand(modes)}" for _ in range(dice.randrange(1, 7))]
@@ -138,10 +143,10 @@ def source():
     return "\n".join(lines) + "\n"
 
 
-def loads():
+def loads() -> Iterator[bytes]:
     """Some random warriors, as load files of version 1; now and then a faulty one."""
 
-    def cell():
+    def cell() -> str:
         modifier, modes = dice.choice("A B AB BA F X I".split()), MODES[1:-1]
         return f"{dice.choice(OPCODES[:-2])}.{modifier} {operand(modes)}, {operand(modes)}\n"
 
@@ -150,18 +155,17 @@ def loads():
         yield f"ORG 0\n{cells}{'' if dice.randrange(60) else 'X'}\n".encode()
 
 
-def settings():
+def settings() -> corewar.Settings:
     """Settings of a small core, now and then out of their ranges."""
     core, longest = dice.choice([80, 200, 800]), dice.randrange(5, 9)
     limit = dice.choice([0, 0, 0, core, core // 2, 7 if dice.randrange(10) else core + 1])
     distance = longest if dice.randrange(8) else longest + dice.randrange(-1, 9)
     processes, cycles = dice.choice([1, 8, 80]), dice.choice([10, 200, 800])
-    limits = {"read_limit": limit or None, "write_limit": dice.choice([0, limit]) or None}
-    numbers = {"core": core, "processes": processes, "cycles": cycles, "longest": longest, "distance": distance}
-    return corewar.Settings(**numbers, **limits)
+    limits: dict[str, Any] = {"read_limit": limit or None, "write_limit": dice.choice([0, limit]) or None}
+    return corewar.Settings(core=core, processes=processes, cycles=cycles, longest=longest, distance=distance, **limits)
 
 
-def test_assemblies(tmp_path):
+def test_assemblies(tmp_path: Path) -> None:
     """Examples and random sources: the load file, or the error with its line."""
     count = 0
     for text in [*(Path(path).read_bytes() for path in EXAMPLES), *(source().encode() for _ in range(300))]:
@@ -173,7 +177,7 @@ def test_assemblies(tmp_path):
     assert 50 < count < 250, "so many of the random sources are faulty"
 
 
-def test_faults_of_files(tmp_path):
+def test_faults_of_files(tmp_path: Path) -> None:
     """Each error of a source and of a load file, by its numbers and its line."""
     for text in FAULTY:
         path = file_of(tmp_path, "faulty.red", text.encode())
@@ -185,18 +189,27 @@ def test_faults_of_files(tmp_path):
         assert str(found.value.fault) == started("-b", path), text[:40]
 
 
-def test_faults_of_settings():
+def test_faults_of_settings() -> None:
     imp = corewar.assemble("MOV 0, 1")
     for words, fault in OUT_OF_RANGE:
         assert called(corewar.match, [imp], settings=corewar.Settings(**words)) == fault
-    for rounds, seed, fault in ((1, 0, 2), (100001, 1, 1), (1, 2147483647, 2), (-1, 1, 1), (1, -1, 2), (1, 1 << 40, 2)):
-        for call in (corewar.match, corewar.league):
-            expected = f"settings {fault} {names('SETTINGS')[fault]}"
+    for rounds, seed, number in (
+        (1, 0, 2),
+        (100001, 1, 1),
+        (1, 2147483647, 2),
+        (-1, 1, 1),
+        (1, -1, 2),
+        (1, 1 << 40, 2),
+    ):
+        contests: list[Any] = [corewar.match, corewar.league]
+        for call in contests:
+            expected = f"settings {number} {names('SETTINGS')[number]}"
             assert called(call, [imp] * 2, rounds=rounds, seed=seed) == expected
-    for count, position, fault in ((3, 400, 3), (2, 99, 3), (2, 7901, 3), (2, 0, 3), (2, -1, 3), (0, None, 4)):
-        expected = f"settings {fault} {names('SETTINGS')[fault]}"
+    for count, position, number in ((3, 400, 3), (2, 99, 3), (2, 7901, 3), (2, 0, 3), (2, -1, 3), (0, None, 4)):
+        expected = f"settings {number} {names('SETTINGS')[number]}"
         assert called(corewar.match, [imp] * count, position=position) == expected
-    for call in (corewar.match, lambda warriors: corewar.Battle(corewar.Match(warriors))):
+    battles: list[Any] = [corewar.match, lambda warriors: corewar.Battle(corewar.Match(warriors))]
+    for call in battles:
         with pytest.raises(corewar.Refused, match="a match has at most 16 warriors, not 17"):
             call([imp] * 17)
     assert called(corewar.Battle, corewar.Match((imp,), rounds=100001), 100000) == "settings 1 Rounds"
@@ -208,7 +221,7 @@ def test_faults_of_settings():
             battle.play(**words)
 
 
-def test_contests(tmp_path):
+def test_contests(tmp_path: Path) -> None:
     """Random matches and leagues: the rows, or the error."""
     fought = 0
     for index in range(1000):
@@ -218,9 +231,9 @@ def test_contests(tmp_path):
         is_league = index % 4 == 0 and len(files) > 1
         expected = plain(started("-b", *["--league"] * is_league, *words))
         fought += not isinstance(expected, str)
-        call = corewar.league if is_league else corewar.match
+        call: Any = corewar.league if is_league else corewar.match
 
-        def run():
+        def run() -> Any:
             warriors = [read_load(load, held) for load in files]
             return call(warriors, settings=held, rounds=rounds, seed=seed, formula=formula)
 
@@ -230,7 +243,7 @@ def test_contests(tmp_path):
     assert 500 < fought < 990
 
 
-def test_populations():
+def test_populations() -> None:
     """A population: the sums of its matches; with a position, too."""
     warriors = [corewar.read(path) for path in EXAMPLES]
     for position in (None, 400):
@@ -249,7 +262,7 @@ MOVES = st.one_of(
 
 @how(suppress_health_check=[HealthCheck.function_scoped_fixture])
 @given(matches(), st.lists(MOVES, max_size=12))
-def test_transcripts(tmp_path, fight, lines):
+def test_transcripts(tmp_path: Path, fight: Any, lines: list[str]) -> None:
     """What the debugger answers is what that of the program does."""
     words = [
         "-e",
@@ -262,7 +275,7 @@ def test_transcripts(tmp_path, fight, lines):
     assert told == (answers if isinstance(answers, str) else answers.decode())
 
 
-def test_longer_answers():
+def test_longer_answers() -> None:
     """Buffers that have to grow, and later rounds, which begin in turn."""
     imp, split = corewar.assemble("MOV 0, 1"), corewar.assemble("SPL 0\nJMP -1")
     assert len(corewar.Battle(corewar.Match((imp,))).debug(["list 0 8000"]).splitlines()) == 8000
@@ -274,21 +287,21 @@ def test_longer_answers():
     assert [corewar.Battle(three, number).queues[-number % 3].tolist() for number in range(4)] == [[0]] * 4
 
 
-def test_threads():
+def test_threads() -> None:
     """Two threads that call at once get what one does."""
     warriors = [corewar.read(path) for path in EXAMPLES[:3]]
 
-    def work(seed):
+    def work(seed: int) -> Any:
         return corewar.match(warriors, rounds=3, seed=seed + 1)
 
     with ThreadPoolExecutor(2) as pool:
         assert [*pool.map(work, range(60))] == [*map(work, range(60))]
 
 
-def test_shared(built):
+def test_shared(built: str) -> None:
     """The shared library is named by its major version, and exports only the calls of the header."""
 
-    def told(*words):
+    def told(*words: str) -> str:
         return subprocess.run([*words, f"{built}/libmars.so"], capture_output=True, text=True).stdout
 
     assert os.readlink(f"{built}/libmars.so") == "libmars.so.2"
@@ -305,7 +318,7 @@ C_PROGRAMS = [
 
 
 @pytest.mark.parametrize("more, before", C_PROGRAMS, ids=["alone", "valgrind", "AddressSanitizer"])
-def test_c(tmp_path, built, more, before):
+def test_c(tmp_path: Path, built: str, more: list[str], before: list[str]) -> None:
     """The C program: as it is, under valgrind, and under AddressSanitizer."""
     text, made = str(Path(__file__).with_name("library.c")), str(tmp_path / "calls")
     words = ["gcc", *more, "-Wall", "-Wextra", "-Werror", f"-I{TOP}/include", text, "-o", made]
@@ -318,13 +331,13 @@ def test_c(tmp_path, built, more, before):
     assert re.fullmatch(r"[1-9]\d* passed, 0 failed\n", done.stdout)
 
 
-def test_rust(tmp_path, built):
+def test_rust(tmp_path: Path, built: str) -> None:
     """The example in Rust: the rows of a match, and the error of a source."""
     if not shutil.which("cargo"):
         skip("the example in Rust", "there is no cargo", "cargo")
     made = {**os.environ, "MARS_LIB": built, "CARGO_TARGET_DIR": str(tmp_path / "target")}
 
-    def fight(*words):
+    def fight(*words: str) -> subprocess.CompletedProcess[str]:
         command = ["cargo", "run", "--quiet", "--offline", "--", *words]
         return subprocess.run(command, cwd=f"{TOP}/examples/rust", env=made, capture_output=True, text=True)
 
@@ -338,7 +351,7 @@ def test_rust(tmp_path, built):
     assert "answer 5, number 2, problem 0, expression 0, line 2" in done.stderr
 
 
-def test_header():
+def test_header() -> None:
     """The numbers of the header are those that a compiler gives them, and those of the package."""
     compiled = {name: getattr(library()[1], f"MARS_{name}") for name in numbers()}
     assert compiled == numbers() and len(compiled) > 100
@@ -352,7 +365,7 @@ def test_header():
     assert (numbers()["MAX_WARRIORS"], numbers()["MAX_LEAGUE"]) == (MOST_WARRIORS, MOST_OF_LEAGUE)
 
 
-def test_script():
+def test_script() -> None:
     """What `scripts/library` refuses."""
     library = [f"{SCRIPTS}/library"]
     assert subprocess.run([*library, "--none"], capture_output=True).returncode == 2

@@ -1,5 +1,19 @@
-"""Tests ./mars and scripts/prove with a stub for the toolchain: which crates are proved, in which order, the messages, and what is left."""
-import json, os, shutil, signal, stat, subprocess, sys, tempfile, time
+"""Tests ./mars and scripts/prove with a stub for the toolchain: which crates are proved, in which order, the messages,
+and what is left.
+"""
+from __future__ import annotations
+
+import json
+import os
+import shutil
+import signal
+import stat
+import subprocess
+import sys
+import tempfile
+import time
+from collections.abc import Iterator
+from typing import Any
 
 import pytest
 
@@ -8,10 +22,15 @@ from counting import SCRIPTS, TOP
 sys.path.insert(0, SCRIPTS)
 import progress  # noqa: E402
 
-# Replaces rt, rattle and rattle-link. It logs each proof, fails or sleeps at the crates of its environment, and makes the files that the next ones expect.
+# Replaces rt, rattle and rattle-link. It logs each proof, fails or sleeps at the crates of its environment, and makes
+# the files that the next ones expect.
 STAND_IN = """#!/usr/bin/env python3
-import os, shutil, sys, time
-command, words, log, kit = os.path.basename(sys.argv[0]), sys.argv[1:], os.environ["RT_LOG"], os.path.dirname(os.path.dirname(os.path.abspath(sys.argv[0])))
+import os
+import shutil
+import sys
+import time
+command, words, log = os.path.basename(sys.argv[0]), sys.argv[1:], os.environ["RT_LOG"]
+kit = os.path.dirname(os.path.dirname(os.path.abspath(sys.argv[0])))
 after = lambda word: words[words.index(word) + 1]
 
 def program(path):
@@ -49,21 +68,25 @@ else:
 """
 
 
+# What each crate uses.
+Below = dict[str, set[str]]
+
+
 @pytest.fixture
-def folder():
+def folder() -> Iterator[str]:
     with tempfile.TemporaryDirectory() as folder:
         yield folder
 
 
 @pytest.fixture
-def place(folder):
+def place(folder: str) -> Place:
     return Place(folder)
 
 
 class Place:
     """A copy of what ./mars reads, with the stub on the path."""
 
-    def __init__(self, folder):
+    def __init__(self, folder: str) -> None:
         self.folder, self.log = folder, os.path.join(folder, "log")
         for name in ("mars", "crates.txt", "HANDLES"):
             shutil.copy(os.path.join(TOP, name), folder)
@@ -96,12 +119,12 @@ class Place:
         with open(os.path.join(folder, "kit", "rlibs", "std.rlib", "format"), "w") as file:
             file.write("rattle-build 1\n")
 
-    def touch(self, crate):
+    def touch(self, crate: str) -> None:
         """Changes a source of the crate."""
         time.sleep(0.01)
         open(os.path.join(self.folder, "crates", crate, "src", "lib.rt"), "w").close()
 
-    def work(self):
+    def work(self) -> list[str]:
         """The files that were left in the crates' work."""
         crates = os.path.join(self.folder, "crates")
         return sorted(
@@ -111,14 +134,14 @@ class Place:
             for name in names
         )
 
-    def leave_out(self, crate, library):
+    def leave_out(self, crate: str, library: str) -> None:
         """Removes a library from the line of a crate, which still uses it through others."""
         path = os.path.join(self.folder, "crates.txt")
         lines = [line.replace(f" {library} ", " ") if line.startswith(f"{crate}:") else line for line in open(path)]
         with open(path, "w") as file:
             file.writelines(lines)
 
-    def environment(self, fails="", sleeps=""):
+    def environment(self, fails: str = "", sleeps: str = "") -> dict[str, str]:
         return {
             **os.environ,
             "PATH": self.tools + ":" + os.environ["PATH"],
@@ -127,12 +150,12 @@ class Place:
             "RT_SLEEPS": sleeps,
         }
 
-    def run(self, *words, script="mars", fails=""):
+    def run(self, *words: str, script: str = "mars", fails: str = "") -> subprocess.CompletedProcess[str]:
         return subprocess.run(
             [os.path.join(self.folder, script), *words], capture_output=True, text=True, env=self.environment(fails)
         )
 
-    def interrupted(self, sleeps):
+    def interrupted(self, sleeps: str) -> tuple[bool, str, str, bool]:
         """What a start says that is broken off by Ctrl-C while this crate is proved."""
         process = subprocess.Popen(
             [os.path.join(self.folder, "mars"), "a.red"],
@@ -150,23 +173,25 @@ class Place:
         output, faults = process.communicate(timeout=60)
         return process.returncode != 0, output, faults.splitlines()[-1], "Traceback" in faults
 
-    def calls(self):
+    def calls(self) -> list[list[str]]:
         return [line.split() for line in open(self.log)] if os.path.exists(self.log) else []
 
-    def proved(self):
+    def proved(self) -> list[str]:
         return [words[0] for words in self.calls()]
 
-    def rooms(self):
+    def rooms(self) -> dict[str, Below]:
         """Returns the crates of the room in which each crate was proved."""
         return {name: stands_on(f"{self.log}-{name}") for name in self.proved()}
 
-    def jobs(self):
+    def jobs(self) -> dict[str, int]:
         """The jobs of each crate."""
         return {words[0]: int(words[words.index("--jobs") + 1]) for words in self.calls()}
 
 
-def stands_on(path, but_for="_tests: staticlib:"):
-    """Returns what each crate of a crates.txt uses of the repository's own, except for crates of tests and libraries for C."""
+def stands_on(path: str, but_for: str = "_tests: staticlib:") -> Below:
+    """Returns what each crate of a crates.txt uses of the repository's own, except for crates of tests and libraries
+    for C.
+    """
     names = {line.split(":")[0] for line in open(os.path.join(TOP, "crates.txt")) if line[0].isalpha()}
     lines = [
         line.split(":")
@@ -176,17 +201,17 @@ def stands_on(path, but_for="_tests: staticlib:"):
     return {name.split()[0]: set(rest.split()) & names for name, rest in lines}
 
 
-def is_closed(lines):
+def is_closed(lines: Below) -> bool:
     """Whether each crate that one of these lines names has a line of its own."""
     return all(below <= lines.keys() for below in lines.values())
 
 
-def is_in_order(order, below):
+def is_in_order(order: list[str], below: Below) -> bool:
     """Returns whether each crate is proved once, and none before those that it uses."""
     return sorted(order) == sorted(below) and all(below[name] <= set(order[: order.index(name)]) for name in order)
 
 
-def test_first_start(place):
+def test_first_start(place: Place) -> None:
     done = place.run("-b", "a.red")
     order, below = place.proved(), stands_on(os.path.join(TOP, "crates.txt"))
     assert (done.stdout, done.returncode) == ("played -b a.red\n", 0), "the words reach the program"
@@ -208,7 +233,7 @@ def test_first_start(place):
     assert is_in_order(place.proved()[len(order) :], below), "a changed source is proved, with what it stands on"
 
 
-def test_failure(place):
+def test_failure(place: Place) -> None:
     done = place.run("-b", "a.red", fails="mars_core")
     assert (
         done.returncode == 1
@@ -226,7 +251,7 @@ def test_failure(place):
     assert place.work() == ["mars"], "and leaves the program alone"
 
 
-def test_changes_meanwhile(place):
+def test_changes_meanwhile(place: Place) -> None:
     """A source that changes while it is proved is proved again, whether that start came to its end or not."""
     for fails in ("mars_core", ""):
         subprocess.run(
@@ -240,7 +265,7 @@ def test_changes_meanwhile(place):
         place.touch("mars_cell")
 
 
-def test_stopped(place):
+def test_stopped(place: Place) -> None:
     assert place.interrupted("mars_core") == (
         True,
         "",
@@ -252,13 +277,10 @@ def test_stopped(place):
     assert "mars_cell" not in place.proved()[before:], "what was proved is kept"
 
 
-def test_two_starts(place):
+def test_two_starts(place: Place) -> None:
     """A second start waits for the first one, says so, and finds the program built."""
-    command, how = [os.path.join(place.folder, "mars"), "a.red"], {
-        "stdout": subprocess.PIPE,
-        "stderr": subprocess.PIPE,
-        "text": True,
-    }
+    command = [os.path.join(place.folder, "mars"), "a.red"]
+    how: dict[str, Any] = {"stdout": subprocess.PIPE, "stderr": subprocess.PIPE, "text": True}
     first = subprocess.Popen(command, env={**place.environment(), "RT_SLEEPS": "mars_cell", "RT_SECONDS": "2"}, **how)
     while not os.path.exists(f"{place.log}-mars_cell"):
         time.sleep(0.05)
@@ -270,7 +292,7 @@ def test_two_starts(place):
     assert len(place.proved()) == len({*place.proved()}), "each crate is proved once"
 
 
-def test_kept_work(place):
+def test_kept_work(place: Place) -> None:
     """By --keep, and where such work is, `rt` proves in rooms, and what it made stays."""
     place.leave_out("mars_match", "redcode_text")
     done = place.run("--keep", script="scripts/prove")
@@ -297,7 +319,7 @@ def test_kept_work(place):
     ), "a link reaches the program"
 
 
-def test_terminal(place):
+def test_terminal(place: Place) -> None:
     """What a start writes to a terminal: a line that is written over, and how long the whole took."""
     mine, theirs = os.openpty()
     subprocess.run(
@@ -322,7 +344,7 @@ def test_terminal(place):
     ), "without the toolchain it is told what runs without it"
 
 
-def test_progress(folder):
+def test_progress(folder: str, monkeypatch: pytest.MonkeyPatch) -> None:
     """The remaining time, by the last build; and a build without a terminal is not silent."""
     path = os.path.join(folder, "last-start.json")
     unknown = progress.Reckoning(path, ["a", "b", "c"], 600)
@@ -336,9 +358,11 @@ def test_progress(folder):
         600,
     ], "quicker, and slower"
     assert progress.Reckoning(path, ["a", "d"], 600).due == {"d": 600}, "a crate that isn't known"
-    told, progress.SILENCE = [], 0
+    told: list[str] = []
+    monkeypatch.setattr(progress, "SILENCE", 0)
+    monkeypatch.setattr(progress.Progress, "tell", lambda _, line: told.append(line))
     one = progress.Progress(2)
-    one.is_terminal, one.tell = False, told.append
+    one.is_terminal = False
     one.add("a")
     one.go_on(["b", "c"])
     assert told == [
@@ -347,7 +371,7 @@ def test_progress(folder):
     ], "each crate, and what goes on"
 
 
-def test_library(place):
+def test_library(place: Place) -> None:
     """The library for C is proved in the same run as the program, and again if a source is newer than its archive."""
     below = {**stands_on(os.path.join(TOP, "crates.txt"), "_tests:"), "mars": {"mars_app"}}
     done = place.run(script="scripts/library")
@@ -368,8 +392,10 @@ def test_library(place):
     assert "mars" not in place.proved()[count:], "and the program isn't"
 
 
-def test_what_the_gate_leaves(place):
-    """What `rt ci` leaves of each crate is used if it is newer than the sources, so that only the library is left to be proved."""
+def test_what_the_gate_leaves(place: Place) -> None:
+    """What `rt ci` leaves of each crate is used if it is newer than the sources, so that only the library is left to be
+    proved.
+    """
     environment = {**place.environment(), "RT_LOG": os.path.join(place.folder, "of-rt-ci")}
     for crate in ("mars_cell", "redcode_text", "redcode_asm", "mars_core", "mars_session", "mars_match", "mars_app"):
         target = os.path.join("out", "rlib", f"{crate}.rlib")

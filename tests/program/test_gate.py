@@ -1,6 +1,12 @@
 """Tests checks/run with stubs for its steps: what it counts, and which skipped tests fail.
 """
-import os, shutil, subprocess, tempfile
+from __future__ import annotations
+
+import os
+import shutil
+import subprocess
+import tempfile
+from typing import Any
 
 import pytest
 
@@ -14,8 +20,10 @@ STEPS = [
 ]
 
 
-def gate(**lines):
-    """Returns the status and the last lines of checks/run if a step prints these lines and exits with the status before them, and the others pass one each."""
+def gate(**lines: Any) -> Any:
+    """Returns the status and the last lines of checks/run if a step prints these lines and exits with the status before
+    them, and the others pass one each.
+    """
     with tempfile.TemporaryDirectory() as folder:
         for name in STEPS:
             path, (status, *told) = os.path.join(folder, name), lines.get(
@@ -62,6 +70,8 @@ TOLD = "FAILED: skipped: a: it is away, though no package is missing"
         ),
     ],
 )
-def test_what_counts(lines, expected):
-    """What each step prints is counted; one that counts nothing, whose status isn't that of its line, or that skips without a missing package, fails."""
+def test_what_counts(lines: Any, expected: Any) -> None:
+    """What each step prints is counted; one that counts nothing, whose status isn't that of its line, or that skips
+    without a missing package, fails.
+    """
     assert gate(**lines) == expected

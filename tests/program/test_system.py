@@ -1,8 +1,25 @@
 """Tests the program over what the system hands it: words of all kinds, files and pipes of all sizes, streams that fail.
 """
-import contextlib, fcntl, itertools, os, resource, select, shutil, signal, struct, subprocess, tempfile, termios, threading, time
+from __future__ import annotations
+
+import contextlib
+import fcntl
+import itertools
+import os
+import resource
+import select
+import shutil
+import signal
+import struct
+import subprocess
+import tempfile
+import termios
+import threading
+import time
+from collections.abc import Iterator
 from functools import partial
 from pathlib import Path
+from typing import Any, IO
 
 import pytest
 from costly import large, slow
@@ -16,10 +33,11 @@ UNNAMED = ";name Unknown\n;author Anonymous\n"
 # A user who may read little.
 NOBODY = {"user": 65534, "group": 65534, "extra_groups": []}
 # Every word but files, and those that exclude `--league`.
-WORDS = "-r 2 --seed 1 --score W -s 8000 -c 10 -p 2 -l 1 -d 1 --read-limit 8 --write-limit 8 --history 5 -b -o --league".split()
+WORDS = "-r 2 --seed 1 --score W -s 8000 -c 10 -p 2 -l 1 -d 1 --read-limit 8 --write-limit 8 --history 5".split()
+WORDS += ["-b", "-o", "--league"]
 
 
-def run(*words, name=PROGRAM, **how):
+def run(*words: str | bytes, name: str | bytes = PROGRAM, **how: Any) -> tuple[int, str, str]:
     """Runs the program on words, under a name of its own."""
     if "input" not in how:
         how.setdefault("stdin", subprocess.DEVNULL)
@@ -28,13 +46,13 @@ def run(*words, name=PROGRAM, **how):
     return done.returncode, (done.stdout or b"").decode(), (done.stderr or b"").decode()
 
 
-def load(path, **how):
+def load(path: str, **how: Any) -> tuple[int, str, str]:
     """The load file of a source in a core of 8 cells."""
     return run("--load", *SMALL, path, **how)
 
 
 @pytest.fixture(autouse=True)
-def folder():
+def folder() -> Iterator[None]:
     """Each test runs in a folder with an imp, also under a name with a letter that is not ASCII."""
     with tempfile.TemporaryDirectory() as folder, contextlib.chdir(folder):
         for name in ("imp.red", "w\u00e4chter.red"):
@@ -42,14 +60,14 @@ def folder():
         yield
 
 
-def is_read(stream):
+def is_read(stream: IO[bytes]) -> bool:
     """Returns whether everything written to a pipe was read, or the pipe has no reader."""
     watch = select.poll()
     watch.register(stream, 0)
     return bool(watch.poll(0)) or struct.unpack("i", fcntl.ioctl(stream, termios.FIONREAD, bytes(4))) == (0,)
 
 
-def feed(stream, text, size):
+def feed(stream: IO[bytes], text: bytes, size: int) -> None:
     """Writes a text to a pipe in pieces of one size, each when the one before is read."""
     with contextlib.suppress(BrokenPipeError):
         for start in range(0, len(text), size):
@@ -59,7 +77,7 @@ def feed(stream, text, size):
 
 
 @contextlib.contextmanager
-def debugger(*words):
+def debugger(*words: str) -> Iterator[subprocess.Popen[bytes]]:
     """The debugger of an imp over pipes, with errors among its replies. It is ended if it is silent for long."""
     with subprocess.Popen(
         [PROGRAM, "-e", *words, "imp.red"],
@@ -76,7 +94,7 @@ def debugger(*words):
             ending.cancel()
 
 
-def test_words():
+def test_words() -> None:
     for word in (b"\xff.red", b"-\xff", b"--score=\xc3\x28"):
         assert run(word, "imp.red") == (2, "", "mars: bad words\n"), f"a word that isn't UTF-8, {word!r}"
     assert run() == (2, "", "mars: bad words\n")
@@ -88,7 +106,7 @@ def test_words():
         assert run(*words) == run("--help"), f"a help beside other words, {words}"
 
 
-def test_many_words():
+def test_many_words() -> None:
     """Each of the words counts, the last one too, and each byte of a long one."""
     table = "  points   wins   ties losses  warrior\n" + 16 * "      60      0     30      0  Unknown by Anonymous\n"
     files = ["imp.red"] * 16
@@ -98,7 +116,7 @@ def test_many_words():
     assert run("--load", "-s", "8".zfill(5000), *SMALL[2:], "imp.red") == load("imp.red")
 
 
-def test_names():
+def test_names() -> None:
     """The whole name of a file is in its error message, except for control characters."""
     for name in ("x" * 300, "x" * 5000, "\u00e4" * 150, "k\u00e4fer.red", "\u4e16\u754c.red"):
         assert run(name) == (1, "", f"mars: {name}: cannot read\n"), f"{name[:10]}, {len(name)} letters"
@@ -115,13 +133,13 @@ def test_names():
     assert load(longest) == load("imp.red")
 
 
-def source(size):
+def source(size: int) -> str:
     """Returns a source of `size` bytes. Its instruction is at the end, so a truncated source has none."""
     code = "\nMOV 0, 1"
     return ";" * (size - len(code)) + code
 
 
-def test_files():
+def test_files() -> None:
     for size in (4_095, 4_096, 4_097, 65_537, LARGEST):
         name = f"{size}.red"
         Path(name).write_text(source(size))
@@ -139,8 +157,10 @@ def test_files():
     assert run("none.red", "larger.red") == (1, "", "mars: none.red: cannot read\n")
 
 
-def test_limits():
-    """A source that exceeds the limits of the system: the program is ended, or reports that it is out of memory, and prints nothing."""
+def test_limits() -> None:
+    """A source that exceeds the limits of the system: the program is ended, or reports that it is out of memory, and
+    prints nothing.
+    """
     for name, text, seconds, answer in (
         ("slow.red", slow(), 1, (-signal.SIGKILL, "", "")),
         ("large.red", large(), 60, (1, "", "mars: out of memory\n")),
@@ -151,25 +171,25 @@ def test_limits():
         assert (done.returncode, done.stdout, done.stderr) == answer, name
 
 
-def test_leave():
+def test_leave() -> None:
     """A file without permission to read. As root, the test runs a copy of the program as the user `nobody`."""
     Path("closed.red").write_text("MOV 0, 1\n")
     os.chmod("closed.red", 0)
     os.chmod(".", 0o755)
     copy = os.path.abspath(shutil.copy(PROGRAM, "program"))
-    user = NOBODY if os.geteuid() == 0 else {}
+    user: dict[str, Any] = NOBODY if os.geteuid() == 0 else {}
     try:
         assert run("closed.red", executable=copy, **user) == (1, "", "mars: closed.red: cannot read\n")
     except PermissionError as fault:
-        skip("a file that may not be read", fault)
+        skip("a file that may not be read", str(fault))
 
 
-def feed_fifo(path, text, size):
+def feed_fifo(path: str, text: bytes, size: int) -> None:
     with open(path, "wb", buffering=0) as stream:
         feed(stream, text, size)
 
 
-def test_pipes():
+def test_pipes() -> None:
     """Files that come by a pipe are read whole."""
     os.mkfifo("fifo.red")
     threading.Thread(target=feed_fifo, args=("fifo.red", b"NOP\nNOP\nNOP\n", 4), daemon=True).start()
@@ -181,7 +201,7 @@ def test_pipes():
         assert load("/dev/stdin", input=source(size).encode()) == answer, f"{size} bytes by a pipe"
 
 
-def test_long_outputs():
+def test_long_outputs() -> None:
     """Outputs of more than 4,096 bytes, the most warriors, the greatest core."""
     Path("long.red").write_text("".join(f"DAT 0, {number}\n" for number in range(300)))
     text = f";load 2 8000\n{UNNAMED}ORG 0\n" + "".join(f"DAT.F $0, ${number}\n" for number in range(300))
@@ -197,7 +217,7 @@ def test_long_outputs():
     assert run("-e", "-s", "1048576", "imp.red", input=lines) == (0, replies, "")
 
 
-def test_streams():
+def test_streams() -> None:
     full = (1, "", "mars: cannot write\n")
     for words in ("--help", "--load imp.red", "imp.red", "-b imp.red", "--league -b imp.red imp.red"):
         with open("/dev/full", "wb") as output:
@@ -212,8 +232,10 @@ def test_streams():
     os.close(commands)
 
 
-def test_sizes_of_files():
-    """A file that may not grow takes a part and fails. Where the signal of that isn't ignored, it ends the program first."""
+def test_sizes_of_files() -> None:
+    """A file that may not grow takes a part and fails. Where the signal of that isn't ignored, it ends the program
+    first.
+    """
     whole, kept = load("imp.red")[1], "kept"
     for size in (0, 10):
         for is_ignored, ended in ((True, (1, "", "mars: cannot write\n")), (False, (-signal.SIGXFSZ, "", ""))):
@@ -231,9 +253,10 @@ CONVERSATION = (
 )
 
 
-def test_answers():
+def test_answers() -> None:
     """Commands that come byte by byte, and for each a reply before the next one comes."""
     with debugger(*SMALL) as process:
+        assert process.stdin and process.stdout
         for line, reply in CONVERSATION:
             feed(process.stdin, f"{line}\n".encode(), 1)
             assert process.stdout.readline().decode() == reply + "\n", f"{line!r} is answered before the next line"
@@ -241,7 +264,7 @@ def test_answers():
         assert (process.stdout.read(), process.wait()) == (b"", 0)
 
 
-def long_session():
+def long_session() -> tuple[bytes, bytes]:
     """Lines up to a quit, and what they are answered: many short replies, and two of more than 4,096 bytes."""
     lines, replies = [], []
     for turn in range(1, 1001):
@@ -254,20 +277,22 @@ def long_session():
     return "".join(f"{line}\n" for line in lines).encode(), "".join(f"{reply}\n" for reply in replies).encode()
 
 
-def test_pieces():
+def test_pieces() -> None:
     """Long inputs in pieces near what is read at once, and replies that are taken in such pieces."""
     lines, replies = long_session()
     for size in range(4_094, 4_099):
         with debugger(*CORE) as process:
+            assert process.stdout
+            number = process.stdout.fileno()
             feeding = threading.Thread(target=feed, args=(process.stdin, lines, size))
             feeding.start()
-            got = b"".join(iter(lambda: os.read(process.stdout.fileno(), size), b""))
+            got = b"".join(iter(partial(os.read, number, size), b""))
             feeding.join()
             pairs = itertools.zip_longest(got.splitlines(), replies.splitlines())
             assert (process.wait(), next((pair for pair in pairs if pair[0] != pair[1]), None)) == (0, None), size
 
 
-def test_many_reads():
+def test_many_reads() -> None:
     """A line of 410,000,000 bytes is read in more than 100,000 pieces, and the command after it has a reply."""
     with open("commands", "wb") as file:
         file.seek(410_000_000)

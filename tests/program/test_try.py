@@ -1,7 +1,11 @@
-"""Tests scripts/try: what it passes to a stub for `rt`, and once with the toolchain that the unproved run has the output of the program.
+"""Tests scripts/try: what it passes to a stub for `rt`, and once with the toolchain that the unproved run has the
+output of the program.
 """
+from __future__ import annotations
+
 import os
 import subprocess
+from pathlib import Path
 
 from counting import PROGRAM, SCRIPTS, TOP
 
@@ -13,7 +17,7 @@ exit 3
 WORDS = ["-b", "-r", "10", "examples/dwarf.red", "examples/imp.red"]
 
 
-def tried(folder, *words):
+def tried(folder: str, *words: str) -> tuple[int, list[str], str]:
     """Returns the status, the arguments of `rt`, and the messages."""
     done = subprocess.run(
         [os.path.join(SCRIPTS, "try"), *words],
@@ -25,7 +29,7 @@ def tried(folder, *words):
     return done.returncode, done.stdout.split("\n")[:-1], done.stderr
 
 
-def test_words(tmp_path):
+def test_words(tmp_path: Path) -> None:
     folder = os.path.realpath(tmp_path)
     with open(os.path.join(folder, "rt"), "w") as file:
         file.write(STAND_IN)
@@ -60,9 +64,11 @@ def test_words(tmp_path):
     assert (done.returncode, done.stderr) == (1, "try: cannot find `rt` of the Rattle toolchain on the path\n")
 
 
-def test_run():
+def test_run() -> None:
     """The match of the README, unproved and proved."""
-    run = lambda program: subprocess.run([program, *WORDS], cwd=TOP, capture_output=True, text=True)
-    done = run(os.path.join(SCRIPTS, "try"))
-    assert (done.returncode, done.stdout) == (0, run(PROGRAM).stdout)
-    assert done.stderr.endswith(" proved=no\n")
+    unproved, proved = (
+        subprocess.run([program, *WORDS], cwd=TOP, capture_output=True, text=True)
+        for program in (os.path.join(SCRIPTS, "try"), PROGRAM)
+    )
+    assert (unproved.returncode, unproved.stdout) == (0, proved.stdout)
+    assert unproved.stderr.endswith(" proved=no\n")
