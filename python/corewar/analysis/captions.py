@@ -9,12 +9,12 @@ from .telling import joined
 
 
 def title(history: History) -> str:
-    """Returns the names of the warriors."""
+    """Returns the names of the warriors as a heading, `A against B` for two."""
     return " against ".join(history.names) if len(history.names) == 2 else ", ".join(history.names)
 
 
 def outcome(history: History) -> str:
-    """Returns who won."""
+    """Returns who won, or lives if there is no opponent, as a sentence without its end."""
     living = [name for number, name in enumerate(history.names) if history.death(number) is None]
     if not living:
         return "No survivors"

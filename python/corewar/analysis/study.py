@@ -86,7 +86,7 @@ class Study:
         return (int(changes.turns[found[0]]), int(changes.addresses[found[0]])) if len(found) else None
 
     def told(self) -> Iterator[str]:
-        """Describes the battle."""
+        """Yields the lines of the report: how it ends, when it first hits itself, and what it writes and scans."""
         history, name = self.history, self.history.names[0]
         fate = f"{'lives' if history.death(0) is None else 'dies'} after {counted(history.end, 'turn')}"
         size, most = counted(len(history.warriors[0]), "cell"), counted(self.processes, "process")

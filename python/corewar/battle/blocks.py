@@ -23,7 +23,7 @@ class Touches:
     warriors: NDArray[np.uint32]
 
     def of(self, turn: int) -> slice:
-        """Returns the slice of a turn."""
+        """Returns the part of the arrays that is of a turn."""
         return slice(*np.searchsorted(self.turns, [turn, turn + 1]))
 
 
@@ -44,6 +44,7 @@ def changes_of(first: int, records: Records) -> Changes:
     rows, address = places // 3, writes[:, 0].copy()
     before, after = writes[:, 1:4].copy(), writes[:, 4:].copy()
     is_last = np.ones(len(rows), bool)
+    # A turn has at most three writes, so an earlier one of the same cell is one or two places before.
     for ahead in (1, 2):
         earlier = np.flatnonzero((rows[ahead:] == rows[:-ahead]) & (address[ahead:] == address[:-ahead]))
         before[earlier + ahead] = writes[earlier, 1:4]

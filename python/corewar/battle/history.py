@@ -298,6 +298,7 @@ class History:
         made.__dict__.update(vars(self))
         kept = [Segment(one.run, min(one.last, turn)) for one in self.segments if one.first <= turn]
         made.segments = [*kept, whole_segment(run_of(after, edit, before))]
+        # What is known at the turn itself lacks the cells that the edit changes.
         made._written = {at: written for at, written in self._written.items() if at < turn}
         return made
 

@@ -36,7 +36,7 @@ class Standing:
 
     @property
     def rounds(self) -> int:
-        """The number of its rounds."""
+        """The number of rounds in which it was one of the warriors."""
         return self.wins + self.ties + self.losses
 
 

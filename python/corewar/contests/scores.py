@@ -21,7 +21,7 @@ DIGITS = 4
 
 
 def names_of(warrior: Warrior) -> dict[str, Any]:
-    """Returns the columns NAMES of a warrior."""
+    """Returns the columns NAMES: the file of a warrior, its name and its author."""
     return {name: getattr(warrior, name) for name in NAMES}
 
 

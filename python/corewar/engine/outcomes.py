@@ -105,6 +105,7 @@ def table_of(lineups: ArrayLike, seeds: int | Sequence[int]) -> NDArray[Any]:
         indices = np.asarray(lineups, np.int64)
     except (ValueError, TypeError):
         raise ValueError("expected lineups of whole numbers, all of the same length") from None
+    # An empty list has one dimension, and stands for no lineups.
     if indices.shape == (0,):
         indices = indices.reshape(0, 0)
     if indices.ndim != 2:
@@ -129,6 +130,7 @@ def cycles_of(turns: NDArray[np.uint32], survived: NDArray[np.bool_], limit: int
     since the end of the cycle of the death before it.
     """
     count = turns.shape[-1]
+    # Those that survive come last, since no number of turns has more than 32 bits.
     order = np.argsort(np.where(survived, 1 << 32, turns.astype(np.int64)), axis=-1, kind="stable")
     deaths = np.take_along_axis(turns, order, -1).astype(np.int64)
     made = np.empty(turns.shape, np.int64)
@@ -137,6 +139,7 @@ def cycles_of(turns: NDArray[np.uint32], survived: NDArray[np.bool_], limit: int
     for place in range(count):
         left = count - place
         whole = (deaths[..., place] - 1 - end) // left
+        # Otherwise it died in the cycle of the death before it.
         is_later = whole >= 0
         made[..., place] = complete - 1 + np.where(is_later, whole + 1, 0)
         end, complete = end + np.where(is_later, (whole + 1) * left, 0), made[..., place] + 1
@@ -160,6 +163,7 @@ def shares(made: NDArray[Any], cycles: int) -> NDArray[np.float64]:
     lived = np.minimum(made["cycles"].astype(np.int64) + 1, cycles).astype(float)
     order = np.argsort(lived, axis=-1, kind="stable")
     ends = np.take_along_axis(lived, order, -1)
+    # From one death to the next, each cycle is shared by those that are left.
     steps = np.diff(ends, axis=-1, prepend=0) / np.arange(lived.shape[-1], 0, -1)
     gained = np.empty_like(lived)
     np.put_along_axis(gained, order, steps.cumsum(-1), -1)

@@ -50,7 +50,7 @@ class Assembler:
         self.end()
 
     def end(self) -> None:
-        """Ends the process."""
+        """Ends the process, if there is one. The next source starts another."""
         if self._process is not None:
             assert self._pipe is not None
             self._pipe.close()
@@ -109,7 +109,9 @@ def serve(pipe: Connection, limit: Limit, other: Connection | None) -> None:
     """Assembles the sources from a pipe until its other end is closed."""
     if other is not None:
         other.close()
+    # Ctrl-C reaches all processes of a terminal; the one that asks decides, and closes the pipe.
     signal.signal(signal.SIGINT, signal.SIG_IGN)
+    # The limit is for what a source adds to the memory that the process has at its start.
     with open("/proc/self/statm") as file:
         taken = int(file.read().split()[0]) * resource.getpagesize()
     lower(resource.RLIMIT_AS, taken + limit.megabytes * 1_000_000)
@@ -120,6 +122,7 @@ def serve(pipe: Connection, limit: Limit, other: Connection | None) -> None:
         except (EOFError, OSError):
             return
         used = resource.getrusage(resource.RUSAGE_SELF)
+        # The limit of the system is for the whole life of the process, and in whole seconds.
         lower(resource.RLIMIT_CPU, int(used.ru_utime + used.ru_stime) + 1 + limit.seconds)
         try:
             pipe.send(answer(*given))

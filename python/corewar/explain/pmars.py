@@ -67,7 +67,7 @@ def sides(tokens: list[str]) -> list[list[str]]:
 
 
 def written(tokens: list[str]) -> str:
-    """Returns the text of an operand."""
+    """Returns an operand as it is written without spaces."""
     return "".join(tokens)
 
 

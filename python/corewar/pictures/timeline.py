@@ -74,7 +74,7 @@ def whole(history: History) -> View:
 # `$` in a name does not begin a formula.
 @rc_context({"text.parse_math": False})  # type: ignore[misc]
 def figure_of(history: History, view: View) -> Figure:
-    """Returns the picture of a battle."""
+    """Returns the picture of a battle: its cells from left to right, and its turns from top to bottom."""
     figure = Figure(figsize=(10, 7.5), layout="constrained")
     axes = figure.subplots()
     first, last = view.ends[0], view.ends[-1]

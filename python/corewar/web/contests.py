@@ -25,7 +25,7 @@ NAMES = {"readLimit": "read_limit", "writeLimit": "write_limit"}
 
 
 def settings_of(given: dict[str, int]) -> Settings:
-    """Returns the settings of a message."""
+    """Returns the settings of a message, in which a limit of 0 is the core size."""
     numbers: dict[str, Any] = {NAMES.get(name, name): int(value) for name, value in given.items()}
     return Settings(**{**numbers, **{name: numbers.get(name) or None for name in NAMES.values()}})
 
