@@ -220,6 +220,12 @@ def test_the_debugger_has_a_line(page: Browser) -> None:
     assert ask("futures").startswith("> 3: after turn 200")
     assert "unknown command" in ask("nonsense") and "not an address" in ask("edit 8000 nop 0")
     assert ask("goto start").startswith("next: Dwarf")
+    # The last line of each answer.
+    assert ask("explain") == "Add 4 to the B-number of bomb."
+    assert ask("explain 1") == "Copy bomb to the cell pointed to by the B-number of bomb."
+    assert ask("explain 4") == "End the process that executes this."
+    ask("goto end")
+    assert ask("explain") == ". is the cell to execute next, but the battle is over"
 
 
 def test_the_line_is_completed(page: Browser) -> None:

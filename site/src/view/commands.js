@@ -319,6 +319,17 @@ function why(session, rest) {
 }
 
 /** @type {Act} */
+function explain(session, rest) {
+  const { view, known } = session;
+  const address = readAddress(session, rest || ".");
+  if (!view) return [];
+  const cell = readCell(view.cells, address);
+  const name = (/** @type {number} */ named) => known.labels.get(named) ?? "";
+  const words = instructionWords(cell, { core: known.core, address, name });
+  return [`${place(address, known)}: ${cellText(cell, known.core)}`, words];
+}
+
+/** @type {Act} */
 async function changed(session, rest) {
   const address = readAddress(session, rest);
   const { changes } = await session.desk.cell(session.future, address, session.turn);
@@ -379,6 +390,7 @@ export const COMMANDS = [
   command("show", "show the turn, the cycle and the state of each warrior", show, "i"),
   command("why [W]", "say why warrior W died, or what comes next", why),
   command("changed A", "find the last turn up to here that changed cell A", changed),
+  command("explain [A]", "say in words what the instruction at A does, or the next one to execute", explain),
   command("help", "list all commands", help, "h", "?"),
 ];
 
