@@ -24,11 +24,13 @@ exec '{clang}' "$@"
 # wasm64 has pointers of 64 bits, as the native target has; the memory is lowered to 32 bits afterwards.
 TARGET = "wasm64-unknown-unknown"
 LAYOUT = "e-m:e-p:64:64-p10:8:8-p20:8:8-i64:64-i128:128-n32:64-S128-ni:1:10:20"
-COMPILE = [f"--target={TARGET}", "-mcpu=lime1", "-mbulk-memory", "-O3", "--no-default-config"]
+COMPILE = [f"--target={TARGET}", "-mcpu=lime1", "-mbulk-memory", "-O2", "--no-default-config"]
 # Writes a module as text, as it is.
 DISASSEMBLE = "-S -emit-llvm -Xclang -disable-llvm-passes --no-default-config -x ir".split()
 # The options of the native library.
 AS_NATIVE = ["-ffunction-sections", "-fno-vectorize", "-fno-slp-vectorize"]
+# The crates that no turn runs through. They are compiled for size.
+SMALL = "redcode_text|redcode_asm|mars_cell|mars_session|mars_app|mars_c"
 STACK, MAX_MEMORY = 1 << 20, 1 << 30
 LINK = [
     "-mwasm64",
@@ -87,6 +89,7 @@ def for_webassembly(text: str) -> str:
     """The text of a module of x86-64 as one of wasm64."""
     text = re.sub(r"^target datalayout = .*", f'target datalayout = "{LAYOUT}"', text, flags=re.M)
     text = re.sub(r"^target triple = .*", f'target triple = "{TARGET}"', text, flags=re.M)
+    text = re.sub(rf'^(define .*@"(?:{SMALL})::.*\)) (#\d+ {{)$', r"\1 minsize optsize \2", text, flags=re.M)
     return re.sub(r' ?"(probe-stack|stack-probe-size|target-cpu)"="[^"]*"', "", text)
 
 
@@ -145,4 +148,4 @@ def build_wasm(module: str, archive: str, toolchain: str, room: str, out: str) -
         code = with_narrow_table(file.read())
     with open(linked, "wb") as file:
         file.write(code)
-    run("wasm-opt", *(f"--enable-{name}" for name in FEATURES), linked, "--memory64-lowering", "-O3", "-o", out)
+    run("wasm-opt", *(f"--enable-{name}" for name in FEATURES), linked, "--memory64-lowering", "-Oz", "-o", out)

@@ -1,6 +1,7 @@
 """Tests mars.wasm, the proved library compiled to WebAssembly, and what JavaScript calls it by."""
 from __future__ import annotations
 
+import gzip
 import itertools
 import json
 import os
@@ -161,6 +162,14 @@ def test_its_sentences_are_those_of_python(tmp_path: Path) -> None:
     given = "".join(f"{cell}\n" for cell in cells)
     done = subprocess.run(["node", script, "8000"], input=given, capture_output=True, text=True)
     assert done.stdout.splitlines() == [instruction_told(cell) for cell in cells], done.stderr
+
+
+def test_the_site_is_light() -> None:
+    """All that a browser loads has at most 200 kB, compressed as servers do."""
+    files = [file for file in (TOP / "build" / "site").glob("*") if file.name != "one.html"]
+    if not files:
+        skip("the weight of the site", "it is not built; `make site` builds it", "esbuild")
+    assert sum(len(gzip.compress(file.read_bytes())) for file in files) <= 200_000
 
 
 def test_its_types_are_sound() -> None:
