@@ -11,7 +11,7 @@ from numpy.typing import ArrayLike, NDArray
 from ..model.faults import LINEUP, Fault, Refused
 from ..model.settings import NUMBERS, Settings, settings_of
 from .binding import GREATEST, array, call, held, slice_of
-from .calls import check_count, fighters
+from .calls import check_count, fighters, population
 from .warriors import Warrior
 
 # What is known of a warrior in a round.
@@ -55,6 +55,10 @@ def outcomes(
         raise Refused(f"expected 1 or more jobs, not {jobs}")
     given = settings_of(settings)
     table = table_of([range(len(warriors))] if lineups is None else lineups, seeds)
+    if not len(table):
+        # With no lineup the library does not check these numbers.
+        seed = seeds if isinstance(seeds, int) else 1
+        population([], [], settings=given, rounds=rounds, seed=seed, position=position)
     rows = played(warriors, table, given, rounds, position, jobs)
     found = np.empty(rows.shape, OUTCOME)
     for field in ("survived", "turns", "start"):
