@@ -137,7 +137,7 @@ def test_what_is_told() -> None:
         "    line 12 of Dwarf: bomb DAT #0, #0",
         "Cell 5203 was last changed in turn 7797:",
     ]
-    assert execute(session, "why dwarf") == ["Dwarf is alive after turn 7798, the last one."]
+    assert execute(session, "why dwarf")[0] == "Dwarf is alive after turn 7798, the last one, with 1 process."
     assert execute(session, "changed 4") == ["Cell 4 has not changed since the start."]
     assert execute(session, "queue imp") == ["Imp:"]
     assert [line.split()[0] for line in execute(session, "list 7999 3")] == ["7999", "0", "1"]

@@ -7,10 +7,16 @@ import signal
 import subprocess
 import sys
 import time
+from collections import Counter
 from pathlib import Path
 
+import pytest
 from conftest import ENVIRONMENT, EXAMPLES, Run, begin
 
+from corewar.analysis.endings import ending_of, last_turns
+from corewar.battle.history import History
+from corewar.battle.labels import Sources
+from corewar.engine.calls import Match, match
 from corewar.engine.sources import read
 
 DEATH = """Imp died in turn 7798:
@@ -25,12 +31,22 @@ turn 7796: Imp at 5202: MOV.I $0, $1
 """
 
 
+LIFE = """Dwarf is alive after turn 7798, the last one, with 1 process.
+Its last 1000 turns:
+  turns  cells written  line
+    334            334  10: MOV bomb, @bomb
+    333              1  9: loop ADD #step, bomb
+    333              0  11: JMP loop
+"""
+
+
 def test_why(run: Run) -> None:
     assert run("why", "--turns", 1, "@dwarf", "@imp").stdout == DEATH
     assert run("why", "--turns", 1, "--of", "imp", "@dwarf", "@imp").stdout == DEATH
-    assert run("why", "--of", 0, "@dwarf", "@imp").stdout == "Dwarf is alive after turn 7798, the last one.\n"
-    alone = run("why", "@imp")
-    assert alone.stdout == "No warrior died; the battle is over: Imp lives.\n"
+    assert run("why", "--of", 0, "@dwarf", "@imp").stdout == LIFE
+    alone = run("why", "@imp").stdout.splitlines()
+    assert alone[0] == "No warrior died; the battle is over: Imp lives."
+    assert alone[-1] == "   1000           1000  5: MOV.I 0, 1"
     bad = run("why", "--of", "nobody", "@dwarf", "@imp")
     assert bad.returncode == 2 and "no warrior `nobody`; the warriors are 0 Dwarf, 1 Imp" in bad.stderr
 
@@ -114,7 +130,7 @@ def test_names_of_files_that_are_no_text(run: Run, tmp_path: Path) -> None:
     """A file's name replaces a missing name of a warrior, with `?` for characters unfit for a terminal or a page."""
     name = os.fsdecode(b"a\xff\x1b[31m.red")
     (tmp_path / name).write_text("mov 0, 1\n")
-    assert run("why", name).stdout == "No warrior died; the battle is over: a??[31m.red lives.\n"
+    assert run("why", name).stdout.startswith("No warrior died; the battle is over: a??[31m.red lives.\n")
     assert run("page", "-o", "a.html", name).returncode == 0
     assert run("rounds", "--pages", "folder", name).returncode == 0
     assert "a??[31m.red by Anonymous" in run("fight", name).stdout
@@ -201,13 +217,67 @@ def test_why_over_a_match(run: Run) -> None:
     """Losses are counted by the line that was hit and the line that hit it; `--round` selects a round."""
     told = run("why", "-r", 20, "@dwarf", "@imp").stdout
     assert told == (
+        "Dwarf tied 13 of 20 rounds:\n  ties round  executed in its last 1000 turns\n"
+        "     8     2  cells that Imp wrote\n     5     4  cells that it wrote\n"
         "Imp lost 7 of 20 rounds:\nlosses round  died on                 hit by\n"
         "     7     0  its line 5: MOV.I 0, 1  Dwarf, by line 10: MOV bomb, @bomb\n"
+        "Imp tied 13 of 20 rounds:\n  ties round  executed in its last 1000 turns\n"
+        "     8     2  cells that it wrote\n     5     4  cells that Dwarf wrote\n"
     )
-    assert run("why", "-r", 20, "--of", "dwarf", "@dwarf", "@imp").stdout == "Dwarf lost none of 20 rounds.\n"
-    assert run("why", "-r", 2, "@gate", "@imp").stdout == "No warrior died in 2 rounds.\n"
+    lucky = run("why", "-r", 20, "--of", "dwarf", "@dwarf", "@imp").stdout
+    assert lucky.startswith("Dwarf lost none of 20 rounds.\nDwarf tied 13 of 20 rounds:\n")
+    assert run("why", "-r", 2, "@gate", "@imp").stdout == (
+        "No warrior died in 2 rounds.\nGate tied 2 of 2 rounds:\n  ties round  executed in its last 1000 turns\n"
+        "     2     0  line 5\n"
+        "Imp tied 2 of 2 rounds:\n  ties round  executed in its last 1000 turns\n     2     0  Gate's line 5\n"
+    )
     assert run("why", "--turns", 1, "-r", 20, "--round", 0, "@dwarf", "@imp").stdout == DEATH
     assert "no warrior `nobody`" in run("why", "-r", 2, "--of", "nobody", "@dwarf", "@imp").stderr
+
+
+def test_a_tie(run: Run, tmp_path: Path) -> None:
+    """What the survivors did last: lines of others, load files, hits, and no more than some lines."""
+    told = run("why", "@boot", "@imp").stdout.splitlines()
+    assert told[:5] == [
+        "No warrior died; the battle is over: Stranger and Imp live.",
+        "Stranger is alive after turn 160000, the last one, with 1 process.",
+        "Its last 1000 turns:",
+        "  turns  cells written  line",
+        "   1000           1000  Imp 5: MOV.I 0, 1",
+    ]
+    assert re.fullmatch(r"Imp executed \d+ of these 1000 cells in its last turns\.", told[5])
+    (tmp_path / "a.load").write_bytes(read(EXAMPLES / "imp.red").load)
+    loaded = run("why", "-c", 10, "a.load").stdout
+    assert loaded.endswith("Its last 10 turns:\n  turns  cells written  line\n     10             10  MOV.I $0, $1\n")
+    (tmp_path / "long.red").write_text("NOP\n" * 20 + "JMP -20\n")
+    assert run("why", "long.red").stdout.endswith("in 13 more lines\n")
+    (tmp_path / "dat.red").write_text("DAT 0\n")
+    melee = run("why", "dat.red", "@gate", "long.red").stdout
+    assert melee.startswith("dat.red died in turn 1:\n") and melee.count(" is alive after turn ") == 2
+    assert run("why", "dat.red", "@gate").stdout.count(" is alive after turn ") == 0
+
+
+@pytest.mark.parametrize("names", [("silk", "paper"), ("dwarf", "imp"), ("gate", "silk"), ("boot", "imp", "spiral")])
+def test_lines_at_the_end_are_those_of_the_turns(names: tuple[str, ...]) -> None:
+    """The lines that are told over a match are among those found by the origins of the cells, and ties are counted."""
+    warriors = [read(EXAMPLES / f"{name}.red") for name in names]
+    fight, ties = Match(warriors, rounds=4), Counter[int]()
+    for number in range(4):
+        history = History(fight, number)
+        sources, living = Sources(history), [one for one in range(len(names)) if history.death(one) is None]
+        for one in living if len(living) > 1 else []:
+            ties[(one + number) % len(names)] += 1
+            traced = {
+                (line.warrior, line.number)
+                for turn in last_turns(history, one)
+                if (line := sources.line(history, int(history.record(turn)["address"]), turn - 1))
+            }
+            told = ending_of(history, sources, history.names, one)
+            for owner, numbers in re.findall(r"(?:(\w+)'s )?lines? ((?:[\d-]+(?:, (?=\d))?)+)", told):
+                for first, last in re.findall(r"(\d+)(?:-(\d+))?", numbers):
+                    of = history.names.index(owner) if owner else one
+                    assert {(of, line) for line in range(int(first), int(last or first) + 1)} <= traced, told
+    assert [ties[number] for number in range(len(names))] == [row.ties for row in match(warriors, rounds=4)]
 
 
 def test_the_ways_to_die(run: Run, tmp_path: Path) -> None:
@@ -230,7 +300,7 @@ def test_the_ways_to_die(run: Run, tmp_path: Path) -> None:
         assert lines[0].endswith(" lost 3 of 3 rounds:") and lines[2].split(None, 2) == ["3", "0", row], lines
     (tmp_path / "dwarf.load").write_bytes(read(EXAMPLES / "dwarf.red").load)
     told = run("why", "-r", 20, "dwarf.load", "@imp").stdout
-    assert told.endswith("     7     0  its line 5: MOV.I 0, 1  Dwarf, by an unknown line\n")
+    assert "     7     0  its line 5: MOV.I 0, 1  Dwarf, by an unknown line\n" in told
 
 
 def test_losses_are_those_of_the_match(run: Run) -> None:
@@ -240,7 +310,9 @@ def test_losses_are_those_of_the_match(run: Run) -> None:
         told = run("why", "-r", 9, *files).stdout
         found = re.findall(r"^(.*) lost (\d+) of 9 rounds:$", told, re.M)
         assert [int(count) for _, count in found] == [int(row.split()[3]) for row in rows if int(row.split()[3])]
-        assert sum(map(int, re.findall(r"^ +(\d+) ", told, re.M))) == sum(int(count) for _, count in found)
+        tied = re.findall(r"^(.*) tied (\d+) of 9 rounds:$", told, re.M)
+        assert [int(count) for _, count in tied] == [int(row.split()[2]) for row in rows if int(row.split()[2])]
+        assert sum(map(int, re.findall(r"^ +(\d+) ", told, re.M))) == sum(int(count) for _, count in found + tied)
 
 
 def test_why_of_several_processes(run: Run) -> None:

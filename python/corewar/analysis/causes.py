@@ -3,11 +3,10 @@ from __future__ import annotations
 
 from collections.abc import Iterator
 
-import numpy as np
-
 from ..battle.conditions import Condition, last_change, search
 from ..battle.history import History
 from ..model.cells import OPCODES
+from .endings import living_told, own_turns
 from .telling import Teller
 
 # How many more turns are searched for one in which a warrior executed a cell of another.
@@ -44,13 +43,6 @@ def stranger(history: History, turn: int) -> int | None:
     return found if found is not None and history.record(found)["warrior"] != record["warrior"] else None
 
 
-def own_turns(history: History, warrior: int, turn: int) -> Iterator[int]:
-    """The turns of a warrior up to a turn, the latest first."""
-    for block in history.blocks_back(turn):
-        own = block.first + 1 + np.flatnonzero(block.records["warrior"] == warrior)
-        yield from (int(one) for one in own[own <= turn][::-1])
-
-
 def executed_told(teller: Teller, turn: int, told: set[tuple[int, int]]) -> Iterator[str]:
     """Describes a turn, and the turn of another warrior that wrote the cell it executed, unless `told` has it."""
     history, made = teller.history, stranger(teller.history, turn)
@@ -66,14 +58,15 @@ def executed_told(teller: Teller, turn: int, told: set[tuple[int, int]]) -> Iter
 
 
 def death_told(teller: Teller, warrior: int, count: int) -> Iterator[str]:
-    """Explains why a warrior died, with `count` of its turns before that. If it executed no cell of another warrior in
-    them, the last earlier turn in which it did is added. Only the end of its last process is explained; if it had
-    several processes over time, the first hit on its loaded code is added.
+    """Explains why a warrior died, with `count` of its turns before that; or what it did last, if it lives.
+
+    If it executed no cell of another warrior in them, the last earlier turn in which it did is added. Only the end of
+    its last process is explained; if it had several processes over time, the first hit on its loaded code is added.
     """
     history, name = teller.history, teller.names[warrior]
     death = history.death(warrior)
     if death is None:
-        yield f"{name} is alive after turn {history.end}, the last one."
+        yield from living_told(teller, warrior)
         return
     if history.is_killed(warrior):
         yield f"{name} was killed by an edit after turn {death}."

@@ -1,17 +1,19 @@
-"""Counts how the warriors of a match died: the cell as it was before it was hit, and the line that hit it."""
+"""Counts how the warriors of a match died, by the cell as it was before it was hit and the line that hit it, and what
+they executed last if they tied.
+"""
 from __future__ import annotations
 
-from collections.abc import Iterator, Sequence
+from collections.abc import Iterable, Iterator, Sequence
 from dataclasses import dataclass
 
 from ..battle.conditions import last_change
 from ..battle.history import NOBODY, History
 from ..battle.labels import Sources
+from .endings import LAST, ending_of
 from .telling import counted
 
-# The most ways to die that are listed for a warrior.
+# The most ways to die, or to tie, that are listed for a warrior.
 MOST = 10
-HEAD = ("losses", "round", "died on", "hit by")
 
 
 @dataclass(frozen=True)
@@ -24,13 +26,29 @@ class Death:
     by: str
 
 
-def deaths_of(history: History, names: Sequence[str]) -> Iterator[Death]:
-    """Yields how each warrior died, given the names of all in the order of the files."""
+@dataclass(frozen=True)
+class Tie:
+    """A warrior that tied in a round: its number in the order of the files, and what it executed last."""
+
+    warrior: int
+    round: int
+    executed: str
+
+
+def fates_of(history: History, names: Sequence[str]) -> Iterator[Death | Tie]:
+    """Yields how each warrior died or, in a tie, what it executed last.
+
+    - `names`: the names of all warriors in the order of the files
+    """
     # The warriors of a match take turns to begin.
     order = [(place + history.round) % len(names) for place in range(len(names))]
     sources, in_turn = Sources(history), [names[number] for number in order]
-    for place in history.ending.deaths["warrior"].tolist():
+    dead = history.ending.deaths["warrior"].tolist()
+    for place in dead:
         yield Death(order[place], history.round, *death_of(history, sources, in_turn, place))
+    living = [place for place in range(len(names)) if place not in dead]
+    for place in living if len(living) > 1 else []:
+        yield Tie(order[place], history.round, ending_of(history, sources, in_turn, place))
 
 
 def death_of(history: History, sources: Sources, names: Sequence[str], warrior: int) -> tuple[str, str]:
@@ -64,14 +82,27 @@ def losses_told(name: str, rounds: int, deaths: Sequence[Death]) -> Iterator[str
         yield f"{name} lost none of {rounds} rounds."
         return
     yield f"{name} lost {len(deaths)} of {counted(rounds, 'round')}:"
-    ways: dict[tuple[str, str], list[int]] = {}
-    for death in deaths:
-        ways.setdefault((death.cell, death.by), []).append(death.round)
+    yield from table_of("losses", ("died on", "hit by"), [((death.cell, death.by), death.round) for death in deaths])
+
+
+def ties_told(name: str, rounds: int, ties: Sequence[Tie]) -> Iterator[str]:
+    """Describes the ties of a warrior in a match in the same way."""
+    if ties:
+        yield f"{name} tied {len(ties)} of {counted(rounds, 'round')}:"
+        head = f"executed in its last {LAST} turns"
+        yield from table_of("ties", (head,), [((tie.executed,), tie.round) for tie in ties])
+
+
+def table_of(fate: str, heads: tuple[str, ...], fates: Iterable[tuple[tuple[str, ...], int]]) -> Iterator[str]:
+    """Counts fates with equal texts, each given with its round, the most frequent ones first."""
+    ways: dict[tuple[str, ...], list[int]] = {}
+    for texts, round in fates:
+        ways.setdefault(texts, []).append(round)
     rows = sorted(ways.items(), key=lambda way: -len(way[1]))
-    width = max(len(HEAD[2]), *(len(cell) for (cell, _), _ in rows[:MOST]))
-    yield f"{HEAD[0]} {HEAD[1]}  {HEAD[2]:{width}}  {HEAD[3]}"
-    for (cell, by), found in rows[:MOST]:
-        yield f"{len(found):6} {found[0]:5}  {cell:{width}}  {by}"
+    widths = [max(map(len, column)) for column in zip(heads, *(texts for texts, _ in rows[:MOST]))]
+    lines = [(fate, "round", heads), *((len(found), found[0], texts) for texts, found in rows[:MOST])]
+    for count, first, texts in lines:
+        yield f"{count:>6} {first:>5}  {'  '.join(map(str.ljust, texts, widths))}".rstrip()
     rest = sum(len(found) for _, found in rows[MOST:])
     if rest:
         yield f"{rest:6}        in {len(rows) - MOST} other ways"

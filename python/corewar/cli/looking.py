@@ -6,7 +6,8 @@ from dataclasses import replace
 import click
 
 from ..analysis.causes import change_told, death_told
-from ..analysis.losses import Death, deaths_of, losses_told
+from ..analysis.endings import living_told
+from ..analysis.losses import Death, Tie, fates_of, losses_told, ties_told
 from ..analysis.study import Study
 from ..analysis.telling import Teller
 from ..battle.history import History
@@ -43,7 +44,9 @@ def warrior_of(history: History, named: str) -> int:
     ],
 )
 @battle_options(one_round=True)
-@click.option("--of", "named", metavar="WARRIOR", help="Name, file or number of the warrior  [default: all that died]")
+@click.option(
+    "--of", "named", metavar="WARRIOR", help="Name, file or number of the warrior  [default: all that died or tied]"
+)
 @click.option(
     "--turns",
     type=Number(1),
@@ -54,8 +57,9 @@ def warrior_of(history: History, named: str) -> int:
 def why(asked: Asked, named: str | None, turns: int) -> None:
     """Explain why a warrior died.
 
-    Prints its last turn, the cell that it executed, the turn that changed this cell last, and its turns before that.
-    For a match of several rounds without `--round`, it counts by which lines each warrior died.
+    Prints its last turn, the cell that it executed, the turn that changed this cell last, and its turns before that;
+    for a warrior that lives in a tie, the lines that it executed last. For a match of several rounds without `--round`,
+    it counts by which lines each warrior died, and what it executed last in ties.
     """
     if asked.rounds > 1 and not is_given("round_"):
         tell_losses(asked, named)
@@ -64,26 +68,33 @@ def why(asked: Asked, named: str | None, turns: int) -> None:
     died = [int(number) for number in teller.history.ending.deaths["warrior"]]
     for number in died if named is None else [warrior_of(teller.history, named)]:
         click.echo("\n".join(death_told(teller, number, turns)))
+    living = [number for number in range(len(teller.names)) if number not in died]
     if named is None and not died:
         click.echo(f"No warrior died; {teller.ending()}.")
+    if named is None and (len(living) > 1 or not died):
+        for number in living:
+            click.echo("\n".join(living_told(teller, number)))
 
 
 def tell_losses(asked: Asked, named: str | None) -> None:
-    """Prints how warriors died in all rounds: the one selected by its name, or all that died."""
+    """Prints how warriors died and tied in all rounds: the one selected by its name, or all that did."""
     fight = asked.fight()
     first = History(fight)
     warriors = range(len(first.names)) if named is None else [warrior_of(first, named)]
-    deaths = list[Death]()
+    fates = list[Death | Tie]()
     with progress(asked.rounds, "rounds") as advance:
         for one in rounds_of(fight, asked.rounds):
-            deaths += deaths_of(one.history, first.names)
+            fates += fates_of(one.history, first.names)
             advance(1)
-    for number in warriors:
-        own = [death for death in deaths if death.warrior == number]
-        if own or named is not None:
-            click.echo("\n".join(losses_told(first.names[number], asked.rounds, own)))
-    if named is None and not deaths:
+    if named is None and not any(isinstance(fate, Death) for fate in fates):
         click.echo(f"No warrior died in {asked.rounds} rounds.")
+    for number in warriors:
+        own, name = [fate for fate in fates if fate.warrior == number], first.names[number]
+        deaths = [fate for fate in own if isinstance(fate, Death)]
+        if deaths or named is not None:
+            click.echo("\n".join(losses_told(name, asked.rounds, deaths)))
+        for line in ties_told(name, asked.rounds, [fate for fate in own if isinstance(fate, Tie)]):
+            click.echo(line)
 
 
 @click.command(

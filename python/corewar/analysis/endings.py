@@ -1,0 +1,119 @@
+"""What a warrior did last that lives at the end of a battle: the lines that it executed, and where it wrote."""
+from __future__ import annotations
+
+from collections import Counter
+from collections.abc import Iterator, Sequence
+from itertools import islice
+
+import numpy as np
+
+from ..battle.history import NOBODY, History
+from ..battle.labels import Line, Sources
+from .telling import Teller, counted
+
+# How many of the last turns of a warrior are told, and the most lines of a table.
+LAST, MOST = 1000, 8
+# The least share of these turns of what is told about a match.
+LEAST = 0.01
+
+
+def own_turns(history: History, warrior: int, turn: int) -> Iterator[int]:
+    """The turns of a warrior up to a turn, the latest first."""
+    for block in history.blocks_back(turn):
+        own = block.first + 1 + np.flatnonzero(block.records["warrior"] == warrior)
+        yield from (int(one) for one in own[own <= turn][::-1])
+
+
+def last_turns(history: History, warrior: int) -> list[int]:
+    return [*islice(own_turns(history, warrior, history.end), LAST)]
+
+
+def executed_at(history: History, turns: Sequence[int]) -> list[int]:
+    """Returns the address that each turn executed."""
+    return [int(history.record(turn)["address"]) for turn in turns]
+
+
+def written_by(history: History, turn: int) -> list[int]:
+    """Returns the cell that a turn wrote last, if it wrote one."""
+    writes = history.block_of(turn).last_writes
+    return [int(address) for address in writes.addresses[writes.of(turn)]]
+
+
+def living_told(teller: Teller, warrior: int) -> Iterator[str]:
+    """Describes what a warrior that lives at the end did last."""
+    history, name = teller.history, teller.names[warrior]
+    processes = len(history.ending.queues[warrior])
+    yield f"{name} is alive after turn {history.end}, the last one, with {counted(processes, 'process')}."
+    turns = last_turns(history, warrior)
+    lines = {turn: line_told(teller, warrior, turn) for turn in turns}
+    written = {turn: written_by(history, turn) for turn in turns}
+    yield f"Its last {counted(len(turns), 'turn')}:"
+    yield "  turns  cells written  line"
+    rows = Counter(lines.values()).most_common()
+    for line, count in rows[:MOST]:
+        cells = {address for turn in turns if lines[turn] == line for address in written[turn]}
+        yield f"{count:7} {len(cells):14}  {line}"
+    if rows[MOST:]:
+        yield f"{sum(count for _, count in rows[MOST:]):7} {'':14}  in {counted(len(rows) - MOST, 'more line')}"
+    yield from hits_told(teller, warrior, {address for cells in written.values() for address in cells})
+
+
+def line_told(teller: Teller, warrior: int, turn: int) -> str:
+    """Returns the source line of the instruction that a turn executed or, if it has none, the instruction."""
+    line = teller.sources.line(teller.history, executed_at(teller.history, [turn])[0], turn - 1)
+    if line is None:
+        return teller.cell(teller.history.executed(turn))
+    owner = "" if line.warrior == warrior else f"{teller.names[line.warrior]} "
+    return f"{owner}{line.number}: {line.text}"
+
+
+def hits_told(teller: Teller, warrior: int, cells: set[int]) -> Iterator[str]:
+    """Says how many of the cells that a warrior wrote the other survivors executed in their last turns."""
+    history = teller.history
+    for other, name in enumerate(teller.names):
+        if other != warrior and history.death(other) is None:
+            executed = {*executed_at(history, last_turns(history, other))}
+            yield f"{name} executed {len(cells & executed)} of these {counted(len(cells), 'cell')} in its last turns."
+
+
+def ending_of(history: History, sources: Sources, names: Sequence[str], warrior: int) -> str:
+    """Returns in short what a survivor executed last: lines whose cells are as they were loaded except for their
+    numbers, and whose other cells. Names are in the order of turns.
+    """
+    turns, told = last_turns(history, warrior)[::-1], Counter[int | Line | None]()
+    writers = np.full(history.core, NOBODY, np.uint8)
+    for block in history.blocks():
+        changes = block.changes
+        # A warrior that changes numbers of its own code still executes the same line.
+        is_other = changes.warriors != warrior
+        for field in ("op", "modifier", "a_mode", "b_mode"):
+            is_other |= changes.before[field] != changes.after[field]
+        when, where, who = changes.turns[is_other], changes.addresses[is_other], changes.warriors[is_other]
+        own = [turn for turn in turns if block.first < turn <= block.last]
+        for turn, address in zip(own, executed_at(history, own)):
+            found = np.flatnonzero(where[: int(np.searchsorted(when, turn))] == address)
+            writer = int(who[found[-1]] if len(found) else writers[address])
+            told[writer if writer != NOBODY else sources.lines.get(address)] += 1
+        writers[where] = who
+    often = [what for what, count in told.items() if count >= LEAST * len(turns)]
+    lines = [(what.warrior, what.number) for what in often if isinstance(what, Line)]
+    parts = []
+    for owner in sorted({owner for owner, _ in lines}, key=lambda owner: owner != warrior):
+        numbers = {number for one, number in lines if one == owner}
+        parts.append(("" if owner == warrior else f"{names[owner]}'s ") + ranges(numbers))
+    writers_often = [what for what in often if isinstance(what, int)]
+    for writer in sorted(writers_often, key=lambda one: (one != warrior, names[one])):
+        parts.append(f"cells that {'it' if writer == warrior else names[writer]} wrote")
+    return ", ".join(parts + ["cells without a line"] * (None in often))
+
+
+def ranges(numbers: set[int]) -> str:
+    """Returns the numbers of lines, as in `line 3` and `lines 8-10, 12`."""
+    parts: list[list[int]] = []
+    for number in sorted(numbers):
+        if parts and parts[-1][-1] == number - 1:
+            parts[-1].append(number)
+        else:
+            parts.append([number])
+    told = ", ".join(f"{part[0]}-{part[-1]}" if len(part) > 1 else str(part[0]) for part in parts)
+    return f"line{'' if len(numbers) == 1 else 's'} {told}"
