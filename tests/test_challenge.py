@@ -47,6 +47,67 @@ def test_by_hand(run: Run) -> None:
     assert told.stdout == "      12      4      0      0        0  sum of 1\n"
 
 
+def test_two_versions(run: Run) -> None:
+    """Scores for 100 rounds, and the change of both in the same rounds with its standard error."""
+    head = "     old      new   change   error  opponent\n"
+    # In the second match the old version wins every second round, since the one that begins dies.
+    assert run("challenge", "--old", "dead.red", "-r", 4, "stay.red", "stay.red", "dead.red").stdout == head + (
+        "     0.0    100.0   +100.0     0.0  stay.red  Stay by Anonymous\n"
+        "   150.0    300.0   +150.0    86.6  dead.red  Dead by Anonymous\n"
+        "    75.0    200.0   +125.0    43.3  mean of 2\n"
+        "The new version is better: the change is 2.9 standard errors.\n"
+    )
+    for words, end in (
+        ("--old stay.red -r 4 dead.red stay.red dead.red", "worse: the change is 2.9 standard errors.\n"),
+        (
+            "--old dead.red -r 2 late.red dead.red",
+            "1.0 standard errors, which may be chance. More rounds show smaller changes.\n",
+        ),
+        (
+            "--old stay.red -r 4 stay.red dead.red",
+            "+0.0     0.0  mean of 1\nBoth versions score the same in every round.\n",
+        ),
+        (
+            "--old dead.red -r 4 --score 5 stay.red stay.red",
+            "+500.0     0.0  mean of 1\nThe change is the same in every round.\n",
+        ),
+        (
+            "--old dead.red -r 1 stay.red stay.red",
+            "       -  mean of 1\nChance is not estimated for one round, and for a given position.\n",
+        ),
+        (
+            "--old dead.red -r 4 -F 900 stay.red stay.red",
+            "       -  mean of 1\nChance is not estimated for one round, and for a given position.\n",
+        ),
+    ):
+        assert run("challenge", "--sum", "--jobs", 3, *words.split()).stdout.endswith(end), words
+
+
+def test_versions_score_as_in_their_matches(run: Run) -> None:
+    words, opponents = ["-r", 20, "--seed", 7], ["@imp", "@scanner", "@vampire"]
+    told = run("challenge", "--old", "@dwarf", "--jobs", 2, *words, "@bomber", *opponents).stdout.splitlines()
+    for column, version in ((0, "@dwarf"), (1, "@bomber")):
+        rows = csv.DictReader(io.StringIO(run("challenge", "--format", "csv", *words, version, *opponents).stdout))
+        scores = {row["name"]: float(row["score"]) for row in rows}
+        assert [float(line.split()[column]) for line in told[1:4]] == [scores[n] for n in ("Imp", "Lookout", "Dusk")]
+
+
+def test_versions_that_cannot_be_compared(run: Run) -> None:
+    for words, status, error in (
+        ("--old broken.red stay.red dead.red", 1, "broken.red: line 1: 2 Operation"),
+        ("--old nowhere.red stay.red dead.red", 1, "nowhere.red: No such file or directory"),
+        ("--old dead.red broken.red dead.red", 1, "broken.red: line 1: 2 Operation"),
+        ("--old dead.red stay.red broken.red", 1, "broken.red: line 1: 2 Operation"),
+        ("--old dead.red stay.red", 2, "expected at least two files"),
+        ("--old dead.red --format csv stay.red dead.red", 2, "--old cannot be used with --format"),
+        ("--old dead.red --results a.sqlite stay.red dead.red", 2, "--old cannot be used with --format"),
+    ):
+        done = run("challenge", *words.split())
+        assert (done.returncode, done.stdout) == (status, "") and error in done.stderr, words
+    left = run("challenge", "--old", "dead.red", "stay.red", "broken.red", "dead.red")
+    assert left.returncode == 1 and "mean of 1" in left.stdout and "broken.red" in left.stderr
+
+
 HEADS = (
     "file name author points wins ties losses theirs rounds win_percent tie_percent loss_percent score error".split()
 )

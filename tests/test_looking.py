@@ -259,7 +259,7 @@ def test_a_tie(run: Run, tmp_path: Path) -> None:
 
 @pytest.mark.parametrize("names", [("silk", "paper"), ("dwarf", "imp"), ("gate", "silk"), ("boot", "imp", "spiral")])
 def test_lines_at_the_end_are_those_of_the_turns(names: tuple[str, ...]) -> None:
-    """The lines that are told over a match are among those found by the origins of the cells, and ties are counted."""
+    """The lines that are shown for a match are among those found by the origins of the cells, and ties are counted."""
     warriors = [read(EXAMPLES / f"{name}.red") for name in names]
     fight, ties = Match(warriors, rounds=4), Counter[int]()
     for number in range(4):

@@ -11,9 +11,9 @@ from ..battle.history import NOBODY, History
 from ..battle.labels import Line, Sources
 from .telling import Teller, counted
 
-# How many of the last turns of a warrior are told, and the most lines of a table.
+# How many of the last turns of a warrior are shown, and the most lines of a table.
 LAST, MOST = 1000, 8
-# The least share of these turns of what is told about a match.
+# The least share of these turns that is shown for a match.
 LEAST = 0.01
 
 

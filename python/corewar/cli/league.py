@@ -4,7 +4,7 @@ from __future__ import annotations
 import os
 import re
 from collections.abc import Callable, Sequence
-from dataclasses import dataclass
+from dataclasses import dataclass, replace
 from functools import wraps
 from pathlib import Path
 from typing import Any
@@ -17,13 +17,14 @@ from ..engine.warriors import Warrior
 from ..contests.contest import Contest, Matches, Rows, all_pairs, enter
 from ..contests.challenge import FORMATS as CHALLENGE_FORMATS
 from ..contests.challenge import Challenge
+from ..contests.comparison import Comparison, compare
 from ..contests.places import cluster, threads
 from ..contests.results import Results
 from ..contests.table import FORMATS, League
 from ..model.faults import FileFault
 from ..model.printing import printable
 from .layout import EXECUTION, STATUSES, Command, Number, Option
-from .options import Asked, Decorator, Output, Picture, battle_options, with_options
+from .options import Asked, Decorator, Output, Picture, battle_options, is_given, with_options
 from .telling import tell, tell_fault
 from .waiting import progress
 
@@ -210,19 +211,30 @@ def league(asked: Asked, hall: Hall, order: str, form: str, **files: Any) -> int
 
 @click.command(
     cls=Command,
-    examples=["corewar challenge -r 100 mine.red hill/*.red", "corewar challenge --sum -r 100 mine.red hill/*.red"],
+    examples=[
+        "corewar challenge -r 100 mine.red hill/*.red",
+        "corewar challenge --sum -r 100 mine.red hill/*.red",
+        "corewar challenge --old before.red -r 500 mine.red hill/*.red",
+    ],
     statuses=LEFT_OUT,
 )
 @contest_options
 @click.option("--sum", "only_sum", is_flag=True, help="Print only the sums")
+@click.option(
+    "--old",
+    metavar="FILE",
+    help="An earlier version of the first file: compare the scores of both against the others, for 100 rounds",
+)
 @format_option(list(CHALLENGE_FORMATS))
-def challenge(asked: Asked, hall: Hall, only_sum: bool, form: str) -> int:
+def challenge(asked: Asked, hall: Hall, only_sum: bool, old: str | None, form: str) -> int:
     """Run a match of the first file against each of the others.
 
     Each row shows the points, wins, ties and losses of the first file, the points of its opponent, and the opponent.
     The last row has the sums. An opponent with an error is reported and left out. If the first file has an error,
     nothing is run.
     """
+    if old is not None:
+        return tell_change(asked, hall, only_sum, old)
     contest, warriors, faults = entered(asked)
     if not warriors or any(fault.file == asked.files[0] for fault in faults):
         return 1
@@ -230,4 +242,22 @@ def challenge(asked: Asked, hall: Hall, only_sum: bool, form: str) -> int:
     matches = Matches(contest, warriors, np.column_stack([np.zeros_like(opponents), opponents]))
     hall.fight(matches)
     write_results(CHALLENGE_FORMATS[form](Challenge(matches, only_sum)), form)
+    return 1 if faults else 0
+
+
+def tell_change(asked: Asked, hall: Hall, only_sum: bool, old: str) -> int:
+    """Prints the scores of two versions of a warrior, and what the change shows."""
+    if any(map(is_given, ("form", "results", "scheduler"))):
+        raise click.UsageError("--old cannot be used with --format, --results or --scheduler")
+    both = [old, asked.files[0]]
+    contest, warriors, faults = entered(replace(asked, files=(*both, *asked.files[1:])))
+    if len(warriors) < 3 or any(fault.file in both for fault in faults):
+        return 1
+    opponents, parts = warriors[2:], []
+    with progress(len(opponents), "opponents") as advance:
+        for part in compare(contest, warriors[0], warriors[1], opponents, hall.jobs):
+            parts.append(part)
+            advance(part.shape[1])
+    is_drawn = contest.rounds > 1 and contest.position is None
+    write_results("\n".join(Comparison(opponents, np.concatenate(parts, axis=1), is_drawn).told(only_sum)), "table")
     return 1 if faults else 0
