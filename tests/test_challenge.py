@@ -73,11 +73,11 @@ def test_two_versions(run: Run) -> None:
         ),
         (
             "--old dead.red -r 1 stay.red stay.red",
-            "       -  mean of 1\nChance is not estimated for one round, and for a given position.\n",
+            "       -  mean of 1\nChance is not known from one round, or for a given position; try `-r 100`.\n",
         ),
         (
             "--old dead.red -r 4 -F 900 stay.red stay.red",
-            "       -  mean of 1\nChance is not estimated for one round, and for a given position.\n",
+            "       -  mean of 1\nChance is not known from one round, or for a given position; try `-r 100`.\n",
         ),
     ):
         assert run("challenge", "--sum", "--jobs", 3, *words.split()).stdout.endswith(end), words

@@ -245,7 +245,7 @@ def test_a_tie(run: Run, tmp_path: Path) -> None:
         "  turns  cells written  line",
         "   1000           1000  Imp 5: MOV.I 0, 1",
     ]
-    assert re.fullmatch(r"Imp executed \d+ of these 1000 cells in its last turns\.", told[5])
+    assert re.fullmatch(r"Imp executed \d+ of the cells written, in its last turns\.", told[5])
     (tmp_path / "a.load").write_bytes(read(EXAMPLES / "imp.red").load)
     loaded = run("why", "-c", 10, "a.load").stdout
     assert loaded.endswith("Its last 10 turns:\n  turns  cells written  line\n     10             10  MOV.I $0, $1\n")

@@ -71,9 +71,9 @@ def hits_told(teller: Teller, warrior: int, cells: set[int]) -> Iterator[str]:
     """Says how many of the cells that a warrior wrote the other survivors executed in their last turns."""
     history = teller.history
     for other, name in enumerate(teller.names):
-        if other != warrior and history.death(other) is None:
-            executed = {*executed_at(history, last_turns(history, other))}
-            yield f"{name} executed {len(cells & executed)} of these {counted(len(cells), 'cell')} in its last turns."
+        if cells and other != warrior and history.death(other) is None:
+            count = len(cells.intersection(executed_at(history, last_turns(history, other))))
+            yield f"{name} executed {count or 'none'} of the cells written, in its last turns."
 
 
 def ending_of(history: History, sources: Sources, names: Sequence[str], warrior: int) -> str:

@@ -58,7 +58,7 @@ def text_of(row: tuple[float, float, float, float | None]) -> str:
 def verdict(change: float, error: float | None) -> str:
     """Says whether a change is more than chance."""
     if error is None:
-        return "Chance is not estimated for one round, and for a given position."
+        return "Chance is not known from one round, or for a given position; try `-r 100`."
     if error == 0:
         return f"{'The change is the same' if change else 'Both versions score the same'} in every round."
     size = abs(change) / error
