@@ -315,10 +315,13 @@ function why(session, rest) {
   if (death) return [eventWords(death, known)];
   if (rest) return [`${known.names[readWarrior(session, rest)]} has not died by turn ${session.turn}`];
   if (!view || view.head === null) return here(session).slice(-1);
-  return [...here(session).slice(-1), instructionWords(readCell(view.cells, view.head), { core: known.core })];
+  return [...here(session).slice(-1), ...explain(session, ".").slice(1)];
 }
 
-/** @type {Act} */
+/**
+ * @param {Session} session
+ * @param {string} rest
+ */
 function explain(session, rest) {
   const { view, known } = session;
   const address = readAddress(session, rest || ".");
