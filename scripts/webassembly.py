@@ -30,7 +30,7 @@ DISASSEMBLE = "-S -emit-llvm -Xclang -disable-llvm-passes --no-default-config -x
 # The options of the native library.
 AS_NATIVE = ["-ffunction-sections", "-fno-vectorize", "-fno-slp-vectorize"]
 # The crates that no turn runs through. They are compiled for size.
-SMALL = "redcode_text|redcode_asm|mars_cell|mars_session|mars_app|mars_c"
+SMALL = "redcode_text|redcode_asm|mars_cell|mars_match|mars_session|mars_app|mars_c"
 STACK, MAX_MEMORY = 1 << 20, 1 << 30
 LINK = [
     "-mwasm64",

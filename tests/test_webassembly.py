@@ -169,7 +169,7 @@ def test_the_site_is_light() -> None:
     files = [file for file in (TOP / "build" / "site").glob("*") if file.name != "one.html"]
     if not files:
         skip("the weight of the site", "it is not built; `make site` builds it", "esbuild")
-    assert sum(len(gzip.compress(file.read_bytes())) for file in files) <= 200_000
+    assert sum(len(gzip.compress(file.read_bytes())) for file in files) <= 200 * 1024
 
 
 def test_its_types_are_sound() -> None:
