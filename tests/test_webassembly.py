@@ -165,7 +165,7 @@ def test_its_sentences_are_those_of_python(tmp_path: Path) -> None:
 
 
 def test_the_site_is_light() -> None:
-    """All that a browser loads has at most 200 kB, compressed as servers do."""
+    """All that a browser loads has at most 200 KiB, compressed as servers do."""
     files = [file for file in (TOP / "build" / "site").glob("*") if file.name != "one.html"]
     if not files:
         skip("the weight of the site", "it is not built; `make site` builds it", "esbuild")
