@@ -2,11 +2,14 @@
 
 The other fields of the error are 0, and the caller's rows and battles stay as they were.
 """
+from collections.abc import Callable, Sequence
 from dataclasses import dataclass, field
 from itertools import combinations
+from typing import Any
 
 import numpy as np
 import pytest
+from numpy.typing import NDArray
 
 from corewar.engine.binding import array, library, slice_of
 
@@ -22,6 +25,10 @@ SETTINGS = {
     "seed": 1,
     "position": 100,
 }
+# The part of the arguments that a mistake changes, how, and its error: the code, the number and a warrior.
+Mistake = tuple[str, Callable[[Any], object], tuple[int, int, int]]
+# Makes a call. Returns its result and its output.
+Run = Callable[[Any, Any], tuple[int, NDArray[Any]]]
 # JMP.B $0, $0, of which each warrior has two: all survive.
 CELL = (7, 1, 1, 1, 0, 0)
 # What output holds before a call, and after one that fails.
@@ -41,7 +48,7 @@ class Arguments:
     output: int | None = None
     round: int = 0
 
-    def given(self):
+    def given(self) -> tuple[Any, list[Any]]:
         """The settings, the cells and the warriors, as a call takes them."""
         cells = [cell for warrior in self.cells for cell in warrior] + [CELL] * self.further_cells
         warriors = [(len(warrior), start) for warrior, start in zip(self.cells, self.starts)]
@@ -49,44 +56,43 @@ class Arguments:
         return settings, [*filled("MarsCell", cells), *filled("MarsWarrior", warriors)]
 
 
-def filled(name, values):
+def filled(name: str, values: Sequence[object]) -> tuple[Any, int]:
     held = array(name, len(values))
     held[:] = values
     return slice_of(name, held)
 
 
-def text(formula):
+def text(formula: str) -> tuple[Any, int]:
     return slice_of("uint8_t", formula.encode())
 
 
-def untouched(name, count):
-    """Output of a call, and the same as an argument."""
+def untouched(name: str, count: int) -> tuple[NDArray[Any], tuple[Any, int]]:
+    """Returns an array for the output of a call, and the array as an argument."""
     held = array(name, count)
     held.view(np.uint8)[:] = UNTOUCHED
     return held, slice_of(name, held)
 
 
-# A mistake: the part of the arguments that it changes, how, and the error with its code, its number and a warrior.
-def setting(name, value, code, number):
+def setting(name: str, value: int, code: int, number: int) -> Mistake:
     return name, lambda given: given.settings.__setitem__(name, value), (code, number, 0)
 
 
-def other(name, value, code, number, warrior=0):
+def other(name: str, value: object, code: int, number: int, warrior: int = 0) -> Mistake:
     return name, lambda given: setattr(given, name, value), (code, number, warrior)
 
 
-def wrong_cell(warrior, part, value, number):
-    def make(given):
+def wrong_cell(warrior: int, part: int, value: int, number: int) -> Mistake:
+    def make(given: Arguments) -> None:
         given.cells[warrior][0] = (*CELL[:part], value, *CELL[part + 1 :])
 
     return f"cell {warrior}", make, (13, number, warrior)
 
 
-def wrong_length(warrior):
+def wrong_length(warrior: int) -> Mistake:
     return f"cell {warrior}", lambda given: given.cells[warrior].extend([CELL] * 19), (13, 1, warrior)
 
 
-def wrong_start(warrior):
+def wrong_start(warrior: int) -> Mistake:
     return f"start {warrior}", lambda given: given.starts.__setitem__(warrior, 2), (13, 2, warrior)
 
 
@@ -116,8 +122,8 @@ ROWS = [other("output", 1, 2, 7)]
 SCORE = [other("formula", "W/(S-2)", 9, 3)]
 
 
-def contest(name):
-    def run(given, fault):
+def contest(name: str) -> Run:
+    def run(given: Arguments, fault: Any) -> tuple[int, NDArray[Any]]:
         if name == "mars_league":
             given.settings["position"] = 0
         settings, warriors = given.given()
@@ -127,7 +133,7 @@ def contest(name):
     return run
 
 
-def outcomes(given, fault):
+def outcomes(given: Arguments, fault: Any) -> tuple[int, NDArray[Any]]:
     settings, warriors = given.given()
     lineups = filled("MarsLineup", [(0, len(given.lineup), given.lineup + (0,) * (16 - len(given.lineup)))])
     count = given.settings["rounds"] * len(given.lineup)
@@ -135,7 +141,7 @@ def outcomes(given, fault):
     return library()[1].mars_outcomes(settings, *warriors, *lineups, *rows, fault), held
 
 
-def start(given, fault):
+def start(given: Arguments, fault: Any) -> tuple[int, NDArray[Any]]:
     settings, warriors = given.given()
     held, battle = untouched("uint32_t", 10000 if given.output is None else given.output)
     return library()[1].mars_start(settings, *warriors, given.round, *battle, fault), held
@@ -157,7 +163,7 @@ CALLS = {
 }
 
 
-def check(run, mistakes, expected):
+def check(run: Run, mistakes: Sequence[Mistake], expected: tuple[int, int, int]) -> None:
     given = Arguments()
     for _, make, _ in mistakes:
         make(given)
@@ -170,7 +176,7 @@ def check(run, mistakes, expected):
 
 
 @pytest.mark.parametrize("name", CALLS)
-def test_contests(name):
+def test_contests(name: str) -> None:
     run, mistakes = CALLS[name]
     for mistake in mistakes:
         check(run, [mistake], mistake[2])
@@ -191,8 +197,8 @@ class Battle:
     buffer: int = 1000
 
 
-def battle(given):
-    """A battle of two warriors, with room for its maximum length, and the number of words that a call is told."""
+def battle(given: Battle) -> tuple[NDArray[Any], tuple[Any, int]]:
+    """Returns a battle of two warriors, with room for its maximum length, and the battle as an argument."""
     settings, warriors = Arguments().given()
     longest = library()[1].mars_words(settings, 2)
     words = array("uint32_t", longest)
@@ -202,18 +208,18 @@ def battle(given):
     return words, (held, longest if given.words is None else given.words)
 
 
-def play(given, fault):
+def play(given: Battle, fault: Any) -> tuple[int, NDArray[Any]]:
     words, held = battle(given)
     return library()[1].mars_play(*held, 1, *filled("MarsRecord", []), *filled("MarsTouched", []), fault), words
 
 
-def edit(given, fault):
+def edit(given: Battle, fault: Any) -> tuple[int, NDArray[Any]]:
     words, held = battle(given)
     made = library()[0].new("MarsEdit *", {"what": given.what, "address": given.address})
     return library()[1].mars_edit(*held, made, fault), words
 
 
-def debug(given, fault):
+def debug(given: Battle, fault: Any) -> tuple[int, NDArray[Any]]:
     words, held = battle(given)
     _, buffer = untouched("uint8_t", given.buffer)
     length = library()[0].new("size_t *")
@@ -230,7 +236,7 @@ ON_BATTLES = {
 
 
 @pytest.mark.parametrize("name", ON_BATTLES)
-def test_battles(name):
+def test_battles(name: str) -> None:
     run, mistakes = ON_BATTLES[name]
     for first, second in [*((mistake, mistake) for mistake in mistakes), *combinations(mistakes, 2)]:
         given, fault = Battle(), library()[0].new("MarsFault *")

@@ -11,7 +11,7 @@ SPLITTER = [(14, 1, 1, 1, 0, 0), (7, 1, 1, 1, LARGEST - 1, 0)]
 HUGE = corewar.Settings(core=LARGEST, processes=PROCESSES, cycles=10, longest=LARGEST, distance=LARGEST)
 
 
-def test_longest_warrior():
+def test_longest_warrior() -> None:
     """A warrior as long as the largest core, through its load file and in a battle."""
     warrior = corewar.Warrior.from_cells(IMP * LARGEST, settings=HUGE)
     again = read_load(warrior.load, HUGE)
@@ -21,7 +21,7 @@ def test_longest_warrior():
     assert battle.turns == 10
 
 
-def test_most_warriors():
+def test_most_warriors() -> None:
     """The most warriors, each with the most processes, in the largest core."""
     settings = corewar.Settings(core=LARGEST, processes=PROCESSES, cycles=140_000, longest=2, distance=2)
     splitter = corewar.Warrior.from_cells(SPLITTER, settings=settings)
@@ -32,7 +32,7 @@ def test_most_warriors():
     assert [row.ties for row in rows] == [1] * MOST_WARRIORS
 
 
-def test_longest_history():
+def test_longest_history() -> None:
     """A history of a million places, all of which are used."""
     imp = corewar.assemble("MOV 0, 1")
     battle = corewar.Battle(corewar.Match((imp, imp), settings=corewar.Settings(cycles=500_000)))
@@ -40,7 +40,7 @@ def test_longest_history():
     assert not [line for line in lines if line.startswith("refused")]
 
 
-def test_large_league():
+def test_large_league() -> None:
     """A league of 300 warriors, and as many rounds as a match may have."""
     settings = corewar.Settings(core=80, processes=80, cycles=5, longest=5, distance=5)
     imp = corewar.Warrior.from_cells(IMP, settings=settings)
