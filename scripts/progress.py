@@ -16,8 +16,10 @@ def clock(seconds: float) -> str:
 
 
 class Reckoning:
-    """The expected time of each crate, in seconds from the start of a build: as in the last build, from a file, or only
-    that of the last crate.
+    """When each crate is expected to be proved, in seconds from the start of a build.
+
+    - `path`: the file with the times of the last build
+    - `whole`: if there is no such file, the time of the last crate; then the other crates have none
     """
 
     def __init__(self, path: str, crates: list[str], whole: float) -> None:

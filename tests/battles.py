@@ -23,7 +23,7 @@ from corewar.model.settings import Settings
 NUMBERS = st.integers(-9, 9)
 CELLS = st.builds(
     "{}.{} {}{}, {}{}".format,
-    # What moves, splits and jumps is drawn more often than the rest.
+    # Opcodes that are listed twice are drawn twice as often, so that battles copy, split and jump more.
     st.sampled_from([*OPCODES, "MOV", "SPL", "JMP", "DJN", "ADD"]),
     st.sampled_from(MODIFIERS),
     st.sampled_from(MODES),

@@ -119,7 +119,7 @@ ROWS = [
 
 
 def test_formats_for_programs(run: Run) -> None:
-    """A row for each match, with the names of the opponent and the results of the candidate, and its sums."""
+    """They have a row for each match, with the opponent and the results of the candidate, and a row with the sums."""
     words, files = ["challenge", "-r", 4], ["stay.red", "stay.red", "dead.red"]
     told = [*csv.reader(io.StringIO(run(*words, "--format", "csv", *files).stdout))]
     assert told == [HEADS, *ROWS]

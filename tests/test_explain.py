@@ -105,7 +105,7 @@ FAULTS: list[Callable[[str, re.Match[str]], str]] = [
     lambda line, found: re.sub(r"\s*(;|$)", r"+undefinedname \1", line, count=1),
     lambda line, found: re.sub(r"\s*(;|$)", r"+(1 \1", line, count=1),
     lambda line, found: line.replace(",", " ", 1),
-    # An operand with a name of which one letter is missing.
+    # Leaves out the third letter of a name in the operands.
     lambda line, found: line[: found.end()] + re.sub(r"\b(\w\w)\w(\w+)", r"\1\2", line[found.end() :], count=1),
 ]
 

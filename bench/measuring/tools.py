@@ -36,7 +36,7 @@ def run(command: Sequence[str], given: str = "", bound: Callable[[], None] | Non
     streams[0].seek(0)
     start = time.perf_counter()
     child = subprocess.Popen(command, stdin=streams[0], stdout=streams[1], stderr=streams[2], preexec_fn=bound)
-    # Unlike `wait`, this returns the memory of this child and not the greatest of all.
+    # The peak memory that `resource.getrusage` has for children is the maximum over all of them.
     _, status, usage = os.wait4(child.pid, 0)
     seconds = time.perf_counter() - start
     child.returncode = os.waitstatus_to_exitcode(status)

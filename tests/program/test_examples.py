@@ -105,7 +105,7 @@ def glance_strikes(examples: Examples) -> Iterator[str]:
     _, cells = examples.cells("quick.red")
     strike = cells.index("MOV.I $10, *11")
     aim = len(cells) - 1
-    # Two pairs away: aim + 640, and gap cells farther on.
+    # The two cells of the second pair: two hops of 320 cells from `aim`, and a gap of 160 cells apart.
     for place in (aim + 640, aim + 640 + 160):
         seen = examples.queue(0, "run 120", "-F", str(place), "quick.red", "gate.red")
         if len(seen) != 1 or not strike <= seen[0] <= strike + 3:

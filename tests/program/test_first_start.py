@@ -180,7 +180,7 @@ class Place:
         return [words[0] for words in self.calls()]
 
     def rooms(self) -> dict[str, Below]:
-        """Returns the crates of the room in which each crate was proved."""
+        """Returns, for each proved crate, the crates of its room with what each uses."""
         return {name: stands_on(f"{self.log}-{name}") for name in self.proved()}
 
     def jobs(self) -> dict[str, int]:

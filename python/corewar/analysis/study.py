@@ -145,7 +145,7 @@ def strides(found: Accesses, core: int) -> str:
     """Returns the distances between cells that the same operand accesses one after the other, the most frequent first,
     each with its share.
     """
-    # How many accesses of the same turn are before each one.
+    # The number of earlier accesses in the same turn, which distinguishes the operands of an instruction.
     firsts = np.flatnonzero(np.diff(found.turns, prepend=-1))
     before = np.arange(len(found.turns)) - np.repeat(firsts, np.diff(firsts, append=len(found.turns)))
     operands = found.places * LARGEST_TURN + before

@@ -38,7 +38,7 @@ class Run:
     """A battle from its start, or from an edit, to its end.
 
     - `first`: the turn after which it starts
-    - `marks`: the bytes of the battle there and every `stride` turns later
+    - `marks`: copies of the battle as bytes: after the turn `first`, and after every `stride` turns from there
     - `ending`: the battle at its end
     - `edit`, `before`: the edit, and the battle before it; None at the start of the battle
     """
@@ -107,7 +107,7 @@ class History:
         return f"<History of {', '.join(self.names)}, round {self.round}, {self.end} turns>"
 
     def _repr_html_(self) -> str:
-        """Returns the table of its end, which notebooks show."""
+        """Returns a table of the end of the battle in HTML, for notebooks."""
         battle, cells = self.ending, np.bincount(self.owners(self.end), minlength=NOBODY + 1).tolist()
         lines = [f"<tr><th>warrior</th><th>after {self.end:,} turns</th><th>processes</th><th>cells</th></tr>"]
         for number, name in enumerate(self.names):

@@ -135,7 +135,7 @@ def references(text: Text, params: Params) -> Any:
 
 
 def places(text: Text, params: Params, is_wanted: Callable[[Token], bool]) -> list[Params]:
-    """Returns the places of the name at a position."""
+    """Returns the places of the tokens that are the same name as the one at a position, if `is_wanted` accepts them."""
     token, uri = token_at(text, params), params["textDocument"]["uri"]
     found = text.names.same(token) if token else []
     return [{"uri": uri, "range": text.range_of(one)} for one in found if is_wanted(one)]

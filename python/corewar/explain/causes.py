@@ -1,4 +1,4 @@
-"""Finds the likely causes of an error in the text of a source: sentences, the likeliest first."""
+"""Finds likely causes of an error by the text of its source. Each is a sentence; the likeliest comes first."""
 from __future__ import annotations
 
 import re

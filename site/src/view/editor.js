@@ -92,7 +92,7 @@ export class Editor {
   }
 
   /**
-   * Marks the line of the process that is executed next, in one of the documents, or no line.
+   * Marks the line of the next instruction, and removes the previous mark. Marks nothing if the document is null.
    * @param {Document | null} doc
    * @param {number} line
    */

@@ -54,7 +54,7 @@ export class Session {
   beside = null;
   /** @type {Condition[]} */
   breaks = [];
-  /** The latest turn that was shown of this battle. */
+  /** The latest turn of this battle that was shown. */
   furthest = 0;
   /** The turn that is wanted, which is shown as soon as the desk answers. */
   wanted = 0;

@@ -16,7 +16,8 @@ import { NAME, codeOf, labelsOf, readSource, wordOf } from "./source.js";
  * @typedef {{line: number, from: number, to: number, text: string, misspelt?: Cause}} Explained
  */
 /**
- * The sentences: what errors mean by their texts, those of expressions by their last words, and causes by their names.
+ * Sentences that explain errors. Their keys are the texts of errors, the last words of errors in expressions, or the
+ * names of causes.
  * @typedef {Record<string, string>} Meanings
  */
 

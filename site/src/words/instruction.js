@@ -14,7 +14,7 @@ const { cells: CELLS, numbers: NUMBERS, steps: STEPS } = WORDS;
 const SENTENCES = WORDS.sentences;
 
 /**
- * Which fields of the two operands a modifier uses, unless it uses several.
+ * For each modifier that uses one field of a cell: the field at the A-operand, and the field at the B-operand.
  * @type {Record<string, ["A" | "B", "A" | "B"]>}
  */
 const FIELDS = { A: ["A", "A"], B: ["B", "B"], AB: ["A", "B"], BA: ["B", "A"] };

@@ -1,4 +1,4 @@
-/** The battle that is shown, with all its futures: what a page asks of it. */
+/** The battle that the page shows, with all its futures, and the answers to the page's questions about it. */
 import { readsOf, search } from "../battle/conditions.js";
 import { History } from "../battle/history.js";
 import { ADDRESS, DIED, PROCESS, QUEUED, WARRIOR, changesOf } from "../battle/place.js";
