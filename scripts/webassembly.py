@@ -31,6 +31,8 @@ DISASSEMBLE = "-S -emit-llvm -Xclang -disable-llvm-passes --no-default-config -x
 AS_NATIVE = ["-ffunction-sections", "-fno-vectorize", "-fno-slp-vectorize"]
 # The crates that no turn runs through. They are compiled for size.
 SMALL = "redcode_text|redcode_asm|mars_cell|mars_match|mars_session|mars_app|mars_c"
+# A function whose instances differ only after they are inlined. They are not inlined, and wasm-opt merges them.
+MERGED = "mars_core::machine::execution::execute_in_group"
 STACK, MAX_MEMORY = 1 << 20, 1 << 30
 LINK = [
     "-mwasm64",
@@ -90,6 +92,7 @@ def for_webassembly(text: str) -> str:
     text = re.sub(r"^target datalayout = .*", f'target datalayout = "{LAYOUT}"', text, flags=re.M)
     text = re.sub(r"^target triple = .*", f'target triple = "{TARGET}"', text, flags=re.M)
     text = re.sub(rf'^(define .*@"(?:{SMALL})::.*\)) (#\d+ {{)$', r"\1 minsize optsize \2", text, flags=re.M)
+    text = re.sub(rf'^(define .*@"{MERGED}::.*\)) #\d+ {{$', r"\1 noinline nounwind {", text, flags=re.M)
     return re.sub(r' ?"(probe-stack|stack-probe-size|target-cpu)"="[^"]*"', "", text)
 
 

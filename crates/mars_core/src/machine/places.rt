@@ -23,10 +23,10 @@ pub struct Place {
 
 /// Evaluates the operand with a mode and a number of the instruction at `pc`. A predecrement or postincrement writes a cell.
 ///
-/// The constants `CALLER` and `OPERAND` make an instance for each call (`execution`).
+/// The constants `CALLER`, `GROUP` and `OPERAND` make an instance for each call (`execution`).
 #[inline(always)]
 #[tactic(auto, unfolding(crate::specs::Operand::evaluated))]
-pub fn place_of<const LIMITED: bool, const CALLER: u8, const OPERAND: u8>(
+pub fn place_of<const LIMITED: bool, const CALLER: u8, const GROUP: u8, const OPERAND: u8>(
     params: &Params,
     core: &mut [PackedCell],
     pc: u32,
