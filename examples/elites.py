@@ -15,7 +15,6 @@ import sys
 
 sys.path.insert(0, os.path.join(os.path.dirname(os.path.realpath(__file__)), "..", "python"))
 import corewar  # noqa: E402
-import numpy as np  # noqa: E402
 
 NANO, SIZE, ROUNDS = corewar.HILLS["nano"], 100, 20
 OPPONENTS = [
@@ -35,18 +34,6 @@ def child(dice: random.Random, parent: corewar.Warrior) -> corewar.Warrior:
     return corewar.Warrior.from_cells(cells, settings=NANO)
 
 
-def behaviour(warrior: corewar.Warrior, seed: int) -> tuple[int, int]:
-    """The row and the column of a warrior in the table, by the records of a battle."""
-    battle = corewar.Battle(corewar.Match([warrior, *OPPONENTS], settings=NANO, seed=seed))
-    records, touched = battle.play(records=4 * NANO.cycles, touched=4 * NANO.cycles)
-    own = records["warrior"] == 0
-    used = np.arange(touched["address"].shape[1]) < touched["count"][own, None]
-    return (
-        np.count_nonzero(records["queued"][own] == 2).bit_length(),
-        len(np.unique(touched["address"][own][used])) // 10,
-    )
-
-
 def main(generations: int) -> None:
     dice = random.Random(1)
     elites: dict[tuple[int, int], tuple[float, corewar.Warrior]] = {}
@@ -54,9 +41,12 @@ def main(generations: int) -> None:
     lineups = [[place, SIZE, SIZE + 1, SIZE + 2] for place in range(SIZE)]
     for _ in range(generations):
         seed = dice.randrange(1, 1 << 30)
-        made = corewar.outcomes([*warriors, *OPPONENTS], lineups, settings=NANO, rounds=ROUNDS, seeds=seed)
-        for one, reward in zip(warriors, corewar.shares(made, NANO.cycles)[:, :, 0].mean(axis=1)):
-            place = behaviour(one, seed)
+        given = {"settings": NANO, "seeds": seed}
+        made = corewar.outcomes([*warriors, *OPPONENTS], lineups, rounds=ROUNDS, **given)
+        counted = corewar.outcomes([*warriors, *OPPONENTS], lineups, counts=True, **given)[:, 0, 0]
+        rewards = corewar.shares(made, NANO.cycles)[:, :, 0].mean(axis=1)
+        for one, reward, counts in zip(warriors, rewards, counted):
+            place = int(counts["spawned"]).bit_length(), int(counts["touched"]) // 10
             if place not in elites or reward > elites[place][0]:
                 elites[place] = reward, one
         warriors = [child(dice, dice.choice([*elites.values()])[1]) for _ in range(SIZE)]

@@ -214,13 +214,19 @@ typedef struct {
     uint32_t seed;        /* 1 to 2147483646; 0: that of the settings */
     uint32_t count;       /* number of warriors, 1 to 16 */
     uint32_t warrior[16]; /* indices of the warriors, from 0; those after `count` are not used */
+    uint32_t counting;    /* not 0 to count what each warrior does, which takes several times as long */
 } MarsLineup;
 
 /* How a warrior fares in a round. */
 typedef struct {
-    uint32_t survived; /* 1 if it lives at the end, else 0 */
-    uint32_t turns;    /* number of turns executed by all warriors when it died, including its last one; if it survived, of all turns */
-    uint32_t start;    /* address of its first cell */
+    uint32_t survived;  /* 1 if it lives at the end, else 0 */
+    uint32_t turns;     /* number of turns executed by all warriors when it died, including its last one; if it survived, of all turns */
+    uint32_t start;     /* address of its first cell */
+    uint32_t own_turns; /* number of its own turns; from here on all are 0 if its lineup isn't counting */
+    uint32_t spawned;   /* number of its turns that queued two processes */
+    uint32_t executed;  /* number of cells at which it executed an instruction */
+    uint32_t written;   /* number of cells that it wrote */
+    uint32_t touched;   /* number of cells that it executed, read or wrote, with the meaning of MarsTouched */
 } MarsOutcome;
 
 /* A cell of the core. */

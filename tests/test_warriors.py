@@ -15,7 +15,7 @@ from hypothesis import given
 import corewar
 from corewar import Fault, Match, Refused, Settings, Warrior
 from corewar.battle.history import History
-from corewar.engine.outcomes import OUTCOME
+from corewar.engine.outcomes import COUNTED, COUNTS, OUTCOME
 from corewar.engine.warriors import read_load
 from corewar.model.cells import MODES, MODIFIERS, OPCODES, Cell
 
@@ -134,8 +134,11 @@ def test_outcomes_are_those_of_matches_and_battles() -> None:
         warriors, count, rounds = random_warriors(dice, 10), dice.randint(2, 8), dice.randint(1, 3)
         lineups = [dice.sample(range(10), count) for _ in range(2)]
         seeds = [dice.randint(1, 2_147_483_646) for _ in lineups]
-        made = corewar.outcomes(warriors, lineups, settings=SMALL, rounds=rounds, seeds=seeds, jobs=2)
-        assert made.shape == (2, rounds, count) and made.dtype == OUTCOME
+        words: Any = {"settings": SMALL, "rounds": rounds, "seeds": seeds}
+        made = corewar.outcomes(warriors, lineups, counts=True, jobs=2, **words)
+        assert made.shape == (2, rounds, count) and made.dtype == COUNTED
+        alone = corewar.outcomes(warriors, lineups, **words)
+        assert alone.dtype == OUTCOME and np.array_equal(made[[*OUTCOME.names or ()]], alone)
         for lineup, seed, rows in zip(lineups, seeds, made):
             fighters = [warriors[index] for index in lineup]
             given: Any = {"settings": SMALL, "rounds": rounds, "seed": seed}
@@ -154,7 +157,7 @@ def check_round(fight: Match, round: int, row: Any) -> int:
     """Compares the outcomes of a round with the records of its battle, and returns the number of deaths."""
     battle, count = corewar.Battle(fight, round), len(fight.warriors)
     first = [int(queue[0]) for queue in battle.queues]
-    records, _ = battle.play(records=count * SMALL.cycles)
+    records, touched = battle.play(records=count * SMALL.cycles, touched=count * SMALL.cycles)
     deaths = dict(battle.deaths.tolist())
     for place, warrior in enumerate(fight.warriors):
         number = (place - round) % count
@@ -164,7 +167,17 @@ def check_round(fight: Match, round: int, row: Any) -> int:
         # The record of the turn before has the number of cycles that were complete.
         cycles = SMALL.cycles if death is None else int(records["cycle"][death - 2]) if death > 1 else 0
         assert told["cycles"] == cycles
+        own = records["warrior"] == number
+        assert told[[*COUNTS]].tolist() == counts_in(records[own], touched[own])
     return len(deaths)
+
+
+def counts_in(records: Any, touched: Any) -> tuple[int, ...]:
+    """Returns what a warrior did, from the records of its turns."""
+    written = records["change"]["address"][np.arange(3) < records["changes"][:, None]]
+    reached = touched["address"][np.arange(8) < touched["count"][:, None]]
+    cells = [len(np.unique(addresses)) for addresses in (records["address"], written, reached)]
+    return len(records), int((records["queued"] == 2).sum()), *cells
 
 
 def test_lineups() -> None:

@@ -4,8 +4,9 @@ long battles.
 100 candidates play against 10 opponents: by one call of a population, by a call for each match, by a league of each
 candidate with the ten, whose row has the same sums, and by a start of `mars`, or of pMARS, for each match. Of a league,
 only the wanted matches count. Then the machine instructions of a nano match from C; and the turns of a battle of
-1,000,000 turns, with the record of each, as a `History`, and of matches in `outcomes`. The library is the one that
-`corewar` finds. """
+1,000,000 turns, with the record of each, as a `History`, and of matches in `outcomes`, without and with counts. The
+library is the one that `corewar` finds.
+"""
 from __future__ import annotations
 
 import argparse
@@ -96,9 +97,9 @@ def record_all(warriors: list[corewar.Warrior]) -> None:
         sys.exit(f"measure: the battle has {len(turns)} turns")
 
 
-def outcomes_of(warriors: list[corewar.Warrior], seed: int) -> None:
+def outcomes_of(warriors: list[corewar.Warrior], seed: int, counts: bool) -> None:
     """Plays ten rounds of a match that lasts until its cycle limit."""
-    made = corewar.outcomes(warriors, rounds=10, seeds=seed + 1, position=4000)
+    made = corewar.outcomes(warriors, rounds=10, seeds=seed + 1, position=4000, counts=counts)
     if (made["turns"] != 160_000).any():
         sys.exit("measure: a warrior dies")
 
@@ -121,7 +122,9 @@ def measure_turns(seconds: float) -> None:
     print(f"{recorded:10,.0f} turns a second of a battle of {TURNS:,}, each with its record")
     history = rate(seconds, TURNS, lambda _: corewar.History(corewar.Match(papers, settings=LONG)))
     print(f"{history:10,.0f} turns a second of the same as a history")
-    print(f"{rate(seconds, 1_600_000, lambda seed: outcomes_of(lasting, seed)):10,.0f} turns a second in outcomes")
+    for counts, what in ((False, "in outcomes"), (True, "in outcomes that count what the warriors do")):
+        played = rate(seconds, 1_600_000, lambda seed: outcomes_of(lasting, seed, counts))
+        print(f"{played:10,.0f} turns a second {what}")
 
 
 def measure(words: argparse.Namespace) -> None:

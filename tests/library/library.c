@@ -50,7 +50,7 @@ static MarsProgram program;
 static uint32_t block[WORDS]; /* the battle of a round, as it starts */
 static uint8_t load[1024];
 static size_t load_length;
-static const MarsLineup LINEUPS[] = {{5, 3, {0, 1, 2}}, {0, 2, {2, 0}}};
+static const MarsLineup LINEUPS[] = {{5, 3, {0, 1, 2}, 1}, {0, 2, {2, 0}, 0}};
 
 /* What a call left. */
 typedef struct {
@@ -161,6 +161,8 @@ static int are_outcomes_rows(void) {
         for (size_t round = 0; round < 3; round++) survived += got.outcomes[3 * round + place].survived;
         if (survived != got.rows[place].wins + got.rows[place].ties) return 0;
     }
+    /* Only the first lineup is counting. */
+    if (got.outcomes[0].own_turns == 0 || got.outcomes[0].executed == 0 || got.outcomes[9].own_turns != 0) return 0;
     return got.outcomes[0].start == 0 && got.outcomes[9].start == 0 && got.outcomes[10].start >= SETTINGS.distance;
 }
 
@@ -212,7 +214,7 @@ static int are_mistakes_told_in_order(void) {
     MarsFault fault;
     const uint8_t *wrong = (const uint8_t *)"W+", *formula = (const uint8_t *)FORMULA;
     size_t all = 3 * CELLS;
-    MarsLineup lineup = {0, 1, {3}};
+    MarsLineup lineup = {0, 1, {3}, 0};
     MarsOutcome outcome;
     return is_refused_for(MARS_SETTINGS_WARRIORS, &bad, 0, 0) && is_refused_for(MARS_SETTINGS_WARRIORS, &bad, 17, 3)
         && is_refused_for(MARS_SETTINGS_ROWS, &bad, 3, 2) && is_refused_for(MARS_SETTINGS_POSITION, &placed, 3, 3)

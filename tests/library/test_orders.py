@@ -135,7 +135,7 @@ def contest(name: str) -> Run:
 
 def outcomes(given: Arguments, fault: Any) -> tuple[int, NDArray[Any]]:
     settings, warriors = given.given()
-    lineups = filled("MarsLineup", [(0, len(given.lineup), given.lineup + (0,) * (16 - len(given.lineup)))])
+    lineups = filled("MarsLineup", [(0, len(given.lineup), given.lineup + (0,) * (16 - len(given.lineup)), 1)])
     count = given.settings["rounds"] * len(given.lineup)
     held, rows = untouched("MarsOutcome", count if given.output is None else given.output)
     return library()[1].mars_outcomes(settings, *warriors, *lineups, *rows, fault), held

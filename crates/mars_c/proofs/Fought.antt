@@ -34,10 +34,10 @@ fought_push s ws (m ∷ ls) l fates one all this =
 pub fought_more : (s : MarsSettings) (ws : List WarriorValue) (ls : List MarsLineup) (i : ℕ) (d : MarsLineup) (fates one : List Fate) (items more : List MarsOutcome)
     → i < length ls → AreFought s ws (take i ls) fates → items ≡ map plain_fate fates → IsFought s ws (get_or ls i d) one → more ≡ items ++ map plain_fate one
     → (fates : List Fate) × AreFought s ws (take (i + 1) ls) fates × (more ≡ map plain_fate fates)
-fought_more s ws ls i d fates one items more inside all told this appended = (
+fought_more s ws ls i d fates one items more inside all shown this appended = (
   fates ++ one,
   rw (take_more ls i d inside) (fought_push s ws (take i ls) (get_or ls i d) fates one all this),
-  rw (appended, told) (sym (map-append plain_fate fates one)),
+  rw (appended, shown) (sym (map-append plain_fate fates one)),
 )
 
 pub lineup_fails : (s : MarsSettings) (ws : List WarriorValue) (ls : List MarsLineup) (i : ℕ) (d : MarsLineup) (refusal : CallRefusal) → i < length ls → RefusesLineup s ws (get_or ls i d) refusal

@@ -68,19 +68,19 @@ pub fails : {X : Type 0} (s : MarsSettings) (text : List ℕ) (count : ℕ) (cel
     → IsSetup s text setup → AreEntrants setup.params cells entrants ws → (fight_refusal fault ≡ OutOfMemory) ⊎ (fought setup ws ≡ Err fault) → refusal ≡ fight_refusal fault
     → RefusesEntry s text count cells entrants refusal ⊎ Fails s text cells entrants fought refusal
 fails s text count cells entrants fought setup ws fault refusal made read (inl memory) is = inl (subst (RefusesEntry s text count cells entrants) (sym (is ∙ memory)) tt)
-fails s text count cells entrants fought setup ws fault refusal made read (inr told) is = inr (setup, ws, fault, made, read, told, is)
+fails s text count cells entrants fought setup ws fault refusal made read (inr shown) is = inr (setup, ws, fault, made, read, shown, is)
 
 -- A failed allocation in a match is the refusal `OutOfMemory`.
 pub memory_or : {A : Type 0} (fault : MatchFault) → (fault ≡ fight.OutOfMemory) ⊎ A → (fight_refusal fault ≡ OutOfMemory) ⊎ A
 memory_or fault (inl memory) = inl (ap fight_refusal memory)
-memory_or fault (inr told) = inr told
+memory_or fault (inr shown) = inr shown
 
 -- If the first round cannot be placed, no later round can.
 pub placed_fails : (p : Parameters) (w : ℕ) (fixed : Option ℕ) (k seed : ℕ) (fault : MatchFault) → placed_for p w fixed seed ≡ Err fault → placed_in p w fixed k seed ≡ Err fault
-placed_fails p w fixed zero seed fault told = rw told refl
-placed_fails p w fixed (suc k) seed fault told = rw told refl
+placed_fails p w fixed zero seed fault shown = rw shown refl
+placed_fails p w fixed (suc k) seed fault shown = rw shown refl
 
 pub not_placed : (p : Parameters) (w : ℕ) (fixed : Option ℕ) (k seed : ℕ) (all : Result (List ℕ) MatchFault) (fault : MatchFault) → placed_in p w fixed k seed ≡ all
     → (fault ≡ fight.OutOfMemory) ⊎ (placed_for p w fixed seed ≡ Err fault) → (fault ≡ fight.OutOfMemory) ⊎ (all ≡ Err fault)
 not_placed p w fixed k seed all fault same (inl memory) = inl memory
-not_placed p w fixed k seed all fault same (inr told) = inr (sym same ∙ placed_fails p w fixed k seed fault told)
+not_placed p w fixed k seed all fault same (inr shown) = inr (sym same ∙ placed_fails p w fixed k seed fault shown)

@@ -33,6 +33,7 @@ use Rattle.mars_core.specs.declared.battle.start.BattleFault.TheVariants as batt
 use Rattle.mars_match.specs.Battles.{survivors_of_round, end_of}
 use Rattle.mars_match.specs.Placement.{FitsTwo, drawn, starts_of, next_seed}
 use Rattle.mars_match.specs.Rounds.{table_of}
+use Rattle.mars_match.specs.declared.counts.Counts.{Counts}
 use Rattle.mars_match.specs.declared.fault.MatchFault.TheVariants as fight
 use Rattle.mars_match.specs.declared.placement.PlaceFault.TheVariants.{NoRoom}
 use Rattle.mars_match.specs.declared.placement.PlaceFault.TheVariants as place
@@ -47,7 +48,7 @@ use Rattle.mars_c.specs.Contests.{population}
 use Rattle.mars_c.specs.Entrants.{AreEntrants, IsEntrant, named, plain_name, plain_program}
 use Rattle.mars_c.specs.Records.{change_of, turn_row}
 use Rattle.mars_c.specs.Touches.{touched_row}
-use Rattle.mars_c.specs.Outcomes.{IsLineup, indices_of, plain_fate, rows_for, seeded}
+use Rattle.mars_c.specs.Outcomes.{IsLineup, indices_of, is_counting, plain_fate, rows_for, seeded}
 use Rattle.mars_c.specs.Refusals.{IsOutside, fight_refusal}
 use Rattle.mars_c.specs.declared.faults.BlockRefusal.TheVariants as blocks
 use Rattle.mars_c.specs.declared.faults.CallRefusal.TheVariants.{Assembly, Battle, Lineup, Load, OutOfMemory, Placement, Score, Warrior}
@@ -330,13 +331,13 @@ seeds_of_lineups = (refl, refl)
 
 -- A lineup whose count is two: only the first two of its three indices count.
 abbrev of_two : MarsLineup
-of_two = record { seed = 0; count = 2; warrior = 4 ∷ 1 ∷ 9 ∷ [] }
+of_two = record { seed = 0; count = 2; counting = 0; warrior = 4 ∷ 1 ∷ 9 ∷ [] }
 
 pub lineup_has_two : indices_of of_two ≡ 4 ∷ 1 ∷ []
 lineup_has_two = refl
 
 -- Lineups of 0 and of 17 warriors are wrong, and one with an index that no warrior has.
-pub wrong_lineups : (IsLineup 5 (record { seed = 0; count = 0; warrior = [] }) → ⊥) × (IsLineup 5 (record { seed = 0; count = 17; warrior = [] }) → ⊥)
+pub wrong_lineups : (IsLineup 5 (record { seed = 0; count = 0; counting = 0; warrior = [] }) → ⊥) × (IsLineup 5 (record { seed = 0; count = 17; counting = 0; warrior = [] }) → ⊥)
     × (IsLineup 4 of_two → ⊥)
 wrong_lineups = (λ l. omega (arith, l.warriors.0), λ l. omega (arith, l.warriors.1), λ l. let inside = l.indices 0 0 (omega arith) in omega (arith, inside))
 
@@ -344,6 +345,14 @@ wrong_lineups = (λ l. omega (arith, l.warriors.0), λ l. omega (arith, l.warrio
 pub rows_are_counted : rows_for (nano 3 7 0) (of_two ∷ of_two ∷ []) ≡ 12
 rows_are_counted = refl
 
-pub fates_are_numbers : (plain_fate (record { survived = true; turns = 5; start = 9 }) ≡ record { survived = 1; turns = 5; start = 9 })
-    × ((plain_fate (record { survived = false; turns = 5; start = 9 })).survived ≡ 0)
+abbrev deeds : Counts
+deeds = record { turns = 1; spawned = 2; executed = 3; written = 4; touched = 6 }
+
+pub fates_are_numbers : (plain_fate (record { survived = true; turns = 5; start = 9; counts = deeds })
+    ≡ record { survived = 1; turns = 5; start = 9; own_turns = 1; spawned = 2; executed = 3; written = 4; touched = 6 })
+    × ((plain_fate (record { survived = false; turns = 5; start = 9; counts = deeds })).survived ≡ 0)
 fates_are_numbers = (refl, refl)
+
+-- Any number but 0 asks for what the warriors do.
+pub lineup_is_counted : (is_counting of_two ≡ false) × (is_counting (record { seed = 0; count = 2; counting = 7; warrior = [] }) ≡ true)
+lineup_is_counted = (refl, refl)

@@ -1,5 +1,5 @@
 -- How each warrior fares in each round of many matches.
-use Rattle.std.specs.Prelude.{◌≡◌, ◌*◌, ◌++◌, ◌==◌, ◌<◌, ◌⊎◌, ℕ, All, List, [], ◌∷◌, Option, Some, Ok, Err, codes, if◌then◌else◌, length, map, slice_get, sum_by, take}
+use Rattle.std.specs.Prelude.{◌≡◌, ◌*◌, ◌++◌, ◌==◌, ◌<◌, ◌⊎◌, ℕ, All, Bool, List, [], ◌∷◌, Option, Some, Ok, Err, codes, if◌then◌else◌, length, map, not, slice_get, sum_by, take}
 use Rattle.mars_cell.specs.Parameters.{Parameters}
 use Rattle.mars_cell.specs.ParameterFaults.{checked_parameters}
 use Rattle.mars_cell.specs.Warriors.{WarriorValue}
@@ -24,7 +24,16 @@ use Rattle.mars_c.specs.declared.warriors.MarsWarrior.{MarsWarrior}
 
 -- A fate as numbers.
 abbrev pub plain_fate : Fate → MarsOutcome
-plain_fate fate = record { survived = if fate.survived then 1 else 0; turns = fate.turns; start = fate.start }
+plain_fate fate = record {
+  survived = if fate.survived then 1 else 0;
+  turns = fate.turns;
+  start = fate.start;
+  own_turns = fate.counts.turns;
+  spawned = fate.counts.spawned;
+  executed = fate.counts.executed;
+  written = fate.counts.written;
+  touched = fate.counts.touched;
+}
 
 -- The settings `s` with this seed, unless it is 0.
 abbrev pub seeded : MarsSettings → ℕ → MarsSettings
@@ -40,6 +49,10 @@ seeded s seed = record {
   seed = if seed == 0 then s.seed else seed;
   position = s.position;
 }
+
+-- The lineup asks for what each warrior does.
+abbrev pub is_counting : MarsLineup → Bool
+is_counting lineup = not (lineup.counting == 0)
 
 -- The indices of the warriors of a lineup.
 abbrev pub indices_of : MarsLineup → List ℕ
@@ -68,7 +81,7 @@ AreChosen ws indices chosen = map (λ i. slice_get ws i) indices ≡ map (λ w. 
 abbrev pub IsFought : MarsSettings → List WarriorValue → MarsLineup → List Fate → Type 0
 IsFought s ws lineup fates = (setup : Setup) × (chosen : List WarriorValue)
     × IsSetup (seeded s lineup.seed) (codes "0") setup × AreChosen ws (indices_of lineup) chosen × FitsTwo setup.params (length chosen) setup.plan.fixed
-    × (fates_of setup.params chosen setup.plan.fixed setup.plan.rounds setup.plan.seed ≡ Ok fates)
+    × (fates_of (is_counting lineup) setup.params chosen setup.plan.fixed setup.plan.rounds setup.plan.seed ≡ Ok fates)
 
 -- `fates` are the fates of the matches of all lineups, one match after another.
 abbrev pub AreFought : MarsSettings → List WarriorValue → List MarsLineup → List Fate → Type 0
@@ -91,7 +104,7 @@ RefusesLineup s ws lineup refusal =
     RefusesEntry (seeded s lineup.seed) (codes "0") lineup.count [] [] refusal
     ⊎ ((setup : Setup) × (chosen : List WarriorValue) × (fault : MatchFault)
     × IsSetup (seeded s lineup.seed) (codes "0") setup × AreChosen ws (indices_of lineup) chosen
-    × (fates_of setup.params chosen setup.plan.fixed setup.plan.rounds setup.plan.seed ≡ Err fault) × (refusal ≡ fight_refusal fault))
+    × (fates_of (is_counting lineup) setup.params chosen setup.plan.fixed setup.plan.rounds setup.plan.seed ≡ Err fault) × (refusal ≡ fight_refusal fault))
 
 -- `refusal` is a reason for which the match of one of the lineups has no fates.
 abbrev pub FailsLineup : MarsSettings → List MarsCell → List MarsWarrior → List MarsLineup → CallRefusal → Type 0

@@ -84,7 +84,7 @@ pub extern "C" fn mars_assemble(
     program: &mut MarsProgram,
     fault: &mut MarsFault,
 ) -> u32
-    ensures told { result ≡ fault.new.code }
+    ensures code { result ≡ fault.new.code }
     ensures done { result ≡ 0 → HoldsProgram (IsAssembled settings.now warriors source.now) program.new cells.old cells.new }
     ensures refused { result ≢ 0 → result ≢ 10 → Tells (RefusesSource settings.now warriors source.now) fault.new }
     ensures room { result ≡ 10 → OverflowsProgram (IsAssembled settings.now warriors source.now) program.new cells.old }
@@ -108,7 +108,7 @@ pub extern "C" fn mars_lines(
     length: &mut usize,
     fault: &mut MarsFault,
 ) -> u32
-    ensures told { result ≡ fault.new.code }
+    ensures code { result ≡ fault.new.code }
     ensures done { result ≡ 0 → HoldsText (AreLines settings.now warriors source.now) length.new buffer.old buffer.new }
     ensures refused { result ≢ 0 → result ≢ 10 → Tells (RefusesSource settings.now warriors source.now) fault.new }
     ensures room { result ≡ 10 → OverflowsText (AreLines settings.now warriors source.now) length.new buffer.old }
@@ -130,7 +130,7 @@ pub extern "C" fn mars_read_load(
     program: &mut MarsProgram,
     fault: &mut MarsFault,
 ) -> u32
-    ensures told { result ≡ fault.new.code }
+    ensures code { result ≡ fault.new.code }
     ensures done { result ≡ 0 → HoldsProgram (IsLoaded settings.now load.now) program.new cells.old cells.new }
     ensures refused { result ≢ 0 → result ≢ 10 → Tells (RefusesLoad settings.now load.now) fault.new }
     ensures room { result ≡ 10 → OverflowsProgram (IsLoaded settings.now load.now) program.new cells.old }
@@ -154,7 +154,7 @@ pub extern "C" fn mars_write_load(
     length: &mut usize,
     fault: &mut MarsFault,
 ) -> u32
-    ensures told { result ≡ fault.new.code }
+    ensures code { result ≡ fault.new.code }
     ensures done { result ≡ 0 → HoldsText (IsLoadFile settings.now cells.now program.now) length.new buffer.old buffer.new }
     ensures refused { result ≢ 0 → result ≢ 10 → Tells (RefusesWriting settings.now cells.now program.now) fault.new }
     ensures room { result ≡ 10 → OverflowsText (IsLoadFile settings.now cells.now program.now) length.new buffer.old }
@@ -177,7 +177,7 @@ pub extern "C" fn mars_match(
     rows: &mut [MarsRow],
     fault: &mut MarsFault,
 ) -> u32
-    ensures told { result ≡ fault.new.code }
+    ensures code { result ≡ fault.new.code }
     ensures refused { result ≢ 0 → Tells (RefusesMatch settings.now formula.now cells.now warriors.now (length rows.old)) fault.new }
     ensures done { result ≡ 0 → HoldsMatch settings.now formula.now cells.now warriors.now rows.new }
     ensures kept { result ≢ 0 → rows.new ≡ rows.old }
@@ -199,7 +199,7 @@ pub extern "C" fn mars_league(
     rows: &mut [MarsRow],
     fault: &mut MarsFault,
 ) -> u32
-    ensures told { result ≡ fault.new.code }
+    ensures code { result ≡ fault.new.code }
     ensures refused { result ≢ 0 → Tells (RefusesLeague settings.now formula.now cells.now warriors.now (length rows.old)) fault.new }
     ensures done { result ≡ 0 → HoldsLeague settings.now formula.now cells.now warriors.now rows.new }
     ensures kept { result ≢ 0 → rows.new ≡ rows.old }
@@ -223,7 +223,7 @@ pub extern "C" fn mars_population(
     rows: &mut [MarsRow],
     fault: &mut MarsFault,
 ) -> u32
-    ensures told { result ≡ fault.new.code }
+    ensures code { result ≡ fault.new.code }
     ensures refused { result ≢ 0 → Tells (RefusesPopulation settings.now formula.now cells.now warriors.now (length rows.old)) fault.new }
     ensures done { result ≡ 0 → HoldsSums settings.now formula.now cells.now warriors.now rows.new }
     ensures kept { result ≢ 0 → rows.new ≡ rows.old }
@@ -245,7 +245,7 @@ pub extern "C" fn mars_outcomes(
     outcomes: &mut [MarsOutcome],
     fault: &mut MarsFault,
 ) -> u32
-    ensures told { result ≡ fault.new.code }
+    ensures code { result ≡ fault.new.code }
     ensures refused { result ≢ 0 → Tells (RefusesOutcomes settings.now cells.now warriors.now lineups.now (length outcomes.old)) fault.new }
     ensures done { result ≡ 0 → HoldsOutcomes settings.now cells.now warriors.now lineups.now outcomes.new }
     ensures kept { result ≢ 0 → outcomes.new ≡ outcomes.old }

@@ -26,6 +26,8 @@ pub struct MarsLineup {
     pub count: u32,
     /// Indices of the warriors, from 0; those after the first `count` are not used.
     pub warrior: [u32; 16],
+    /// Not 0 if what each warrior does is counted.
+    pub counting: u32,
 }
 
 /// The fate of a warrior in a round.
@@ -39,6 +41,16 @@ pub struct MarsOutcome {
     pub turns: u32,
     /// Address of its first cell.
     pub start: u32,
+    /// Number of its own turns. This and the following numbers are 0 if the lineup doesn't ask for them.
+    pub own_turns: u32,
+    /// Number of its turns that queued two processes.
+    pub spawned: u32,
+    /// Number of cells at which it executed an instruction.
+    pub executed: u32,
+    /// Number of cells that it wrote.
+    pub written: u32,
+    /// Number of cells that it executed, read or wrote.
+    pub touched: u32,
 }
 
 impl MarsOutcome {
@@ -50,6 +62,11 @@ impl MarsOutcome {
             survived: if fate.survived { 1 } else { 0 },
             turns: fate.turns,
             start: fate.start,
+            own_turns: fate.counts.turns,
+            spawned: fate.counts.spawned,
+            executed: fate.counts.executed,
+            written: fate.counts.written,
+            touched: fate.counts.touched,
         }
     }
 }
@@ -153,7 +170,7 @@ fn fight_lineup(
     let count = lineup.count as usize;
     let setup = make_setup(alloc, &seeded(settings, lineup.seed), b"0", count)?;
     let chosen = choose(alloc, warriors, lineup)?;
-    match fight_rounds(alloc, &setup, &chosen) {
+    match fight_rounds(alloc, &setup, &chosen, lineup.counting != 0) {
         Ok(fates) => Ok(fates),
         Err(fault) => Err(refused_fight(fault)),
     }

@@ -1,5 +1,5 @@
 -- How a battle reaches its end.
-use Rattle.std.proofs.Common.{◌≡◌, refl, sym, ◌∙◌, ap, ℕ, zero, suc, ◌*◌, ◌%◌, ◌<◌, ◌≤◌, inl, inr, List, [], ◌∷◌, length, Option, None, Some, Ok, arith}
+use Rattle.std.proofs.Common.{◌≡◌, refl, sym, ◌∙◌, ap, ℕ, zero, suc, ◌*◌, ◌%◌, ◌<◌, ◌≤◌, inl, inr, List, [], ◌∷◌, length, Option, None, Some, Ok, Err, arith}
 use Rattle.std.proofs.lemmas.Bool.{cases_Bool}
 use Rattle.std.proofs.lemmas.List.{length-map}
 use Rattle.mars_cell.specs.Parameters.{Parameters}
@@ -10,6 +10,7 @@ use Rattle.mars_core.specs.Turn.{turn_of, after_turns}
 use Rattle.mars_core.specs.Shape.{SameShape}
 use Rattle.mars_core.proofs.CallerLemmas.{shape-turn_of}
 use Rattle.mars_core.specs.declared.battle.start.BattleFault.{BattleFault}
+use Rattle.mars_match.specs.declared.fault.MatchFault.{MatchFault}
 use Rattle.mars_match.specs.Battles.{unless, end_of, started, fought, in_load_order, survivors_of_round, round_fault, round_start, rotated}
 use Rattle.mars_match.specs.Code.Lineups.{HasRoom}
 use Rattle.mars_match.specs.Fates.{ended}
@@ -25,7 +26,7 @@ shape-after_turns (suc n) s = elim (cases_Bool (is_over_of s)) [
       rw on (record { params = rest.params ∙ one.params; warriors = rest.warriors ∙ one.warriors })
 ]
 
-shape-end : (s : State) → SameShape (end_of s) s
+pub shape-end : (s : State) → SameShape (end_of s) s
 unfolding end_of
 shape-end s = shape-after_turns (s.params.cycles * length s.queues) s
 
@@ -47,6 +48,13 @@ params-start p warriors starts = refl
 pub unless_ok : {A : Type 0} (f : Option BattleFault) (a b : A) → unless f a ≡ Ok b → (f ≡ None) × (a ≡ b)
 unless_ok None a b e = (refl, cc)
 unless_ok (Some f) a b e = absurd (cc)
+
+pub unless_err : {A B : Type 0} (f : Option BattleFault) (a : A) (b : B) (x : MatchFault) → unless f a ≡ Err x → unless f b ≡ Err x
+unless_err None a b x e = absurd (cc)
+unless_err (Some f) a b x e = cc
+
+pub started_err : (p : Parameters) (warriors : List WarriorValue) (starts : List ℕ) (k : ℕ) (x : MatchFault) → started p warriors starts k ≡ Err x → ended p warriors starts k ≡ Err x
+started_err p warriors starts k x e = unless_err (round_fault p warriors starts k) (round_start p warriors starts k) (end_of (round_start p warriors starts k)) x e
 
 pub fought_from_started : (p : Parameters) (warriors : List WarriorValue) (starts : List ℕ) (k : ℕ) (s : State) → started p warriors starts k ≡ Ok s → fought p warriors starts k ≡ Ok (in_load_order (k % length warriors) (end_of s))
 unfolding survivors_of_round

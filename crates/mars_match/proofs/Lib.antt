@@ -1,5 +1,6 @@
 pub mod Ascending
 pub mod Candidates
+pub mod Deeds
 pub mod Draws
 pub mod Ends
 pub mod ForLaws

@@ -4,3 +4,4 @@ pub mod LeagueSteps
 pub mod Levels
 pub mod Lineups
 pub mod Keeping
+pub mod Deeds

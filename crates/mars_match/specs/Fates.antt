@@ -1,12 +1,14 @@
 -- The fate of each warrior in each round of a match.
-use Rattle.std.specs.Prelude.{◌==◌, ◌+◌, ◌-◌, ◌%◌, ℕ, zero, suc, false, nat_le, if◌then◌else◌, List, [], ◌∷◌, ◌++◌, length, slice_index_or, Option, Result, Ok}
+use Rattle.std.specs.Prelude.{◌==◌, ◌+◌, ◌-◌, ◌%◌, ℕ, zero, suc, Bool, false, nat_le, if◌then◌else◌, List, [], ◌∷◌, ◌++◌, length, slice_index_or, Option, Result, Ok}
 use Rattle.mars_cell.specs.Parameters.{Parameters}
 use Rattle.mars_cell.specs.Warriors.{WarriorValue}
 use Rattle.mars_core.specs.State.{State}
 use Rattle.mars_core.specs.declared.deaths.Death.{Death}
 use Rattle.redcode_text.specs.Results.{◌>>=◌}
-use Rattle.mars_match.specs.Battles.{count_fault, end_of, in_load_order, round_fault, round_start, unless}
+use Rattle.mars_match.specs.Battles.{count_fault, end_of, in_load_order, round_fault, round_start, started, unless}
+use Rattle.mars_match.specs.Counts.{counts_of}
 use Rattle.mars_match.specs.Rounds.{counted, placed_for}
+use Rattle.mars_match.specs.declared.counts.Counts.{Counts}
 use Rattle.mars_match.specs.declared.fates.Fate.{Fate}
 use Rattle.mars_match.specs.declared.fault.MatchFault.{MatchFault}
 
@@ -19,38 +21,48 @@ turns_until (death ∷ deaths) place all = if death.warrior == place then death.
 abbrev pub place_of : ℕ → ℕ → ℕ → ℕ
 place_of w first i = if nat_le first i then i - first else w - (first - i)
 
--- The fate of warrior `i`, whose first cell is at `start`, in the battle `s`, which is over and in which warrior `first`
--- had the first turn.
-abbrev pub fate_of : State → ℕ → ℕ → ℕ → Fate
-fate_of s first i start = record {
-  survived = slice_index_or (in_load_order first s) i false;
-  turns = turns_until s.deaths (place_of (length s.queues) first i) s.turns;
-  start = start;
-}
+-- What a warrior did, if it is not counted.
+abbrev pub no_counts : Counts
+no_counts = record { turns = 0; spawned = 0; executed = 0; written = 0; touched = 0 }
+
+-- The fate of warrior `i`, whose first cell is at `start`, in the battle that starts in the state `s` and in which warrior
+-- `first` has the first turn; with what it did, if `counting`.
+abbrev pub fate_of : Bool → State → ℕ → ℕ → ℕ → Fate
+fate_of counting s first i start =
+    let over = end_of s in
+    let place = place_of (length over.queues) first i in
+    record {
+      survived = slice_index_or (in_load_order first over) i false;
+      turns = turns_until over.deaths place over.turns;
+      start = start;
+      counts = if counting then counts_of s place else no_counts;
+    }
 
 -- The fates of the warriors from warrior `i` on, in load order, for the given starts.
-abbrev pub fates_from : State → ℕ → ℕ → List ℕ → List Fate
-fates_from s first i [] = []
-fates_from s first i (start ∷ starts) = fate_of s first i start ∷ fates_from s first (i + 1) starts
+abbrev pub fates_from : Bool → State → ℕ → ℕ → List ℕ → List Fate
+fates_from counting s first i [] = []
+fates_from counting s first i (start ∷ starts) = fate_of counting s first i start ∷ fates_from counting s first (i + 1) starts
 
 -- The battle of round `k` when it is over, or the error of starting it.
 abbrev pub ended : Parameters → List WarriorValue → List ℕ → ℕ → Result State MatchFault
 ended p warriors starts k = unless (round_fault p warriors starts k) (end_of (round_start p warriors starts k))
 
 -- The fates of round `k`, in load order, or the error of starting it.
-abbrev pub round_fates : Parameters → List WarriorValue → List ℕ → ℕ → Result (List Fate) MatchFault
-round_fates p warriors starts k = ended p warriors starts k >>= λ s. Ok (fates_from s (k % length warriors) 0 starts)
+abbrev pub round_fates : Bool → Parameters → List WarriorValue → List ℕ → ℕ → Result (List Fate) MatchFault
+round_fates counting p warriors starts k =
+    started p warriors starts k >>= λ s. Ok (fates_from counting s (k % length warriors) 0 starts)
 
 -- The fates of `n` rounds, one round after another, from round `k` and `seed` on; or the error of the first round that
 -- has one.
-abbrev pub fates : Parameters → List WarriorValue → Option ℕ → ℕ → ℕ → ℕ → Result (List Fate) MatchFault
-fates p warriors fixed zero k seed = Ok []
-fates p warriors fixed (suc n) k seed =
+abbrev pub fates : Bool → Parameters → List WarriorValue → Option ℕ → ℕ → ℕ → ℕ → Result (List Fate) MatchFault
+fates counting p warriors fixed zero k seed = Ok []
+fates counting p warriors fixed (suc n) k seed =
     placed_for p (length warriors) fixed seed >>= λ placed.
-    round_fates p warriors placed.0 k >>= λ now.
-    fates p warriors fixed n (k + 1) placed.1 >>= λ later. Ok (now ++ later)
+    round_fates counting p warriors placed.0 k >>= λ now.
+    fates counting p warriors fixed n (k + 1) placed.1 >>= λ later. Ok (now ++ later)
 
 -- The fates of a match of `n` rounds that begins with `seed`, or its first error: no warrior or too many, then the error
 -- of the first round that has one.
-unfoldable pub fates_of : Parameters → List WarriorValue → Option ℕ → ℕ → ℕ → Result (List Fate) MatchFault
-fates_of p warriors fixed n seed = counted (count_fault (length warriors)) (fates p warriors fixed n 0 seed)
+unfoldable pub fates_of : Bool → Parameters → List WarriorValue → Option ℕ → ℕ → ℕ → Result (List Fate) MatchFault
+fates_of counting p warriors fixed n seed =
+    counted (count_fault (length warriors)) (fates counting p warriors fixed n 0 seed)

@@ -60,9 +60,9 @@ EachMatchIsCounted = (p : Parameters) (warriors : List WarriorValue) (formula : 
 -- If a match has outcomes, it has fates, and the survivors are the same in both. So the rows of a match are sums over its
 -- fates.
 abbrev pub FatesAreOutcomes : Type 0
-FatesAreOutcomes = (p : Parameters) (warriors : List WarriorValue) (formula : Scanned) (fixed : Option ℕ) (n k seed : ℕ) (all : List Outcome) →
+FatesAreOutcomes = (counting : Bool) (p : Parameters) (warriors : List WarriorValue) (formula : Scanned) (fixed : Option ℕ) (n k seed : ℕ) (all : List Outcome) →
     1 ≤ length warriors → FitsTwo p (length warriors) fixed → outcomes p warriors formula fixed n k seed ≡ Ok all →
-    (made : List Fate) × (fates p warriors fixed n k seed ≡ Ok made) × (map (λ (f : Fate). f.survived) made ≡ flat_map (λ (o : Outcome). o.lived) all)
+    (made : List Fate) × (fates counting p warriors fixed n k seed ≡ Ok made) × (map (λ (f : Fate). f.survived) made ≡ flat_map (λ (o : Outcome). o.lived) all)
 
 -- The sum of two rows.
 abbrev pub added_rows : RowValue → RowValue → RowValue

@@ -5,6 +5,7 @@ pub mod Battles
 pub mod Rounds
 pub mod Leagues
 pub mod Populations
+pub mod Counts
 pub mod Fates
 pub mod Results
 pub mod CallResults

@@ -1,18 +1,22 @@
 //! The fate of each warrior in each round of a match.
-ghost use Rattle.std.specs.Prelude.{◌≡◌, ◌++◌, ◌+◌, ◌-◌, ◌*◌, ◌%◌, ◌<◌, ◌≤◌, ◌≢◌, Box, IfErr, IfOk, IfSome, MatchResult, Vec, length, vec_len};
+ghost use Rattle.std.specs.Prelude.{◌≡◌, ◌++◌, ◌+◌, ◌-◌, ◌*◌, ◌%◌, ◌<◌, ◌≤◌, ◌≢◌, Box, IfErr, IfOk, IfSome, MatchResult, Vec, length, slice_index_or, vec_len};
 ghost use Rattle.std.specs.Global.{Global};
 ghost use Rattle.mars_core.specs.Limits.{max_warriors};
 ghost use Rattle.mars_core.specs.State.{State};
+ghost use Rattle.mars_match.specs.Battles.{round_start};
 ghost use Rattle.mars_match.specs.CallResults.{IsResult};
+ghost use Rattle.mars_match.specs.Code.Deeds.{AreCounts, fate_in, fates_in};
 ghost use Rattle.mars_match.specs.Code.Lineups.{HasRoom};
-ghost use Rattle.mars_match.specs.Fates.{fate_of as spec_fate_of, fates, fates_from, fates_of, place_of as spec_place_of, turns_until as spec_turns_until};
+ghost use Rattle.mars_match.specs.Fates.{ended, fates, fates_of, no_counts, place_of as spec_place_of, turns_until as spec_turns_until};
 ghost use Rattle.mars_match.specs.Placement.{FitsTwo};
 ghost use Rattle.mars_match.specs.declared.fates.Fate.{Fate as FateValue};
+ghost use Rattle.mars_match.specs.declared.fates.Played.{Played as PlayedValue};
 
+use crate::counts::{Counts, count_to_end};
 use crate::fault::MatchFault;
-use crate::fights::{Lineup, Round, check_count, fight_round, is_alive};
+use crate::fights::{Lineup, Round, check_count, fight_round, is_alive, start_round};
 use crate::setup::Setup;
-use mars_cell::Warrior;
+use mars_cell::{Params, Warrior};
 use mars_core::{Battle, Death};
 use std::alloc::Global;
 
@@ -26,6 +30,8 @@ pub struct Fate {
     pub turns: u32,
     /// The address of its first cell.
     pub start: u32,
+    /// What it did, or zeros if that was not counted.
+    pub counts: Counts,
 }
 
 /// Returns the number of turns that had been executed when the warrior at a place in the order of turns died, or `all` if
@@ -52,45 +58,94 @@ fn place_of(count: usize, first: usize, warrior: usize) -> usize
     count - (first - warrior)
 }
 
-/// Returns the fate of a warrior in a battle that is over and in which warrior `first` had the first turn.
-fn fate_of(battle: &Battle, first: usize, warrior: usize, start: u32) -> Fate
-    requires first { first < length battle.now.queues }
-    requires warrior { warrior < length battle.now.queues }
-    ensures { result ≡ spec_fate_of battle.now first warrior start }
+/// A battle that is over and, if they were counted, what its warriors did, in the order of turns.
+#[derive(Drop)]
+struct Played {
+    battle: Box<Battle>,
+    counts: Vec<Counts>,
+}
+
+/// Executes the battle of a round until it is over, in the memory of the last one, if there is one, and counts what its
+/// warriors do, if `counting`.
+fn play_round(
+    alloc: Global,
+    params: &Params,
+    round: Round<'_>,
+    last: Option<Box<Battle>>,
+    counting: bool,
+) -> Result<Played, MatchFault>
+    requires { IfSome last (λ battle. HasRoom params.now (length round.lineup.now) battle.value) }
+    ensures state { let r = round.entry in IsResult (λ (played : PlayedValue). played.battle.value) (ended params.now r.lineup.now r.starts.now r.number) result }
+    ensures counts { let r = round.entry in IfOk result (λ played. AreCounts counting (round_start params.now r.lineup.now r.starts.now r.number) played.counts.items) }
+    ensures room { IfOk result (λ played. HasRoom params.now (length round.entry.lineup.now) played.battle.value) }
 {
+    if !counting {
+        return Ok(Played {
+            battle: fight_round(alloc, params, round, last)?,
+            counts: Vec::new(alloc),
+        });
+    }
+    let mut battle = start_round(alloc, params, round, last)?;
+    let counts = count_to_end(alloc, &mut battle)?;
+    Ok(Played { battle, counts })
+}
+
+/// Returns what the warrior at a place in the order of turns did, or zeros if that was not counted.
+fn counts_at(counts: &[Counts], place: usize) -> Counts
+    ensures { result ≡ slice_index_or counts.now place no_counts }
+{
+    if place < counts.len() {
+        return counts[place];
+    }
+    Counts::none()
+}
+
+/// Returns the fate of a warrior in a battle that is over and in which warrior `first` had the first turn.
+fn fate_of(played: &Played, first: usize, warrior: usize, start: u32) -> Fate
+    requires first { first < length played.now.battle.value.queues }
+    requires warrior { warrior < length played.now.battle.value.queues }
+    ensures { result ≡ fate_in played.now.battle.value played.now.counts.items first warrior start }
+{
+    let battle = &played.battle;
     let place = place_of(battle.warriors(), first, warrior);
     Fate {
         survived: is_alive(battle, first, warrior),
         turns: turns_until(battle.deaths(), place, battle.turns()),
         start,
+        counts: counts_at(&played.counts, place),
     }
 }
 
 /// Appends the fates of a round, in load order.
 fn append_fates(
     fates: &mut Vec<Fate>,
-    battle: &Battle,
+    played: &Played,
     first: usize,
     starts: &[u32],
 ) -> Result<(), MatchFault>
-    requires first { first < length battle.now.queues }
-    requires many { length starts.now ≡ length battle.now.queues }
-    ensures { MatchResult result (λ _. fates.new.items ≡ fates.old.items ++ fates_from battle.now first 0 starts.now) (λ fault. fault ≡ MatchFault.OutOfMemory) }
+    requires first { first < length played.now.battle.value.queues }
+    requires many { length starts.now ≡ length played.now.battle.value.queues }
+    ensures { MatchResult result (λ _. fates.new.items ≡ fates.old.items ++ fates_in played.now.battle.value played.now.counts.items first 0 starts.now) (λ fault. fault ≡ MatchFault.OutOfMemory) }
 {
     for warrior in 0..starts.len() {
-        let fate = fate_of(battle, first, warrior, starts[warrior]);
+        let fate = fate_of(played, first, warrior, starts[warrior]);
         fates.push(fate)?;
     }
     Ok(())
 }
 
 /// Returns the fates of all rounds of a match.
-fn fight_lineup(alloc: Global, setup: &Setup, lineup: &Lineup) -> Result<Vec<Fate>, MatchFault>
+fn fight_lineup(
+    alloc: Global,
+    setup: &Setup,
+    lineup: &Lineup,
+    counting: bool,
+) -> Result<Vec<Fate>, MatchFault>
     requires some { 1 ≤ length lineup.now }
     requires few { length lineup.now ≤ max_warriors }
     requires fixed { IfSome setup.now.plan.fixed (λ position. length lineup.now ≡ 2) }
     ensures { let plan = setup.now.plan in IsResult (λ (fates : Vec FateValue Global). fates.items)
-        (fates setup.now.params lineup.now plan.fixed plan.rounds 0 plan.seed) result }
+        (fates counting setup.now.params lineup.now plan.fixed plan.rounds 0 plan.seed) result }
 {
     let mut starts = vec![in alloc; 0u32; lineup.len()]?;
     let mut fates = Vec::new(alloc);
@@ -104,17 +159,18 @@ fn fight_lineup(alloc: Global, setup: &Setup, lineup: &Lineup) -> Result<Vec<Fat
             starts,
             number,
         };
-        let battle = fight_round(alloc, &setup.params, round, last)?;
-        append_fates(&mut fates, &battle, number as usize % lineup.len(), starts)?;
-        last = Some(battle);
+        let played = play_round(alloc, &setup.params, round, last, counting)?;
+        append_fates(&mut fates, &played, number as usize % lineup.len(), starts)?;
+        last = Some(played.battle);
     }
     Ok(fates)
 }
 
 /// Returns the fate of each warrior in each round of a match, in load order, one round after another.
 ///
-/// The rounds are those of `rounds` for the same setup, but no formula is evaluated. Allocates copies of the warriors, one
-/// battle, and the fates.
+/// The rounds are those of `rounds` for the same setup, but no formula is evaluated. If `counting`, each turn is recorded to
+/// count what the warriors do, which takes several times as long. Allocates copies of the warriors, one battle, and the
+/// fates; if `counting`, also marks for the cells of each warrior in each round.
 ///
 /// # Errors
 ///
@@ -123,12 +179,13 @@ pub fn fight_rounds(
     alloc: Global,
     setup: &Setup,
     warriors: &[Warrior],
+    counting: bool,
 ) -> Result<Vec<Fate>, MatchFault>
     requires fixed { FitsTwo setup.now.params (length warriors.now) setup.now.plan.fixed }
     ensures { let plan = setup.now.plan in IsResult (λ (fates : Vec FateValue Global). fates.items)
-        (fates_of setup.now.params warriors.now plan.fixed plan.rounds plan.seed) result }
+        (fates_of counting setup.now.params warriors.now plan.fixed plan.rounds plan.seed) result }
 {
     check_count(warriors.len())?;
     let lineup = Lineup::new(alloc, warriors)?;
-    fight_lineup(alloc, setup, &lineup)
+    fight_lineup(alloc, setup, &lineup, counting)
 }

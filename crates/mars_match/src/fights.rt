@@ -163,7 +163,7 @@ fn new_battle(
 }
 
 /// Starts the battle of a round, in the memory of the last one, if there is one; then it doesn't allocate.
-fn start_round(
+pub fn start_round(
     alloc: Global,
     params: &Params,
     round: Round<'_>,

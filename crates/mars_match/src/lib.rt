@@ -15,6 +15,7 @@
 //! The module `laws` says what an ascending order and a ranking are.
 #![tactic(auto)]
 
+mod counts;
 mod fates;
 mod fault;
 mod fights;
@@ -27,6 +28,7 @@ mod scores;
 mod setup;
 mod table;
 
+pub use counts::Counts;
 pub use fates::{Fate, fight_rounds};
 pub use fault::MatchFault;
 pub use fights::fight;

@@ -16,6 +16,9 @@ from .warriors import Warrior
 
 # What is known of a warrior in a round.
 OUTCOME = np.dtype([("survived", "?"), ("turns", "u4"), ("cycles", "u4"), ("start", "u4")])
+# What it did, if that is counted.
+COUNTS = ("own_turns", "spawned", "executed", "written", "touched")
+COUNTED = np.dtype([*OUTCOME.descr, *((name, "u4") for name in COUNTS)])
 # The number of parts for each thread, so that all end at about the same time.
 PARTS = 4
 
@@ -28,6 +31,7 @@ def outcomes(
     rounds: int = 1,
     seeds: int | Sequence[int] = 1,
     position: int | None = None,
+    counts: bool = False,
     jobs: int = 1,
 ) -> NDArray[Any]:
     """Runs a match of each lineup, and returns how each of its warriors fares in each round.
@@ -37,6 +41,7 @@ def outcomes(
     - `settings`, `position`: as for `match`; a position is only for lineups of two
     - `rounds`: the number of rounds of each match, 1 to 100,000
     - `seeds`: the seed of all matches, or one for each, 1 to 2,147,483,646
+    - `counts`: whether to count what each warrior does, which takes several times as long
     - `jobs`: the number of threads, 1 or more
 
     Returns an array of the shape (lineups, rounds, warriors of a lineup) with these fields:
@@ -46,6 +51,14 @@ def outcomes(
       survived
     - `cycles`: the number of complete cycles when it died; the cycle limit if it survived
     - `start`: the address of its first cell
+
+    If `counts`, also with these:
+
+    - `own_turns`: the number of its own turns
+    - `spawned`: the number of its turns that queued two processes
+    - `executed`, `written`: the number of cells at which it executed an instruction, and that it wrote
+    - `touched`: the number of cells that it executed, read or wrote; operands count as read even if the opcode uses
+      neither
 
     The sums over the rounds are the rows of `match`. Raises ValueError for lineups of different lengths and for
     more or fewer seeds than lineups, `Refused` for more than 16 warriors in a match or no thread, and `Fault` if a
@@ -59,9 +72,10 @@ def outcomes(
         # With no lineup the library does not check these numbers.
         seed = seeds if isinstance(seeds, int) else 1
         population([], [], settings=given, rounds=rounds, seed=seed, position=position)
+    table["counting"] = counts
     rows = played(warriors, table, given, rounds, position, jobs)
-    found = np.empty(rows.shape, OUTCOME)
-    for field in ("survived", "turns", "start"):
+    found = np.empty(rows.shape, COUNTED if counts else OUTCOME)
+    for field in ("survived", "turns", "start", *(COUNTS if counts else ())):
         found[field] = rows[field]
     found["cycles"] = cycles_of(found["turns"], found["survived"], given.cycles)
     return found

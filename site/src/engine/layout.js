@@ -82,17 +82,23 @@ export const MarsRow = {
 };
 
 export const MarsLineup = {
-  size: 72,
+  size: 76,
   seed: 0,
   count: 4,
   warrior: 8,
+  counting: 72,
 };
 
 export const MarsOutcome = {
-  size: 12,
+  size: 32,
   survived: 0,
   turns: 4,
   start: 8,
+  own_turns: 12,
+  spawned: 16,
+  executed: 20,
+  written: 24,
+  touched: 28,
 };
 
 export const MarsCell = {

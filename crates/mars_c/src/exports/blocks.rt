@@ -48,7 +48,7 @@ pub extern "C" fn mars_start(
     battle: &mut [u32],
     fault: &mut MarsFault,
 ) -> u32
-    ensures told { result ≡ fault.new.code }
+    ensures code { result ≡ fault.new.code }
     ensures refused { result ≢ 0 → result ≢ 10 → Tells (RefusesStart settings.now cells.now warriors.now round) fault.new }
     ensures done { result ≡ 0 → HoldsStart settings.now cells.now warriors.now round battle.old battle.new }
     ensures room { result ≡ 10 → OverflowsStart settings.now cells.now warriors.now round battle.old }
@@ -70,7 +70,7 @@ pub extern "C" fn mars_play(
     touched: &mut [MarsTouched],
     fault: &mut MarsFault,
 ) -> u32
-    ensures told { result ≡ fault.new.code }
+    ensures code { result ≡ fault.new.code }
     ensures refused { result ≢ 0 → Reports (RefusesPlay battle.old) fault.new }
     ensures done { result ≡ 0 → (s : State) × IsPlayable s battle.old × IsWritten (after_turns turns s) battle.old battle.new
         × (records.new ≡ played_rows turn_row turns s records.old) × (touched.new ≡ played_rows touched_row turns s touched.old) }
@@ -90,7 +90,7 @@ pub extern "C" fn mars_edit(
     edit: &MarsEdit,
     fault: &mut MarsFault,
 ) -> u32
-    ensures told { result ≡ fault.new.code }
+    ensures code { result ≡ fault.new.code }
     ensures refused { result ≢ 0 → Reports (RefusesEdit battle.old edit.now) fault.new }
     ensures done { result ≡ 0 → HoldsEdited edit.now battle.old battle.new }
     ensures kept { result ≢ 0 → battle.new ≡ battle.old }
@@ -104,7 +104,7 @@ pub extern "C" fn mars_edit(
 /// Checks that the words begin with the block of a battle.
 #[unsafe(no_mangle)]
 pub extern "C" fn mars_check(alloc: Global, battle: &[u32], fault: &mut MarsFault) -> u32
-    ensures told { result ≡ fault.new.code }
+    ensures code { result ≡ fault.new.code }
     ensures refused { result ≢ 0 → Reports (RefusesWords battle.now) fault.new }
     ensures done { result ≡ 0 → (s : State) × Spells s battle.now }
 {
@@ -125,7 +125,7 @@ pub extern "C" fn mars_debug(
     length: &mut usize,
     fault: &mut MarsFault,
 ) -> u32
-    ensures told { result ≡ fault.new.code }
+    ensures code { result ≡ fault.new.code }
     ensures refused { result ≢ 0 → result ≢ 10 → Reports (RefusesDebugging battle.now history) fault.new }
     ensures done { result ≡ 0 → HoldsText (Debugs battle.now history lines.now) length.new buffer.old buffer.new }
     ensures room { result ≡ 10 → OverflowsText (Debugs battle.now history lines.now) length.new buffer.old }

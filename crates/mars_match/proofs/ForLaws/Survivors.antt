@@ -1,5 +1,5 @@
 -- The fates and the outcomes of a match have the same survivors.
-use Rattle.std.proofs.Common.{◌≡◌, ◌∙◌, refl, sym, ap, ℕ, zero, suc, ◌+◌, ◌-◌, ◌*◌, ◌%◌, ◌≤◌, false, inl, inr, List, [], ◌∷◌, ◌++◌, length, map, drop, get_or, Option, None, Some, Result, Ok, Err, arith, nat_le}
+use Rattle.std.proofs.Common.{◌≡◌, ◌∙◌, refl, sym, ap, ℕ, zero, suc, Bool, ◌+◌, ◌-◌, ◌*◌, ◌%◌, ◌≤◌, false, inl, inr, List, [], ◌∷◌, ◌++◌, length, map, drop, get_or, Option, None, Some, Result, Ok, Err, arith, nat_le}
 use Rattle.std.specs.List.{flat_map}
 use Rattle.std.proofs.lemmas.Bool.{cases_Bool}
 use Rattle.std.proofs.lemmas.List.{drop_all, drop_more, length-map, map-append}
@@ -65,11 +65,12 @@ placed_length p None w seed left starts some fits e = drawn_length (place_fault 
 
 -- ---- A round
 
-survived_from : (s : State) (first i : ℕ) (starts : List ℕ) → i + length starts ≡ length (in_load_order first s) → map (λ (f : Fate). f.survived) (fates_from s first i starts) ≡ drop i (in_load_order first s)
-survived_from s first i [] many = sym (drop_all i (in_load_order first s) (omega (arith, many)))
-survived_from s first i (start ∷ starts) many =
-    ap (λ l. get_or (in_load_order first s) i false ∷ l) (survived_from s first (i + 1) starts (omega (arith, many)))
-    ∙ sym (drop_more (in_load_order first s) i false (omega (arith, many)))
+survived_from : (counting : Bool) (s : State) (first i : ℕ) (starts : List ℕ) → let order = in_load_order first (end_of s) in
+    i + length starts ≡ length order → map (λ (f : Fate). f.survived) (fates_from counting s first i starts) ≡ drop i order
+survived_from counting s first i [] many = sym (drop_all i (in_load_order first (end_of s)) (omega (arith, many)))
+survived_from counting s first i (start ∷ starts) many =
+    ap (λ l. get_or (in_load_order first (end_of s)) i false ∷ l) (survived_from counting s first (i + 1) starts (omega (arith, many)))
+    ∙ sym (drop_more (in_load_order first (end_of s)) i false (omega (arith, many)))
 
 length-order : (s : State) (first : ℕ) → length (in_load_order first s) ≡ length s.queues
 length-order s first =
@@ -80,9 +81,9 @@ given_by : {A B : Type 0} (r : Result A MatchFault) (f : A → Result B MatchFau
 given_by (Ok a) f b e = (a, refl, e)
 given_by (Err x) f b e = absurd (cc)
 
-module _ (p : Parameters) (warriors : List WarriorValue) (f : Scanned) (some : 1 ≤ length warriors) where
+module _ (counting : Bool) (p : Parameters) (warriors : List WarriorValue) (f : Scanned) (some : 1 ≤ length warriors) where
   round_survivors : (starts : List ℕ) (k : ℕ) (o : Outcome) → length starts ≡ length warriors → round_outcome p warriors f starts k ≡ Ok o →
-      (now : List Fate) × (round_fates p warriors starts k ≡ Ok now) × (map (λ (f : Fate). f.survived) now ≡ o.lived)
+      (now : List Fate) × (round_fates counting p warriors starts k ≡ Ok now) × (map (λ (f : Fate). f.survived) now ≡ o.lived)
   unfolding survivors_of_round
   round_survivors starts k o many e =
       let lived = given_by (fought p warriors starts k) (outcome_of f) o e in
@@ -94,14 +95,14 @@ module _ (p : Parameters) (warriors : List WarriorValue) (f : Scanned) (some : 1
       let both = unless_ok (round_fault p warriors starts k) (in_load_order first s) lived.0 lived.1 in
       let room = room_started p warriors starts k start many some (rw both.0 refl) in
       let count : length (in_load_order first s) ≡ length starts = length-order s first ∙ room.warriors ∙ sym many in
-      (fates_from s first 0 starts, rw both.0 refl, survived_from s first 0 starts (omega (arith, count)) ∙ both.1 ∙ same)
+      (fates_from counting start first 0 starts, rw both.0 refl, survived_from counting start first 0 starts (omega (arith, count)) ∙ both.1 ∙ same)
 
   fates_step : (fixed : Option ℕ) (n k seed left : ℕ) (starts : List ℕ) (now later : List Fate) → placed_for p (length warriors) fixed seed ≡ Ok (starts, left) →
-      round_fates p warriors starts k ≡ Ok now → fates p warriors fixed n (k + 1) left ≡ Ok later → fates p warriors fixed (suc n) k seed ≡ Ok (now ++ later)
+      round_fates counting p warriors starts k ≡ Ok now → fates counting p warriors fixed n (k + 1) left ≡ Ok later → fates counting p warriors fixed (suc n) k seed ≡ Ok (now ++ later)
   fates_step fixed n k seed left starts now later placed one others = rw (placed, one, others) refl
 
   pub fates_by : (fixed : Option ℕ) (n k seed : ℕ) (all : List Outcome) → FitsTwo p (length warriors) fixed → outcomes p warriors f fixed n k seed ≡ Ok all →
-      (made : List Fate) × (fates p warriors fixed n k seed ≡ Ok made) × (map (λ (f : Fate). f.survived) made ≡ flat_map (λ (o : Outcome). o.lived) all)
+      (made : List Fate) × (fates counting p warriors fixed n k seed ≡ Ok made) × (map (λ (f : Fate). f.survived) made ≡ flat_map (λ (o : Outcome). o.lived) all)
   fates_by fixed zero k seed all fits e = let none : [] ≡ all = cc in ([], refl, rw (← none) refl)
   fates_by fixed (suc n) k seed all fits e =
       let rest = λ (placed : List ℕ × ℕ) (o : Outcome). outcomes p warriors f fixed n (k + 1) placed.1 >>= λ others. Ok (o ∷ others) in
@@ -114,7 +115,7 @@ module _ (p : Parameters) (warriors : List WarriorValue) (f : Scanned) (some : 1
       let later = fates_by fixed n (k + 1) placed.0.1 others.0 fits others.1 in
       (now.0 ++ later.0, fates_step fixed n k seed placed.0.1 placed.0.0 now.0 later.0 placed.1 now.1 later.1, map-append (λ (f : Fate). f.survived) now.0 later.0 ∙ ap (λ l. l ++ map (λ (f : Fate). f.survived) later.0) now.2 ∙ ap (λ l. one.0.lived ++ l) later.2 ∙ ap (λ l. flat_map (λ (o : Outcome). o.lived) l) same)
 
-pub fates_are : (p : Parameters) (warriors : List WarriorValue) (formula : Scanned) (fixed : Option ℕ) (n k seed : ℕ) (all : List Outcome) →
+pub fates_are : (counting : Bool) (p : Parameters) (warriors : List WarriorValue) (formula : Scanned) (fixed : Option ℕ) (n k seed : ℕ) (all : List Outcome) →
     1 ≤ length warriors → FitsTwo p (length warriors) fixed → outcomes p warriors formula fixed n k seed ≡ Ok all →
-    (made : List Fate) × (fates p warriors fixed n k seed ≡ Ok made) × (map (λ (f : Fate). f.survived) made ≡ flat_map (λ (o : Outcome). o.lived) all)
-fates_are p warriors formula fixed n k seed all some fits e = fates_by p warriors formula some fixed n k seed all fits e
+    (made : List Fate) × (fates counting p warriors fixed n k seed ≡ Ok made) × (map (λ (f : Fate). f.survived) made ≡ flat_map (λ (o : Outcome). o.lived) all)
+fates_are counting p warriors formula fixed n k seed all some fits e = fates_by counting p warriors formula some fixed n k seed all fits e

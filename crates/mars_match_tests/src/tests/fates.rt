@@ -2,7 +2,7 @@
 ghost use Rattle.std.specs.Prelude.{◌≡◌, IfOk, None};
 
 use super::{BY_DEFAULT, DEAD, STAY, one_cells, sizes};
-use mars_match::{Fate, MatchFault, Plan, Setup, fight_rounds};
+use mars_match::{Counts, Fate, MatchFault, Plan, Setup, fight_rounds};
 use redcode_asm::Formula;
 use std::alloc::Global;
 use std::process::Abort;
@@ -30,7 +30,7 @@ fn two_rounds(alloc: Global) -> Result<Setup, Fail>
 fn each_warrior_has_a_fate_in_each_round(rt: HostRuntime) -> Result<(), Fail> {
     let setup = two_rounds(rt.alloc())?;
     let warriors = one_cells(rt.alloc(), 6, &[STAY, DEAD, STAY])?;
-    let fates = fight_rounds(rt.alloc(), &setup, warriors.as_slice())
+    let fates = fight_rounds(rt.alloc(), &setup, warriors.as_slice(), false)
         .ok()
         .ok_or("fates")?;
     assert!(rt; fates.len() == 6);
@@ -45,9 +45,33 @@ fn each_warrior_has_a_fate_in_each_round(rt: HostRuntime) -> Result<(), Fail> {
 }
 
 #[test]
+fn each_warrior_is_counted(rt: HostRuntime) -> Result<(), Fail> {
+    let setup = two_rounds(rt.alloc())?;
+    let warriors = one_cells(rt.alloc(), 6, &[STAY, DEAD, STAY])?;
+    let fates = fight_rounds(rt.alloc(), &setup, warriors.as_slice(), true)
+        .ok()
+        .ok_or("fates")?;
+    assert!(rt; fates.len() == 6);
+    // The living warriors execute their one cell in each of ten cycles. In round 1, where the second warrior has the first
+    // turn and the third one the second, both also have a turn in the last cycle.
+    let once = Counts {
+        turns: 1,
+        spawned: 0,
+        executed: 1,
+        written: 0,
+        touched: 1,
+    };
+    assert!(rt; fates[0].counts == Counts { turns: 10, ..once });
+    assert!(rt; fates[1].counts == once && fates[4].counts == once);
+    assert!(rt; fates[5].counts == Counts { turns: 10, ..once });
+    assert!(rt; fates[0].turns == 21 && fates[0].survived);
+    Ok(())
+}
+
+#[test]
 fn no_warrior_has_no_fate(rt: HostRuntime) -> Result<(), Fail> {
     let setup = two_rounds(rt.alloc())?;
-    let fates: Result<Vec<Fate>, MatchFault> = fight_rounds(rt.alloc(), &setup, &[]);
+    let fates: Result<Vec<Fate>, MatchFault> = fight_rounds(rt.alloc(), &setup, &[], true);
     assert!(rt; fates.is_err());
     Ok(())
 }

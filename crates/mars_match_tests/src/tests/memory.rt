@@ -144,10 +144,10 @@ fn fates_of_rounds(
 ) -> Result<Vec<Fate>, MatchFault>
     requires { setup.now.plan.fixed ≡ None }
 {
-    match fight_rounds(alloc, setup, warriors) {
+    match fight_rounds(alloc, setup, warriors, true) {
         Err(fault) => {
             assert!(rt; is_of_memory(fault));
-            fight_rounds(alloc, setup, warriors)
+            fight_rounds(alloc, setup, warriors, true)
         }
         Ok(fates) => Ok(fates),
     }

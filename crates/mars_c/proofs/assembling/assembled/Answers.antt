@@ -9,4 +9,4 @@ returns-in-Err-assemble-clause-refused c =
     let fault = c.in-Err-assemble.fault in
     let p = c.in-Ok.params in
     rw c.refused_source.ensures (refuses s p c.args.warriors c.args.source.now fault.problem fault (assembly p s.rounds c.args.warriors c.args.source.now)
-    (sym c.parameters.ensures ∙ c.in-Ok.is) c.in-Err-assemble.ensures.value (λ told. told))
+    (sym c.parameters.ensures ∙ c.in-Ok.is) c.in-Err-assemble.ensures.value (λ shown. shown))

@@ -15,7 +15,7 @@ pub returns-in_err-_starts-clause-fault : goal.returns-in_err-_starts-clause-fau
 returns-in_err-_starts-clause-fault c =
     let setup = c.args.setup.now in
     let fault = c.in_err-_starts.field-0.0 in
-    let told : (fault ≡ fight.OutOfMemory) ⊎ (placed_in setup.params c.args.warriors setup.plan.fixed c.args.round setup.plan.seed ≡ Err fault) =
+    let shown : (fault ≡ fight.OutOfMemory) ⊎ (placed_in setup.params c.args.warriors setup.plan.fixed c.args.round setup.plan.seed ≡ Err fault) =
     not_placed setup.params c.args.warriors setup.plan.fixed (c.args.round - c.loop-before.before) c.loop-before.seed _ fault c.loop-before.invariant c.in_err-_starts.ensures.value in
     search rules
 
@@ -23,6 +23,6 @@ pub returns-in_err-starts-clause-fault : goal.returns-in_err-starts-clause-fault
 returns-in_err-starts-clause-fault c =
     let setup = c.args.setup.now in
     let fault = c.in_err-starts.field-0.0 in
-    let told : (fault ≡ fight.OutOfMemory) ⊎ (placed_in setup.params c.args.warriors setup.plan.fixed c.args.round setup.plan.seed ≡ Err fault) =
+    let shown : (fault ≡ fight.OutOfMemory) ⊎ (placed_in setup.params c.args.warriors setup.plan.fixed c.args.round setup.plan.seed ≡ Err fault) =
     not_placed setup.params c.args.warriors setup.plan.fixed (c.args.round - c.loop-before.before) c.loop-before.seed _ fault c.loop-before.invariant c.in_err-starts.ensures.value in
     search rules

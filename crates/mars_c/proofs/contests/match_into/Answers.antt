@@ -5,7 +5,7 @@ use Rattle.mars_c.proofs.contests.match_into.Goals as goal
 
 pub returns-in_err-table-clause-refused : goal.returns-in_err-table-clause-refused
 returns-in_err-table-clause-refused c =
-    let told : RefusesMatch c.args.settings.now c.args.formula.now c.args.entrants.cells.now c.args.entrants.warriors.now (length c.args.place.now) c.in_err-table.field-0.0 =
+    let shown : RefusesMatch c.args.settings.now c.args.formula.now c.args.entrants.cells.now c.args.entrants.warriors.now (length c.args.place.now) c.in_err-table.field-0.0 =
     inr (inr c.in_err-table.ensures.refused) in
     search rules
 

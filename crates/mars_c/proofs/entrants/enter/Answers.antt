@@ -2,8 +2,8 @@ use Rattle.std.proofs.Common.{rules}
 use Rattle.mars_c.proofs.entrants.enter.Goals as goal
 
 pub returns-in_err-setup-clause-refused : goal.returns-in_err-setup-clause-refused
-returns-in_err-setup-clause-refused c = let told = c.in_err-setup.ensures.refused c.args.entrants.cells.now c.args.entrants.warriors.now in search rules
+returns-in_err-setup-clause-refused c = let shown = c.in_err-setup.ensures.refused c.args.entrants.cells.now c.args.entrants.warriors.now in search rules
 
 pub returns-in_err-warriors-clause-refused : goal.returns-in_err-warriors-clause-refused
 returns-in_err-warriors-clause-refused c =
-    let told = c.in_err-warriors.ensures.refused c.args.settings.now c.args.formula.now c.args.count c.in_ok-setup.ensures.setup.params in search rules
+    let shown = c.in_err-warriors.ensures.refused c.args.settings.now c.args.formula.now c.args.count c.in_ok-setup.ensures.setup.params in search rules

@@ -5,7 +5,7 @@ use Rattle.mars_c.proofs.Fought.{fought_more, lineup_fails, memory_lineup}
 use Rattle.mars_c.proofs.outcomes.fight_all.Goals as goal
 
 abbrev none : MarsLineup
-none = record { seed = 0; count = 0; warrior = [] }
+none = record { seed = 0; count = 0; counting = 0; warrior = [] }
 
 pub loop-i-preserved : goal.loop-i-preserved
 loop-i-preserved c =
@@ -23,4 +23,4 @@ returns-in_err-append-clause-refused c =
     let s = c.args.settings.now in
     let ws = c.args.warriors.now in
     let one = get_or c.args.lineups.now c.loop-i.i none in
-    let told = lineup_fails s ws c.args.lineups.now c.loop-i.i none c.in_err-append.field-0.0 c.loop-i-test.true (memory_lineup s ws one c.in_err-append.field-0.0 c.in_err-append.ensures.memory) in search rules
+    let shown = lineup_fails s ws c.args.lineups.now c.loop-i.i none c.in_err-append.field-0.0 c.loop-i-test.true (memory_lineup s ws one c.in_err-append.field-0.0 c.in_err-append.ensures.memory) in search rules

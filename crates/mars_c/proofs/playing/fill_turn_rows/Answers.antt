@@ -24,9 +24,9 @@ loop-i-preserved g c =
     let s = c.loop-i.battle in
     let rows = c.loop-i.rows in
     let i = c.loop-i.i in
-    let told = sym c.in-Some.is ∙ c.of_turn.ensures.row in
-    let running : is_over_of s ≡ false = runs (is_over_of s) _ _ told in
-    let row : c.in-Some.row ≡ g.R.TurnRow.row_of s = made (is_over_of s) _ _ told in
+    let shown = sym c.in-Some.is ∙ c.of_turn.ensures.row in
+    let running : is_over_of s ≡ false = runs (is_over_of s) _ _ shown in
+    let row : c.in-Some.row ≡ g.R.TurnRow.row_of s = made (is_over_of s) _ _ shown in
     let next : c.of_turn.new.battle ≡ turn_of s = rw running at c.of_turn.ensures.battle in
     let inside : i < length rows = omega arith in
     record {
