@@ -390,12 +390,13 @@ uint32_t mars_population(const MarsSettings *settings, const uint8_t *formula, s
                          const MarsCell *cells, size_t cell_count, const MarsWarrior *warriors, size_t warrior_count,
                          MarsRow *rows, size_t row_count, MarsFault *fault);
 
-/* Runs the match of each lineup, and returns how each of its warriors fares in each round. `cells` has the cells of all warriors; a lineup
- * names up to 16 of them. The outcomes are those of the first lineup's first round, in the order of the lineup, then those of its other
- * rounds, then those of the other lineups: settings->rounds times the warriors of all lineups. The sums over the rounds are the rows of
- * mars_match. In a round of two warriors, the one that dies has lived for (turns - 1) / 2 complete cycles. A position is only for lineups of
- * two. Returns MARS_LINEUP for the first wrong lineup, before the other errors; rounds, seed and position come after the warriors, since a
- * lineup may have a seed of its own. */
+/* Runs the match of each lineup, and returns how each of its warriors fares in each round; if the lineup is counting, also what it does,
+ * for which 3 bytes for each cell and warrior are allocated. `cells` has the cells of all warriors; a lineup names up to 16 of them. The
+ * outcomes are those of the first lineup's first round, in the order of the lineup, then those of its other rounds, then those of the other
+ * lineups: settings->rounds times the warriors of all lineups. The sums over the rounds are the rows of mars_match. In a round of two
+ * warriors, the one that dies has lived for (turns - 1) / 2 complete cycles. A position is only for lineups of two. Returns MARS_LINEUP for
+ * the first wrong lineup, before the other errors; rounds, seed and position come after the warriors, since a lineup may have a seed of its
+ * own. */
 uint32_t mars_outcomes(const MarsSettings *settings,
                        const MarsCell *cells, size_t cell_count, const MarsWarrior *warriors, size_t warrior_count,
                        const MarsLineup *lineups, size_t lineup_count,

@@ -264,6 +264,19 @@ def test_answers() -> None:
         assert (process.stdout.read(), process.wait()) == (b"", 0)
 
 
+def test_stops() -> None:
+    """A program that is stopped and continued while it reads loses nothing."""
+    with debugger(*SMALL) as process:
+        assert process.stdin and process.stdout
+        for line, reply in CONVERSATION:
+            feed(process.stdin, line[:2].encode(), 1)
+            for number in (signal.SIGSTOP, signal.SIGCONT):
+                process.send_signal(number)
+                time.sleep(0.01)
+            feed(process.stdin, f"{line[2:]}\n".encode(), 1)
+            assert process.stdout.readline().decode() == reply + "\n", line
+
+
 def long_session() -> tuple[bytes, bytes]:
     """Lines up to a quit, and what they are answered: many short replies, and two of more than 4,096 bytes."""
     lines, replies = [], []
