@@ -121,7 +121,7 @@ def main() -> None:
 
 try:
     main()
-except (OSError, corewar.Refused) as fault:
+except (OSError, corewar.CorewarError) as fault:
     sys.exit(f"evolver: {fault}")
 except KeyboardInterrupt:
     sys.exit("evolver: stopped")

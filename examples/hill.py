@@ -113,5 +113,5 @@ def main() -> None:
 
 try:
     main()
-except (OSError, ValueError, corewar.Refused) as fault:
+except (OSError, ValueError, corewar.CorewarError) as fault:
     sys.exit(f"hill: {fault}")

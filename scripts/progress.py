@@ -54,33 +54,33 @@ class Progress:
     def __init__(self, count: int, reckoning: Reckoning | None = None) -> None:
         self.count, self.reckoning = count, reckoning
         self.proved: dict[str, float] = {}
-        self.begun = self.told = time.monotonic()
+        self.begun = self.printed = time.monotonic()
         self.is_terminal = sys.stderr.isatty()
 
     def add(self, crate: str) -> None:
         """Reports a crate as proved."""
         self.proved[crate] = time.monotonic() - self.begun
         if not self.is_terminal:
-            self.tell(f"mars: proved {crate}, {len(self.proved)} of {self.count} ({clock(self.proved[crate])})")
+            self.print_line(f"mars: proved {crate}, {len(self.proved)} of {self.count} ({clock(self.proved[crate])})")
 
     def go_on(self, at_work: list[str]) -> None:
         """Reports the crates in progress, if it is time to."""
-        if time.monotonic() - self.told >= (1 if self.is_terminal else SILENCE):
+        if time.monotonic() - self.printed >= (1 if self.is_terminal else SILENCE):
             seconds = time.monotonic() - self.begun
             parts = [
                 f"mars: {len(self.proved)} of {self.count} crates proved in {clock(seconds)}",
                 *self.time_left(seconds),
             ]
-            self.tell(f"{', '.join(parts)}; proving {' and '.join(at_work)}")
+            self.print_line(f"{', '.join(parts)}; proving {' and '.join(at_work)}")
 
     def time_left(self, seconds: float) -> Iterator[str]:
         left = self.reckoning.left(self.proved, seconds) if self.reckoning else 0
         if left > 0:
             yield f"about {left / 60:.0f} min left" if left >= 90 else "about a minute left"
 
-    def tell(self, line: str) -> None:
+    def print_line(self, line: str) -> None:
         """Writes a line, on a terminal over the previous one."""
-        self.told = time.monotonic()
+        self.printed = time.monotonic()
         if self.is_terminal:
             print(f"\r\033[K{line[:shutil.get_terminal_size().columns - 1]}", end="", file=sys.stderr, flush=True)
         else:

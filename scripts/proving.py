@@ -105,13 +105,13 @@ class FromNothing:
     """
 
     def __init__(self, lines: dict[str, list[str]]) -> None:
-        self.lines, self.kit, self.most = lines, toolchain(), at_a_time(MEMORY_OF_A_JOB)
+        self.lines, self.kit, self.max_jobs = lines, toolchain(), at_a_time(MEMORY_OF_A_JOB)
 
     def jobs(self, at_once: int) -> int:
         """Returns the number of jobs of each of `at_once` crates. All jobs are busy all the time, so the crates share
         them.
         """
-        return max(1, self.most // at_once)
+        return max(1, self.max_jobs // at_once)
 
     def proved(self) -> set[str]:
         """Returns what need not be proved: unchanged since the program or the archive was built, or since the crate was
@@ -195,13 +195,13 @@ class Kept:
     there."""
 
     def __init__(self, lines: dict[str, list[str]], rooms: str) -> None:
-        self.lines, self.rooms, self.most = lines, rooms, at_a_time(MEMORY_OF_A_JOB)
+        self.lines, self.rooms, self.max_jobs = lines, rooms, at_a_time(MEMORY_OF_A_JOB)
 
     def jobs(self, _at_once: int) -> int:
         """Returns all jobs for each crate, since a check begins and ends with one busy job and leaves the others to
         other crates.
         """
-        return self.most
+        return self.max_jobs
 
     def proved(self) -> set[str]:
         """Returns what need not be built again: unchanged, with all its work. Changes in the crates below are found by

@@ -17,7 +17,7 @@ from corewar.engine.calls import Match
 from corewar.engine.warriors import Warrior, read_load
 from corewar.model.cells import MODES, MODIFIERS, OPCODES, Cells, Records, cell_of, cell_text
 from corewar.model.edits import Edit
-from corewar.model.faults import Fault
+from corewar.model.errors import MarsError
 from corewar.model.settings import Settings
 
 NUMBERS = st.integers(-9, 9)
@@ -75,12 +75,12 @@ MOVES = st.one_of(edits(), st.sampled_from(["step", "run 3", "run 11"]))
 
 
 # The maximum number of turns of one debugger command.
-LONGEST_RUN = 1_000_000
+MAX_RUN = 1_000_000
 
 
 def run_lines(turns: int) -> list[str]:
     """The debugger commands that execute a number of turns."""
-    return [f"run {min(LONGEST_RUN, turns - made)}" for made in range(0, turns, LONGEST_RUN)]
+    return [f"run {min(MAX_RUN, turns - made)}" for made in range(0, turns, MAX_RUN)]
 
 
 def edit_of(line: str, core: int) -> Edit:
@@ -118,20 +118,20 @@ def led(fight: Match, round: int = 0, lines: Sequence[str] = (), turns: int = 0)
             continue
         try:
             battle.edit(edit_of(line, fight.settings.core))
-        except Fault:
+        except MarsError:
             pass
     battle.play(turns)
     return battle
 
 
-def record(fight: Match, round: int = 0, lines: Sequence[str] = (), first: int = 0, most: int = 1) -> Records:
+def record(fight: Match, round: int = 0, lines: Sequence[str] = (), first: int = 0, turns: int = 1) -> Records:
     """The records of turns, after some lines and then `first` turns."""
-    return led(fight, round, lines, first).play(most, records=most)[0]
+    return led(fight, round, lines, first).play(turns, records=turns)[0]
 
 
-def touched(fight: Match, round: int = 0, lines: Sequence[str] = (), first: int = 0, most: int = 1) -> Records:
+def touched(fight: Match, round: int = 0, lines: Sequence[str] = (), first: int = 0, turns: int = 1) -> Records:
     """The cells that turns touch, with the same arguments."""
-    return led(fight, round, lines, first).play(most, touched=most)[1]
+    return led(fight, round, lines, first).play(turns, touched=turns)[1]
 
 
 def same(one: State | Battle, other: State | Battle) -> bool:

@@ -88,7 +88,7 @@ def test_keys_move_in_time(page: Browser) -> None:
     page.until("corewar.session.turn < 5000")
     page.press("k", "d")
     page.until("corewar.session.turn === 7798 && corewar.session.isSettled")
-    assert "Imp is dead" in page.text("told") and page.text("outcome") == "Dwarf wins after 7,798 turns."
+    assert "Imp is dead" in page.text("turn-words") and page.text("outcome") == "Dwarf wins after 7,798 turns."
     page.press("Home")
     page.until("corewar.session.turn === 0")
 
@@ -96,7 +96,7 @@ def test_keys_move_in_time(page: Browser) -> None:
 def test_a_turn_in_words(page: Browser) -> None:
     stand(page, 7797)
     executed = "Dwarf executed MOV.I $2, @2 at 1. It wrote DAT.F #0, #-2800 to 5,203, over Imp’s MOV.I $0, $1."
-    assert page.text("told") == f"{executed} It looked at 3 (bomb)."
+    assert page.text("turn-words") == f"{executed} It looked at 3 (bomb)."
     assert page.text("following").endswith("End the process that executes this. dwarf.red, line 12")
 
 
@@ -146,7 +146,7 @@ def test_the_end_leads_to_the_death(page: Browser) -> None:
     assert page.text("winner") == "Dwarf wins"
     page.click("#why-now")
     page.until("corewar.session.pinned === 5203 && corewar.session.turn === 7798 && corewar.session.isSettled")
-    assert page.text("told").startswith("Imp executed DAT.F #0, #-2800 at 5,203.")
+    assert page.text("turn-words").startswith("Imp executed DAT.F #0, #-2800 at 5,203.")
 
 
 def test_edits_make_futures(page: Browser) -> None:
@@ -317,7 +317,7 @@ def test_a_source_that_takes_minutes(page: Browser) -> None:
     page.run("corewar.fight([{name: 'slow.red', text: given[0]}])", slow())
     page.until("document.getElementById('complaint').textContent === 'it takes too long'")
     stand(page, 7798)
-    assert "Imp is dead" in page.text("told")
+    assert "Imp is dead" in page.text("turn-words")
 
 
 def test_files_are_opened(page: Browser) -> None:

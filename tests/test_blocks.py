@@ -19,7 +19,7 @@ from corewar.engine.battles import Battle, resumed
 from corewar.engine.binding import ROOM, array, call, held, kind, library, slice_of
 from corewar.engine.calls import Match, assemble, fighters
 from corewar.model.cells import MODES, MODIFIERS, OPCODES
-from corewar.model.faults import Fault
+from corewar.model.errors import MarsError
 from corewar.model.settings import Settings
 
 Words = NDArray[np.uint32]
@@ -83,7 +83,7 @@ def test_turns(fight: Match, round: int, first: int, more: int) -> None:
     """After turns a battle is what the debugger lists; its rows and words are those of single turns."""
     try:
         words = started(fight, round)
-    except Fault:
+    except MarsError:
         return
     play(words, first)
     assert is_listed(fight, [f"run {first}"] if first else [], resumed(words), round)
@@ -116,13 +116,13 @@ def test_edits(fight: Match, first: int, what: int, warrior: int, place: int, ad
     ][what - 1]
     try:
         words = started(fight)
-    except Fault:
+    except MarsError:
         return
     play(words, first)
     before, refused, lines = words.copy(), "", [*([f"run {first}"] if first else []), line]
     try:
         edit(words, what, warrior, place, address, cell)
-    except Fault as fault:
+    except MarsError as fault:
         refused = str(fault)
         assert fault.code == EDIT and np.array_equal(words, before)
     assert is_listed(fight, lines, resumed(words))
@@ -173,7 +173,7 @@ def test_errors_of_blocks(changes: dict[int, int], error: tuple[int, ...]) -> No
         lambda: edit(words, 3),
     ]
     for ask in asks:
-        with pytest.raises(Fault) as found:
+        with pytest.raises(MarsError) as found:
             ask()
         told = found.value
         assert (told.code, (told.number, told.problem, told.line, told.warrior)) == (BLOCK, error)
@@ -185,7 +185,7 @@ def test_few_words() -> None:
     words = three()
     assert header(words)["words"] == 91 and len(words) == 64 + 3 * 8 + 3 * 3
     for length in (0, 63, 90):
-        with pytest.raises(Fault, match="block 1 Short"):
+        with pytest.raises(MarsError, match="block 1 Short"):
             call("mars_check", *slices(words[:length]))
     assert call("mars_check", *slices(words[:91])) == 0
     none = library()[0].NULL, 0
@@ -216,7 +216,7 @@ def test_errors_of_edits(given: Any, number: int) -> None:
     for one in ((4, 1, 0, 5), (4, 1, 0, 6), (3, 2, 0)):
         edit(words, *one)
     before = words.copy()
-    with pytest.raises(Fault) as found:
+    with pytest.raises(MarsError) as found:
         edit(words, *given)
     assert (found.value.code, found.value.number) == (EDIT, number) and np.array_equal(words, before)
 
@@ -247,13 +247,13 @@ def is_battle(words: list[int]) -> bool:
         (longest, core),
         (warriors, 16),
     )
-    if any(not 1 <= value <= most for value, most in ranges) or not longest <= distance <= core:
+    if any(not 1 <= value <= maximum for value, maximum in ranges) or not longest <= distance <= core:
         return False
     counts = words[16 : 16 + warriors]
     if length != 64 + 3 * core + sum(counts) or length > len(words) or unused or any(words[16 + warriors : 32]):
         return False
     for tags, a, b in (words[64 + 3 * address : 67 + 3 * address] for address in range(core)):
-        if any(tags >> 8 * k & 255 >= most for k, most in enumerate((16, 7, 8, 8))) or max(a, b) >= core:
+        if any(tags >> 8 * k & 255 >= maximum for k, maximum in enumerate((16, 7, 8, 8))) or max(a, b) >= core:
             return False
     if max(counts) > processes or any(address >= core for address in words[64 + 3 * core : length]):
         return False
@@ -288,7 +288,7 @@ def test_corrupted_blocks() -> None:
         words = words[: dice.choice([len(words)] * 5 + [dice.randrange(len(words))])]
         try:
             call("mars_check", *slices(words))
-        except Fault as fault:
+        except MarsError as fault:
             assert fault.code == BLOCK and not is_battle(words.tolist()), words
             continue
         assert is_battle(words.tolist()), words

@@ -13,12 +13,12 @@ from hypothesis import given, strategies as st
 
 from corewar.battle.history import History, distinct
 from corewar.battle.labels import Sources
-from corewar.debugger.commands import COMMANDS, Left, execute, find_command
+from corewar.debugger.commands import COMMANDS, QuitDebugger, execute, find_command
 from corewar.debugger.prompt import Lines
 from corewar.debugger.session import Session
 from corewar.engine.calls import Match, assemble
 from corewar.engine.sources import read
-from corewar.model.faults import Refused
+from corewar.model.errors import CorewarError
 
 
 def session_of(*names: str) -> Session:
@@ -28,7 +28,7 @@ def session_of(*names: str) -> Session:
 
 
 def refused(session: Session, line: str) -> str:
-    with pytest.raises(Refused) as fault:
+    with pytest.raises(CorewarError) as fault:
         execute(session, line)
     return str(fault.value)
 
@@ -41,7 +41,7 @@ def test_a_session_is_the_program_s(fight: Match, lines: list[str]) -> None:
     for line in lines:
         try:
             execute(session, line)
-        except Refused:
+        except CorewarError:
             pass
     assert is_listed(fight, lines, session.history.state(session.turn))
 
@@ -151,7 +151,7 @@ def test_help_tells_each_command() -> None:
     assert find_command("cont").name == "continue"
     assert refused(session, "re") == "`re` can mean reverse-step, reverse-continue, redo"
     assert refused(session, "frobnicate") == "unknown command `frobnicate`; `help` lists all commands"
-    with pytest.raises(Left):
+    with pytest.raises(QuitDebugger):
         execute(session, "quit")
 
 

@@ -12,11 +12,11 @@ import pytest
 from conftest import TOP, Run
 
 from corewar.engine.calls import assemble
-from corewar.explain import LOOKED_FOR, errors_of, fix, read_faults, read_otherwise, told, told_of
-from corewar.explain.instructions import instruction_told
+from corewar.explain import LOOKED_FOR, errors_of, explain_error, explain_kind, fix, read_faults, read_otherwise
+from corewar.explain.instructions import describe_instruction
 from corewar.explain.meanings import EXPRESSION, KINDS
 from corewar.explain.source import MODIFIERS, OPERATIONS, PREDEFINED
-from corewar.model.faults import ASSEMBLY, FORMULA, LINEUP, WARRIOR, Fault
+from corewar.model.errors import ASSEMBLY, FORMULA, LINEUP, WARRIOR, MarsError
 from corewar.model.header import names
 from corewar.model.settings import Settings
 
@@ -90,9 +90,9 @@ SOURCES = [
 
 @pytest.mark.parametrize("text, fault, expected", SOURCES)
 def test_causes(text: str, fault: str, expected: str) -> None:
-    with pytest.raises(Fault) as found:
+    with pytest.raises(MarsError) as found:
         assemble(text)
-    sentences = told(found.value, text.encode())
+    sentences = explain_error(found.value, text.encode())
     assert str(found.value) == fault and expected in sentences[0] and len(sentences) <= 2
 
 
@@ -123,14 +123,14 @@ def mutated(count: int) -> Iterator[tuple[str, set[int]]]:
             changed = dice.choice(FAULTS)(lines[number], found)
             try:
                 assemble("\n".join([*original[:number], changed, *original[number + 1 :]]))
-            except Fault:
+            except MarsError:
                 lines[number] = changed
                 wrong.add(number + 1)
         if wrong:
             yield "\n".join(lines), wrong
 
 
-def line_to_correct(fault: Fault, sentences: list[str]) -> int:
+def line_to_correct(fault: MarsError, sentences: list[str]) -> int:
     earlier = re.match(r"In line (\d+), ", sentences[0])
     return int(earlier[1]) if earlier else fault.line
 
@@ -205,22 +205,22 @@ def test_each_fault_has_a_meaning() -> None:
     }
     assert len(kinds) > 20 and kinds <= {*KINDS}
     for kind in KINDS:
-        assert told_of(kind, 0, b"") == [KINDS[kind]]
+        assert explain_kind(kind, 0, b"") == [KINDS[kind]]
         assert [*read_faults([f"bench: mars: a b.red: line 7: {kind}"])][0][1:] == ("a b.red", 7, kind)
 
 
 def test_each_fault_of_the_library_is_known() -> None:
     """The explained texts are those of the errors."""
     for number, name in enumerate(("", "Operation", "Operand", "", "AssertFailed", "BadOrigin", "Empty", "TooLong"), 1):
-        assert not name or f"{number} {name}" in KINDS and told(Fault(ASSEMBLY, number, line=1), b"")
+        assert not name or f"{number} {name}" in KINDS and explain_error(MarsError(ASSEMBLY, number, line=1), b"")
     for number, name in [*names("TEXT").items()][:-1]:
-        assert told(Fault(ASSEMBLY, 1, number, line=1), b"") == [KINDS[f"1 Text {number} {name}"]]
+        assert explain_error(MarsError(ASSEMBLY, 1, number, line=1), b"") == [KINDS[f"1 Text {number} {name}"]]
     for code, kind in ((WARRIOR, "warrior"), (LINEUP, "lineup")):
         for number, name in names(kind.upper()).items():
-            assert told(Fault(code, number, warrior=3), b"") == [KINDS[f"{kind} {number} {name}"]]
+            assert explain_error(MarsError(code, number, warrior=3), b"") == [KINDS[f"{kind} {number} {name}"]]
     for number in range(1, 6):
-        faults = [Fault(ASSEMBLY, 4, 0, number), Fault(ASSEMBLY, 1, 10, number), Fault(FORMULA, number)]
-        assert all(told(fault, b"") for fault in faults)
+        faults = [MarsError(ASSEMBLY, 4, 0, number), MarsError(ASSEMBLY, 1, 10, number), MarsError(FORMULA, number)]
+        assert all(explain_error(fault, b"") for fault in faults)
 
 
 def test_words_are_the_languages() -> None:
@@ -409,10 +409,10 @@ def test_it_is_soon_there() -> None:
         + "DAT q1\n",
     }
     for name, text in sources.items():
-        with pytest.raises(Fault) as found:
+        with pytest.raises(MarsError) as found:
             assemble(text)
         begun = time.process_time()
-        assert told(found.value, text.encode()), name
+        assert explain_error(found.value, text.encode()), name
         read_otherwise(text.encode())
         fix(text.encode(), assemble)
         assert time.process_time() - begun < 20, name
@@ -485,7 +485,7 @@ def test_words_of_mars(run: Run) -> None:
     ],
 )
 def test_cells_in_words(cell: str, names: tuple[str, str], expected: str) -> None:
-    assert instruction_told(cell, names) == expected
+    assert describe_instruction(cell, names) == expected
 
 
 @pytest.mark.parametrize(

@@ -8,7 +8,7 @@ from typing import Any
 import pytest
 
 from corewar.engine.files import replace_file
-from corewar.model.faults import FileFault
+from corewar.model.errors import FileError
 
 
 def test_a_file_is_replaced_in_a_folder_that_accepts_no_new_file(
@@ -22,7 +22,7 @@ def test_a_file_is_replaced_in_a_folder_that_accepts_no_new_file(
     with monkeypatch.context() as patch:
         patch.setattr(os, "open", refuse)
         replace_file(tmp_path / "old", b"new")
-        with pytest.raises(FileFault, match="Permission denied"):
+        with pytest.raises(FileError, match="Permission denied"):
             replace_file(tmp_path / "none", b"new")
     assert [path.read_bytes() for path in tmp_path.iterdir()] == [b"new"]
 
@@ -31,6 +31,6 @@ def test_a_read_only_file_stays(tmp_path: Path, monkeypatch: pytest.MonkeyPatch)
     """The system's answer is replaced, since root may write every file."""
     (tmp_path / "old").write_text("old")
     monkeypatch.setattr(os, "access", lambda path, mode: False)
-    with pytest.raises(FileFault, match="read-only file"):
+    with pytest.raises(FileError, match="read-only file"):
         replace_file(tmp_path / "old", b"new")
     assert (tmp_path / "old").read_text() == "old"

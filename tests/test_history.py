@@ -31,7 +31,7 @@ from corewar.engine.calls import Match, assemble
 from corewar.engine.sources import read
 from corewar.model.cells import Cells, cell_of, cell_text
 from corewar.model.edits import Edit
-from corewar.model.faults import Fault, Refused
+from corewar.model.errors import CorewarError, MarsError
 
 
 @pytest.fixture(autouse=True)
@@ -53,7 +53,7 @@ def edited(history: History, places: list[tuple[float, str]]) -> tuple[History, 
         try:
             history = history.edited(turn, edit_of(line, history.core))
             lines.append(line)
-        except Refused:
+        except CorewarError:
             pass
     # What leads to the last turn without an edit is not part of the last segment.
     while lines and lines[-1].startswith("run"):
@@ -205,11 +205,11 @@ def test_an_impossible_edit_is_refused_by_name() -> None:
         (3, Edit.kill(0, 7), "NoSuchProcess"),
         (history.end, Edit.add(1, 0), "WarriorDead"),
     ):
-        with pytest.raises(Fault) as fault:
+        with pytest.raises(MarsError) as fault:
             history.edited(turn, edit)
         assert (fault.value.kind, fault.value.name) == ("refused", name), edit
     full = History(Match((assemble("SPL 0\nJMP -1"),)))
-    with pytest.raises(Fault, match="^refused 7 QueueFull$"):
+    with pytest.raises(MarsError, match="^refused 7 QueueFull$"):
         full.edited(full.end, Edit.add(0, 0))
 
 
@@ -222,7 +222,7 @@ def test_an_edit_is_refused_where_the_debugger_refuses_it(fight: Match, part: fl
     turn, edit = int(part * history.end), edit_of(line, fight.settings.core)
     reply = Battle(fight).debug([*run_lines(turn), line]).splitlines()[-1]
     if reply.startswith(("refused", "unknown")):
-        with pytest.raises(Fault) as fault:
+        with pytest.raises(MarsError) as fault:
             history.edited(turn, edit)
         assert str(fault.value) == reply
     else:
@@ -249,13 +249,13 @@ def test_what_is_no_turn_is_rejected() -> None:
     for turn in (-1, history.end + 1):
         calls: list[Callable[[int], object]] = [history.state, history.owners, lambda turn: history.edited(turn, edit)]
         for call in calls:
-            with pytest.raises(Refused, match=f"the battle has turns 0 to {history.end}"):
+            with pytest.raises(CorewarError, match=f"the battle has turns 0 to {history.end}"):
                 call(turn)
     for turn in (0, -1, history.end + 1):
         for ask in (history.record, history.executed):
-            with pytest.raises(Refused, match=f"the battle has turns 0 to {history.end}"):
+            with pytest.raises(CorewarError, match=f"the battle has turns 0 to {history.end}"):
                 ask(turn)
-    with pytest.raises(Refused, match="the battle has warriors 0 to 1"):
+    with pytest.raises(CorewarError, match="the battle has warriors 0 to 1"):
         history.death(-1)
     for cell in (
         (16, 0, 0, 0, 0, 0),
@@ -264,14 +264,14 @@ def test_what_is_no_turn_is_rejected() -> None:
         (0, 0, 0, 8, 0, 0),
         (0, 0, 0, 0, 0, 8000),
     ):
-        with pytest.raises(Refused, match="expected the numbers of a cell"):
+        with pytest.raises(CorewarError, match="expected the numbers of a cell"):
             cell_text(cell, 8000)
-    with pytest.raises(Fault, match="4 Warriors"):
+    with pytest.raises(MarsError, match="4 Warriors"):
         History(Match(()))
     with pytest.raises(TypeError):
         Battle(history.fight).debug("step")
     for text in ("edit", "jmp -3", "DAT.F $0,$0", "DAT.F $0, $0\n", "DAT.F $0, $١"):
-        with pytest.raises(Refused, match="expected a cell such as"):
+        with pytest.raises(CorewarError, match="expected a cell such as"):
             cell_of(text, 8000)
 
 
@@ -292,13 +292,13 @@ def test_a_battle_is_a_value(fight: Match, round: int, first: int, more: int, li
     assert battle == restored == copied and same(battle, led(fight, round, turns=first))
     records, seen = copied.play(more, records=more + 2, touched=more)
     assert battle == restored and restored.play(more)[0].size == 0 and restored == copied
-    assert np.array_equal(records, record(fight, round, first=first, most=more)[: len(records)])
-    assert np.array_equal(seen, touched(fight, round, first=first, most=more)) and len(seen) == len(records)
+    assert np.array_equal(records, record(fight, round, first=first, turns=more)[: len(records)])
+    assert np.array_equal(seen, touched(fight, round, first=first, turns=more)) and len(seen) == len(records)
     other.play(first + more)
     assert other == copied and (other != battle) == (len(records) > 0)
     try:
         other.edit(edit_of(line, fight.settings.core))
-    except Fault:
+    except MarsError:
         assert other == copied
     other.play()
     assert other.over
@@ -307,15 +307,15 @@ def test_a_battle_is_a_value(fight: Match, round: int, first: int, more: int, li
 def test_a_battle_is_checked() -> None:
     battle = Battle(dwarf_and_imp().fight)
     for length, name in ((0, "Short"), (255, "Short"), (len(bytes(battle)) - 1, "Short")):
-        with pytest.raises(Fault) as fault:
+        with pytest.raises(MarsError) as fault:
             Battle.of_bytes(bytes(battle)[:length])
         assert (fault.value.kind, fault.value.name) == ("block", name)
-    with pytest.raises(Fault, match="^block 2 Mark$"):
+    with pytest.raises(MarsError, match="^block 2 Mark$"):
         Battle.of_bytes(b"\0" + bytes(battle)[1:])
     battle.cells[7] = (16, 0, 0, 0, 0, 0)
     uses: list[Callable[[], object]] = [battle.check, battle.play, lambda: battle.edit(Edit.kill(0, 0))]
     for use in uses:
-        with pytest.raises(Fault, match="^block 5 Cell$") as fault:
+        with pytest.raises(MarsError, match="^block 5 Cell$") as fault:
             use()
         assert fault.value.line == 7
     battle.cells[:] = cell_of("MOV.I $0, $1", 8000)
@@ -323,5 +323,5 @@ def test_a_battle_is_checked() -> None:
     battle.play()
     assert (battle.turns, battle.deaths.size) == (160000, 0)
     for turns in (-1, 1 << 32):
-        with pytest.raises(Refused, match="expected a number from 0 to 4294967295"):
+        with pytest.raises(CorewarError, match="expected a number from 0 to 4294967295"):
             battle.play(turns)

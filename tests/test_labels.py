@@ -14,7 +14,7 @@ from corewar.battle.origins import Origins
 from corewar.engine.calls import Match, assemble, source_lines
 from corewar.engine.sources import read
 from corewar.engine.warriors import read_load
-from corewar.model.faults import Refused
+from corewar.model.errors import CorewarError
 
 # The parts of a cell that no instruction changes except by a copy of the whole cell.
 KEPT = ("op", "modifier", "a_mode", "b_mode")
@@ -55,7 +55,7 @@ def test_late_lines_are_those_of_unchanged_cells(monkeypatch: pytest.MonkeyPatch
     history = History(Match((read(str(EXAMPLES / "dwarf.red")), assemble("MOV 0, 1"))))
     sources = Sources(history)
     traced = {address: sources.line(history, address, 100) for address in range(8)}
-    monkeypatch.setattr(labels, "MOST_TRACED", 99)
+    monkeypatch.setattr(labels, "MAX_TRACED_TURNS", 99)
     late = {address: sources.line(history, address, 100) for address in range(8)}
     assert [address for address in range(8) if late[address]] == [0, 1, 2]
     assert all(line == traced[address] for address, line in late.items() if line) and traced[3] and traced[7]
@@ -72,7 +72,7 @@ def test_origins(fight: Match, round: int, places: list[tuple[float, str]], part
             turn += int(ahead * (history.end - turn))
             try:
                 history = history.edited(turn, edit_of(line, history.core))
-            except Refused:
+            except CorewarError:
                 pass
         turn = int(part * history.end)
         cells, found = history.state(turn).cells, Origins(history).at(turn)
@@ -104,10 +104,10 @@ def test_a_bomb_has_the_line_of_its_thrower() -> None:
     history = History(Match((read(str(EXAMPLES / "dwarf.red")), read(str(EXAMPLES / "imp.red")))))
     sources, end = Sources(history), history.end
     grave = int(history.record(end)["address"])
-    assert sources.told(history, grave, end - 1) == "; Dwarf 12: bomb DAT #0, #0"
-    assert sources.told(history, grave, end - 2, 1) == "; 5: MOV.I 0, 1"
+    assert sources.describe_line(history, grave, end - 1) == "; Dwarf 12: bomb DAT #0, #0"
+    assert sources.describe_line(history, grave, end - 2, 1) == "; 5: MOV.I 0, 1"
     edited = history.edited(7, edit_of(f"edit {grave} NOP.F $0, $0", 8000))
-    assert sources.told(edited, grave, 7) == "" and sources.told(history, grave, 7) == ""
+    assert sources.describe_line(edited, grave, 7) == "" and sources.describe_line(history, grave, 7) == ""
 
 
 def test_whitespace_of_a_load_file() -> None:

@@ -26,7 +26,7 @@ from corewar.contests.contest import Contest, Matches, all_pairs, digests_of
 from corewar.contests.places import Place, threads
 from corewar.contests.results import Results
 from corewar.contests.table import League
-from corewar.model.faults import Refused
+from corewar.model.errors import CorewarError
 from corewar.model.settings import HILLS, Settings
 from corewar.pictures.shades import LOST, NO_MATCH, TIED, WON, mixed
 
@@ -438,7 +438,7 @@ def test_counts_of_a_worker_are_checked(sent: object) -> None:
     imp = assemble("MOV 0, 1")
     matches, answer = Matches(Contest(), [imp, imp], all_pairs(2)), Future[object]()
     answer.set_result(sent)
-    with pytest.raises(Refused, match="^invalid result from a worker: "):
+    with pytest.raises(CorewarError, match="^invalid result from a worker: "):
         list(Place(lambda rows: answer, 1, 1).fight(matches))
     assert not matches.is_fought.any()
 

@@ -24,7 +24,7 @@ from corewar.editor.wire import Wire
 from corewar.engine.calls import assemble
 from corewar.explain import words
 from corewar.model.cells import MODIFIERS, OPCODES
-from corewar.model.faults import Fault, Refused
+from corewar.model.errors import CorewarError, MarsError
 from corewar.model.settings import HILLS, Settings
 
 URI = "file:///one.red"
@@ -339,9 +339,9 @@ def test_renames_are_refused() -> None:
         (5, 12, "x", "expected a label"),
         (1, 6, "x", "expected a label"),
     ):
-        with pytest.raises(Refused, match=why):
+        with pytest.raises(CorewarError, match=why):
             asked(text, "rename", line, column, newName=new)
-    with pytest.raises(Refused, match="correct the errors first"):
+    with pytest.raises(CorewarError, match="correct the errors first"):
         asked(text_of(BAD), "prepareRename", 0, 0)
 
 
@@ -351,7 +351,7 @@ def outcomes(source: str) -> list[bytes | str]:
     for settings in HILLS.values():
         try:
             found.append(assemble(source.encode("utf-8", "replace"), settings=settings).load)
-        except Fault as fault:
+        except MarsError as fault:
             found.append(str(fault))
     return found
 
@@ -369,7 +369,7 @@ def test_no_rename_changes_a_warrior() -> None:
                 where = text.range_of(token)["start"]
                 try:
                     edit = asked(text, "rename", where["line"], where["character"], newName=new)
-                except Refused:
+                except CorewarError:
                     is_possible = not text.errors and token.kind != "predefined" and new == "fresh_name"
                     count[0] += is_possible
                     continue
@@ -390,7 +390,7 @@ def test_any_text_is_answered(source: str, data: st.DataObject) -> None:
     for method in ANSWERS:
         try:
             json.dumps(asked(text, method.partition("/")[2], *where, newName="fresh_name"))
-        except Refused:
+        except CorewarError:
             pass
 
 

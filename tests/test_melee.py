@@ -61,7 +61,7 @@ def test_lineups_are_fair() -> None:
 
 def test_scores_are_those_of_the_formula() -> None:
     assert [score_of("(W*W-1)/S", 16, left) for left in (1, 2, 16)] == [255, 127, 15]
-    with pytest.raises(corewar.Fault, match="score 3 DivideByZero"):
+    with pytest.raises(corewar.MarsError, match="score 3 DivideByZero"):
         score_of("W/(S-1)", 3, 1)
 
 

@@ -16,7 +16,7 @@ from corewar.cli import rounds as module
 from corewar.engine.battles import Battle
 from corewar.engine.calls import Match, match
 from corewar.engine.sources import read
-from corewar.model.faults import Fault
+from corewar.model.errors import MarsError
 from corewar.model.settings import FORMULA
 
 
@@ -39,7 +39,7 @@ def test_a_fight_in_portions(monkeypatch: pytest.MonkeyPatch) -> None:
     fight = Match([read(EXAMPLES / f"{name}.red") for name in ("dwarf", "imp", "paper")], rounds=100)
     monkeypatch.setattr(module, "CYCLES", 7 * fight.settings.cycles)
     assert module.rows_of(fight, FORMULA) == match(fight.warriors, rounds=100)
-    with pytest.raises(Fault, match="score 4 Range"):
+    with pytest.raises(MarsError, match="score 4 Range"):
         module.rows_of(fight, str(2**63 // 20))
 
 

@@ -13,7 +13,7 @@ from conftest import EXAMPLES
 from hypothesis import given
 
 import corewar
-from corewar import Fault, Match, Refused, Settings, Warrior
+from corewar import CorewarError, MarsError, Match, Settings, Warrior
 from corewar.battle.history import History
 from corewar.engine.outcomes import COUNTED, COUNTS, OUTCOME
 from corewar.engine.warriors import read_load
@@ -90,18 +90,18 @@ def test_errors_of_warriors(given: dict[str, Any], name: str) -> None:
     if name != "Name":
         runs: list[Any] = [corewar.match, corewar.league, corewar.outcomes, lambda both: corewar.Battle(Match(both))]
         for run in runs:
-            with pytest.raises(Fault) as found:
+            with pytest.raises(MarsError) as found:
                 run([right, wrong])
             told = found.value
             assert (told.kind, told.name, told.warrior, told.line) == ("warrior", name, 1, line)
             assert str(told).startswith("index 1: warrior ")
     if name in ("Field", "Cell"):
         for hill in ("nano", "94x"):
-            with pytest.raises(Fault) as found:
+            with pytest.raises(MarsError) as found:
                 corewar.match([right, wrong], settings=hill)
             assert (found.value.name, found.value.warrior, found.value.line) == (name, 1, line)
     if name == "Name" or len(wrong) < 100:
-        with pytest.raises(Fault) as found:
+        with pytest.raises(MarsError) as found:
             wrong.load
         assert (found.value.kind, found.value.name, found.value.line) == ("warrior", name, line)
 
@@ -208,16 +208,16 @@ def test_lineups() -> None:
         (pairs, {"seeds": [1, -1, 2**40]}, "settings 2 Seed"),
     ]
     for lineups, words, fault in faulty:
-        with pytest.raises(Fault) as found:
+        with pytest.raises(MarsError) as found:
             corewar.outcomes(warriors, lineups, **words)
         assert str(found.value) == fault
     uneven: list[tuple[Any, dict[str, Any]]] = [([[0, 1], [2]], {}), ([0, 1], {}), (pairs, {"seeds": [1, 2]})]
     for lineups, words in uneven:
         with pytest.raises(ValueError):
             corewar.outcomes(warriors, lineups, **words)
-    with pytest.raises(Refused, match="a match has at most 16 warriors, not 17"):
+    with pytest.raises(CorewarError, match="a match has at most 16 warriors, not 17"):
         corewar.outcomes(warriors, [[0] * 17])
-    with pytest.raises(Refused, match="expected 1 or more jobs, not 0"):
+    with pytest.raises(CorewarError, match="expected 1 or more jobs, not 0"):
         corewar.outcomes(warriors, jobs=0)
 
 
@@ -228,7 +228,7 @@ def test_shares() -> None:
     # Three share 2 cycles, two of them 3 more, and the last one has the other 5.
     points = [2 / 3, 2 / 3 + 3 / 2, 2 / 3 + 3 / 2 + 5]
     assert np.allclose(corewar.shares(made, 10), [[share * 3 / 10 for share in points]])
-    with pytest.raises(Refused, match="expected 1 or more cycles, not 0"):
+    with pytest.raises(CorewarError, match="expected 1 or more cycles, not 0"):
         corewar.shares(made, 0)
     dice = random.Random(3)
     for _ in range(20):

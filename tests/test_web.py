@@ -18,7 +18,7 @@ from browsers import Browser, chromium
 from conftest import ENVIRONMENT, EXAMPLES, TOP, begin
 from counting import skip
 
-from corewar.model.faults import Refused
+from corewar.model.errors import CorewarError
 from corewar.pages.site import site as built_site
 
 WAIT = 20
@@ -131,7 +131,7 @@ def test_its_port_is_the_same_each_time(tmp_path: Path) -> None:
 
 def test_a_site_that_is_not_built_is_told(monkeypatch: pytest.MonkeyPatch) -> None:
     monkeypatch.setattr("corewar.pages.site.BUILT", Path("none"))
-    with pytest.raises(Refused, match="^the site is not built; run `make site`$"):
+    with pytest.raises(CorewarError, match="^the site is not built; run `make site`$"):
         built_site()
 
 

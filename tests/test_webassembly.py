@@ -22,9 +22,9 @@ from corewar.battle.history import History
 from corewar.battle.labels import Sources
 from corewar.engine.calls import Match, assemble
 from corewar.explain import errors_of
-from corewar.explain.instructions import instruction_told
+from corewar.explain.instructions import describe_instruction
 from corewar.model.cells import MODES, MODIFIERS, OPCODES
-from corewar.model.faults import Fault
+from corewar.model.errors import MarsError
 from corewar.web.contests import settings_of
 
 WASM = TOP / "build" / "mars.wasm"
@@ -106,7 +106,7 @@ def history_of(fight: dict[str, Any]) -> History:
     for edit in fight["edits"]:
         try:
             history = history.edited(min(edit["turn"], history.end), edit_of(edit["text"], history.core))
-        except Fault:
+        except MarsError:
             pass
     return history
 
@@ -161,7 +161,7 @@ def test_its_sentences_are_those_of_python(tmp_path: Path) -> None:
     ]
     given = "".join(f"{cell}\n" for cell in cells)
     done = subprocess.run(["node", script, "8000"], input=given, capture_output=True, text=True)
-    assert done.stdout.splitlines() == [instruction_told(cell) for cell in cells], done.stderr
+    assert done.stdout.splitlines() == [describe_instruction(cell) for cell in cells], done.stderr
 
 
 def test_the_site_is_light() -> None:

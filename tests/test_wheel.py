@@ -100,10 +100,15 @@ def test_types_reach_the_user(environment: Path, tmp_path: Path) -> None:
 
 def test_errors_survive_a_pool_of_processes() -> None:
     """A pool hangs if an exception that a worker raised cannot be read back."""
-    with pytest.raises(corewar.Fault) as raised:
+    with pytest.raises(corewar.MarsError) as raised:
         corewar.assemble("MOV 0, 1\nFOO 1")
-    with pytest.raises(corewar.FileFault) as missing:
+    with pytest.raises(corewar.FileError) as missing:
         corewar.read("none.red")
     for one in (raised.value, missing.value):
         again = pickle.loads(pickle.dumps(one))
         assert (type(again), str(again), vars(again).keys()) == (type(one), str(one), vars(one).keys())
+
+
+def test_older_names_of_errors() -> None:
+    for older, name in (("Refused", "CorewarError"), ("Fault", "MarsError"), ("FileFault", "FileError")):
+        assert getattr(corewar, older) is getattr(corewar, name) and older not in corewar.__all__

@@ -15,7 +15,7 @@ from program import find_program
 from .tools import instructions, run_well, warrior
 
 PLACES = 200_000
-MOST = 1_000_000
+MAX_HISTORY = 1_000_000
 FEWER = 400_000
 KILLS = 20_000
 SOURCES = {
@@ -37,12 +37,14 @@ def best(command: list[str], lines: list[str]) -> float:
 
 def measure_places(program: str, kind: str, file: str) -> None:
     """The costs of a place and of moves over many of them."""
-    command = [program, "-e", "-c", str(MOST), "-F", "4000", "--history", str(MOST), file, file]
+    command = [program, "-e", "-c", str(MAX_HISTORY), "-F", "4000", "--history", str(MAX_HISTORY), file, file]
     ready = [f"run {PLACES}"]
-    fewer, most = (run_well(command, text_of([f"run {count}", "queue 0"])) for count in (FEWER, MOST))
+    fewer, most = (run_well(command, text_of([f"run {count}", "queue 0"])) for count in (FEWER, MAX_HISTORY))
     processes = len(most.output.splitlines()[1].split()) - 2
-    print(f"two {kind}: {(most.peak - fewer.peak) / (MOST - FEWER):.0f} bytes for each place")
-    print(f"  run {MOST}: {most.seconds:.3f} s, {most.peak / 1e6:.0f} MB; warrior 0 has {processes} processes then")
+    print(f"two {kind}: {(most.peak - fewer.peak) / (MAX_HISTORY - FEWER):.0f} bytes for each place")
+    print(
+        f"  run {MAX_HISTORY}: {most.seconds:.3f} s, {most.peak / 1e6:.0f} MB; warrior 0 has {processes} processes then"
+    )
     base = best(command, ready)
     print(f"  run {PLACES}: {base:.3f} s from nothing")
     for name, lines in {
@@ -62,7 +64,7 @@ def measure_start(program: str, file: str) -> None:
     """The costs of a history at the start: its places are allocated then, and touched only when they are used."""
     command = [program, "-e", file, "--history"]
     least = run_well([*command, "1"], "show\n").peak
-    for history in PLACES, MOST:
+    for history in PLACES, MAX_HISTORY:
         sized = [*command, str(history)]
         more = (run_well(sized, "show\n").peak - least) / 1e3
         print(f"start with a history of {history}: {best(sized, ['show']):.3f} s, {more:.0f} KB more than with 1")
@@ -70,21 +72,21 @@ def measure_start(program: str, file: str) -> None:
 
 def measure_forgetting(program: str, file: str) -> None:
     """Places beyond the size of the history, and moves over a full one."""
-    command = [program, "-e", "-c", "4000000", "--history", str(MOST), file]
-    full = [f"run {MOST}"] * 2
+    command = [program, "-e", "-c", "4000000", "--history", str(MAX_HISTORY), file]
+    full = [f"run {MAX_HISTORY}"] * 2
     base = best(command, full)
-    print(f"{len(full) * MOST} turns, of which {MOST} are kept: {base:.3f} s")
-    for line in f"goto {MOST + MOST // 2}", "goto 0", "undo", "step":
+    print(f"{len(full) * MAX_HISTORY} turns, of which {MAX_HISTORY} are kept: {base:.3f} s")
+    for line in f"goto {MAX_HISTORY + MAX_HISTORY // 2}", "goto 0", "undo", "step":
         print(f"  then {line}: {best(command, [*full, line]) - base:.3f} s")
-    back_and_forth = [f"goto {2 * MOST - 1}", f"goto {2 * MOST}"] * 1000
+    back_and_forth = [f"goto {2 * MAX_HISTORY - 1}", f"goto {2 * MAX_HISTORY}"] * 1000
     print(f"  then 1,000 gotos to the last place but one and back: {best(command, full + back_and_forth) - base:.3f} s")
     print(f"  then 1,000 gotos to a forgotten turn: {best(command, full + ['goto 0'] * 1000) - base:.3f} s")
 
 
 def measure_kills(program: str, file: str) -> None:
     """Kills in the middle of a queue of 65,536, each before a spawn or a turn, and a walk back over them."""
-    turns = MOST // 2
-    command = [program, "-e", "-c", str(MOST), "-p", "65536", "--history", str(MOST), file]
+    turns = MAX_HISTORY // 2
+    command = [program, "-e", "-c", str(MAX_HISTORY), "-p", "65536", "--history", str(MAX_HISTORY), file]
     base = best(command, [f"run {turns}"])
     for other in "spawn 0 5", "step":
         lines = [f"run {turns}", *["kill 0 30000", other] * KILLS]
@@ -95,7 +97,7 @@ def measure_kills(program: str, file: str) -> None:
 
 def measure_long(program: str, file: str) -> None:
     """A session of ten million turns with the default history."""
-    done = run_well([program, "-e", "-c", "10000000", "-F", "4000", file, file], text_of([f"run {MOST}"] * 10))
+    done = run_well([program, "-e", "-c", "10000000", "-F", "4000", file, file], text_of([f"run {MAX_HISTORY}"] * 10))
     last = done.output.decode().splitlines()[-1]
     print(f"{last}, at the default history: {done.seconds:.2f} s, {done.peak / 1e6:.0f} MB")
 

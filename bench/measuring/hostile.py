@@ -17,7 +17,7 @@ from program import find_program
 
 from .tools import run
 
-LONGEST = 1048576
+MAX_FILE_SIZE = 1048576
 
 
 def doubled(last: int) -> str:
@@ -32,7 +32,7 @@ def in_loops(body: str, outer: int, inner: int) -> str:
 
 def filled(before: str, byte: str, after: str) -> str:
     """Returns a source of the maximum size, filled with one byte."""
-    return before + byte * (LONGEST - len(before) - len(after)) + after
+    return before + byte * (MAX_FILE_SIZE - len(before) - len(after)) + after
 
 
 def in_31_loops(body: str) -> str:
@@ -46,8 +46,8 @@ def words_at_random() -> str:
         for first in "DAT MOV EQU FOR ROF x y i j 1 2 + - * ( ) , # ; & \n".split(" ")
         for last in ("", " ", "\n")
     ]
-    text = "".join(random.Random(2).choices(pieces, k=LONGEST // 2))
-    return text[:LONGEST]
+    text = "".join(random.Random(2).choices(pieces, k=MAX_FILE_SIZE // 2))
+    return text[:MAX_FILE_SIZE]
 
 
 def cases() -> Iterator[tuple[str, str]]:
@@ -70,7 +70,7 @@ def cases() -> Iterator[tuple[str, str]]:
     yield "names: 20,000 EQU names, used in turn", "".join(f"n{n} EQU {n}\n" for n in range(20000)) + "".join(
         f"DAT n{n}\n" for n in range(0, 20000, 8)
     )
-    yield "1 MB of parentheses", "DAT " + "(" * (LONGEST - 4)
+    yield "1 MB of parentheses", "DAT " + "(" * (MAX_FILE_SIZE - 4)
     yield "1 MB of words at random", words_at_random()
     yield "32 empty loops in one another, of 10,000 rounds each", "FOR 10000\n" * 32 + "ROF\n" * 32 + "NOP\n"
 
@@ -88,7 +88,7 @@ def measure(words: argparse.Namespace) -> None:
         for what, text in cases():
             with open(path, "wb") as file:
                 file.write(text.encode("ascii"))
-            assert os.path.getsize(path) <= LONGEST, what
+            assert os.path.getsize(path) <= MAX_FILE_SIZE, what
             done = run([program, "--load", "-s", "1048576", "-l", "65536", "-d", "65536", path], bound=bound)
             error = done.faults.decode().strip().removeprefix("mars: ").removeprefix(f"{path}: ")
             answer = error or ("more time than that" if done.status == -signal.SIGXCPU else "assembled")

@@ -21,12 +21,12 @@ from .tools import instructions, run_well
 OPCODES = "DAT MOV ADD SUB MUL DIV MOD JMP JMZ JMN DJN SEQ SNE SLT SPL NOP".split()
 MODIFIERS = "A B AB BA F X I".split()
 MODES = "#$*@{}<>"
-CORE, CYCLES, ROUNDS, LONGEST = 80, 800, 20, 5
+CORE, CYCLES, ROUNDS, MAX_LENGTH = 80, 800, 20, 5
 
 
 def write_warrior(dice: random.Random, path: str) -> None:
     lines = ["ORG 0"]
-    for _ in range(dice.randint(1, LONGEST)):
+    for _ in range(dice.randint(1, MAX_LENGTH)):
         a, b = (f"{dice.choice(MODES)}{dice.randrange(CORE)}" for _ in "AB")
         lines.append(f"{dice.choice(OPCODES)}.{dice.choice(MODIFIERS)} {a}, {b}")
     with open(path, "w") as file:
@@ -34,7 +34,7 @@ def write_warrior(dice: random.Random, path: str) -> None:
 
 
 def match(program: str, rounds: int, position: int, files: list[str]) -> list[str]:
-    sizes = {"-s": CORE, "-p": CORE, "-c": CYCLES, "-l": LONGEST, "-d": LONGEST, "-F": position, "-r": rounds}
+    sizes = {"-s": CORE, "-p": CORE, "-c": CYCLES, "-l": MAX_LENGTH, "-d": MAX_LENGTH, "-F": position, "-r": rounds}
     return [program, "-b", *(str(word) for option in sizes.items() for word in option), *files]
 
 
@@ -51,7 +51,7 @@ def costs(program: str, place: str) -> Iterator[float]:
     while True:
         for file in files:
             write_warrior(dice, file)
-        position = dice.randint(LONGEST, CORE - LONGEST)
+        position = dice.randint(MAX_LENGTH, CORE - MAX_LENGTH)
         if is_long(match(program, ROUNDS + 1, position, files)):
             one, all_rounds = (instructions(match(program, rounds, position, files))[0] for rounds in (1, ROUNDS + 1))
             yield (all_rounds - one) / (ROUNDS * 2 * CYCLES)

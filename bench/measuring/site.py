@@ -46,10 +46,10 @@ const fight = {...terms.value, round: 0, warriors, edits: []};
 const opened = await timed(3, () => session.open(fight, {plays: false}));
 const turn = () => Math.floor(Math.random() * (session.end - 1)) + 1;
 const shown = await timed(200, () => session.desk.turn(0, turn()));
-const told = await timed(50, () => session.desk.move(0, turn()));
+const moved = await timed(50, () => session.desk.move(0, turn()));
 await session.go(session.end >> 2);
 const {machine, marks} = await session.desk.memory();
-return {turns: session.end, opened: opened[0], turn: shown[0], "slowest turn": shown[1], "what a turn did": told[0],
+return {turns: session.end, opened: opened[0], turn: shown[0], "slowest turn": shown[1], "what a turn did": moved[0],
   "drawings/s": await drawings(1), "backwards/s": await drawings(-1), "memory, MB": (machine + marks) / 1e6};"""
 
 

@@ -18,13 +18,18 @@ from .engine.sources import Limit, read
 from .engine.warriors import Warrior
 from .model.cells import cell_of, cell_text
 from .model.edits import Edit
-from .model.faults import Fault, FileFault, Refused
+from .model.errors import CorewarError, FileError, MarsError
 from .model.settings import HILLS, Settings
 
 # The version of the kit: of this package, the Debian packages and the library (MARS_VERSION in its header).
 __version__ = "2.0"
 
+# The older names of the errors, which the next version removes.
+Refused = CorewarError
+Fault = MarsError
+FileFault = FileError
+
 __all__ = [
-    "HILLS", "Battle", "Edit", "Fault", "FileFault", "History", "Limit", "Match", "Refused", "Row", "Settings",
+    "HILLS", "Battle", "CorewarError", "Edit", "FileError", "History", "Limit", "MarsError", "Match", "Row", "Settings",
     "Warrior", "assemble", "cell_of", "cell_text", "league", "match", "outcomes", "population", "read", "shares",
 ]  # fmt: skip

@@ -61,8 +61,8 @@ function numbersOf(text) {
   const names = ["", "/** The names of errors by their numbers. */", "export const ERROR_NAMES = {"];
   for (const enumeration of enumerationsOf(text)) {
     const kind = ERRORS.find((error) => enumeration.every(([name]) => name.startsWith(`${error}_`)));
-    const told = enumeration.map(([name, number]) => `${number}: "${spelled(name.slice(kind?.length + 1))}"`);
-    if (kind) names.push(`  ${kind}: { ${told.join(", ")} },`);
+    const entries = enumeration.map(([name, number]) => `${number}: "${spelled(name.slice(kind?.length + 1))}"`);
+    if (kind) names.push(`  ${kind}: { ${entries.join(", ")} },`);
     else if (!enumeration.some(([name]) => name === "DAT" || name === "A" || name === "DIRECT")) {
       constants.push(...enumeration.map(([name, number]) => `export const ${name} = ${number};`));
     }

@@ -25,9 +25,9 @@ from hypothesis import HealthCheck, given, settings as how, strategies as st
 import corewar
 from corewar.engine.binding import library
 from corewar.engine.warriors import read_load
-from corewar.model import cells, faults
+from corewar.model import cells, errors
 from corewar.model.header import names, numbers
-from corewar.model.settings import MOST_OF_LEAGUE, MOST_WARRIORS, NUMBERS
+from corewar.model.settings import MAX_LEAGUE, MAX_WARRIORS, NUMBERS
 
 ARCHIVE = os.environ.get("MARS_ARCHIVE") or f"{TOP}/crates/mars_c/out/libmars_c.a"
 HEADER = Path(TOP, "include", "mars.h").read_text()
@@ -108,7 +108,7 @@ def called(call: Callable[..., Any], *given: Any, **named: Any) -> Any:
     """Returns the result of a call, or the text of its error."""
     try:
         return call(*given, **named)
-    except corewar.Fault as fault:
+    except corewar.MarsError as fault:
         return str(fault)
 
 
@@ -184,7 +184,7 @@ def test_faults_of_files(tmp_path: Path) -> None:
         assert called(corewar.assemble, text) == started("--load", path), text[:40]
     for text in BAD_LOADS:
         path = file_of(tmp_path, "faulty.load", text.encode())
-        with pytest.raises(corewar.FileFault) as found:
+        with pytest.raises(corewar.FileError) as found:
             corewar.read(path)
         assert str(found.value.fault) == started("-b", path), text[:40]
 
@@ -210,14 +210,14 @@ def test_faults_of_settings() -> None:
         assert called(corewar.match, [imp] * count, position=position) == expected
     battles: list[Any] = [corewar.match, lambda warriors: corewar.Battle(corewar.Match(warriors))]
     for call in battles:
-        with pytest.raises(corewar.Refused, match="a match has at most 16 warriors, not 17"):
+        with pytest.raises(corewar.CorewarError, match="a match has at most 16 warriors, not 17"):
             call([imp] * 17)
     assert called(corewar.Battle, corewar.Match((imp,), rounds=100001), 100000) == "settings 1 Rounds"
     battle = corewar.Battle(corewar.Match((imp,)))
     for history in (0, 1000001):
         assert called(battle.debug, [], history) == "settings 6 History"
     for words in ({"turns": -1}, {"turns": 1 << 32}, {"turns": 1, "records": -1}, {"turns": 1, "touched": 1 << 32}):
-        with pytest.raises(corewar.Refused, match="expected a number from 0 to 4294967295"):
+        with pytest.raises(corewar.CorewarError, match="expected a number from 0 to 4294967295"):
             battle.play(**words)
 
 
@@ -355,14 +355,14 @@ def test_header() -> None:
     """The numbers of the header are those that a compiler gives them, and those of the package."""
     compiled = {name: getattr(library()[1], f"MARS_{name}") for name in numbers()}
     assert compiled == numbers() and len(compiled) > 100
-    for code, (kind, enumeration) in faults.KINDS.items():
+    for code, (kind, enumeration) in errors.KINDS.items():
         name = "EDIT" if kind == "refused" else kind.upper().replace(" ", "_")
         assert numbers()[name] == code and bool(names(enumeration)) == bool(enumeration)
-        assert getattr(faults, {"OUT_OF_MEMORY": "MEMORY"}.get(name, name), code) == code
+        assert getattr(errors, {"OUT_OF_MEMORY": "MEMORY"}.get(name, name), code) == code
     assert [*map(numbers().get, [*cells.OPCODES, *cells.MODIFIERS])] == [*range(16), *range(7)]
-    greatest = {"PROCESSES": "processes", "CORE": "core", "CYCLES": "cycles", "ROUNDS": "rounds", "SEED": "seed"}
-    assert all(numbers()[f"MAX_{name}"] == NUMBERS[number].greatest for name, number in greatest.items())
-    assert (numbers()["MAX_WARRIORS"], numbers()["MAX_LEAGUE"]) == (MOST_WARRIORS, MOST_OF_LEAGUE)
+    maxima = {"PROCESSES": "processes", "CORE": "core", "CYCLES": "cycles", "ROUNDS": "rounds", "SEED": "seed"}
+    assert all(numbers()[f"MAX_{name}"] == NUMBERS[number].maximum for name, number in maxima.items())
+    assert (numbers()["MAX_WARRIORS"], numbers()["MAX_LEAGUE"]) == (MAX_WARRIORS, MAX_LEAGUE)
 
 
 def test_script() -> None:

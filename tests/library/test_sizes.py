@@ -1,19 +1,19 @@
 """The calls of the library for C at the greatest sizes that their ranges allow: none runs out of memory."""
 import corewar
 from corewar.engine.warriors import read_load
-from corewar.model.settings import MOST_WARRIORS
+from corewar.model.settings import MAX_WARRIORS
 
-LARGEST = 1_048_576
+MAX_CORE = 1_048_576
 PROCESSES = 65_536
 IMP = [(1, 6, 1, 1, 0, 1)]
 # Splits each turn, so that a warrior has as many processes as it may.
-SPLITTER = [(14, 1, 1, 1, 0, 0), (7, 1, 1, 1, LARGEST - 1, 0)]
-HUGE = corewar.Settings(core=LARGEST, processes=PROCESSES, cycles=10, longest=LARGEST, distance=LARGEST)
+SPLITTER = [(14, 1, 1, 1, 0, 0), (7, 1, 1, 1, MAX_CORE - 1, 0)]
+HUGE = corewar.Settings(core=MAX_CORE, processes=PROCESSES, cycles=10, longest=MAX_CORE, distance=MAX_CORE)
 
 
 def test_longest_warrior() -> None:
     """A warrior as long as the largest core, through its load file and in a battle."""
-    warrior = corewar.Warrior.from_cells(IMP * LARGEST, settings=HUGE)
+    warrior = corewar.Warrior.from_cells(IMP * MAX_CORE, settings=HUGE)
     again = read_load(warrior.load, HUGE)
     assert again.cells.tolist() == warrior.cells.tolist()
     battle = corewar.Battle(corewar.Match((warrior,), settings=HUGE))
@@ -23,13 +23,13 @@ def test_longest_warrior() -> None:
 
 def test_most_warriors() -> None:
     """The most warriors, each with the most processes, in the largest core."""
-    settings = corewar.Settings(core=LARGEST, processes=PROCESSES, cycles=140_000, longest=2, distance=2)
+    settings = corewar.Settings(core=MAX_CORE, processes=PROCESSES, cycles=140_000, longest=2, distance=2)
     splitter = corewar.Warrior.from_cells(SPLITTER, settings=settings)
-    battle = corewar.Battle(corewar.Match((splitter,) * MOST_WARRIORS, settings=settings))
-    battle.play(140_000 * MOST_WARRIORS - 1)
-    assert [len(queue) for queue in battle.queues] == [PROCESSES] * MOST_WARRIORS
-    rows = corewar.match([splitter] * MOST_WARRIORS, settings=settings)
-    assert [row.ties for row in rows] == [1] * MOST_WARRIORS
+    battle = corewar.Battle(corewar.Match((splitter,) * MAX_WARRIORS, settings=settings))
+    battle.play(140_000 * MAX_WARRIORS - 1)
+    assert [len(queue) for queue in battle.queues] == [PROCESSES] * MAX_WARRIORS
+    rows = corewar.match([splitter] * MAX_WARRIORS, settings=settings)
+    assert [row.ties for row in rows] == [1] * MAX_WARRIORS
 
 
 def test_longest_history() -> None:

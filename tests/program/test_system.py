@@ -25,7 +25,7 @@ import pytest
 from costly import large, slow
 from counting import PROGRAM, skip
 
-LARGEST = 1_048_576
+MAX_FILE_SIZE = 1_048_576
 CORE = ["-s", "8", "-l", "1", "-d", "1"]
 SMALL = [*CORE, "-c", "20"]
 LISTED = "ORG 0\nMOV.I $0, $1\n"
@@ -140,12 +140,12 @@ def source(size: int) -> str:
 
 
 def test_files() -> None:
-    for size in (4_095, 4_096, 4_097, 65_537, LARGEST):
+    for size in (4_095, 4_096, 4_097, 65_537, MAX_FILE_SIZE):
         name = f"{size}.red"
         Path(name).write_text(source(size))
         status, output, faults = load(name)
         assert (status, output.endswith("\n" + LISTED), faults) == (0, True, ""), f"a file of {size} bytes"
-    Path("larger.red").write_text(";" * (LARGEST + 1))
+    Path("larger.red").write_text(";" * (MAX_FILE_SIZE + 1))
     os.mkdir("folder.red")
     os.symlink("imp.red", "link.red")
     os.symlink("loop.red", "loop.red")
@@ -195,9 +195,9 @@ def test_pipes() -> None:
     threading.Thread(target=feed_fifo, args=("fifo.red", b"NOP\nNOP\nNOP\n", 4), daemon=True).start()
     listed = f";load 2 8\n{UNNAMED}ORG 0\n" + 3 * "NOP.F $0, $0\n"
     assert run("--load", "-s", "8", "-l", "3", "-d", "3", "fifo.red") == (0, listed, "")
-    Path(f"{LARGEST}.red").write_text(source(LARGEST))
-    whole = load(f"{LARGEST}.red")
-    for size, answer in ((LARGEST, whole), (LARGEST + 1, (1, "", "mars: /dev/stdin: too large\n"))):
+    Path(f"{MAX_FILE_SIZE}.red").write_text(source(MAX_FILE_SIZE))
+    whole = load(f"{MAX_FILE_SIZE}.red")
+    for size, answer in ((MAX_FILE_SIZE, whole), (MAX_FILE_SIZE + 1, (1, "", "mars: /dev/stdin: too large\n"))):
         assert load("/dev/stdin", input=source(size).encode()) == answer, f"{size} bytes by a pipe"
 
 

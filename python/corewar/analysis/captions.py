@@ -33,7 +33,7 @@ def fate(history: History, warrior: int) -> str:
     return "wins" if len(history.ending.deaths) == len(history.names) - 1 else "ties"
 
 
-def settings_told(history: History) -> list[str]:
+def describe_settings(history: History) -> list[str]:
     """The settings of the battle with their names, except for limits equal to the core size."""
     fight = history.fight
     numbers = {**vars(fight.settings), "seed": fight.seed, "position": fight.position, "round": history.round}
@@ -47,12 +47,12 @@ def words(history: History) -> list[str]:
     fight, given = history.fight, Settings()
     numbers = {**vars(fight.settings), "rounds": fight.rounds, "seed": fight.seed, "position": fight.position}
     usual = {**vars(given), "rounds": 1, "seed": 1, "position": None}
-    told = [
+    options = [
         text for name, value in numbers.items() if value != usual[name] for text in (NUMBERS[name].word, str(value))
     ]
-    told += ["--round", str(history.round)] if history.round else []
+    options += ["--round", str(history.round)] if history.round else []
     # The name of a file isn't taken for an option.
-    return [*told, *(f"./{one.file}" if one.file[:1] == "-" < one.file else one.file for one in fight.warriors)]
+    return [*options, *(f"./{one.file}" if one.file[:1] == "-" < one.file else one.file for one in fight.warriors)]
 
 
 def command(history: History, subcommand: str) -> str:

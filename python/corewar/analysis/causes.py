@@ -6,34 +6,34 @@ from collections.abc import Iterator
 from ..battle.conditions import Condition, last_change, search
 from ..battle.history import History
 from ..model.cells import OPCODES
-from .endings import living_told, own_turns
-from .telling import Teller
+from .endings import describe_survivor, own_turns
+from .telling import BattleFormatter
 
 # How many more turns are searched for one in which a warrior executed a cell of another.
 FAR = 500
 
 
-def change_told(teller: Teller, address: int, turn: int) -> list[str]:
+def describe_change(formatter: BattleFormatter, address: int, turn: int) -> list[str]:
     """Describes the last change of a cell up to a turn, by a turn or by an edit."""
-    history = teller.history
+    history = formatter.history
     found, by_hand = last_change(history, address, turn), history.by_hand(address, turn)
     if by_hand and by_hand[0] >= (found or 0):
         behind, before, after = by_hand
-        return [f"Cell {address} was edited after turn {behind}: {teller.cell(before)} -> {teller.cell(after)}"]
+        return [f"Cell {address} was edited after turn {behind}: {formatter.cell(before)} -> {formatter.cell(after)}"]
     if found is None:
         return [f"Cell {address} has not changed since the start."]
-    return [f"Cell {address} was last changed in turn {found}:", *teller.lines(found)]
+    return [f"Cell {address} was last changed in turn {found}:", *formatter.lines(found)]
 
 
-def cause_told(teller: Teller, address: int, turn: int) -> list[str]:
+def describe_cause(formatter: BattleFormatter, address: int, turn: int) -> list[str]:
     """Describes how a cell got its value up to a turn: its last change, and the last change of its opcode."""
-    history = teller.history
+    history = formatter.history
     found, became = last_change(history, address, turn), last_change(history, address, turn, "becomes")
-    by_hand, told = history.by_hand(address, turn), change_told(teller, address, turn)
+    by_hand, lines = history.by_hand(address, turn), describe_change(formatter, address, turn)
     if found is not None and became not in (None, found) and (by_hand is None or by_hand[0] < (became or 0)):
         opcode = OPCODES[history.block(turn).cell(address, turn)["op"]]
-        told += [f"It became a {opcode} in turn {became}:", *teller.lines(became or 0)]
-    return told
+        lines += [f"It became a {opcode} in turn {became}:", *formatter.lines(became or 0)]
+    return lines
 
 
 def stranger(history: History, turn: int) -> int | None:
@@ -43,62 +43,62 @@ def stranger(history: History, turn: int) -> int | None:
     return found if found is not None and history.record(found)["warrior"] != record["warrior"] else None
 
 
-def executed_told(teller: Teller, turn: int, told: set[tuple[int, int]]) -> Iterator[str]:
-    """Describes a turn, and the turn of another warrior that wrote the cell it executed, unless `told` has it."""
-    history, made = teller.history, stranger(teller.history, turn)
-    yield from teller.lines(turn)
+def describe_turn(formatter: BattleFormatter, turn: int, shown: set[tuple[int, int]]) -> Iterator[str]:
+    """Describes a turn, and the turn of another warrior that wrote the cell it executed, unless `shown` has it."""
+    history, made = formatter.history, stranger(formatter.history, turn)
+    yield from formatter.lines(turn)
     address = int(history.record(turn)["address"])
-    if made is not None and (made, address) not in told:
-        told.add((made, address))
+    if made is not None and (made, address) not in shown:
+        shown.add((made, address))
         before = history.block(made - 1).cell(address, made - 1)
         record = history.record(made)
-        who = f"{teller.names[record['warrior']]} at {record['address']}"
-        cell = teller.cell(history.executed(made))
-        yield f"    {address} was {teller.cell(before)} until turn {made} of {who}: {cell}"
+        who = f"{formatter.names[record['warrior']]} at {record['address']}"
+        cell = formatter.cell(history.executed(made))
+        yield f"    {address} was {formatter.cell(before)} until turn {made} of {who}: {cell}"
 
 
-def death_told(teller: Teller, warrior: int, count: int) -> Iterator[str]:
+def describe_death(formatter: BattleFormatter, warrior: int, count: int) -> Iterator[str]:
     """Explains why a warrior died, with `count` of its turns before that; or what it did last, if it lives.
 
     If it executed no cell of another warrior in them, the last earlier turn in which it did is added. Only the end of
     its last process is explained; if it had several processes over time, the first hit on its loaded code is added.
     """
-    history, name = teller.history, teller.names[warrior]
+    history, name = formatter.history, formatter.names[warrior]
     death = history.death(warrior)
     if death is None:
-        yield from living_told(teller, warrior)
+        yield from describe_survivor(formatter, warrior)
         return
     if history.is_killed(warrior):
         yield f"{name} was killed by an edit after turn {death}."
         return
     yield f"{name} died in turn {death}:"
-    yield from teller.lines(death)
-    line = teller.line(death)
+    yield from formatter.lines(death)
+    line = formatter.line(death)
     if line:
         yield f"    {line}"
-    yield from cause_told(teller, int(history.record(death)["address"]), death - 1)
+    yield from describe_cause(formatter, int(history.record(death)["address"]), death - 1)
     turns = [turn for turn, _ in zip(own_turns(history, warrior, death - 1), range(count + FAR))]
     if turns:
         yield "Its turns before that:"
-    told: set[tuple[int, int]] = set()
+    shown: set[tuple[int, int]] = set()
     for turn in reversed(turns[:count]):
-        yield from executed_told(teller, turn, told)
-    if not told and stranger(history, death) is None:
+        yield from describe_turn(formatter, turn, shown)
+    if not shown and stranger(history, death) is None:
         strayed = next((turn for turn in turns[count:] if stranger(history, turn) is not None), None)
         if strayed is not None:
             yield "Earlier it executed a cell that another warrior wrote:"
-            yield from executed_told(teller, strayed, told)
+            yield from describe_turn(formatter, strayed, shown)
     if search(history, [Condition("splits", warrior, warrior)], 0):
-        yield from hit_told(teller, warrior)
+        yield from describe_hit(formatter, warrior)
 
 
-def hit_told(teller: Teller, warrior: int) -> Iterator[str]:
+def describe_hit(formatter: BattleFormatter, warrior: int) -> Iterator[str]:
     """Describes the first turn in which another warrior changed a cell where one was loaded, if there is one."""
-    history, own = teller.history, teller.history.warriors[warrior]
+    history, own = formatter.history, formatter.history.warriors[warrior]
     first = (int(history.state(0).queues[warrior][0]) - own.start) % history.core
     last = (first + len(own) - 1) % history.core
     others = [number for number in range(len(history.warriors)) if number != warrior]
     found = search(history, [Condition("changes", first, last, other) for other in others], 0) if others else None
     if found:
         yield "The first hit of another warrior on its loaded code was:"
-        yield from teller.lines(found[0])
+        yield from formatter.lines(found[0])

@@ -9,12 +9,12 @@ import numpy as np
 
 from ..battle.history import NOBODY, History
 from ..battle.labels import Line, Sources
-from .telling import Teller, counted
+from .telling import BattleFormatter, counted
 
 # How many of the last turns of a warrior are shown, and the most lines of a table.
-LAST, MOST = 1000, 8
+LAST_TURNS, MAX_ROWS = 1000, 8
 # The least share of these turns that is shown for a match.
-LEAST = 0.01
+MIN_SHARE = 0.01
 
 
 def own_turns(history: History, warrior: int, turn: int) -> Iterator[int]:
@@ -25,7 +25,7 @@ def own_turns(history: History, warrior: int, turn: int) -> Iterator[int]:
 
 
 def last_turns(history: History, warrior: int) -> list[int]:
-    return [*islice(own_turns(history, warrior, history.end), LAST)]
+    return [*islice(own_turns(history, warrior, history.end), LAST_TURNS)]
 
 
 def executed_at(history: History, turns: Sequence[int]) -> list[int]:
@@ -39,38 +39,38 @@ def written_by(history: History, turn: int) -> list[int]:
     return [int(address) for address in writes.addresses[writes.of(turn)]]
 
 
-def living_told(teller: Teller, warrior: int) -> Iterator[str]:
+def describe_survivor(formatter: BattleFormatter, warrior: int) -> Iterator[str]:
     """Describes what a warrior that lives at the end did last."""
-    history, name = teller.history, teller.names[warrior]
+    history, name = formatter.history, formatter.names[warrior]
     processes = len(history.ending.queues[warrior])
     yield f"{name} is alive after turn {history.end}, the last one, with {counted(processes, 'process')}."
     turns = last_turns(history, warrior)
-    lines = {turn: line_told(teller, warrior, turn) for turn in turns}
+    lines = {turn: describe_line(formatter, warrior, turn) for turn in turns}
     written = {turn: written_by(history, turn) for turn in turns}
     yield f"Its last {counted(len(turns), 'turn')}:"
     yield "  turns  cells written  line"
     rows = Counter(lines.values()).most_common()
-    for line, count in rows[:MOST]:
+    for line, count in rows[:MAX_ROWS]:
         cells = {address for turn in turns if lines[turn] == line for address in written[turn]}
         yield f"{count:7} {len(cells):14}  {line}"
-    if rows[MOST:]:
-        yield f"{sum(count for _, count in rows[MOST:]):7} {'':14}  in {counted(len(rows) - MOST, 'more line')}"
-    yield from hits_told(teller, warrior, {address for cells in written.values() for address in cells})
+    if rows[MAX_ROWS:]:
+        yield f"{sum(count for _, count in rows[MAX_ROWS:]):7} {'':14}  in {counted(len(rows) - MAX_ROWS, 'more line')}"
+    yield from describe_hits(formatter, warrior, {address for cells in written.values() for address in cells})
 
 
-def line_told(teller: Teller, warrior: int, turn: int) -> str:
+def describe_line(formatter: BattleFormatter, warrior: int, turn: int) -> str:
     """Returns the source line of the instruction that a turn executed or, if it has none, the instruction."""
-    line = teller.sources.line(teller.history, executed_at(teller.history, [turn])[0], turn - 1)
+    line = formatter.sources.line(formatter.history, executed_at(formatter.history, [turn])[0], turn - 1)
     if line is None:
-        return teller.cell(teller.history.executed(turn))
-    owner = "" if line.warrior == warrior else f"{teller.names[line.warrior]} "
+        return formatter.cell(formatter.history.executed(turn))
+    owner = "" if line.warrior == warrior else f"{formatter.names[line.warrior]} "
     return f"{owner}{line.number}: {line.text}"
 
 
-def hits_told(teller: Teller, warrior: int, cells: set[int]) -> Iterator[str]:
+def describe_hits(formatter: BattleFormatter, warrior: int, cells: set[int]) -> Iterator[str]:
     """Says how many of the cells that a warrior wrote the other survivors executed in their last turns."""
-    history = teller.history
-    for other, name in enumerate(teller.names):
+    history = formatter.history
+    for other, name in enumerate(formatter.names):
         if cells and other != warrior and history.death(other) is None:
             count = len(cells.intersection(executed_at(history, last_turns(history, other))))
             yield f"{name} executed {count or 'none'} of the cells written, in its last turns."
@@ -80,7 +80,7 @@ def ending_of(history: History, sources: Sources, names: Sequence[str], warrior:
     """Returns in short what a survivor executed last: lines whose cells are as they were loaded except for their
     numbers, and whose other cells. Names are in the order of turns.
     """
-    turns, told = last_turns(history, warrior)[::-1], Counter[int | Line | None]()
+    turns, counts = last_turns(history, warrior)[::-1], Counter[int | Line | None]()
     writers = np.full(history.core, NOBODY, np.uint8)
     for block in history.blocks():
         changes = block.changes
@@ -93,9 +93,9 @@ def ending_of(history: History, sources: Sources, names: Sequence[str], warrior:
         for turn, address in zip(own, executed_at(history, own)):
             found = np.flatnonzero(where[: int(np.searchsorted(when, turn))] == address)
             writer = int(who[found[-1]] if len(found) else writers[address])
-            told[writer if writer != NOBODY else sources.lines.get(address)] += 1
+            counts[writer if writer != NOBODY else sources.lines.get(address)] += 1
         writers[where] = who
-    often = [what for what, count in told.items() if count >= LEAST * len(turns)]
+    often = [what for what, count in counts.items() if count >= MIN_SHARE * len(turns)]
     lines = [(what.warrior, what.number) for what in often if isinstance(what, Line)]
     parts = []
     for owner in sorted({owner for owner, _ in lines}, key=lambda owner: owner != warrior):
@@ -115,5 +115,5 @@ def ranges(numbers: set[int]) -> str:
             parts[-1].append(number)
         else:
             parts.append([number])
-    told = ", ".join(f"{part[0]}-{part[-1]}" if len(part) > 1 else str(part[0]) for part in parts)
-    return f"line{'' if len(numbers) == 1 else 's'} {told}"
+    text = ", ".join(f"{part[0]}-{part[-1]}" if len(part) > 1 else str(part[0]) for part in parts)
+    return f"line{'' if len(numbers) == 1 else 's'} {text}"

@@ -9,11 +9,11 @@ from dataclasses import dataclass
 from ..battle.conditions import last_change
 from ..battle.history import NOBODY, History
 from ..battle.labels import Sources
-from .endings import LAST, ending_of
+from .endings import LAST_TURNS, ending_of
 from .telling import counted
 
 # The most ways to die, or to tie, that are listed for a warrior.
-MOST = 10
+MAX_ROWS = 10
 
 
 @dataclass(frozen=True)
@@ -76,7 +76,7 @@ def death_of(history: History, sources: Sources, names: Sequence[str], warrior: 
     return cell, f"{name}, by {owner}line {line.number}: {line.text}"
 
 
-def losses_told(name: str, rounds: int, deaths: Sequence[Death]) -> Iterator[str]:
+def describe_losses(name: str, rounds: int, deaths: Sequence[Death]) -> Iterator[str]:
     """Describes the losses of a warrior in a match, the most frequent ones first, each with its first round."""
     if not deaths:
         yield f"{name} lost none of {rounds} rounds."
@@ -85,11 +85,11 @@ def losses_told(name: str, rounds: int, deaths: Sequence[Death]) -> Iterator[str
     yield from table_of("losses", ("died on", "hit by"), [((death.cell, death.by), death.round) for death in deaths])
 
 
-def ties_told(name: str, rounds: int, ties: Sequence[Tie]) -> Iterator[str]:
+def describe_ties(name: str, rounds: int, ties: Sequence[Tie]) -> Iterator[str]:
     """Describes the ties of a warrior in a match in the same way."""
     if ties:
         yield f"{name} tied {len(ties)} of {counted(rounds, 'round')}:"
-        head = f"executed in its last {LAST} turns"
+        head = f"executed in its last {LAST_TURNS} turns"
         yield from table_of("ties", (head,), [((tie.executed,), tie.round) for tie in ties])
 
 
@@ -99,10 +99,10 @@ def table_of(fate: str, heads: tuple[str, ...], fates: Iterable[tuple[tuple[str,
     for texts, round in fates:
         ways.setdefault(texts, []).append(round)
     rows = sorted(ways.items(), key=lambda way: -len(way[1]))
-    widths = [max(map(len, column)) for column in zip(heads, *(texts for texts, _ in rows[:MOST]))]
-    lines = [(fate, "round", heads), *((len(found), found[0], texts) for texts, found in rows[:MOST])]
+    widths = [max(map(len, column)) for column in zip(heads, *(texts for texts, _ in rows[:MAX_ROWS]))]
+    lines = [(fate, "round", heads), *((len(found), found[0], texts) for texts, found in rows[:MAX_ROWS])]
     for count, first, texts in lines:
         yield f"{count:>6} {first:>5}  {'  '.join(map(str.ljust, texts, widths))}".rstrip()
-    rest = sum(len(found) for _, found in rows[MOST:])
+    rest = sum(len(found) for _, found in rows[MAX_ROWS:])
     if rest:
-        yield f"{rest:6}        in {len(rows) - MOST} other ways"
+        yield f"{rest:6}        in {len(rows) - MAX_ROWS} other ways"

@@ -14,14 +14,14 @@ from ..battle.history import NOBODY, History
 from ..battle.labels import Sources
 from ..battle.origins import Origins
 from ..model.cells import OPCODES
-from .telling import Teller, counted
+from .telling import BattleFormatter, counted
 
 Numbers = NDArray[np.int64]
 COMPARING = [OPCODES.index(name) for name in ("SEQ", "SNE", "SLT", "JMZ", "JMN", "DJN")]
 # The most lines of a table, the most strides of a line, and the least share of a stride that is shown.
-MOST, STRIDES, LEAST = 8, 2, 0.2
+MAX_ROWS, MAX_STRIDES, MIN_SHARE = 8, 2, 0.2
 # No turn touches more cells.
-LARGEST_TURN = 8
+MAX_TOUCHED_CELLS = 8
 
 
 @dataclass(frozen=True, eq=False)
@@ -44,7 +44,7 @@ class Study:
 
     def __init__(self, history: History) -> None:
         self.history, self.sources = history, Sources(history)
-        self.teller, self.origins = Teller(history, self.sources), Origins(history)
+        self.formatter, self.origins = BattleFormatter(history, self.sources), Origins(history)
         start = history.state(0)
         self.is_loaded, self.opcodes = history.owners(0) != NOBODY, start.cells["op"].copy()
         # The first turn that executed each cell, the first hit, and the number of processes at most.
@@ -85,13 +85,13 @@ class Study:
         found = np.flatnonzero(is_other & is_own)[:1]
         return (int(changes.turns[found[0]]), int(changes.addresses[found[0]])) if len(found) else None
 
-    def told(self) -> Iterator[str]:
+    def describe(self) -> Iterator[str]:
         """Yields the lines of the report: how it ends, when it first hits itself, and what it writes and scans."""
         history, name = self.history, self.history.names[0]
         fate = f"{'lives' if history.death(0) is None else 'dies'} after {counted(history.end, 'turn')}"
-        size, most = counted(len(history.warriors[0]), "cell"), counted(self.processes, "process")
-        yield f"{name} without an opponent: {size}, at most {most}; {fate}."
-        yield self._hit_told()
+        size, processes = counted(len(history.warriors[0]), "cell"), counted(self.processes, "process")
+        yield f"{name} without an opponent: {size}, at most {processes}; {fate}."
+        yield self._describe_hit()
         written = len(np.unique(self.writes.addresses))
         yield f"It writes to {written} of {history.core} cells:" if written else "It writes nothing."
         yield from self._table("writes", self.writes)
@@ -99,7 +99,7 @@ class Study:
         yield f"It scans {scanned} of {history.core} cells:" if scanned else "It scans nothing outside its code."
         yield from self._table("reads", self.scans)
 
-    def _hit_told(self) -> str:
+    def _describe_hit(self) -> str:
         if self.hit is None:
             return "It never writes another opcode over its own code."
         turn, address = self.hit
@@ -116,7 +116,7 @@ class Study:
         line = self.sources.lines.get(origin)
         if line is not None:
             return f"{line.number}: {line.text}"
-        return f"cell {origin}: {self.teller.cell(self.history.block(0).start.cells[origin])}"
+        return f"cell {origin}: {self.formatter.cell(self.history.block(0).start.cells[origin])}"
 
     def _table(self, what: str, found: Accesses) -> Iterator[str]:
         """Describes accesses by the lines of their instructions, those that reach the most cells first."""
@@ -131,10 +131,10 @@ class Study:
         rows.sort(key=lambda row: row[:2], reverse=True)
         if rows:
             yield f"  {what:>6}  cells by turn  {'stride':20} line"
-        for cells, count, turn, stride, name in rows[:MOST]:
+        for cells, count, turn, stride, name in rows[:MAX_ROWS]:
             yield f"  {count:6} {cells:6} {turn:7}  {stride:20} {name}"
-        if rows[MOST:]:
-            yield f"  and {counted(len(rows) - MOST, 'more line')}"
+        if rows[MAX_ROWS:]:
+            yield f"  and {counted(len(rows) - MAX_ROWS, 'more line')}"
 
 
 def joined(parts: list[Accesses]) -> Accesses:
@@ -148,12 +148,14 @@ def strides(found: Accesses, core: int) -> str:
     # The number of earlier accesses in the same turn, which distinguishes the operands of an instruction.
     firsts = np.flatnonzero(np.diff(found.turns, prepend=-1))
     before = np.arange(len(found.turns)) - np.repeat(firsts, np.diff(firsts, append=len(found.turns)))
-    operands = found.places * LARGEST_TURN + before
+    operands = found.places * MAX_TOUCHED_CELLS + before
     order = np.argsort(operands, kind="stable")
     apart = np.diff(found.addresses[order])[np.diff(operands[order]) == 0] % core
     distances, counts = np.unique(np.where(apart > core // 2, apart - core, apart), return_counts=True)
-    best = np.argsort(-counts, kind="stable")[:STRIDES]
-    shares = [(int(distances[one]), counts[one] / counts.sum()) for one in best if counts[one] >= LEAST * counts.sum()]
+    best = np.argsort(-counts, kind="stable")[:MAX_STRIDES]
+    shares = [
+        (int(distances[one]), counts[one] / counts.sum()) for one in best if counts[one] >= MIN_SHARE * counts.sum()
+    ]
     if not shares:
         return "varies" if len(apart) else "-"
     return ", ".join(f"{distance}" if share > 0.995 else f"{distance} ({share:.0%})" for distance, share in shares)

@@ -29,7 +29,7 @@ def counted(count: int, noun: str) -> str:
     return f"{count} {noun}" + ("" if count == 1 else "es" if noun.endswith("s") else "s")
 
 
-class Teller:
+class BattleFormatter:
     """Describes turns and cells of a history. `paint` colours the name of a warrior."""
 
     def __init__(
@@ -53,9 +53,9 @@ class Teller:
         """Describes what a turn executed, who, and what it read."""
         record = self.history.record(turn)
         name, where = self.names[record["warrior"]], self.where(int(record["address"]))
-        told = f"turn {turn}: {name} at {where}: {self.cell(self.history.executed(turn))}"
+        text = f"turn {turn}: {name} at {where}: {self.cell(self.history.executed(turn))}"
         reads = self.places(self.reads(turn))
-        return f"{told}; reads {reads}" if reads else told
+        return f"{text}; reads {reads}" if reads else text
 
     def reads(self, turn: int) -> list[int]:
         """Returns the cells that a turn read, except its own and those where its process went."""
@@ -104,8 +104,8 @@ class Teller:
             return self.ending()
         block = history.block(turn)
         warrior, cell = block.following(turn), block.cell(address, turn)
-        told = f"next: {self.names[warrior]} at {self.where(address)}: {self.cell(cell)}"
-        return f"{told}    {self.sources.told(history, address, turn, warrior)}".rstrip()
+        text = f"next: {self.names[warrior]} at {self.where(address)}: {self.cell(cell)}"
+        return f"{text}    {self.sources.describe_line(history, address, turn, warrior)}".rstrip()
 
     def ending(self) -> str:
         """Describes how the battle ended."""
@@ -132,11 +132,11 @@ class Teller:
         here = Counter((int(at), number) for number, queue in enumerate(queues) for at in queue)
         for address in ((first + offset) % history.core for offset in range(count)):
             mark, label = ">" if address == head else " ", self.sources.labels.get(address, "")
-            source = self.sources.told(history, address, turn)
+            source = self.sources.describe_line(history, address, turn)
             times = [(number, here[address, number]) for number in range(len(self.names)) if here[address, number]]
             plain, painted = self._standing(history.names, times), self._standing(self.names, times)
-            told = painted + " " * max(0, 16 - len(plain))
-            text = f"{mark} {address:6} {label:10} {self.cell(cells[address]):24} {told} {source}"
+            processes = painted + " " * max(0, 16 - len(plain))
+            text = f"{mark} {address:6} {label:10} {self.cell(cells[address]):24} {processes} {source}"
             yield text.rstrip()
 
     @staticmethod

@@ -47,8 +47,8 @@ class Condition:
             if self.word == "becomes":
                 held &= block.changes.before["op"] != block.changes.after["op"]
             return np.asarray(np.unique(found.turns[held]), np.int64)
-        told = {"splits": ("queued", 2), "ends": ("queued", 0), "dies": ("died", 1), "moves": ("warrior", self.first)}
-        field, value = told[self.word]
+        fields = {"splits": ("queued", 2), "ends": ("queued", 0), "dies": ("died", 1), "moves": ("warrior", self.first)}
+        field, value = fields[self.word]
         return block.first + 1 + np.flatnonzero((records["warrior"] == self.first) & (records[field] == value))
 
     def _among(self, addresses: NDArray[np.uint32], core: int) -> NDArray[np.bool_]:

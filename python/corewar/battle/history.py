@@ -20,7 +20,7 @@ from numpy.typing import NDArray
 from ..engine.battles import Battle, of_mark
 from ..engine.calls import Match
 from ..model.edits import Edit
-from ..model.faults import Refused
+from ..model.errors import CorewarError
 from ..model.settings import whole
 from .blocks import Block
 
@@ -61,11 +61,11 @@ def run_of(battle: Battle, edit: Edit | None = None, before: Battle | None = Non
     """Plays a battle to its end. If the marks become too many, every other one is dropped, and the stride doubles."""
     first, marks, stride = battle.turns, [bytes(battle)], BLOCK
     # An even number, so that the battle is at the last mark after every other one is dropped.
-    most = max(2, min(MARKS, MARKED // len(marks[0]) // 2 * 2))
+    max_marks = max(2, min(MARKS, MARKED // len(marks[0]) // 2 * 2))
     battle.play(stride)
     while not battle.over:
         marks.append(bytes(battle))
-        if len(marks) > most:
+        if len(marks) > max_marks:
             marks, stride = marks[::2], 2 * stride
         battle.play(stride)
     return Run(first, tuple(marks), stride, battle, edit, before)
@@ -92,7 +92,7 @@ class History:
 
     Turns are numbered from 1; "after turn 0" is the start. Warriors are numbered from 0 in the order of their turns,
     and `names` has their names, made distinct. A history never changes: an edit returns another history, which shares
-    the turns before it. The constructor runs the whole battle; it raises `Fault` if the match is invalid.
+    the turns before it. The constructor runs the whole battle; it raises `MarsError` if the match is invalid.
     """
 
     def __init__(self, fight: Match, round: int = 0) -> None:
@@ -129,7 +129,7 @@ class History:
         return timeline.figure_of(self, timeline.whole(self))
 
     def warrior(self, named: str) -> int:
-        """Returns the number of the warrior with this number, name or file. Raises `Refused` if there is none."""
+        """Returns the number of the warrior with this number, name or file. Raises `CorewarError` if there is none."""
         number = whole(named)
         if number is not None and number < len(self.names):
             return number
@@ -139,8 +139,8 @@ class History:
         for number, warrior in enumerate(self.warriors):
             if named and named in warrior.files:
                 return number
-        told = ", ".join(f"{number} {name}" for number, name in enumerate(self.names))
-        raise Refused(f"no warrior `{named}`; the warriors are {told}")
+        listing = ", ".join(f"{number} {name}" for number, name in enumerate(self.names))
+        raise CorewarError(f"no warrior `{named}`; the warriors are {listing}")
 
     @property
     def end(self) -> int:
@@ -153,19 +153,19 @@ class History:
         return tuple((one.first, one.run.edit) for one in self.segments if one.run.edit)
 
     def _segment(self, turn: int) -> Segment:
-        """Returns the segment of the state after a turn and after the edits made there. Raises Refused."""
+        """Returns the segment of the state after a turn and after the edits made there. Raises CorewarError."""
         if not 0 <= turn <= self.end:
-            raise Refused(f"the battle has turns 0 to {self.end}")
+            raise CorewarError(f"the battle has turns 0 to {self.end}")
         return next(segment for segment in reversed(self.segments) if segment.first <= turn)
 
     def block(self, turn: int) -> Block:
-        """Returns the block of the state after a turn and after the edits made there. Raises Refused."""
+        """Returns the block of the state after a turn and after the edits made there. Raises CorewarError."""
         segment = self._segment(turn)
         first = turn - (turn - segment.first) % BLOCK
         return self._blocks(segment.run, first, min(BLOCK, segment.last - first))
 
     def block_of(self, turn: int) -> Block:
-        """Returns the block with the record of a turn, from 1. Raises Refused."""
+        """Returns the block with the record of a turn, from 1. Raises CorewarError."""
         self._segment(turn)
         return self.block(turn - 1)
 
@@ -187,15 +187,15 @@ class History:
             turn = block.first
 
     def record(self, turn: int) -> np.void:
-        """Returns the record of a turn, from 1, without its writes, with the fields of `MarsRecord`. Raises `Refused`
-        if the battle has no such turn.
+        """Returns the record of a turn, from 1, without its writes, with the fields of `MarsRecord`. Raises
+        `CorewarError` if the battle has no such turn.
         """
         block = self.block_of(turn)
         made: np.void = block.records[turn - block.first - 1]
         return made
 
     def state(self, turn: int) -> Battle:
-        """Returns the battle after a turn. Raises `Refused` if the battle has no such turn."""
+        """Returns the battle after a turn. Raises `CorewarError` if the battle has no such turn."""
         return self._segment(turn).run.at(turn)
 
     def executed(self, turn: int) -> np.void:
@@ -222,9 +222,9 @@ class History:
         return self._deaths[self._deaths["turns"] <= turn]
 
     def death(self, warrior: int) -> int | None:
-        """Returns the turn in which a warrior dies, or None if it survives. Raises `Refused` if there is none."""
+        """Returns the turn in which a warrior dies, or None if it survives. Raises `CorewarError` if there is none."""
         if not 0 <= warrior < len(self.names):
-            raise Refused(f"the battle has warriors 0 to {len(self.names) - 1}")
+            raise CorewarError(f"the battle has warriors 0 to {len(self.names) - 1}")
         return next((int(turns) for number, turns in self._deaths.tolist() if number == warrior), None)
 
     def is_killed(self, warrior: int) -> bool:
@@ -288,8 +288,8 @@ class History:
     def edited(self, turn: int, edit: Edit) -> History:
         """Returns the history in which an edit changes the battle after a turn.
 
-        Raises `Fault` if the edit is impossible there, such as `refused 2 Address` if the address is outside the core,
-        and `Refused` if the battle has no such turn.
+        Raises `MarsError` if the edit is impossible there, such as `refused 2 Address` if the address is outside the
+        core, and `CorewarError` if the battle has no such turn.
         """
         before = self.state(turn)
         after = before.copy()

@@ -9,14 +9,14 @@ from weakref import WeakKeyDictionary
 
 from ..engine.battles import Battle
 from ..engine.calls import source_lines
-from ..model.faults import Fault
+from ..model.errors import MarsError
 from ..model.printing import printable
 from .history import BY_HAND, History
 from .origins import Origins
 
 # Copies are traced turn by turn, which takes some 3 seconds and 50 MB for this number of turns. After it only a cell
 # that has not changed since it was loaded has a line.
-MOST_TRACED = 1_000_000
+MAX_TRACED_TURNS = 1_000_000
 
 
 @dataclass(frozen=True)
@@ -52,14 +52,14 @@ class Sources:
 
     def line(self, history: History, address: int, turn: int) -> Line | None:
         """Returns the line from which the instruction at an address was copied, after a turn of a history."""
-        if turn > MOST_TRACED:
+        if turn > MAX_TRACED_TURNS:
             owners, turns = history.written(turn)
             return None if turns[address] or owners[address] == BY_HAND else self.lines.get(address)
         if history not in self._origins:
             self._origins[history] = Origins(history)
         return self.lines.get(int(self._origins[history].at(turn)[address]))
 
-    def told(self, history: History, address: int, turn: int, warrior: int | None = None) -> str:
+    def describe_line(self, history: History, address: int, turn: int, warrior: int | None = None) -> str:
         """Returns the number and the text of this line, or "". They follow the name of the warrior if it is neither the
         one given nor, without one, the one that was loaded at the address.
         """
@@ -77,7 +77,7 @@ class Sources:
             return []
         try:
             return source_lines(source, history.fight.settings, history.fight.rounds, len(history.warriors))
-        except Fault:
+        except MarsError:
             return []
 
     @cached_property

@@ -45,4 +45,4 @@ def rounds_of(fight: Match, count: int) -> Iterator[Round]:
 
 def sums(outcomes: list[tuple[str, ...]]) -> list[list[int]]:
     """Returns the number of wins, ties and losses of each warrior, given the outcomes of each round."""
-    return [[told.count(outcome) for outcome in OUTCOMES] for told in zip(*outcomes)]
+    return [[own.count(outcome) for outcome in OUTCOMES] for own in zip(*outcomes)]

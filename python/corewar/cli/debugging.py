@@ -9,7 +9,7 @@ import click
 from ..battle.history import History
 from ..battle.labels import Sources
 from .layout import Command, Number
-from .options import Asked, battle_options
+from .options import BattleOptions, battle_options
 
 EXAMPLES = ["corewar debug dwarf.red imp.red", "printf 'continue dies imp\\nwhy\\n' | corewar debug dwarf.red imp.red"]
 
@@ -17,7 +17,7 @@ EXAMPLES = ["corewar debug dwarf.red imp.red", "printf 'continue dies imp\\nwhy\
 @click.command(cls=Command, examples=EXAMPLES)
 @battle_options(one_round=True)
 @click.option("--turn", type=Number(0), default=0, show_default=True, help="Turn to start at, 0 or more")
-def debug(asked: Asked, turn: int) -> None:
+def debug(options: BattleOptions, turn: int) -> None:
     """Step through a battle, forwards and backwards.
 
     At the prompt, `help` lists the commands and `help COMMAND` explains one. If standard input is not a terminal,
@@ -26,7 +26,7 @@ def debug(asked: Asked, turn: int) -> None:
     from ..debugger.prompt import is_terminal, run_lines, run_prompt
     from ..debugger.session import Session
 
-    history = History(asked.fight(), asked.round)
+    history = History(options.fight(), options.round)
     session = Session(history, Sources(history), turn=min(turn, history.end))
     if not is_terminal():
         run_lines(session, sys.stdin)

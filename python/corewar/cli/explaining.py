@@ -9,14 +9,14 @@ import click
 
 from ..engine.sources import Assembler, Overrun, read_file, read_warriors
 from ..engine.warriors import Warrior
-from ..explain import LOOKED_FOR, errors_of, excerpt, fix, read_faults, read_otherwise, told, told_of
+from ..explain import LOOKED_FOR, errors_of, excerpt, explain_error, explain_kind, fix, read_faults, read_otherwise
 from ..explain.errors import kind_of
-from ..explain.instructions import find_instruction, line_told
+from ..explain.instructions import describe_line, find_instruction
 from ..explain.source import Line
-from ..model.faults import ASSEMBLY, Fault, FileFault, Refused
+from ..model.errors import ASSEMBLY, CorewarError, FileError, MarsError
 from ..model.printing import printable
 from .layout import Command
-from .options import Asked, battle_options
+from .options import BattleOptions, battle_options
 from .telling import tell, tell_fault
 
 EXAMPLES = [
@@ -33,9 +33,9 @@ class Explain(Command):
 
     def parse_args(self, context: click.Context, words: list[str]) -> list[str]:
         if words[:1] == ["mars"]:
-            from .mars_words import judge
+            from .mars_args import check_mars_args
 
-            click.echo(judge(words[1:]))
+            click.echo(check_mars_args(words[1:]))
             context.exit()
         return super().parse_args(context, words)
 
@@ -44,7 +44,7 @@ class Explain(Command):
 @battle_options(needs_files=False)
 @click.option("--pmars", is_flag=True, help="Report what pMARS reads differently")
 @click.option("--fix", "is_fixed", is_flag=True, help="Print the source, with known differences from pMARS replaced")
-def explain(asked: Asked, pmars: bool, is_fixed: bool) -> int:
+def explain(options: BattleOptions, pmars: bool, is_fixed: bool) -> int:
     """Explain the errors in files, or those read from standard input, or an instruction.
 
     An argument that is no file but an instruction, such as 'MOV }bomb, >ptr', is put in plain words.
@@ -53,46 +53,46 @@ def explain(asked: Asked, pmars: bool, is_fixed: bool) -> int:
     line 7: 2 Operation`. If the first argument is `mars`, the others are checked as the arguments of that program, and
     the wrong one is reported.
     """
-    if (pmars or is_fixed) and not asked.files:
+    if (pmars or is_fixed) and not options.files:
         raise click.UsageError("expected at least one file")
     if pmars and is_fixed:
         raise click.UsageError("--fix and --pmars exclude each other")
     if is_fixed:
-        return max([fix_file(asked, path) for path in asked.files])
+        return max([fix_file(options, path) for path in options.files])
     if pmars:
-        for path in asked.files:
-            compare_file(asked, path)
-    elif line := find_instruction(" ".join(asked.files)) if not any(map(os.path.exists, asked.files)) else None:
-        return explain_instruction(asked, line)
-    elif asked.files:
+        for path in options.files:
+            compare_file(options, path)
+    elif line := find_instruction(" ".join(options.files)) if not any(map(os.path.exists, options.files)) else None:
+        return explain_instruction(options, line)
+    elif options.files:
         # Each file is looked at, also after one with an error.
-        return max([explain_file(asked, path) for path in asked.files])
+        return max([explain_file(options, path) for path in options.files])
     else:
         explain_lines()
     return 0
 
 
-def explain_instruction(asked: Asked, line: Line) -> int:
+def explain_instruction(options: BattleOptions, line: Line) -> int:
     """Prints what an instruction does, or its error. Returns the exit status."""
-    with Assembler(asked.limit) as assembler:
+    with Assembler(options.limit) as assembler:
         try:
-            write(line_told(line, loader(asked, line.text, assembler), asked.settings.core))
-        except Fault as fault:
+            write(describe_line(line, loader(options, line.text, assembler), options.settings.core))
+        except MarsError as fault:
             if fault.code != ASSEMBLY:
                 raise
-            write([f"{line.text}: {kind_of(fault)}", *told_of(kind_of(fault), 1, line.text.encode())])
+            write([f"{line.text}: {kind_of(fault)}", *explain_kind(kind_of(fault), 1, line.text.encode())])
             return 1
     return 0
 
 
-def explain_file(asked: Asked, path: str) -> int:
+def explain_file(options: BattleOptions, path: str) -> int:
     """Assembles a file, and explains its errors. Returns the exit status."""
     found = False
     try:
-        for fault, text, sentences in errors_in(asked, path):
+        for fault, text, sentences in errors_in(options, path):
             write([f"{path}: {fault}", *excerpt(text, fault.line), *sentences])
             found = True
-    except FileFault as unread:
+    except FileError as unread:
         tell_fault(unread)
         return 1
     if not found:
@@ -100,20 +100,20 @@ def explain_file(asked: Asked, path: str) -> int:
     return int(found)
 
 
-def compare_file(asked: Asked, path: str) -> None:
+def compare_file(options: BattleOptions, path: str) -> None:
     """Prints what pMARS reads differently in a file."""
     data = read_file(path)
-    with Assembler(asked.limit) as assembler:
-        faults = [fault for fault, _ in errors_of(data, loader(asked, path, assembler))]
+    with Assembler(options.limit) as assembler:
+        faults = [fault for fault, _ in errors_of(data, loader(options, path, assembler))]
     notes = read_otherwise(data, faults)
     write([f"{path}: {note}" for note in notes or [f"none of the {LOOKED_FOR} known differences from pMARS was found"]])
 
 
-def fix_file(asked: Asked, path: str) -> int:
+def fix_file(options: BattleOptions, path: str) -> int:
     """Prints a fixed source, and reports the errors that are left. Returns the exit status."""
     data = read_file(path)
-    with Assembler(asked.limit) as assembler:
-        load = loader(asked, path, assembler)
+    with Assembler(options.limit) as assembler:
+        load = loader(options, path, assembler)
         fixed = fix(data, load)
         errors = [*errors_of(fixed, load)]
     click.echo(fixed, nl=False)
@@ -123,46 +123,46 @@ def fix_file(asked: Asked, path: str) -> int:
     return int(bool(errors))
 
 
-def loader(asked: Asked, path: str, assembler: Assembler) -> Callable[[bytes], Warrior]:
+def loader(options: BattleOptions, path: str, assembler: Assembler) -> Callable[[bytes], Warrior]:
     """Returns what assembles a source within the limits; an overrun of a limit is an error of the file."""
 
     def load(text: bytes) -> Warrior:
         try:
-            return assembler.assemble(text, settings=asked.settings, rounds=asked.rounds)
+            return assembler.assemble(text, settings=options.settings, rounds=options.rounds)
         except Overrun as overrun:
-            raise FileFault(path, str(overrun), text) from None
+            raise FileError(path, str(overrun), text) from None
 
     return load
 
 
-def errors_in(asked: Asked, path: str) -> Iterator[tuple[Fault, bytes, list[str]]]:
-    """Yields the errors of a file, each with the text of the file and its explanation. Raises FileFault."""
+def errors_in(options: BattleOptions, path: str) -> Iterator[tuple[MarsError, bytes, list[str]]]:
+    """Yields the errors of a file, each with the text of the file and its explanation. Raises FileError."""
     try:
-        read_warriors([path], asked.settings, asked.rounds, asked.limit, 2)
+        read_warriors([path], options.settings, options.rounds, options.limit, 2)
         return
-    except FileFault as left:
-        if not isinstance(left.fault, Fault):
+    except FileError as left:
+        if not isinstance(left.fault, MarsError):
             raise
         fault, text = left.fault, left.text
     if fault.code != ASSEMBLY:
-        yield fault, text, told(fault, text)
+        yield fault, text, explain_error(fault, text)
         return
-    with Assembler(asked.limit) as assembler:
-        for error, sentences in errors_of(text, loader(asked, path, assembler)):
+    with Assembler(options.limit) as assembler:
+        for error, sentences in errors_of(text, loader(options, path, assembler)):
             yield error, text, sentences
 
 
 def explain_lines() -> None:
-    """Explains the error messages of standard input. Raises Refused if there are none."""
+    """Explains the error messages of standard input. Raises CorewarError if there are none."""
     if sys.stdin.isatty():
         raise click.UsageError("expected at least one file, or error messages on standard input")
     text = read_file("-").decode("utf-8", "replace")
     found = [*read_faults(text.splitlines())]
     if not found:
-        raise Refused("no error message found in the input")
+        raise CorewarError("no error message found in the input")
     for line, path, number, kind in found:
         source = read_file(path) if os.path.isfile(path) else b""
-        write([line, *excerpt(source, number), *told_of(kind, number, source)])
+        write([line, *excerpt(source, number), *explain_kind(kind, number, source)])
 
 
 def write(lines: list[str]) -> None:

@@ -26,14 +26,14 @@ class Number(click.ParamType):
 
     name = "N"
 
-    def __init__(self, least: int, greatest: int | None = None) -> None:
-        self.least, self.greatest = least, greatest
+    def __init__(self, minimum: int, maximum: int | None = None) -> None:
+        self.minimum, self.maximum = minimum, maximum
 
     def convert(self, value: Any, param: click.Parameter | None, context: click.Context | None) -> int:
         found = re.fullmatch(r"([+-]?)0*([0-9]{1,18})", str(value))
         number = int(found[1] + found[2]) if found else None
-        if number is None or number < self.least or self.greatest is not None and number > self.greatest:
-            wanted = f"of {self.least} or more" if self.greatest is None else f"from {self.least} to {self.greatest}"
+        if number is None or number < self.minimum or self.maximum is not None and number > self.maximum:
+            wanted = f"of {self.minimum} or more" if self.maximum is None else f"from {self.minimum} to {self.maximum}"
             self.fail(f"expected a number {wanted}, not `{value}`", param, context)
         return number
 

@@ -21,10 +21,10 @@ from ..contests.comparison import Comparison, compare
 from ..contests.places import cluster, threads
 from ..contests.results import Results
 from ..contests.table import FORMATS, League
-from ..model.faults import FileFault
+from ..model.errors import FileError
 from ..model.printing import printable
 from .layout import EXECUTION, STATUSES, Command, Number, Option
-from .options import Asked, Decorator, Output, Picture, battle_options, is_given, with_options
+from .options import BattleOptions, Decorator, Output, Picture, battle_options, is_given, with_options
 from .telling import tell, tell_fault
 from .waiting import progress
 
@@ -69,7 +69,7 @@ PLACE = [
 
 
 @dataclass(frozen=True)
-class Hall:
+class MatchRunner:
     """Where matches are run, and where their results are stored."""
 
     results: str | None
@@ -102,32 +102,32 @@ class Hall:
 
 
 def contest_options(command: Callable[..., Any]) -> Callable[..., Any]:
-    """Adds the options of a match, the files and the execution options, as the arguments `asked` and `hall`."""
+    """Adds the options of a match, the files and the execution options, as the arguments `options` and `runner`."""
 
     @battle_options()
     @wraps(command)
-    def asking(asked: Asked, results: str | None, jobs: int, scheduler: str | None, **given: Any) -> Any:
-        if len(asked.files) < 2:
+    def wrapper(options: BattleOptions, results: str | None, jobs: int, scheduler: str | None, **given: Any) -> Any:
+        if len(options.files) < 2:
             raise click.UsageError("expected at least two files")
-        return command(asked, Hall(results, jobs, scheduler), **given)
+        return command(options, MatchRunner(results, jobs, scheduler), **given)
 
-    return with_options(*PLACE)(asking)
+    return with_options(*PLACE)(wrapper)
 
 
-def contest_of(asked: Asked) -> Contest:
+def contest_of(options: BattleOptions) -> Contest:
     return Contest(
-        settings=asked.settings,
-        rounds=asked.rounds,
-        seed=asked.seed,
-        position=asked.position,
-        formula=asked.formula,
+        settings=options.settings,
+        rounds=options.rounds,
+        seed=options.seed,
+        position=options.position,
+        formula=options.formula,
     )
 
 
-def entered(asked: Asked) -> tuple[Contest, list[Warrior], list[FileFault]]:
+def entered(options: BattleOptions) -> tuple[Contest, list[Warrior], list[FileError]]:
     """The contest, the warriors of the files, and the errors of the files without one, which are reported."""
-    contest = contest_of(asked)
-    warriors, faults = enter(contest, asked.files, asked.limit)
+    contest = contest_of(options)
+    warriors, faults = enter(contest, options.files, options.limit)
     for fault in faults:
         tell_fault(fault)
     return contest, warriors, faults
@@ -149,11 +149,11 @@ def write_results(text: str, form: str, output: str | None = None) -> None:
     formats for programs, and printable in the others.
     """
     shown = text if form in ("csv", "json") else "\n".join(map(printable, text.split("\n")))
-    told = f"{shown}\n".encode("utf-8", "surrogateescape")
+    data = f"{shown}\n".encode("utf-8", "surrogateescape")
     if output:
-        replace_file(output, told)
+        replace_file(output, data)
     else:
-        click.echo(told, nl=False)
+        click.echo(data, nl=False)
 
 
 @click.command(
@@ -185,16 +185,16 @@ def write_results(text: str, form: str, output: str | None = None) -> None:
     type=Output(file_okay=False),
     help="Write a page with the results, index.html, and one that shows the battles, into this folder",
 )
-def league(asked: Asked, hall: Hall, order: str, form: str, **files: Any) -> int:
+def league(options: BattleOptions, runner: MatchRunner, order: str, form: str, **files: Any) -> int:
     """Run a league: every pair of warriors plays a match.
 
     The first warrior of a match is the one whose file is given earlier. A file with an error is reported and left out.
     """
-    contest, warriors, faults = entered(asked)
+    contest, warriors, faults = entered(options)
     if not warriors:
         return 1
     matches = Matches(contest, warriors, all_pairs(len(warriors)))
-    hall.fight(matches)
+    runner.fight(matches)
     result = League(matches, order == "points")
     write_results(FORMATS[form](result), form, files["output"])
     if files["picture"]:
@@ -226,7 +226,7 @@ def league(asked: Asked, hall: Hall, order: str, form: str, **files: Any) -> int
     help="An earlier version of the first file: compare the scores of both against the others, for 100 rounds",
 )
 @format_option(list(CHALLENGE_FORMATS))
-def challenge(asked: Asked, hall: Hall, only_sum: bool, old: str | None, form: str) -> int:
+def challenge(options: BattleOptions, runner: MatchRunner, only_sum: bool, old: str | None, form: str) -> int:
     """Run a match of the first file against each of the others.
 
     Each row shows the points, wins, ties and losses of the first file, the points of its opponent, and the opponent.
@@ -234,30 +234,30 @@ def challenge(asked: Asked, hall: Hall, only_sum: bool, old: str | None, form: s
     nothing is run.
     """
     if old is not None:
-        return tell_change(asked, hall, only_sum, old)
-    contest, warriors, faults = entered(asked)
-    if not warriors or any(fault.file == asked.files[0] for fault in faults):
+        return tell_change(options, runner, only_sum, old)
+    contest, warriors, faults = entered(options)
+    if not warriors or any(fault.file == options.files[0] for fault in faults):
         return 1
     opponents = np.arange(1, len(warriors))
     matches = Matches(contest, warriors, np.column_stack([np.zeros_like(opponents), opponents]))
-    hall.fight(matches)
+    runner.fight(matches)
     write_results(CHALLENGE_FORMATS[form](Challenge(matches, only_sum)), form)
     return 1 if faults else 0
 
 
-def tell_change(asked: Asked, hall: Hall, only_sum: bool, old: str) -> int:
+def tell_change(options: BattleOptions, runner: MatchRunner, only_sum: bool, old: str) -> int:
     """Prints the scores of two versions of a warrior, and what the change shows."""
     if any(map(is_given, ("form", "results", "scheduler"))):
         raise click.UsageError("--old cannot be used with --format, --results or --scheduler")
-    both = [old, asked.files[0]]
-    contest, warriors, faults = entered(replace(asked, files=(*both, *asked.files[1:])))
+    both = [old, options.files[0]]
+    contest, warriors, faults = entered(replace(options, files=(*both, *options.files[1:])))
     if len(warriors) < 3 or any(fault.file in both for fault in faults):
         return 1
     opponents, parts = warriors[2:], []
     with progress(len(opponents), "opponents") as advance:
-        for part in compare(contest, warriors[0], warriors[1], opponents, hall.jobs):
+        for part in compare(contest, warriors[0], warriors[1], opponents, runner.jobs):
             parts.append(part)
             advance(part.shape[1])
     is_drawn = contest.rounds > 1 and contest.position is None
-    write_results("\n".join(Comparison(opponents, np.concatenate(parts, axis=1), is_drawn).told(only_sum)), "table")
+    write_results("\n".join(Comparison(opponents, np.concatenate(parts, axis=1), is_drawn).describe(only_sum)), "table")
     return 1 if faults else 0

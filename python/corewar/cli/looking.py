@@ -5,33 +5,33 @@ from dataclasses import replace
 
 import click
 
-from ..analysis.causes import change_told, death_told
-from ..analysis.endings import living_told
-from ..analysis.losses import Death, Tie, fates_of, losses_told, ties_told
+from ..analysis.causes import describe_change, describe_death
+from ..analysis.endings import describe_survivor
+from ..analysis.losses import Death, Tie, describe_losses, describe_ties, fates_of
 from ..analysis.study import Study
-from ..analysis.telling import Teller
+from ..analysis.telling import BattleFormatter
 from ..battle.history import History
-from ..battle.labels import MOST_TRACED, Sources
+from ..battle.labels import MAX_TRACED_TURNS, Sources
 from ..battle.rounds import rounds_of
 from ..engine.calls import Match
 from ..engine.sources import Limit, read_warriors
-from ..model.faults import Refused
+from ..model.errors import CorewarError
 from ..model.printing import printable
 from ..model.settings import Settings, whole
 from .layout import Command, Number
-from .options import LIMIT, Asked, battle_options, core_options, is_given
+from .options import LIMIT, BattleOptions, battle_options, core_options, is_given
 from .waiting import progress
 
 
-def teller_of(asked: Asked) -> Teller:
-    history = History(asked.fight(), asked.round)
-    return Teller(history, Sources(history))
+def formatter_of(options: BattleOptions) -> BattleFormatter:
+    history = History(options.fight(), options.round)
+    return BattleFormatter(history, Sources(history))
 
 
 def warrior_of(history: History, named: str) -> int:
     try:
         return history.warrior(named)
-    except Refused as fault:
+    except CorewarError as fault:
         raise click.BadParameter(str(fault), param_hint="--of") from None
 
 
@@ -54,46 +54,46 @@ def warrior_of(history: History, named: str) -> int:
     show_default=True,
     help="Number of turns to print before its last one, 1 or more",
 )
-def why(asked: Asked, named: str | None, turns: int) -> None:
+def why(options: BattleOptions, named: str | None, turns: int) -> None:
     """Explain why a warrior died.
 
     Prints its last turn, the cell that it executed, the turn that changed this cell last, and its turns before that;
     for a warrior that lives in a tie, the lines that it executed last. For a match of several rounds without `--round`,
     it counts by which lines each warrior died, and what it executed last in ties.
     """
-    if asked.rounds > 1 and not is_given("round_"):
-        tell_losses(asked, named)
+    if options.rounds > 1 and not is_given("round_"):
+        tell_losses(options, named)
         return
-    teller = teller_of(asked)
-    died = [int(number) for number in teller.history.ending.deaths["warrior"]]
-    for number in died if named is None else [warrior_of(teller.history, named)]:
-        click.echo("\n".join(death_told(teller, number, turns)))
-    living = [number for number in range(len(teller.names)) if number not in died]
+    formatter = formatter_of(options)
+    died = [int(number) for number in formatter.history.ending.deaths["warrior"]]
+    for number in died if named is None else [warrior_of(formatter.history, named)]:
+        click.echo("\n".join(describe_death(formatter, number, turns)))
+    living = [number for number in range(len(formatter.names)) if number not in died]
     if named is None and not died:
-        click.echo(f"No warrior died; {teller.ending()}.")
+        click.echo(f"No warrior died; {formatter.ending()}.")
     if named is None and (len(living) > 1 or not died):
         for number in living:
-            click.echo("\n".join(living_told(teller, number)))
+            click.echo("\n".join(describe_survivor(formatter, number)))
 
 
-def tell_losses(asked: Asked, named: str | None) -> None:
+def tell_losses(options: BattleOptions, named: str | None) -> None:
     """Prints how warriors died and tied in all rounds: the one selected by its name, or all that did."""
-    fight = asked.fight()
+    fight = options.fight()
     first = History(fight)
     warriors = range(len(first.names)) if named is None else [warrior_of(first, named)]
     fates = list[Death | Tie]()
-    with progress(asked.rounds, "rounds") as advance:
-        for one in rounds_of(fight, asked.rounds):
+    with progress(options.rounds, "rounds") as advance:
+        for one in rounds_of(fight, options.rounds):
             fates += fates_of(one.history, first.names)
             advance(1)
     if named is None and not any(isinstance(fate, Death) for fate in fates):
-        click.echo(f"No warrior died in {asked.rounds} rounds.")
+        click.echo(f"No warrior died in {options.rounds} rounds.")
     for number in warriors:
         own, name = [fate for fate in fates if fate.warrior == number], first.names[number]
         deaths = [fate for fate in own if isinstance(fate, Death)]
         if deaths or named is not None:
-            click.echo("\n".join(losses_told(name, asked.rounds, deaths)))
-        for line in ties_told(name, asked.rounds, [fate for fate in own if isinstance(fate, Tie)]):
+            click.echo("\n".join(describe_losses(name, options.rounds, deaths)))
+        for line in describe_ties(name, options.rounds, [fate for fate in own if isinstance(fate, Tie)]):
             click.echo(line)
 
 
@@ -105,15 +105,15 @@ def tell_losses(asked: Asked, named: str | None) -> None:
     "--from", "first", type=Number(1), help="First turn to print, 1 or more; by default the last turns are printed"
 )
 @click.option("--turns", type=Number(1), default=20, show_default=True, help="Number of turns to print, 1 or more")
-def trace(asked: Asked, first: int | None, turns: int) -> None:
+def trace(options: BattleOptions, first: int | None, turns: int) -> None:
     """Print each turn: the instruction, its reads and its writes."""
-    teller = teller_of(asked)
-    end = teller.history.end
+    formatter = formatter_of(options)
+    end = formatter.history.end
     first = max(1, end - turns + 1) if first is None else first
     if first > end:
         raise click.BadParameter(f"the battle has turns 1 to {end}", param_hint="--from")
     for turn in range(first, min(end, first + turns - 1) + 1):
-        click.echo("\n".join(teller.lines(turn)))
+        click.echo("\n".join(formatter.lines(turn)))
 
 
 @click.command(
@@ -126,16 +126,16 @@ def trace(asked: Asked, first: int | None, turns: int) -> None:
 @battle_options(one_round=True)
 @click.option("--cell", "named", metavar="CELL", required=True, help="Address or label of the cell")
 @click.option("--before", type=Number(1), help="Search only the turns before this one, 1 or more")
-def changed(asked: Asked, named: str, before: int | None) -> None:
+def changed(options: BattleOptions, named: str, before: int | None) -> None:
     """Find the last turn that changed a cell."""
-    teller = teller_of(asked)
-    address = teller.sources.addresses.get(named, whole(named))
-    if address is None or address >= teller.history.core:
+    formatter = formatter_of(options)
+    address = formatter.sources.addresses.get(named, whole(named))
+    if address is None or address >= formatter.history.core:
         raise click.BadParameter(
-            f"`{named}` is neither a label nor an address below {teller.history.core}", param_hint="--cell"
+            f"`{named}` is neither a label nor an address below {formatter.history.core}", param_hint="--cell"
         )
-    turn = min(teller.history.end, (before or teller.history.end + 1) - 1)
-    click.echo("\n".join(change_told(teller, address, turn)))
+    turn = min(formatter.history.end, (before or formatter.history.end + 1) - 1)
+    click.echo("\n".join(describe_change(formatter, address, turn)))
 
 
 @click.command(cls=Command, examples=["corewar study dwarf.red"])
@@ -150,5 +150,5 @@ def study(file: str, settings: Settings, limit: Limit) -> None:
     """
     warriors = read_warriors([file], settings, limit=limit, warriors=2)
     # Lines are known up to this turn.
-    settings = replace(settings, cycles=min(settings.cycles, MOST_TRACED))
-    click.echo("\n".join(map(printable, Study(History(Match(warriors, settings=settings))).told())))
+    settings = replace(settings, cycles=min(settings.cycles, MAX_TRACED_TURNS))
+    click.echo("\n".join(map(printable, Study(History(Match(warriors, settings=settings))).describe())))

@@ -9,7 +9,7 @@ from importlib import import_module
 import click
 
 from .. import __version__
-from ..model.faults import FORMULA, PARAMETERS, SETTINGS, Fault, Refused
+from ..model.errors import FORMULA, PARAMETERS, SETTINGS, CorewarError, MarsError
 from .layout import Command
 from .options import HELP
 from .telling import tell, tell_fault
@@ -91,9 +91,9 @@ def main() -> None:
     except (click.Abort, KeyboardInterrupt):
         tell("stopped")
         sys.exit(130)
-    except Refused as fault:
+    except CorewarError as fault:
         tell_fault(fault)
-        sys.exit(2 if isinstance(fault, Fault) and fault.code in USAGE else 1)
+        sys.exit(2 if isinstance(fault, MarsError) and fault.code in USAGE else 1)
     except MemoryError:
         tell("out of memory")
         sys.exit(1)

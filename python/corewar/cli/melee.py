@@ -9,10 +9,10 @@ from ..contests.contest import enter
 from ..contests.melee import melee as run
 from ..contests.melee import records_of, table_of
 from ..contests.scores import HEAD, NAMES, RATES, csv_text, json_text
-from ..model.settings import MOST_WARRIORS
+from ..model.settings import MAX_WARRIORS
 from .layout import Command, Number
 from .league import JOBS, LEFT_OUT, contest_of, format_option, write_results
-from .options import Asked, battle_options
+from .options import BattleOptions, battle_options
 from .telling import tell, tell_fault
 from .waiting import awaited, progress
 
@@ -25,26 +25,26 @@ from .waiting import awaited, progress
 @battle_options()
 @click.option(
     "--size",
-    type=Number(2, MOST_WARRIORS),
+    type=Number(2, MAX_WARRIORS),
     default=4,
     show_default=True,
-    help=f"Number of warriors in a match, 2 to {MOST_WARRIORS}",
+    help=f"Number of warriors in a match, 2 to {MAX_WARRIORS}",
 )
 @click.option(
     "--lineups", type=Number(1, 1_000_000), default=100, show_default=True, help="Number of matches, 1 to 1000000"
 )
 @format_option(("table", "csv", "json"))
 @JOBS
-def melee(asked: Asked, size: int, lineups: int, form: str, jobs: int) -> int:
+def melee(options: BattleOptions, size: int, lineups: int, form: str, jobs: int) -> int:
     """Run matches of several warriors in random lineups, and rank all warriors.
 
     All warriors are in the same number of matches, or in one more. The score is the points for 100 rounds; equal scores
     share a rank. A file with an error is reported and left out.
     """
-    if len(asked.files) < size:
-        raise click.UsageError(f"expected at least {size} files for matches of {size}, not {len(asked.files)}")
-    contest = contest_of(asked)
-    warriors, faults = enter(contest, asked.files, asked.limit, size)
+    if len(options.files) < size:
+        raise click.UsageError(f"expected at least {size} files for matches of {size}, not {len(options.files)}")
+    contest = contest_of(options)
+    warriors, faults = enter(contest, options.files, options.limit, size)
     for fault in faults:
         tell_fault(fault)
     if len(warriors) < size:

@@ -13,8 +13,8 @@ from click.core import ParameterSource
 
 from ..engine.calls import Match
 from ..engine.sources import Limit, read_warriors
-from ..model.faults import FileFault
-from ..model.settings import FORMULA, HILLS, MOST_WARRIORS, NUMBERS, Settings, whole
+from ..model.errors import FileError
+from ..model.settings import FORMULA, HILLS, MAX_WARRIORS, NUMBERS, Settings, whole
 from .layout import CORE, MATCH, Number, Option
 
 PICTURES = (".png", ".svg", ".pdf")
@@ -23,7 +23,7 @@ HELP = {"help_option_names": ["-h", "--help"], "max_content_width": 120}
 
 
 @dataclass(frozen=True)
-class Asked:
+class BattleOptions:
     """The values of the options of a command about battles."""
 
     files: tuple[str, ...]
@@ -36,9 +36,9 @@ class Asked:
     limit: Limit
 
     def fight(self) -> Match:
-        """The match of the files. Each file is read once. Raises FileFault."""
-        if len(self.files) > MOST_WARRIORS:
-            raise click.UsageError(f"a match has at most {MOST_WARRIORS} warriors, not {len(self.files)}")
+        """The match of the files. Each file is read once. Raises FileError."""
+        if len(self.files) > MAX_WARRIORS:
+            raise click.UsageError(f"a match has at most {MAX_WARRIORS} warriors, not {len(self.files)}")
         warriors = read_warriors(self.files, self.settings, self.rounds, self.limit)
         return Match(warriors, settings=self.settings, rounds=self.rounds, seed=self.seed, position=self.position)
 
@@ -50,7 +50,7 @@ class Output(click.Path):
         if not value:
             self.fail("expected a name, not an empty argument", param, context)
         if self.file_okay and not Path(value).absolute().parent.is_dir():
-            raise FileFault(str(Path(value).parent), "no such folder")
+            raise FileError(str(Path(value).parent), "no such folder")
         return super().convert(value, param, context)
 
 
@@ -66,7 +66,7 @@ class Picture(Output):
 def with_folders(files: Sequence[str]) -> Iterator[str]:
     """Yields files, and in place of each folder the sources in it, by name, without those that are given as files.
 
-    Raises FileFault.
+    Raises FileError.
     """
     given = {os.path.realpath(name) for name in files if not os.path.isdir(name)}
     for name in files:
@@ -75,10 +75,10 @@ def with_folders(files: Sequence[str]) -> Iterator[str]:
             try:
                 paths = [Path(name, one) for one in sorted(os.listdir(name)) if one.endswith(".red")]
             except OSError as fault:
-                raise FileFault(name, fault.strerror or "cannot read") from None
+                raise FileError(name, fault.strerror or "cannot read") from None
             found = [str(path) for path in paths if path.is_file() and os.path.realpath(path) not in given]
         if not found:
-            raise FileFault(
+            raise FileError(
                 name, "no other file in this folder ends in .red" if given else "no file in this folder ends in .red"
             )
         yield from found
@@ -114,7 +114,7 @@ def number_option(name: str, group: str, **how: Any) -> Decorator:
     number = NUMBERS[name]
     words = {number.word, f"--{name.replace('_', '-')}"}
     text = f"{number.meaning[0].upper()}{number.meaning[1:]}, {number.range}"
-    kind = Number(number.least, number.greatest)
+    kind = Number(number.minimum, number.maximum)
     return click.option(*sorted(words), name, cls=Option, group=group, type=kind, help=text, **how)
 
 
@@ -148,7 +148,7 @@ CONTEST = [
     ),
     LIMIT,
 ]
-LAST_ROUND = NUMBERS["rounds"].greatest - 1
+LAST_ROUND = NUMBERS["rounds"].maximum - 1
 ROUND = match_option(
     "--round",
     "round_",
@@ -168,12 +168,12 @@ def with_settings(command: Callable[..., Any]) -> Callable[..., Any]:
     """Replaces the values of `--hill` and of the core options by the argument `settings`."""
 
     @functools.wraps(command)
-    def asking(*, hill: str, **given: Any) -> Any:
+    def wrapper(*, hill: str, **given: Any) -> Any:
         numbers = {name: given.pop(name) for name in vars(Settings())}
         settings = replace(HILLS[hill], **{name: value for name, value in numbers.items() if value is not None})
         return command(settings=settings, **given)
 
-    return asking
+    return wrapper
 
 
 def core_options(command: Callable[..., Any]) -> Callable[..., Any]:
@@ -182,20 +182,22 @@ def core_options(command: Callable[..., Any]) -> Callable[..., Any]:
 
 
 def battle_options(*, one_round: bool = False, needs_files: bool = True) -> Decorator:
-    """Adds the options of a match and the files, as the argument `asked`; with `one_round` also that of a round."""
+    """Adds the options of a match and the files, as the argument `options`; with `one_round` also that of a round."""
 
     def decorate(command: Callable[..., Any]) -> Callable[..., Any]:
         @functools.wraps(command)
-        def asking(*, files: tuple[str, ...], settings: Settings, limit: Limit, round_: int = 0, **given: Any) -> Any:
+        def wrapper(*, files: tuple[str, ...], settings: Settings, limit: Limit, round_: int = 0, **given: Any) -> Any:
             contest: dict[str, Any] = {name: given.pop(name) for name in ("rounds", "seed", "position", "formula")}
             if one_round and round_ >= contest["rounds"] and is_given("rounds"):
                 message = f"a match of {contest['rounds']} has rounds 0 to {contest['rounds'] - 1}"
                 raise click.BadParameter(message, param_hint="--round")
-            return command(Asked(tuple(with_folders(files)), settings, round=round_, limit=limit, **contest), **given)
+            return command(
+                BattleOptions(tuple(with_folders(files)), settings, round=round_, limit=limit, **contest), **given
+            )
 
         files = click.argument(
             "files", nargs=-1, required=needs_files, metavar="FILE..." if needs_files else "[FILE]..."
         )
-        return with_options(*CONTEST, *([ROUND] if one_round else []), *SETTINGS, files)(with_settings(asking))
+        return with_options(*CONTEST, *([ROUND] if one_round else []), *SETTINGS, files)(with_settings(wrapper))
 
     return decorate

@@ -12,11 +12,11 @@ from ..battle.history import History
 from ..engine.calls import assemble
 from ..model.cells import Cell
 from ..model.edits import Edit
-from ..model.faults import Fault, FileFault
+from ..model.errors import FileError, MarsError
 from ..model.settings import whole
 from ..model.printing import printable
 from .layout import Command, Number
-from .options import Asked, Decorator, Output, Picture, battle_options, with_options
+from .options import BattleOptions, Decorator, Output, Picture, battle_options, with_options
 
 
 # What follows the word of an edit: numbers, and a line of source.
@@ -47,9 +47,9 @@ def ends_of(history: History, first: int, turns: int | None, count: int) -> list
 
 
 def named(output: str | None, usual: str, force: bool) -> str:
-    """The file to write. Raises FileFault if it is the usual one, which exists and may not be overwritten."""
+    """The file to write. Raises FileError if it is the usual one, which exists and may not be overwritten."""
     if output is None and os.path.exists(usual) and not force:
-        raise FileFault(usual, "already exists; use --force to overwrite it or -o to name another file")
+        raise FileError(usual, "already exists; use --force to overwrite it or -o to name another file")
     return output or usual
 
 
@@ -70,7 +70,7 @@ def named(output: str | None, usual: str, force: bool) -> str:
 @click.option("--columns", type=Number(1), default=400, show_default=True, help="Maximum number of columns, 1 or more")
 @click.option("--rows", type=Number(1), default=300, show_default=True, help="Maximum number of rows, 1 or more")
 def picture(
-    asked: Asked,
+    options: BattleOptions,
     first: int,
     turns: int | None,
     output: str | None,
@@ -88,7 +88,7 @@ def picture(
     from ..pictures.timeline import View, draw
 
     output = named(output, "battle.png", force)
-    history = History(asked.fight(), asked.round)
+    history = History(options.fight(), options.round)
     shown = cells_of(cells, history.core)
     draw(history, View(ends_of(history, first, turns, rows), shown, min(columns, len(shown))), output)
     click.echo(f"{output}: {history.end} turns")
@@ -124,7 +124,7 @@ def cells_of(text: str | None, core: int) -> range:
     ),
     *output_options(Output(dir_okay=False), "battle.html"),
 )
-def page(asked: Asked, turn: int, edits: tuple[str, ...], output: str | None, force: bool) -> None:
+def page(options: BattleOptions, turn: int, edits: tuple[str, ...], output: str | None, force: bool) -> None:
     """Write a page that shows a battle in a browser.
 
     The page is a single file and loads nothing from the network. It has the simulator inside: every turn of every round
@@ -133,17 +133,17 @@ def page(asked: Asked, turn: int, edits: tuple[str, ...], output: str | None, fo
     from ..pages.render import write_page
     from ..pages.site import page_of
 
-    fight = asked.fight()
-    made = [edit_of(text, asked) for text in edits]
+    fight = options.fight()
+    made = [edit_of(text, options) for text in edits]
     output = named(output, "battle.html", force)
-    write_page(Path(output), page_of(fight, asked.formula, asked.round, turn, made))
+    write_page(Path(output), page_of(fight, options.formula, options.round, turn, made))
     click.echo(f"{output}: {' against '.join(printable(warrior.called) for warrior in fight.warriors)}")
 
 
-def edit_of(text: str, asked: Asked) -> tuple[int, Edit]:
+def edit_of(text: str, options: BattleOptions) -> tuple[int, Edit]:
     """The turn and the edit of `T COMMAND`, in the words of `mars -e`; a cell is a line of source."""
     turn, word, rest = [*text.split(None, 2), "", "", ""][:3]
-    found, core = re.fullmatch(FORMS.get(word, NOTHING), rest), asked.settings.core
+    found, core = re.fullmatch(FORMS.get(word, NOTHING), rest), options.settings.core
     after = whole(turn)
     if after is None or found is None:
         why = f"expected a turn and an edit, as in `100 edit 3 jmp 0`, not `{text}`"
@@ -152,17 +152,17 @@ def edit_of(text: str, asked: Asked) -> tuple[int, Edit]:
     if word != "kill" and numbers[-1] >= core or word == "fill" and numbers[0] > numbers[1]:
         raise click.BadParameter(f"`{text}` is outside the core, cells 0 to {core - 1}", param_hint="--edit")
     if word in ("edit", "fill"):
-        return after, Edit.fill(numbers[0], numbers[-1], cell_of_line(found["line"], asked))
+        return after, Edit.fill(numbers[0], numbers[-1], cell_of_line(found["line"], options))
     if word == "move":
         return after, Edit.move(*numbers)
     return after, Edit.kill(*numbers) if word == "kill" else Edit.add(*numbers)
 
 
-def cell_of_line(line: str, asked: Asked) -> Cell:
+def cell_of_line(line: str, options: BattleOptions) -> Cell:
     """The cell that a line of source makes."""
     try:
-        warrior = assemble(f"{line}\n", settings=asked.settings, rounds=asked.rounds, warriors=len(asked.files))
-    except Fault as fault:
+        warrior = assemble(f"{line}\n", settings=options.settings, rounds=options.rounds, warriors=len(options.files))
+    except MarsError as fault:
         raise click.BadParameter(f"`{line}` is not an instruction: {fault}", param_hint="--edit") from None
     cell: Cell = warrior.cells[-1].tolist()
     return cell

@@ -12,13 +12,13 @@ from ..battle.rounds import portions, rounds_of, sums
 from ..engine.calls import Match, Row, match
 from ..model.printing import printable
 from .layout import Command
-from .options import Asked, Output, battle_options
+from .options import BattleOptions, Output, battle_options
 from .waiting import awaited, progress
 
 # The number of cycles after which the bar moves, at most a quarter of a second of two warriors.
 CYCLES = 6_000_000
 # Points are 64 bits with a sign.
-LARGEST = 2**63 - 1
+MAX_POINTS = 2**63 - 1
 
 
 def rows_of(fought: Match, formula: str) -> list[Row]:
@@ -33,20 +33,20 @@ def rows_of(fought: Match, formula: str) -> list[Row]:
             counts += [astuple(row) for row in run(part)]
             advance(part.rounds)
     # The library refuses points that do not fit, also if those of each part do.
-    return [Row(*row) for row in counts.tolist()] if abs(counts).max() <= LARGEST else run(fought)
+    return [Row(*row) for row in counts.tolist()] if abs(counts).max() <= MAX_POINTS else run(fought)
 
 
 @click.command(
     cls=Command, examples=["corewar fight dwarf.red imp.red", "corewar fight -r 100 --hill 94x one.red two.red"]
 )
 @battle_options()
-def fight(asked: Asked) -> None:
+def fight(options: BattleOptions) -> None:
     """Run a match and print its results.
 
     Each row shows the points of a warrior, and the rounds that it won, tied and lost.
     """
-    fought = asked.fight()
-    rows = rows_of(fought, asked.formula)
+    fought = options.fight()
+    rows = rows_of(fought, options.formula)
     click.echo("  points   wins   ties losses  warrior")
     for row, warrior in zip(rows, fought.warriors):
         click.echo(f"{row.points:8} {row.wins:6} {row.ties:6} {row.losses:6}  {printable(warrior.title)}")
@@ -63,12 +63,12 @@ def fight(asked: Asked) -> None:
     type=Output(file_okay=False),
     help="Write a page that shows each round, and an index, into this folder",
 )
-def rounds(asked: Asked, pages: str | None) -> None:
+def rounds(options: BattleOptions, pages: str | None) -> None:
     """Print the outcome of every round, with the command to debug it.
 
     The outcomes are in the order of the files.
     """
-    fought = asked.fight()
+    fought = options.fight()
     width = 5 * len(fought.warriors)
     for number, warrior in enumerate(fought.warriors):
         click.echo(f"warrior {number}: {printable(warrior.title)}")
@@ -76,11 +76,11 @@ def rounds(asked: Asked, pages: str | None) -> None:
     if pages:
         from ..pages.match import Pages
 
-        written = Pages(pages, fought, asked.formula)
+        written = Pages(pages, fought, options.formula)
     outcomes = []
-    for one in rounds_of(fought, asked.rounds):
-        told, words = "".join(f"{what:5}" for what in one.outcomes), printable(command(one.history, "debug"))
-        click.echo(f"{one.history.round:5} {told:{max(width, 7)}} {one.history.end:7}  {words}")
+    for one in rounds_of(fought, options.rounds):
+        outcome, words = "".join(f"{what:5}" for what in one.outcomes), printable(command(one.history, "debug"))
+        click.echo(f"{one.history.round:5} {outcome:{max(width, 7)}} {one.history.end:7}  {words}")
         outcomes.append(one.outcomes)
         if pages:
             written.add(one)

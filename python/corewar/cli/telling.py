@@ -3,8 +3,8 @@ from __future__ import annotations
 
 import click
 
-from ..explain import told
-from ..model.faults import Fault, FileFault, Refused
+from ..explain import explain_error
+from ..model.errors import CorewarError, FileError, MarsError
 from ..model.printing import printable
 
 
@@ -13,9 +13,11 @@ def tell(text: str) -> None:
     click.echo("\n".join(f"corewar: {printable(line)}" for line in text.split("\n")), err=True)
 
 
-def tell_fault(refused: Refused) -> None:
+def tell_fault(refused: CorewarError) -> None:
     """Reports an error, and what it means if it is one of the library."""
     tell(str(refused))
-    fault, source = (refused.fault, refused.text) if isinstance(refused, FileFault) else (refused, b"")
-    if isinstance(fault, Fault):
-        click.echo("".join(f"  {printable(sentence)}\n" for sentence in told(fault, source)), err=True, nl=False)
+    fault, source = (refused.fault, refused.text) if isinstance(refused, FileError) else (refused, b"")
+    if isinstance(fault, MarsError):
+        click.echo(
+            "".join(f"  {printable(sentence)}\n" for sentence in explain_error(fault, source)), err=True, nl=False
+        )

@@ -7,7 +7,7 @@ from pathlib import Path
 import click
 
 from ..model.header import CHECKOUT, INSTALLED
-from ..model.faults import FileFault
+from ..model.errors import FileError
 from .layout import Command, Number
 from .options import Output
 
@@ -47,7 +47,7 @@ def web(port: int, browser: bool, results: str | None, files: tuple[str, ...]) -
     signal.signal(signal.SIGTERM, signal.default_int_handler)
     for name in files:
         if not Path(name).exists():
-            raise FileFault(name, "No such file or directory")
+            raise FileError(name, "No such file or directory")
     examples = sources_of([path for path in EXAMPLES if path.is_dir()][:1])
     folder = Folder([Path(name) for name in files or (".",)], examples)
     serve(Served(site(), folder, results), port, browser, click.echo)

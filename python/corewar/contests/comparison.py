@@ -38,7 +38,7 @@ class Comparison:
         error = float(100 * changes.std(ddof=1) / np.sqrt(len(changes))) if self.is_drawn else None
         return old, new, new - old, error
 
-    def told(self, only_sum: bool = False) -> Iterator[str]:
+    def describe(self, only_sum: bool = False) -> Iterator[str]:
         """Describes the comparison: a row for each opponent unless `only_sum`, the means, and what they show."""
         yield "     old      new   change   error  opponent"
         width = max(len(one.file) for one in self.opponents)

@@ -14,7 +14,7 @@ from ..engine.calls import assemble, match
 from ..engine.outcomes import played, table_of
 from ..engine.sources import Assembler, Limit, read_warrior
 from ..engine.warriors import Warrior
-from ..model.faults import SCORE, Fault, FileFault, Refused
+from ..model.errors import SCORE, CorewarError, FileError, MarsError
 from ..model.settings import FORMULA, NUMBERS, Settings
 
 # Rows of five numbers: points, wins, ties and losses of the first warrior, and points of the second one.
@@ -46,7 +46,7 @@ class Contest:
 
 
 def fight(contest: Contest, warriors: Mapping[int, Warrior], pairs: Pairs) -> Counts:
-    """Runs the matches of some pairs and returns their counts, a row for each. Raises `Fault`."""
+    """Runs the matches of some pairs and returns their counts, a row for each. Raises `MarsError`."""
     numbers, places = np.unique(pairs, return_inverse=True)
     table = table_of(places.reshape(pairs.shape), contest.seed)
     fighters = [warriors[number] for number in numbers.tolist()]
@@ -58,14 +58,14 @@ def fight(contest: Contest, warriors: Mapping[int, Warrior], pairs: Pairs) -> Co
     values = [score_of(contest.formula, 2, left) if many.any() else 0 for left, many in ((1, wins), (2, ties))]
     points = wins.astype(object) * values[0] + ties[:, None].astype(object) * values[1]
     if any(not fits(one) for one in points.ravel()):
-        raise Fault(SCORE, 4)
+        raise MarsError(SCORE, 4)
     losses = contest.rounds - wins[:, 0] - ties
     return np.column_stack([points[:, 0], wins[:, 0], ties, losses, points[:, 1]]).astype(np.int64)
 
 
 @lru_cache(maxsize=None)
 def score_of(formula: str, warriors: int, survivors: int) -> int:
-    """Returns the value of a formula as the library computes it, in a round that ends in this way. Raises `Fault`."""
+    """Returns the value of a formula as the library computes it, in a round that ends so. Raises `MarsError`."""
     lives, dies = assemble("JMP 0", settings=TINY), assemble("DAT 0", settings=TINY)
     return match([lives] * survivors + [dies] * (warriors - survivors), settings=TINY, formula=formula)[0].points
 
@@ -76,20 +76,20 @@ def fits(points: int) -> bool:
 
 
 def checked(counts: object, matches: int, rounds: int) -> Counts:
-    """Returns the counts of a number of matches, which come from a file or from another machine. Raises Refused if they
-    are not the counts of any matches of that many rounds.
+    """Returns the counts of a number of matches, which come from a file or from another machine. Raises CorewarError if
+    they are not the counts of any matches of that many rounds.
     """
     try:
         table = np.array(counts)
     except (ValueError, OverflowError):
         table = np.empty(0)
     if table.shape != (matches, 5) or not (matches == 0 or table.dtype.kind == "i"):
-        raise Refused(f"expected five whole numbers for each of {matches} matches")
+        raise CorewarError(f"expected five whole numbers for each of {matches} matches")
     outcomes = table[:, 1:4]
     wrong = np.flatnonzero((outcomes < 0).any(axis=1) | (outcomes > rounds).any(axis=1) | (outcomes.sum(1) != rounds))
     if len(wrong):
         wins, ties, losses = outcomes[wrong[0]].tolist()
-        raise Refused(f"a match of {rounds} rounds cannot have {wins} wins, {ties} ties and {losses} losses")
+        raise CorewarError(f"a match of {rounds} rounds cannot have {wins} wins, {ties} ties and {losses} losses")
     return table.astype(np.int64)
 
 
@@ -103,16 +103,16 @@ def digests_of(warrior: Warrior) -> tuple[bytes, bytes]:
 
 def enter(
     contest: Contest, files: Sequence[str], limit: Limit, count: int = 2
-) -> tuple[list[Warrior], list[FileFault]]:
+) -> tuple[list[Warrior], list[FileError]]:
     """Returns the warriors of files, for matches of `count` warriors, in order, and the errors of the other files.
-    Raises `Fault` for the settings.
+    Raises `MarsError` for the settings.
     """
     warriors, faults = [], []
     with Assembler(limit) as assembler:
         for file in files:
             try:
                 warriors.append(read_warrior(assembler.assemble, file, contest.settings, contest.rounds, count))
-            except FileFault as left:
+            except FileError as left:
                 faults.append(left)
     return warriors, faults
 
@@ -146,7 +146,7 @@ class Matches:
 
     def take_kept(self, kept: Iterator[tuple[Any, ...]]) -> int:
         """Fills in what was stored, by two digests and counts. Returns how many matches are stored only with the
-        warriors in the other order. Raises Refused if the counts are not those of a match.
+        warriors in the other order. Raises CorewarError if the counts are not those of a match.
         """
         numbers: dict[bytes, set[int]] = {}
         for number, digests in enumerate(zip(self.digests, self._older)):

@@ -64,11 +64,11 @@ def melee(
     """Runs the matches of `count` random lineups of `size` warriors, and returns the results, the best first.
 
     The seed of the contest draws the lineups and the seed of each match. `advance` gets the number of matches each time
-    some have been run. Raises `Fault`.
+    some have been run. Raises `MarsError`.
     """
     dice = random.Random(contest.seed)
     lineups = lineups_of(len(warriors), size, count, dice)
-    seeds = [dice.randint(1, NUMBERS["seed"].greatest) for _ in lineups]
+    seeds = [dice.randint(1, NUMBERS["seed"].maximum) for _ in lineups]
     numbers: dict[str, Any] = {"settings": contest.settings, "rounds": contest.rounds, "position": contest.position}
     step, parts = jobs * max(1, CYCLES // (contest.rounds * contest.settings.cycles)), list[NDArray[Any]]()
     for at in range(0, count, step):

@@ -13,7 +13,7 @@ from typing import Any
 import numpy as np
 
 from ..engine.binding import library
-from ..model.faults import Refused
+from ..model.errors import CorewarError
 from ..engine.warriors import Warrior
 from .contest import Contest, Counts, Matches, Pairs, Rows, checked, fight
 
@@ -40,7 +40,9 @@ class Place:
     counts_of: Callable[[Future[Any]], object] = Future.result
 
     def fight(self, matches: Matches) -> Iterator[Rows]:
-        """Runs the matches that are left. Yields the rows of each bundle with its counts filled in. Raises Refused."""
+        """Runs the matches that are left. Yields the rows of each bundle with its counts filled in. Raises
+        CorewarError.
+        """
         bundles = matches.bundles(self.cycles)
         out: dict[Future[Any], Rows] = {}
         while True:
@@ -54,8 +56,8 @@ class Place:
                 counts = self.counts_of(future)
                 try:
                     matches.fill_in(rows, checked(counts, len(rows), matches.contest.rounds))
-                except Refused as fault:
-                    raise Refused(f"invalid result from a worker: {fault}") from None
+                except CorewarError as fault:
+                    raise CorewarError(f"invalid result from a worker: {fault}") from None
                 yield rows
             if not done:
                 self.look()
@@ -90,23 +92,23 @@ def fight_there(wanted: str, contest: Contest, warriors: dict[int, Warrior], pai
         if versions() != wanted:
             return f"a worker has {versions()}, but this league is run by {wanted}"
         return fight(contest, warriors, pairs)
-    except Refused as fault:
+    except CorewarError as fault:
         return str(fault)
 
 
 def counts_there(future: Future[Counts | str]) -> object:
-    """Returns what a worker has sent as the counts of a bundle. Raises Refused."""
+    """Returns what a worker has sent as the counts of a bundle. Raises CorewarError."""
     try:
         counts = future.result()
     except CancelledError:
-        raise Refused("lost the connection to the scheduler") from None
+        raise CorewarError("lost the connection to the scheduler") from None
     except ModuleNotFoundError as fault:
-        raise Refused(f"this package is not installed on a worker: {fault}") from None
+        raise CorewarError(f"this package is not installed on a worker: {fault}") from None
     except Exception as fault:
         # A submitted call raises nothing itself: a worker could not load it, or a bundle has ended several workers.
-        raise Refused(f"error on the workers: {' '.join(str(fault).split())}") from None
+        raise CorewarError(f"error on the workers: {' '.join(str(fault).split())}") from None
     if isinstance(counts, str):
-        raise Refused(counts)
+        raise CorewarError(counts)
     return counts
 
 
@@ -129,18 +131,18 @@ def teller_of_absence(client: Any) -> Callable[[], None]:
 
 @contextmanager
 def cluster(matches: Matches, address: str) -> Iterator[Place]:
-    """Runs matches on the workers of a Dask scheduler. Unfinished ones are dropped at the end. Raises Refused."""
+    """Runs matches on the workers of a Dask scheduler. Unfinished ones are dropped at the end. Raises CorewarError."""
     try:
         import distributed
     except ImportError:
-        raise Refused(NO_PACKAGE) from None
+        raise CorewarError(NO_PACKAGE) from None
     # Dask logs a traceback for each dropped match; errors that end a league are raised.
     logging.disable()
     try:
         begin: Any = distributed.Client
         client = begin(address, timeout=10, set_as_default=False)
     except (OSError, ValueError) as fault:
-        raise Refused(f"--scheduler {address}: {fault}") from None
+        raise CorewarError(f"--scheduler {address}: {fault}") from None
 
     def submit(rows: Rows) -> Future[Any]:
         pairs = matches.pairs[rows]

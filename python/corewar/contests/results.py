@@ -15,7 +15,7 @@ from collections.abc import Callable, Iterator
 from contextlib import contextmanager
 from typing import Any, TypeVar
 
-from ..model.faults import Refused
+from ..model.errors import CorewarError
 from ..model.printing import printable
 from .contest import Matches, Rows
 
@@ -35,7 +35,7 @@ Done = TypeVar("Done")
 
 
 class Results:
-    """The stored results of some matches. Waiting results are written at the end. Raises Refused for the file."""
+    """The stored results of some matches. Waiting results are written at the end. Raises CorewarError for the file."""
 
     def __init__(self, path: str, matches: Matches) -> None:
         self.path, self.matches, self.contest = path, matches, shlex.join(matches.contest.words)
@@ -59,15 +59,15 @@ class Results:
         try:
             yield
         except sqlite3.Error as fault:
-            raise Refused(f"{self.path}: {fault}") from None
+            raise CorewarError(f"{self.path}: {fault}") from None
 
     def find(self) -> int:
         """Fills in the stored matches. Returns how many are stored only in the other order."""
         with self.telling():
             try:
                 return self.matches.take_kept(self.patiently(lambda: self.file.execute(FIND, [self.contest])))
-            except Refused as fault:
-                raise Refused(f"{self.path}: invalid result: {fault}") from None
+            except CorewarError as fault:
+                raise CorewarError(f"{self.path}: invalid result: {fault}") from None
 
     def keep(self, rows: Rows) -> None:
         """Stores the results of some rows."""

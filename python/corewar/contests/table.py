@@ -8,7 +8,7 @@ from typing import Any
 import numpy as np
 from numpy.typing import NDArray
 
-from ..model.faults import SCORE, Fault
+from ..model.errors import SCORE, MarsError
 from .contest import Matches, fits
 from .scores import HEAD, NAMES, RATES, csv_text, error_of, json_text, names_of, ranks_of, rates_of
 
@@ -28,7 +28,7 @@ class League:
         self.against[second, first] = matches.counts[:, [4, 3, 2, 1]]
         points: list[int] = [sum(line) for line in self.against[..., 0].tolist()]
         if not all(map(fits, points)):
-            raise Fault(SCORE, 4)
+            raise MarsError(SCORE, 4)
         best = sorted(range(len(points)), key=points.__getitem__, reverse=True)
         self.ranks = {number: rank for rank, number in enumerate(best, 1)}
         self.order = best if by_points else sorted(best)

@@ -7,22 +7,22 @@ from typing import NoReturn
 
 import numpy as np
 
-from ..analysis.causes import cause_told, change_told, death_told
+from ..analysis.causes import describe_cause, describe_change, describe_death
 from ..analysis.telling import counted
 from ..battle.conditions import Condition, search
-from ..explain.instructions import instruction_told
+from ..explain.instructions import describe_instruction
 from ..model.cells import MODES
 from ..model.edits import Edit
-from ..model.faults import Refused
+from ..model.errors import CorewarError
 from ..model.settings import whole
-from .session import MOST_FILLED, Session
+from .session import MAX_FILLED_CELLS, Session
 
 Act = Callable[[Session, str], Iterable[str]]
 # How many cells `list` shows, also around each warrior's next process, and how many turns before a death `why` shows.
 CELLS, AROUND, TURNS = 11, 7, 4
 
 
-class Left(Exception):
+class QuitDebugger(Exception):
     """The user quits."""
 
 
@@ -33,7 +33,7 @@ class Command:
     """
 
     usage: str
-    told: str
+    summary: str
     short: tuple[str, ...]
     repeats: bool
     act: Act
@@ -46,11 +46,11 @@ class Command:
 COMMANDS: dict[str, Command] = {}
 
 
-def command(usage: str, told: str, *short: str, repeats: bool = False) -> Callable[[Act], Act]:
+def command(usage: str, summary: str, *short: str, repeats: bool = False) -> Callable[[Act], Act]:
     """Enters a function into the table."""
 
     def enter(act: Act) -> Act:
-        made = Command(usage, told, short, repeats, act)
+        made = Command(usage, summary, short, repeats, act)
         COMMANDS[made.name] = made
         return act
 
@@ -58,20 +58,22 @@ def command(usage: str, told: str, *short: str, repeats: bool = False) -> Callab
 
 
 def find_command(word: str) -> Command:
-    """Finds a command by its name, a short name, or the first letters of its name. Raises Refused."""
+    """Finds a command by its name, a short name, or the first letters of its name. Raises CorewarError."""
     found = [one for one in COMMANDS.values() if word == one.name or word in one.short]
     found = found or [one for one in COMMANDS.values() if one.name.startswith(word)]
     if len(found) != 1:
-        told = ", ".join(one.name for one in found)
-        raise Refused(f"`{word}` can mean {told}" if found else f"unknown command `{word}`; `help` lists all commands")
+        names = ", ".join(one.name for one in found)
+        raise CorewarError(
+            f"`{word}` can mean {names}" if found else f"unknown command `{word}`; `help` lists all commands"
+        )
     return found[0]
 
 
 def here(session: Session) -> Iterator[str]:
     """The turn that led here, and what comes next."""
     if session.turn:
-        yield session.teller.turn(session.turn)
-    yield session.teller.following(session.turn)
+        yield session.formatter.turn(session.turn)
+    yield session.formatter.following(session.turn)
 
 
 def step_by(session: Session, rest: str, sign: int) -> Iterator[str]:
@@ -81,7 +83,7 @@ def step_by(session: Session, rest: str, sign: int) -> Iterator[str]:
         found = search(session.history, [Condition("moves", warrior, warrior)], session.turn, sign > 0)
         if found is None:
             where = "after" if sign > 0 else "before"
-            raise Refused(f"{session.names[warrior]} has no turn {where} turn {session.turn}")
+            raise CorewarError(f"{session.names[warrior]} has no turn {where} turn {session.turn}")
         session.go(found[0])
     else:
         to = session.turn + sign * session.number(rest or "1", "a number of turns")
@@ -110,7 +112,7 @@ def goto(session: Session, rest: str) -> Iterator[str]:
     turn = {"start": 0, "end": end}.get(rest)
     turn = session.number(rest, "the number of a turn, `start` or `end`") if turn is None else turn
     if turn > end:
-        raise Refused(f"the battle has turns 0 to {end}")
+        raise CorewarError(f"the battle has turns 0 to {end}")
     session.go(turn)
     yield from here(session)
 
@@ -126,8 +128,10 @@ def until(session: Session, rest: str) -> Iterator[str]:
             yield from here(session)
             return
     if passed:
-        raise Refused(f"cycle {cycle} is already completed in turn {session.turn}; use `goto` with an earlier turn")
-    raise Refused(f"the battle ends before cycle {cycle} is completed")
+        raise CorewarError(
+            f"cycle {cycle} is already completed in turn {session.turn}; use `goto` with an earlier turn"
+        )
+    raise CorewarError(f"the battle ends before cycle {cycle} is completed")
 
 
 @command("continue [CONDITION]", "go to the next breakpoint, or to where the condition holds next", "c", repeats=True)
@@ -144,7 +148,7 @@ def go_back(session: Session, rest: str) -> Iterator[str]:
 
 def searched(session: Session, rest: str, forward: bool) -> Iterator[str]:
     conditions = [session.condition(rest.split())] if rest else session.breaks
-    yield f"{session.told(session.search(conditions, forward))}:"
+    yield f"{session.describe_condition(session.search(conditions, forward))}:"
     yield from here(session)
 
 
@@ -153,7 +157,7 @@ def set_break(session: Session, rest: str) -> Iterator[str]:
     if rest:
         session.breaks.append(session.condition(rest.split()))
     for number, condition in enumerate(session.breaks):
-        yield f"breakpoint {number}: {session.told(condition)}"
+        yield f"breakpoint {number}: {session.describe_condition(condition)}"
 
 
 @command("delete N", "delete breakpoint N, or `all` breakpoints", "d")
@@ -163,7 +167,7 @@ def delete(session: Session, rest: str) -> Iterator[str]:
     else:
         number = whole(rest)
         if number is None or number >= len(session.breaks):
-            raise Refused(f"no breakpoint `{rest}`; expected a number or `all`")
+            raise CorewarError(f"no breakpoint `{rest}`; expected a number or `all`")
         del session.breaks[number]
     yield from set_break(session, "")
 
@@ -193,31 +197,31 @@ def edit(session: Session, rest: str) -> Iterator[str]:
     first, _, line = rest.partition(" ")
     address = session.address(first)
     cell = session.cell(address, line.strip())
-    old = session.teller.cell(session.history.block(session.turn).cell(address, session.turn))
+    old = session.formatter.cell(session.history.block(session.turn).cell(address, session.turn))
     session.edit(Edit.set(address, cell))
-    yield f"{session.teller.where(address)}: {old} -> {session.teller.cell(cell)}"
+    yield f"{session.formatter.where(address)}: {old} -> {session.formatter.cell(cell)}"
 
 
 @command("fill A B LINE", "set the cells from A to B to a line of source")
 def fill(session: Session, rest: str) -> Iterator[str]:
     words = rest.split(None, 2)
     if len(words) != 3:
-        raise Refused("expected two addresses and a line of source")
+        raise CorewarError("expected two addresses and a line of source")
     first, last = session.address(words[0]), session.address(words[1])
     if last < first:
-        raise Refused(f"cannot fill {first} to {last}: the first address is above the last")
-    if last - first >= MOST_FILLED:
-        raise Refused(f"cannot fill {first} to {last}: expected at most {MOST_FILLED} cells")
+        raise CorewarError(f"cannot fill {first} to {last}: the first address is above the last")
+    if last - first >= MAX_FILLED_CELLS:
+        raise CorewarError(f"cannot fill {first} to {last}: expected at most {MAX_FILLED_CELLS} cells")
     cell = session.cell(first, words[2])
     session.edit(Edit.fill(first, last, cell))
-    yield f"{first} to {last}: {session.teller.cell(cell)}"
+    yield f"{first} to {last}: {session.formatter.cell(cell)}"
 
 
 @command("move W I A", "move process I of warrior W to A; process 0 is the next one")
 def move(session: Session, rest: str) -> Iterator[str]:
     words = rest.rsplit(None, 2)
     if len(words) != 3:
-        raise Refused("expected a warrior, the index of a process and an address")
+        raise CorewarError("expected a warrior, the index of a process and an address")
     warrior = session.warrior(words[0])
     session.edit(Edit.move(warrior, session.process(warrior, words[1]), session.address(words[2])))
     yield from queue(session, words[0])
@@ -238,7 +242,7 @@ def spawn(session: Session, rest: str) -> Iterator[str]:
     count = len(session.history.block(session.turn).queue(warrior, session.turn))
     if not 0 < count < session.history.fight.settings.processes:
         why = f"has {counted(count, 'process')}, the maximum" if count else "is dead"
-        raise Refused(f"cannot add a process: {session.names[warrior]} {why}")
+        raise CorewarError(f"cannot add a process: {session.names[warrior]} {why}")
     session.edit(Edit.add(warrior, address))
     yield from queue(session, name)
 
@@ -248,7 +252,7 @@ def futures(session: Session, rest: str) -> Iterator[str]:
     if rest:
         number = session.number(rest, "the number of a future")
         if number >= len(session.futures):
-            raise Refused(f"no future {number}; there are futures 0 to {len(session.futures) - 1}")
+            raise CorewarError(f"no future {number}; there are futures 0 to {len(session.futures) - 1}")
         history = session.futures[number]
         session.go(min(session.turn, history.end), history)
     for number, history in enumerate(session.futures):
@@ -258,17 +262,17 @@ def futures(session: Session, rest: str) -> Iterator[str]:
 
 @command("list [A [N]]", "list N cells from A on, or the cells around each warrior's next process", "l", repeats=True)
 def list_cells(session: Session, rest: str) -> Iterator[str]:
-    core, teller, turn = session.history.core, session.teller, session.turn
+    core, formatter, turn = session.history.core, session.formatter, session.turn
     if rest:
         first, _, count = rest.partition(" ")
-        most = session.number(count, "a number of cells") if count else CELLS
-        yield from teller.cells(turn, session.address(first), min(most, core))
+        length = session.number(count, "a number of cells") if count else CELLS
+        yield from formatter.cells(turn, session.address(first), min(length, core))
         return
     for number in range(len(session.names)):
         queue = session.history.block(turn).queue(number, turn)
         if len(queue):
-            yield f"{teller.names[number]}:"
-            yield from teller.cells(turn, int(queue[0]) - AROUND // 2, min(AROUND, core))
+            yield f"{formatter.names[number]}:"
+            yield from formatter.cells(turn, int(queue[0]) - AROUND // 2, min(AROUND, core))
 
 
 @command("queue [W]", "list the addresses of the processes of warrior W, the next one first", "p")
@@ -276,7 +280,7 @@ def queue(session: Session, rest: str) -> Iterator[str]:
     block = session.history.block(session.turn)
     warrior = session.warrior(rest) if rest else block.following(session.turn)
     addresses = " ".join(map(str, block.queue(warrior, session.turn)))
-    yield f"{session.teller.names[warrior]}: {addresses}".rstrip()
+    yield f"{session.formatter.names[warrior]}: {addresses}".rstrip()
 
 
 @command("show", "show the turn, the cycle and the state of each warrior", "i")
@@ -284,25 +288,25 @@ def show(session: Session, _: str) -> Iterator[str]:
     end, turn = session.history.end, session.turn
     state = "over" if turn == end else f"of {end} turns"
     yield f"turn {turn}, cycle {session.history.block(turn).cycle(turn)}, battle {state}"
-    yield from session.teller.standing(turn)
+    yield from session.formatter.standing(turn)
 
 
 @command("why [W]", "explain why warrior W died, or how the next cell to execute got its value")
 def why(session: Session, rest: str) -> Iterator[str]:
-    turn, teller = session.turn, session.teller
+    turn, formatter = session.turn, session.formatter
     died = [int(number) for number, when in session.history.deaths(turn).tolist() if when == turn]
     if rest or died:
-        yield from death_told(teller, session.warrior(rest) if rest else died[0], TURNS)
+        yield from describe_death(formatter, session.warrior(rest) if rest else died[0], TURNS)
         return
-    yield teller.following(turn)
+    yield formatter.following(turn)
     address = session.history.head(turn)
     if address is not None:
-        yield from cause_told(teller, address, turn)
+        yield from describe_cause(formatter, address, turn)
 
 
 @command("changed A", "find the last turn up to here that changed cell A")
 def changed(session: Session, rest: str) -> Iterator[str]:
-    yield from change_told(session.teller, session.address(rest), session.turn)
+    yield from describe_change(session.formatter, session.address(rest), session.turn)
 
 
 @command("explain [A]", "say in words what the instruction at A does, or the next one to execute")
@@ -314,8 +318,8 @@ def explain(session: Session, rest: str) -> Iterator[str]:
         labels.get((address + int(cell[number])) % core, "") if MODES[cell[mode]] != "#" and cell[number] else ""
         for number, mode in (("a", "a_mode"), ("b", "b_mode"))
     ]
-    yield f"{session.teller.where(address)}: {session.teller.cell(cell)}"
-    yield instruction_told(session.teller.cell(cell), (names[0], names[1]))
+    yield f"{session.formatter.where(address)}: {session.formatter.cell(cell)}"
+    yield describe_instruction(session.formatter.cell(cell), (names[0], names[1]))
 
 
 CONDITIONS = """A CONDITION, for continue, reverse-continue and break:
@@ -336,17 +340,17 @@ moves or lists."""
 def tell_help(session: Session, rest: str) -> Iterator[str]:
     for one in [find_command(rest)] if rest else COMMANDS.values():
         short = f" ({', '.join(one.short)})" if one.short else ""
-        yield f"{one.usage:29}{one.told}{short}"
+        yield f"{one.usage:29}{one.summary}{short}"
     if not rest or "CONDITION" in find_command(rest).usage:
         yield CONDITIONS
 
 
 @command("quit", "quit the debugger", "q")
 def leave(session: Session, _: str) -> NoReturn:
-    raise Left
+    raise QuitDebugger
 
 
 def execute(session: Session, line: str) -> list[str]:
-    """Executes the command of a line and returns the lines to show. Raises Refused, and Left."""
+    """Executes the command of a line and returns the lines to show. Raises CorewarError, and QuitDebugger."""
     word, _, rest = line.strip().partition(" ")
     return list(find_command(word).act(session, rest.strip()))

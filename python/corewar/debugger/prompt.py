@@ -20,15 +20,15 @@ from pygments.lexers.esoteric import RedcodeLexer
 
 from ..battle.conditions import OF_CELLS, OF_WARRIORS
 from ..engine.sources import read_file
-from ..model.faults import Refused
+from ..model.errors import CorewarError
 from ..model.printing import printable
-from .commands import COMMANDS, Command, Left, execute, find_command
+from .commands import COMMANDS, Command, QuitDebugger, execute, find_command
 from .session import Session
 
 # The colours of warriors, as a terminal numbers them.
 PAINTS = (91, 94, 92, 93, 95, 96, 31, 34, 32, 33, 35, 36)
 # How deep `source` may be nested.
-DEEPEST = 8
+MAX_DEPTH = 8
 
 
 def paint(number: int, text: str) -> str:
@@ -44,14 +44,14 @@ class Words(Completer):
 
     def get_completions(self, document: Document, _: CompleteEvent) -> Iterator[Completion]:
         before, word = document.text_before_cursor, document.get_word_before_cursor(WORD=True)
-        for text, told in self.candidates(before.split(), not word):
+        for text, summary in self.candidates(before.split(), not word):
             if text.lower().startswith(word.lower()):
-                yield Completion(text, -len(word), display_meta=told)
+                yield Completion(text, -len(word), display_meta=summary)
 
     def candidates(self, words: list[str], is_new: bool) -> Iterator[tuple[str, str]]:
         """Yields what the last word can be completed to, each with its meaning."""
         if len(words) + is_new <= 1:
-            yield from ((one.name, one.told) for one in COMMANDS.values())
+            yield from ((one.name, one.summary) for one in COMMANDS.values())
             return
         if words[0] in ("help", "h"):
             yield from ((name, "") for name in COMMANDS)
@@ -66,7 +66,7 @@ def command_of(line: str) -> Command | None:
     """Returns the command of a line, or None."""
     try:
         return find_command(line.split()[0])
-    except (IndexError, Refused):
+    except (IndexError, CorewarError):
         return None
 
 
@@ -94,7 +94,7 @@ class Runner:
         self.depth = 0
 
     def make(self, line: str) -> None:
-        """Executes a line and shows the result. Raises Left."""
+        """Executes a line and shows the result. Raises QuitDebugger."""
         word, _, file = line.strip().partition(" ")
         try:
             name = find_command(word).name if word else ""
@@ -105,7 +105,7 @@ class Runner:
             elif name:
                 self.show("\n".join(execute(self.session, line)))
                 self.keep(line.strip())
-        except Refused as fault:
+        except CorewarError as fault:
             self.show("\n".join(map(printable, str(fault).split("\n"))))
 
     def begin_log(self, file: str) -> None:
@@ -116,7 +116,7 @@ class Runner:
         try:
             self.log = open(file, "x") if file else None
         except (OSError, ValueError) as fault:
-            raise Refused(f"{file}: {fault.strerror if isinstance(fault, OSError) else fault}") from None
+            raise CorewarError(f"{file}: {fault.strerror if isinstance(fault, OSError) else fault}") from None
 
     def keep(self, line: str) -> None:
         """Logs a line that was executed. If that fails, the log is closed."""
@@ -126,12 +126,12 @@ class Runner:
             print(line, file=self.log, flush=True)
         except OSError as fault:
             name, self.log = self.log.name, None
-            raise Refused(f"{name}: {fault.strerror}") from None
+            raise CorewarError(f"{name}: {fault.strerror}") from None
 
     def make_all(self, file: str) -> None:
         """Executes the lines of a file, which may contain `source` again."""
-        if self.depth == DEEPEST:
-            raise Refused(f"{file}: `source` is nested more than {DEEPEST} deep")
+        if self.depth == MAX_DEPTH:
+            raise CorewarError(f"{file}: `source` is nested more than {MAX_DEPTH} deep")
         self.depth += 1
         try:
             # All of it is read first: it may be the log, which grows.
@@ -151,7 +151,7 @@ def run_lines(session: Session, lines: Iterable[str]) -> None:
     try:
         for line in lines:
             runner.make(line)
-    except Left:
+    except QuitDebugger:
         return
 
 
@@ -187,7 +187,7 @@ def run_prompt(session: Session, coloured: bool) -> None:
             last = line if command and command.repeats else ""
         except KeyboardInterrupt:
             continue
-        except (EOFError, Left):
+        except (EOFError, QuitDebugger):
             return
 
 

@@ -5,19 +5,19 @@ import re
 from collections.abc import Callable, Sequence
 from dataclasses import dataclass, field
 
-from ..analysis.telling import Teller
+from ..analysis.telling import BattleFormatter
 from ..battle.conditions import OF_CELLS, OF_WARRIORS, Condition, search
 from ..battle.history import History
 from ..battle.labels import Sources
 from ..engine.calls import assemble
-from ..explain import told
+from ..explain import explain_error
 from ..model.cells import Cell
 from ..model.edits import Edit
-from ..model.faults import Fault, Refused
+from ..model.errors import CorewarError, MarsError
 from ..model.settings import whole
 
 # The most cells that one edit fills, as the debugger of the program has it.
-MOST_FILLED = 1_000_000
+MAX_FILLED_CELLS = 1_000_000
 WORD = re.compile(r"[A-Za-z_]\w*")
 CONDITION = "expected a condition: at, changes or reads A[..B] [by W], or splits, ends or dies W"
 
@@ -39,8 +39,8 @@ class Session:
         self.futures.append(self.history)
 
     @property
-    def teller(self) -> Teller:
-        return Teller(self.history, self.sources, self.paint)
+    def formatter(self) -> BattleFormatter:
+        return BattleFormatter(self.history, self.sources, self.paint)
 
     @property
     def names(self) -> list[str]:
@@ -57,14 +57,14 @@ class Session:
     def undo(self) -> None:
         """Goes back to where the last move or edit began."""
         if not self.past:
-            raise Refused("nothing to undo")
+            raise CorewarError("nothing to undo")
         self.undone.append((self.history, self.turn))
         self.history, self.turn = self.past.pop()
 
     def redo(self) -> None:
         """Goes to where the last undo began."""
         if not self.undone:
-            raise Refused("nothing to redo")
+            raise CorewarError("nothing to redo")
         self.past.append((self.history, self.turn))
         self.history, self.turn = self.undone.pop()
 
@@ -82,17 +82,17 @@ class Session:
     def search(self, conditions: Sequence[Condition], forward: bool) -> Condition:
         """Goes to the next place where one of the conditions holds, or to the one before."""
         if not conditions:
-            raise Refused("no breakpoint is set; use `break CONDITION` or add a condition to this command")
+            raise CorewarError("no breakpoint is set; use `break CONDITION` or add a condition to this command")
         found = search(self.history, conditions, self.turn, forward)
         if found is None:
-            raise Refused(f"not found {'after' if forward else 'before'} turn {self.turn}")
+            raise CorewarError(f"not found {'after' if forward else 'before'} turn {self.turn}")
         self.go(found[0])
         return found[1]
 
     def number(self, text: str, what: str) -> int:
         found = whole(text)
         if found is None:
-            raise Refused(f"expected {what}, not `{text}`")
+            raise CorewarError(f"expected {what}, not `{text}`")
         return found
 
     def address(self, text: str) -> int:
@@ -101,12 +101,12 @@ class Session:
         base = found[1] if found else ""
         at = self.history.head(self.turn) if base == "." else self.sources.addresses.get(base, whole(base))
         if base == "." and at is None:
-            raise Refused("`.` is the cell to execute next, but the battle is over; use a number or a label")
+            raise CorewarError("`.` is the cell to execute next, but the battle is over; use a number or a label")
         several = [name for name in self.sources.addresses if base and name.partition(".")[2] == base]
         if at is None and several:
-            raise Refused(f"`{base}` is a label of several warriors; use {' or '.join(several)}")
+            raise CorewarError(f"`{base}` is a label of several warriors; use {' or '.join(several)}")
         if found is None or at is None or at >= self.history.core:
-            raise Refused(
+            raise CorewarError(
                 f"`{text}` is not an address: a number below {self.history.core}, a label or `.`, "
                 "with or without +N or -N"
             )
@@ -117,7 +117,7 @@ class Session:
         return self.history.warrior(text)
 
     def condition(self, words: Sequence[str]) -> Condition:
-        """Returns the condition of some words. Raises Refused."""
+        """Returns the condition of some words. Raises CorewarError."""
         word, rest = (words[0], list(words[1:])) if words else ("", [])
         by = self.warrior(" ".join(rest[2:])) if len(rest) > 2 and rest[1] == "by" else None
         if word in OF_CELLS and rest and (len(rest) == 1 or by is not None):
@@ -126,14 +126,14 @@ class Session:
         if word in OF_WARRIORS and rest:
             number = self.warrior(" ".join(rest))
             return Condition(word, number, number)
-        raise Refused(CONDITION)
+        raise CorewarError(CONDITION)
 
-    def told(self, condition: Condition) -> str:
+    def describe_condition(self, condition: Condition) -> str:
         """Returns a condition as text."""
         if condition.word in OF_WARRIORS:
             return f"{condition.word} {self.names[condition.first]}"
-        where = self.teller.where(condition.first)
-        until = "" if condition.last == condition.first else f"..{self.teller.where(condition.last)}"
+        where = self.formatter.where(condition.first)
+        until = "" if condition.last == condition.first else f"..{self.formatter.where(condition.last)}"
         return f"{condition.word} {where}{until}" + ("" if condition.by is None else f" by {self.names[condition.by]}")
 
     def cell(self, address: int, line: str) -> Cell:
@@ -145,9 +145,9 @@ class Session:
         fight, source = self.history.fight, "\n".join([*given, line, ""])
         try:
             warrior = assemble(source, settings=fight.settings, rounds=fight.rounds, warriors=len(self.names))
-        except Fault as fault:
-            kind, cause = str(fault).partition(": ")[2], told(fault, source.encode())[0]
-            raise Refused(f"`{line}` is not an instruction: {kind}: {cause}") from None
+        except MarsError as fault:
+            kind, cause = str(fault).partition(": ")[2], explain_error(fault, source.encode())[0]
+            raise CorewarError(f"`{line}` is not an instruction: {kind}: {cause}") from None
         cell: Cell = warrior.cells[-1].tolist()
         return cell
 
@@ -157,5 +157,5 @@ class Session:
             self.history.block(self.turn).queue(warrior, self.turn)
         )
         if index >= count:
-            raise Refused(f"{self.names[warrior]} has no process {index}; its number of processes is {count}")
+            raise CorewarError(f"{self.names[warrior]} has no process {index}; its number of processes is {count}")
         return index

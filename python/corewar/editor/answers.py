@@ -9,9 +9,9 @@ from collections.abc import Callable
 from typing import Any
 
 from ..explain import fix, words
-from ..explain.instructions import instruction_told
+from ..explain.instructions import describe_instruction
 from ..explain.source import ELSEWHERE, NAME, OPERATIONS, parse_line
-from ..model.faults import Refused
+from ..model.errors import CorewarError
 from .names import ASSERT, Token
 from .text import Error, Text
 
@@ -19,7 +19,7 @@ Params = dict[str, Any]
 Answer = Callable[[Text, Params], Any]
 ANSWERS: dict[str, Answer] = {}
 # The maximum number of cells, and of values, that are shown for a line.
-MOST = 4
+MAX_SHOWN = 4
 ERROR, FUNCTION, VARIABLE, CONSTANT, QUICK_FIX = 1, 12, 13, 14, "quickfix"
 KEYWORD_ITEM, VARIABLE_ITEM, CONSTANT_ITEM = 14, 6, 21
 # The type of semantic tokens, and the kind of symbols, for each kind of token.
@@ -91,36 +91,42 @@ def hover(text: Text, params: Params) -> Any:
     if token is None or token.kind == "comment":
         return None
     is_cell = token.number in text.cells and (not token.key or token.is_definition and token.kind != "counter")
-    told = cells_told(text, token.number) if is_cell else name_told(text, token) if token.key else word_told(token)
-    contents = {"kind": "plaintext", "value": "\n".join(told)}
-    return {"contents": contents, "range": text.range_of(token)} if told else None
+    meaning = (
+        describe_cells(text, token.number)
+        if is_cell
+        else describe_name(text, token)
+        if token.key
+        else describe_word(token)
+    )
+    contents = {"kind": "plaintext", "value": "\n".join(meaning)}
+    return {"contents": contents, "range": text.range_of(token)} if meaning else None
 
 
-def cells_told(text: Text, number: int) -> list[str]:
+def describe_cells(text: Text, number: int) -> list[str]:
     """Returns the cells of a line with their indices, and what the first one does."""
     cells = text.cells[number]
-    more = [f"and {len(cells) - MOST} more"] if len(cells) > MOST else []
-    return [*(f"{index}  {cell}" for index, cell in cells[:MOST]), *more, instruction_told(cells[0][1])]
+    more = [f"and {len(cells) - MAX_SHOWN} more"] if len(cells) > MAX_SHOWN else []
+    return [*(f"{index}  {cell}" for index, cell in cells[:MAX_SHOWN]), *more, describe_instruction(cells[0][1])]
 
 
-def name_told(text: Text, token: Token) -> list[str]:
+def describe_name(text: Text, token: Token) -> list[str]:
     """Returns the values of a name in the cells of this line, and what it is."""
     if token.kind == "predefined":
-        told = words.PREDEFINED[token.text]
+        meaning = words.PREDEFINED[token.text]
     else:
         first = next((one.number for one in text.names.same(token) if one.is_definition), token.number)
-        told = f"line {first}: `{' '.join(text.line(first).partition(';')[0].split())}`"
+        meaning = f"line {first}: `{' '.join(text.line(first).partition(';')[0].split())}`"
     values = [*dict.fromkeys(text.values(token.number, token.whole))]
-    more = ", .." if len(values) > MOST else ""
-    here = [f"{', '.join(map(str, values[:MOST]))}{more} here"] if values else []
-    return [f"`{token.whole}`: {'; '.join([*here, told])}"]
+    more = ", .." if len(values) > MAX_SHOWN else ""
+    here = [f"{', '.join(map(str, values[:MAX_SHOWN]))}{more} here"] if values else []
+    return [f"`{token.whole}`: {'; '.join([*here, meaning])}"]
 
 
-def word_told(token: Token) -> list[str]:
+def describe_word(token: Token) -> list[str]:
     """Returns what an operation or a modifier means."""
     tables = {"operation": {**words.OPCODES, **words.DIRECTIVES}, "modifier": words.MODIFIERS}
-    told = tables.get(token.kind, {}).get(token.text.upper())
-    return [f"`{token.text}`: {told}"] if told else []
+    meaning = tables.get(token.kind, {}).get(token.text.upper())
+    return [f"`{token.text}`: {meaning}"] if meaning else []
 
 
 @answers("definition")
@@ -159,30 +165,34 @@ def rename(text: Text, params: Params) -> Any:
     try:
         changed_data = "\n".join([*lines, ""]).encode("utf-8", "replace")
         is_same = text.load(changed_data).load == text.load(text.data).load
-    except Refused:
+    except CorewarError:
         is_same = False
     if not is_same:
-        raise Refused(f"with `{new}` in place of `{token.text}` this would be another warrior; nothing is changed")
+        raise CorewarError(f"with `{new}` in place of `{token.text}` this would be another warrior; nothing is changed")
     return changed(params, [{"range": text.range_of(one), "newText": new} for one in found])
 
 
 def renamed(text: Text, params: Params) -> Token:
-    """Returns the name at a position. Raises Refused if it cannot be renamed."""
+    """Returns the name at a position. Raises CorewarError if it cannot be renamed."""
     token = token_at(text, params)
     if token is None or not token.key or token.kind == "predefined":
-        raise Refused("expected a label, the name of an EQU or a counter at the cursor")
+        raise CorewarError("expected a label, the name of an EQU or a counter at the cursor")
     if text.errors:
-        raise Refused("correct the errors first; a rename is compared with the warrior")
+        raise CorewarError("correct the errors first; a rename is compared with the warrior")
     return token
 
 
 def check_name(text: Text, new: str) -> None:
-    """Raises Refused if a name is invalid or already used. Under other settings a used one could mean another thing."""
+    """Raises CorewarError if a name is invalid or already used. Under other settings a used one could mean another
+    thing.
+    """
     if not NAME.match(new) or "&" in new or new.upper() in [*OPERATIONS, *ELSEWHERE]:
-        raise Refused(f"`{new}` is not a valid name; expected a letter or `_`, then letters, digits and `_`; no opcode")
+        raise CorewarError(
+            f"`{new}` is not a valid name; expected a letter or `_`, then letters, digits and `_`; no opcode"
+        )
     used = next((one for one in text.names.tokens if new in one.whole.split("&")), None)
     if used:
-        raise Refused(f"`{new}` is already used in line {used.number}")
+        raise CorewarError(f"`{new}` is already used in line {used.number}")
 
 
 @answers("completion")
@@ -207,7 +217,9 @@ def completion(text: Text, params: Params) -> Any:
 def items(meanings: dict[str, str], kind: int) -> list[Params]:
     # Names of the source are offered before those of the language.
     rank = "1" if meanings is words.PREDEFINED else "0"
-    return [{"label": name, "kind": kind, "detail": told, "sortText": rank + name} for name, told in meanings.items()]
+    return [
+        {"label": name, "kind": kind, "detail": meaning, "sortText": rank + name} for name, meaning in meanings.items()
+    ]
 
 
 @answers("documentSymbol")

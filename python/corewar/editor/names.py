@@ -9,7 +9,7 @@ from ..explain.source import NAME, OPERATIONS, PREDEFINED, TOKEN, Line, Loop, So
 
 ASSERT = re.compile(r"\s*;assert\b", re.I)
 # The most loops around a line, and the most digits that their counters have together.
-DEEPEST, MOST_DIGITS = 32, 160
+MAX_LOOPS, MAX_DIGITS = 32, 160
 
 
 @dataclass(frozen=True)
@@ -56,7 +56,7 @@ class Names:
             while loops and loops[-1].last <= line.number:
                 loops.pop()
             loops += [heads[line.number]] if line.number in heads else []
-            self._counters = {loop.counter: str(loop.head.number) for loop in loops[-DEEPEST:]}
+            self._counters = {loop.counter: str(loop.head.number) for loop in loops[-MAX_LOOPS:]}
             # Of a FOR 0, the line itself and its ROF are read.
             is_read = not line.unread and (not line.skipped or line.number in edges)
             self.tokens += self._tokens(line) if is_read else comment(line, 0)
@@ -110,7 +110,7 @@ class Names:
             return self._kinds[part], part
         # The label of an iteration, such as `x01`.
         digits = len(part) - len(part.rstrip("0123456789"))
-        cuts = range(len(part) - 2, len(part) - min(digits, MOST_DIGITS) - 1, -1)
+        cuts = range(len(part) - 2, len(part) - min(digits, MAX_DIGITS) - 1, -1)
         stem = next((part[:cut] for cut in cuts if part[:cut] in self._stems), "")
         return ("stem", stem) if stem else ("name", "")
 

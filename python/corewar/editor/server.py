@@ -7,7 +7,7 @@ import traceback
 from typing import Any
 
 from ..engine.sources import Assembler, Limit
-from ..model.faults import Refused
+from ..model.errors import CorewarError
 from ..model.settings import Settings
 from .answers import ANSWERS, LEGEND, Params, diagnostic
 from .text import Text
@@ -69,7 +69,7 @@ class Server:
             answer = {"result": self.answer(method, params)}
         except NotImplementedError:
             answer = {"error": {"code": NO_METHOD, "message": f"{method} is not supported"}}
-        except Refused as refused:
+        except CorewarError as refused:
             answer = {"error": {"code": FAILED, "message": str(refused)}}
         except Exception as error:
             traceback.print_exc()
@@ -78,7 +78,7 @@ class Server:
             self.wire.send({"id": message["id"], **answer})
 
     def answer(self, method: str, params: Params) -> Any:
-        """Returns the result of a request, or None for a notification. Raises Refused."""
+        """Returns the result of a request, or None for a notification. Raises CorewarError."""
         if method == "initialize":
             return {"capabilities": CAPABILITIES, "serverInfo": {"name": "corewar", "version": self.version}}
         if method == "shutdown":
@@ -88,7 +88,7 @@ class Server:
         uri = params["textDocument"]["uri"]
         if method in ANSWERS:
             if uri not in self.texts:
-                raise Refused(f"{uri} is not open")
+                raise CorewarError(f"{uri} is not open")
             return ANSWERS[method](self.texts[uri], params)
         if method == CLOSED:
             self.texts.pop(uri, None)

@@ -13,7 +13,7 @@ from ..explain import errors_of
 from ..explain.errors import kind_of
 from ..explain.source import Advice, Source, read_source
 from ..model.cells import cell_text
-from ..model.faults import Refused
+from ..model.errors import CorewarError
 from ..model.settings import HILLS, Settings
 from ..engine.warriors import Warrior
 from .names import Names, Token
@@ -23,7 +23,7 @@ HILL = re.compile(r"^\s*;redcode-(\w+)", re.I | re.M)
 WIDE = re.compile("[\U00010000-\U0010ffff]")
 FIELDS = re.compile(r"DAT\.F #(-?\d+), #(-?\d+)")
 # The numbers of expressions are below this.
-GREATEST = 2**63
+MAX_WEIGHT = 2**63
 Range = dict[str, dict[str, int]]
 # Each cell with its index, by the number of its line.
 Cells = dict[int, list[tuple[int, str]]]
@@ -90,14 +90,14 @@ class Text:
         return self.span(number, len(code) - len(code.lstrip()), len(code))
 
     def load(self, data: bytes) -> Warrior:
-        """Returns the warrior of a source with the settings of this one. Raises Refused."""
+        """Returns the warrior of a source with the settings of this one. Raises CorewarError."""
         return self._assemble(data, settings=self.settings)
 
     def cells_of(self, data: bytes) -> Cells:
         """Returns the cells of a source with the settings of this one, or nothing if it has an error."""
         try:
             cells, lines = self.load(data).cells, source_lines(data, self.settings)
-        except Refused:
+        except CorewarError:
             return {}
         found: Cells = {}
         for index, ((number, _), cell) in enumerate(zip(lines, cells)):
@@ -116,7 +116,7 @@ class Text:
                 error = Error(kind_of(fault), sentences)
                 error.number = error.advice.line if error.advice and error.advice.line else fault.line
                 found.append(error)
-        except Refused as refused:
+        except CorewarError as refused:
             found.append(Error(str(refused), []))
         return found
 
@@ -138,7 +138,7 @@ class Text:
         fit.
         """
         base = (self.settings.core + 1) // 2
-        weights = [base**power for power in range(64) if base > 1 and base**power < GREATEST]
+        weights = [base**power for power in range(64) if base > 1 and base**power < MAX_WEIGHT]
         found = [0] * len(self.cells.get(number, []))
         for pair in zip_longest(weights[::2], weights[1::2], fillvalue=0) if found else []:
             digits = self._probe(number, [f"({expression})/{weight}%{base}" if weight else "0" for weight in pair])

@@ -9,8 +9,8 @@ from numpy.typing import NDArray
 
 from ..model.cells import Cells, Records
 from ..model.edits import SET, Edit
-from ..model.faults import EDIT, Fault
-from .binding import GREATEST, array, call, counted, held, kind, library, number, slice_of, text
+from ..model.errors import EDIT, MarsError
+from .binding import MAX_UINT32, array, call, counted, held, kind, library, number, slice_of, text
 from .calls import Match, check_count, fighters
 from .warriors import fitted
 
@@ -32,7 +32,7 @@ class Battle:
     The battle is at the start of the round, and `play` and `edit` change it in place. Its core, queues and deaths are
     views of its words, so a program may also write to them; the next call checks the words, as `check` does at once.
     `bytes(battle)` are the words without unused capacity, the `MarsBattle` of the API for C: equal battles have equal
-    bytes. Raises `Fault` if the match is invalid, and `Refused` if it has more than 16 warriors.
+    bytes. Raises `MarsError` if the match is invalid, and `CorewarError` if it has more than 16 warriors.
     """
 
     def __init__(self, fight: Match, round: int = 0) -> None:
@@ -43,7 +43,7 @@ class Battle:
 
     @staticmethod
     def of_bytes(data: bytes) -> Battle:
-        """Returns the battle with these bytes. Raises `Fault` if they are not a battle."""
+        """Returns the battle with these bytes. Raises `MarsError` if they are not a battle."""
         words = np.frombuffer(bytearray(data), np.uint32, len(data) // 4)
         call("mars_check", *slice_of("uint32_t", words))
         return resumed(words)
@@ -110,7 +110,7 @@ class Battle:
         return resumed(self._words)
 
     def check(self) -> None:
-        """Raises `Fault` if something that was written to the battle is invalid."""
+        """Raises `MarsError` if something that was written to the battle is invalid."""
         call("mars_check", *self._slice())
 
     def play(self, turns: int | None = None, *, records: int = 0, touched: int = 0) -> tuple[Records, Records]:
@@ -121,26 +121,26 @@ class Battle:
         - `touched`: the maximum number of rows with touched cells to return
 
         Returns an array with the fields of `MarsRecord` and one with those of `MarsTouched` in the API for C. Raises
-        `Refused` for a negative number, and `Fault` if something that was written to the battle is invalid.
+        `CorewarError` for a negative number, and `MarsError` if something that was written to the battle is invalid.
         """
         before = self.turns
         made, seen = array("MarsRecord", records), array("MarsTouched", touched)
         rows = *slice_of("MarsRecord", made), *slice_of("MarsTouched", seen)
         # No battle has the greatest number of turns.
-        call("mars_play", *self._slice(), GREATEST if turns is None else counted(turns), *rows)
+        call("mars_play", *self._slice(), MAX_UINT32 if turns is None else counted(turns), *rows)
         count = self.turns - before
         return made[:count], seen[:count]
 
     def edit(self, edit: Edit) -> None:
         """Makes an edit, also if the battle is over.
 
-        Raises `Fault`, and changes nothing, if the edit is impossible: `refused 2 Address`, `3 FieldOutside`,
+        Raises `MarsError`, and changes nothing, if the edit is impossible: `refused 2 Address`, `3 FieldOutside`,
         `4 NoSuchWarrior`, `5 NoSuchProcess`, `6 WarriorDead` or `7 QueueFull`; `1 NoSuchEdit` if the kind of the edit
         or a part of its cell does not exist.
         """
         is_fill = edit.what == SET and edit.last != edit.address
         if is_fill and not edit.address <= edit.last < self._head["core"]:
-            raise Fault(EDIT, ADDRESS)
+            raise MarsError(EDIT, ADDRESS)
         places = [number(edit.what), number(edit.warrior), number(edit.place), number(edit.address)]
         call("mars_edit", *self._slice(), library()[0].new("MarsEdit *", [*places, fitted(edit.cell)]))
         if is_fill:
@@ -153,7 +153,7 @@ class Battle:
         - `lines`: the commands, without ends of lines
         - `history`: the size of the history in places, 1 to 1,000,000
 
-        Raises `Fault` if `history` is out of its range or memory runs out. A command that cannot be executed has a
+        Raises `MarsError` if `history` is out of its range or memory runs out. A command that cannot be executed has a
         reply that begins with `refused`. Raises `TypeError` for a text, since its letters would be taken for commands.
         """
         if isinstance(lines, str):

@@ -18,14 +18,14 @@ import cffi
 import numpy as np
 from numpy.typing import NDArray
 
-from ..model.faults import Fault, Refused
+from ..model.errors import CorewarError, MarsError
 from ..model.header import CHECKOUT, ENGINE, INSTALLED, declarations, header
 from ..model.settings import Settings
 
 # The result of a call whose buffer is too short, which is not an error.
 ROOM = 10
 # The greatest number of 32 bits. No argument of the library has it in its range, except for a number of turns.
-GREATEST = (1 << 32) - 1
+MAX_UINT32 = (1 << 32) - 1
 # The numbers that are None if they are not given.
 OPTIONAL = ("read_limit", "write_limit", "position")
 OPENING = Lock()
@@ -33,7 +33,7 @@ OPENING = Lock()
 READY = ENGINE / "declared.py"
 
 
-class NoLibrary(Refused):
+class NoLibrary(CorewarError):
     """The library or its header is missing, or their versions differ."""
 
 
@@ -93,7 +93,7 @@ def kind_of(declared: Any) -> np.dtype[Any]:
 
 
 def array(name: str, count: int) -> NDArray[Any]:
-    """Returns an array of `count` values of a type of the header, all 0. Raises Refused for a negative number."""
+    """Returns an array of `count` values of a type of the header, all 0. Raises CorewarError for a negative number."""
     return np.zeros(counted(count), kind(name))
 
 
@@ -105,17 +105,17 @@ def slice_of(name: str, values: bytes | bytearray | NDArray[Any]) -> tuple[Any, 
     return held, len(held)
 
 
-def number(value: int, greatest: int = GREATEST) -> int:
+def number(value: int, maximum: int = MAX_UINT32) -> int:
     """Returns a number as an argument of the library. In place of one that does not fit it is the greatest that does,
     which the library refuses by the name of the argument.
     """
-    return value if 0 <= value <= greatest else greatest
+    return value if 0 <= value <= maximum else maximum
 
 
 def counted(value: int) -> int:
-    """Returns a number of turns, records or bytes. Raises Refused if no argument of the library can be that."""
-    if not 0 <= value <= GREATEST:
-        raise Refused(f"expected a number from 0 to {GREATEST}, not {value}")
+    """Returns a number of turns, records or bytes. Raises CorewarError if no argument of the library can be that."""
+    if not 0 <= value <= MAX_UINT32:
+        raise CorewarError(f"expected a number from 0 to {MAX_UINT32}, not {value}")
     return value
 
 
@@ -123,17 +123,17 @@ def held(settings: Settings, rounds: int = 1, seed: int = 1, position: int | Non
     """Returns the settings in the form that a call expects. There, 0 says of some that they are not given."""
     numbers = {**vars(settings), "rounds": rounds, "seed": seed, "position": position}
     given = {name: 0 if value is None else number(value) for name, value in numbers.items()}
-    given |= {name: GREATEST for name in OPTIONAL if numbers[name] == 0}
+    given |= {name: MAX_UINT32 for name in OPTIONAL if numbers[name] == 0}
     return library()[0].new("MarsSettings *", given)
 
 
 def call(name: str, *given: Any) -> int:
-    """Calls the library. Returns 0 or ROOM, and raises `Fault` for every other result."""
+    """Calls the library. Returns 0 or ROOM, and raises `MarsError` for every other result."""
     ffi, calls = library()
     fault = ffi.new("MarsFault *")
     answer: int = getattr(calls, name)(*given, fault)
     if answer not in (0, ROOM):
-        raise Fault(fault.code, fault.number, fault.problem, fault.expression, fault.line, fault.warrior)
+        raise MarsError(fault.code, fault.number, fault.problem, fault.expression, fault.line, fault.warrior)
     return answer
 
 

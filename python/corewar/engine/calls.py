@@ -8,8 +8,8 @@ from typing import Any
 
 import numpy as np
 
-from ..model.faults import Fault, Refused
-from ..model.settings import FORMULA, MOST_WARRIORS, Settings, settings_of
+from ..model.errors import CorewarError, MarsError
+from ..model.settings import FORMULA, MAX_WARRIORS, Settings, settings_of
 from .binding import array, call, held, number, slice_of, text
 from .warriors import Warrior, program
 
@@ -82,8 +82,8 @@ def assemble(
     - `rounds`, `warriors`: the values of the predefined names ROUNDS and WARRIORS
     - `file`: the name that the warrior has if its source gives none
 
-    Raises `Fault` with the line of an error in the source, or if the settings are invalid or memory runs out. There is
-    no limit of time and memory: use `Assembler` of `corewar.engine.sources` for the sources of strangers.
+    Raises `MarsError` with the line of an error in the source, or if the settings are invalid or memory runs out. There
+    is no limit of time and memory: use `Assembler` of `corewar.engine.sources` for the sources of strangers.
     """
     data = source.encode() if isinstance(source, str) else source
     made = program("mars_assemble", settings, rounds, [number(warriors)], data)
@@ -93,7 +93,7 @@ def assemble(
 def source_lines(
     source: bytes, settings: Settings = Settings(), rounds: int = 1, warriors: int = 2
 ) -> list[tuple[int, list[str]]]:
-    """Returns the number of the line, from 1, and the labels of each instruction of a source. Raises `Fault`."""
+    """Returns the number of the line, from 1, and the labels of each instruction of a source. Raises `MarsError`."""
     given = [held(settings, rounds), number(warriors), *slice_of("uint8_t", source)]
     made = text(4096, lambda *room: call("mars_lines", *given, *room)).decode("latin-1")
     return [(int(words[0]), words[1:]) for words in map(str.split, made.splitlines())]
@@ -118,9 +118,9 @@ def match(
     - `formula`: the score of each survivor of a round, an expression in W (warriors) and S (survivors) of at most 256
       bytes
 
-    Raises `Refused` for more than 16 warriors, and `Fault` if a number or a warrior is invalid, if the core is too
-    small for the warriors, if the formula has no value for a round or a sum of points does not fit in 64 bits, or if
-    memory runs out.
+    Raises `CorewarError` for more than 16 warriors, and `MarsError` if a number or a warrior is invalid, if the core is
+    too small for the warriors, if the formula has no value for a round or a sum of points does not fit in 64 bits, or
+    if memory runs out.
     """
     check_count(len(warriors))
     return rows("mars_match", settings, (rounds, seed, position), formula, warriors, len(warriors))
@@ -160,9 +160,9 @@ def population(
 
 
 def check_count(warriors: int) -> None:
-    """Raises Refused for more warriors than a match can have."""
-    if warriors > MOST_WARRIORS:
-        raise Refused(f"a match has at most {MOST_WARRIORS} warriors, not {warriors}")
+    """Raises CorewarError for more warriors than a match can have."""
+    if warriors > MAX_WARRIORS:
+        raise CorewarError(f"a match has at most {MAX_WARRIORS} warriors, not {warriors}")
 
 
 def fighters(warriors: Sequence[Warrior], core: int) -> tuple[Any, ...]:
@@ -173,8 +173,8 @@ def fighters(warriors: Sequence[Warrior], core: int) -> tuple[Any, ...]:
             raise TypeError(f"expected a warrior, as assemble and read return it, not {warrior!r}")
         try:
             cells.append(warrior.cells_in(core))
-        except Fault as fault:
-            raise Fault(fault.code, fault.number, line=fault.line, warrior=index) from None
+        except MarsError as fault:
+            raise MarsError(fault.code, fault.number, line=fault.line, warrior=index) from None
         places += len(warrior), number(warrior.start)
     return *slice_of("MarsCell", b"".join(cells)), *slice_of("MarsWarrior", np.array(places, np.uint32))
 

@@ -6,14 +6,14 @@ import secrets
 import stat
 from pathlib import Path
 
-from ..model.faults import FileFault
+from ..model.errors import FileError
 
 # Names that stand for open files, which another file cannot replace.
 OPEN_FILES = ("/dev/", "/proc/")
 
 
 def replace_file(path: str | Path, data: bytes) -> None:
-    """Writes a file. A link stays, and the file that it leads to is replaced. Raises FileFault."""
+    """Writes a file. A link stays, and the file that it leads to is replaced. Raises FileError."""
     name = str(path)
     try:
         if name.startswith(OPEN_FILES) or os.path.exists(name) and not os.path.isfile(name):
@@ -21,7 +21,7 @@ def replace_file(path: str | Path, data: bytes) -> None:
         else:
             replace(Path(os.path.realpath(name)), data)
     except OSError as fault:
-        raise FileFault(name, fault.strerror or "cannot write") from None
+        raise FileError(name, fault.strerror or "cannot write") from None
 
 
 def replace(path: Path, data: bytes) -> None:

@@ -8,9 +8,9 @@ from typing import Any
 import numpy as np
 from numpy.typing import ArrayLike, NDArray
 
-from ..model.faults import LINEUP, Fault, Refused
+from ..model.errors import LINEUP, CorewarError, MarsError
 from ..model.settings import NUMBERS, Settings, settings_of
-from .binding import GREATEST, array, call, held, slice_of
+from .binding import MAX_UINT32, array, call, held, slice_of
 from .calls import check_count, fighters, population
 from .warriors import Warrior
 
@@ -57,15 +57,15 @@ def outcomes(
     - `own_turns`: the number of its own turns
     - `spawned`: the number of its turns that queued two processes
     - `executed`, `written`: the number of cells at which it executed an instruction, and that it wrote
-    - `touched`: the number of cells that it executed, read or wrote; operands count as read even if the opcode uses
-      neither
+    - `touched`: the number of cells that it executed, read or wrote; operands count as read even if the opcode
+      does not use them
 
-    The sums over the rounds are the rows of `match`. Raises ValueError for lineups of different lengths and for
-    more or fewer seeds than lineups, `Refused` for more than 16 warriors in a match or no thread, and `Fault` if a
+    The sums over the rounds are the rows of `match`. Raises ValueError for lineups of different lengths and for more or
+    fewer seeds than lineups, `CorewarError` for more than 16 warriors in a match or no thread, and `MarsError` if a
     number, a lineup or a warrior is invalid, if the core is too small, or if memory runs out.
     """
     if jobs < 1:
-        raise Refused(f"expected 1 or more jobs, not {jobs}")
+        raise CorewarError(f"expected 1 or more jobs, not {jobs}")
     given = settings_of(settings)
     table = table_of([range(len(warriors))] if lineups is None else lineups, seeds)
     if not len(table):
@@ -92,7 +92,7 @@ def played(
     """Runs the matches of a table of lineups. Returns an array as `outcomes` does, with the fields of the library."""
     count = int(table["count"].max(initial=0))
     # The library refuses 0 by the same name as any number out of the range, and 0 rounds need no memory.
-    rounds = rounds if 0 < rounds <= NUMBERS["rounds"].greatest else 0
+    rounds = rounds if 0 < rounds <= NUMBERS["rounds"].maximum else 0
     # The library refuses a seed that is out of its range, but takes 0 in a lineup for that of the settings.
     fixed = held(given, rounds, int(table["seed"].min(initial=1)), position), *fighters(warriors, given.core)
     size = max(1, -(-len(table) // (jobs * PARTS)) if jobs > 1 else len(table))
@@ -102,10 +102,10 @@ def played(
         made = array("MarsOutcome", len(part) * rounds * count)
         try:
             call("mars_outcomes", *fixed, *slice_of("MarsLineup", part), *slice_of("MarsOutcome", made))
-        except Fault as fault:
+        except MarsError as fault:
             # A part counts its lineups from 0.
             if fault.code == LINEUP:
-                raise Fault(LINEUP, fault.number, warrior=first + fault.warrior) from None
+                raise MarsError(LINEUP, fault.number, warrior=first + fault.warrior) from None
             raise
         return made
 
@@ -137,8 +137,8 @@ def table_of(lineups: ArrayLike, seeds: int | Sequence[int]) -> NDArray[Any]:
 
 def fitting(numbers: NDArray[Any]) -> NDArray[np.int64]:
     """Returns numbers as the library takes them; it refuses those that do not fit."""
-    fits = (numbers >= 0) & (numbers <= GREATEST)
-    return np.where(fits, numbers, GREATEST).astype(np.int64)
+    fits = (numbers >= 0) & (numbers <= MAX_UINT32)
+    return np.where(fits, numbers, MAX_UINT32).astype(np.int64)
 
 
 def cycles_of(turns: NDArray[np.uint32], survived: NDArray[np.bool_], limit: int) -> NDArray[np.int64]:
@@ -173,10 +173,10 @@ def shares(made: NDArray[Any], cycles: int) -> NDArray[np.float64]:
     - `made`: what `outcomes` returned
     - `cycles`: the cycle limit of its settings
 
-    Raises `Refused` if there are no cycles.
+    Raises `CorewarError` if there are no cycles.
     """
     if cycles < 1:
-        raise Refused(f"expected 1 or more cycles, not {cycles}")
+        raise CorewarError(f"expected 1 or more cycles, not {cycles}")
     # A warrior also lives in the cycle in which it dies.
     lived = np.minimum(made["cycles"].astype(np.int64) + 1, cycles).astype(float)
     order = np.argsort(lived, axis=-1, kind="stable")

@@ -13,8 +13,8 @@ from dataclasses import dataclass, replace
 from multiprocessing.connection import Connection
 from typing import Any
 
-from ..model.faults import ASSEMBLY, LOAD, MEMORY, Fault, FileFault, Refused
-from ..model.settings import LARGEST_FILE, Settings, settings_of
+from ..model.errors import ASSEMBLY, LOAD, MEMORY, CorewarError, FileError, MarsError
+from ..model.settings import MAX_FILE_SIZE, Settings, settings_of
 from .binding import library
 from .calls import assemble
 from .warriors import Warrior, read_load
@@ -28,7 +28,7 @@ class Limit:
     megabytes: int = 1000
 
 
-class Overrun(Refused):
+class Overrun(CorewarError):
     """Assembling a source took more than a limit."""
 
 
@@ -61,8 +61,8 @@ class Assembler:
     def assemble(
         self, source: bytes, *, settings: Settings = Settings(), rounds: int = 1, warriors: int = 2
     ) -> Warrior:
-        """Returns the warrior of a source, without file and source. Raises `Fault`, and Overrun if it takes more than a
-        limit.
+        """Returns the warrior of a source, without file and source. Raises `MarsError`, and Overrun if it takes more
+        than a limit.
         """
         with self._lock:
             if self._process is None:
@@ -70,7 +70,7 @@ class Assembler:
             assert self._pipe is not None
             try:
                 self._pipe.send((source, {"settings": settings, "rounds": rounds, "warriors": warriors}))
-                made: Warrior | Fault = self._pipe.recv()
+                made: Warrior | MarsError = self._pipe.recv()
             except (EOFError, OSError):
                 raise self._overrun() from None
         if isinstance(made, Warrior):
@@ -91,7 +91,7 @@ class Assembler:
         try:
             process.start()
         except OSError as fault:
-            raise Refused(f"cannot start the assembler: {fault.strerror}") from None
+            raise CorewarError(f"cannot start the assembler: {fault.strerror}") from None
         theirs.close()
         self._pipe, self._process = ours, process
 
@@ -130,39 +130,39 @@ def serve(pipe: Connection, limit: Limit, other: Connection | None) -> None:
             return
 
 
-def answer(source: bytes, given: dict[str, Any]) -> Warrior | Fault:
+def answer(source: bytes, given: dict[str, Any]) -> Warrior | MarsError:
     """Returns the warrior of a source, without it, or its error."""
     try:
         return replace(assemble(source, **given), source=None)
-    except Fault as fault:
+    except MarsError as fault:
         return fault
     except MemoryError:
-        return Fault(MEMORY)
+        return MarsError(MEMORY)
 
 
-def lower(kind: int, most: int) -> None:
+def lower(kind: int, soft: int) -> None:
     """Sets a soft limit of this process, as far as its hard one allows."""
     hard = resource.getrlimit(kind)[1]
-    resource.setrlimit(kind, (most if hard == resource.RLIM_INFINITY else min(most, hard), hard))
+    resource.setrlimit(kind, (soft if hard == resource.RLIM_INFINITY else min(soft, hard), hard))
 
 
 def read_file(path: str) -> bytes:
-    """Returns the content of a file, a pipe or `-`, standard input, up to the maximum size. Raises FileFault."""
+    """Returns the content of a file, a pipe or `-`, standard input, up to the maximum size. Raises FileError."""
     try:
         with open(0 if path == "-" else path, "rb", closefd=path != "-") as file:
-            text = file.read(LARGEST_FILE + 1)
+            text = file.read(MAX_FILE_SIZE + 1)
     except (OSError, ValueError) as fault:
-        raise FileFault(path, getattr(fault, "strerror", "") or "cannot read") from None
-    if len(text) > LARGEST_FILE:
-        raise FileFault(path, "too large")
+        raise FileError(path, getattr(fault, "strerror", "") or "cannot read") from None
+    if len(text) > MAX_FILE_SIZE:
+        raise FileError(path, "too large")
     return text
 
 
 def read_warrior(
     assemble: Callable[..., Warrior], path: str, settings: Settings, rounds: int = 1, warriors: int = 2
 ) -> Warrior:
-    """Returns the warrior of a file: of a load file if its name ends in .load, otherwise of a source. Raises FileFault,
-    and `Fault` if the settings are invalid.
+    """Returns the warrior of a file: of a load file if its name ends in .load, otherwise of a source. Raises FileError,
+    and `MarsError` if the settings are invalid.
     """
     text = read_file(path)
     try:
@@ -171,10 +171,10 @@ def read_warrior(
         made = assemble(text, settings=settings, rounds=rounds, warriors=warriors)
         return replace(made, file=path, source=text)
     except Overrun as overrun:
-        raise FileFault(path, str(overrun), text) from None
-    except Fault as fault:
+        raise FileError(path, str(overrun), text) from None
+    except MarsError as fault:
         if fault.code in (ASSEMBLY, LOAD):
-            raise FileFault(path, fault, text) from None
+            raise FileError(path, fault, text) from None
         raise
 
 
@@ -186,7 +186,7 @@ def read_warriors(
     warriors: int | None = None,
 ) -> tuple[Warrior, ...]:
     """Returns the warriors of files, each read once. WARRIORS is the number of files, or `warriors` if given. Raises
-    FileFault.
+    FileError.
     """
     with Assembler(limit) as assembler:
         count = len(paths) if warriors is None else warriors
@@ -201,7 +201,7 @@ def read(
     - `path`: the name of the file, or `-` for standard input; it has at most 1,048,576 bytes
     - `settings`, `rounds`, `warriors`: as for `assemble`
 
-    Raises `FileFault` if the file cannot be read or has an error, and `Fault` if the settings are invalid. There is no
-    limit of time and memory.
+    Raises `FileError` if the file cannot be read or has an error, and `MarsError` if the settings are invalid. There is
+    no limit of time and memory.
     """
     return read_warrior(assemble, os.fspath(path), settings_of(settings), rounds, warriors)

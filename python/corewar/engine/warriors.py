@@ -12,10 +12,10 @@ import numpy as np
 from ..model.cells import Cell, Cells
 from ..model.printing import printable
 from ..model.settings import Settings, settings_of
-from .binding import GREATEST, ROOM, array, call, held, kind, library, number, slice_of, text
+from .binding import MAX_UINT32, ROOM, array, call, held, kind, library, number, slice_of, text
 
 # A cell as the library has it: opcode, modifier, modes and numbers. No cell has the greatest of them.
-CELL, LARGEST = struct.Struct("=4B2I"), (255, 255, 255, 255, GREATEST, GREATEST)
+CELL, MAX_CELL = struct.Struct("=4B2I"), (255, 255, 255, 255, MAX_UINT32, MAX_UINT32)
 # The number of cells for which a buffer is made first.
 CELLS = 128
 
@@ -60,7 +60,7 @@ class Warrior:
         - `settings`: the parameters of the core, or the name of a hill
 
         Raises ValueError for what is not six numbers. Their ranges are checked by the calls that use the warrior, which
-        raise `Fault`, such as `warrior 4 Field`.
+        raise `MarsError`, such as `warrior 4 Field`.
         """
         return Warrior(name, author, packed(cells), start, settings_of(settings).core)
 
@@ -70,14 +70,14 @@ class Warrior:
         return np.frombuffer(self.data, kind("MarsCell"))
 
     def cells_in(self, core: int) -> bytes:
-        """Returns the cells as a core of a size reads them: each number by value. Raises `Fault`."""
+        """Returns the cells as a core of a size reads them: each number by value. Raises `MarsError`."""
         if core == self.core or core < len(self):
             return self.data
         return read_load(self.load, Settings(core=core, longest=core, distance=core)).data
 
     @cached_property
     def load(self) -> bytes:
-        """The load file. Raises `Fault` if a name, the start or a cell is invalid."""
+        """The load file. Raises `MarsError` if a name, the start or a cell is invalid."""
         # The library refuses a name of more than 60 bytes.
         names = [name.encode(errors="surrogatepass")[:64] for name in (self.name, self.author)]
         program = library()[0].new("MarsProgram *", [[len(self), number(self.start)], *names])
@@ -131,11 +131,11 @@ def packed(cells: Sequence[Cell | np.void] | Cells) -> bytes:
 
 def fitted(cell: Cell) -> list[int]:
     """Returns the numbers of a cell as the library takes them; it refuses those that do not fit. Raises ValueError."""
-    return [number(one, greatest) for one, greatest in zip(cell, LARGEST, strict=True)]
+    return [number(one, maximum) for one, maximum in zip(cell, MAX_CELL, strict=True)]
 
 
 def read_load(load: bytes, settings: Settings | str = "94nop", file: str = "") -> Warrior:
-    """Returns the warrior of a load file. Raises `Fault` with the line of an error in it."""
+    """Returns the warrior of a load file. Raises `MarsError` with the line of an error in it."""
     return replace(program("mars_read_load", settings, 1, [], load), file=file)
 
 

@@ -29,7 +29,7 @@ DASHED = re.compile(r"\s*([A-Za-z_]\w*(?:-\w+)+):?(?=\s)")
 # A character that no token has.
 FOREIGN = re.compile(r"[^\w\0- #$@*{}<>,.+\-/%()&|=!:]", re.ASCII)
 # The greatest number that is a token.
-GREATEST = 2**63 - 1
+MAX_NUMBER = 2**63 - 1
 OPENING = ("#", "$", "@", "{", "}", "(")
 
 
@@ -61,7 +61,7 @@ def bad_token(source: Source, line: Line) -> Iterator[str]:
 def wrong_token(source: Source, line: Line, token: str, counters: set[str]) -> Iterator[str]:
     """Says why a token is none, or is not allowed in a line."""
     joined_names = [name for name in token.split("&")[1:] if name not in counters]
-    if token.isdecimal() and Decimal(token) > GREATEST:
+    if token.isdecimal() and Decimal(token) > MAX_NUMBER:
         yield said("large", word=token)
     elif token[0].isdecimal() and not token.isdecimal():
         yield said("half number", word=token)

@@ -4,35 +4,35 @@ from __future__ import annotations
 import re
 from collections.abc import Callable, Iterator
 
-from ..model.faults import Fault
-from .meanings import told
+from ..model.errors import MarsError
+from .meanings import explain_error
 from .source import Line, Misspelt, Source, read_source
 
 # The maximum number of errors that are reported for a source.
-MOST = 10
+MAX_ERRORS = 10
 # After these errors the rest of the source cannot be read.
 LAST = ("1 Text 9 TooLong", "7 Empty", "8 TooLong")
 UNCLOSED = "1 Text 3 UnclosedFor"
 
 
-def kind_of(fault: Fault) -> str:
+def kind_of(fault: MarsError) -> str:
     """Returns the text of an error without its line."""
     return re.sub(r"^line \d+: ", "", str(fault))
 
 
-def errors_of(data: bytes, load: Callable[[bytes], object]) -> Iterator[tuple[Fault, list[str]]]:
+def errors_of(data: bytes, load: Callable[[bytes], object]) -> Iterator[tuple[MarsError, list[str]]]:
     """Yields the errors of a source, each with its explanation.
 
-    - `load`: assembles a source; what it raises besides `Fault` ends the search
+    - `load`: assembles a source; what it raises besides `MarsError` ends the search
     """
     source, lines, seen = read_source(data), data.split(b"\n"), set[int]()
-    for _ in range(MOST):
+    for _ in range(MAX_ERRORS):
         text = b"\n".join(lines)
         try:
             load(text)
             return
-        except Fault as fault:
-            sentences = told(fault, text)
+        except MarsError as fault:
+            sentences = explain_error(fault, text)
             # The cause may be a misspelt word, in this line or in an earlier one.
             advice = next((one for one in sentences[:1] if isinstance(one, Misspelt)), None)
             number = advice.line if advice and advice.line else fault.line

@@ -6,7 +6,7 @@ from collections.abc import Callable
 
 from ..engine.warriors import Warrior
 from ..model.cells import signed
-from ..model.faults import Refused
+from ..model.errors import CorewarError
 from .errors import replaced
 from .pmars import loops_of_modifiers
 from .source import NAME, OPCODES, Line, Loop, Source, read_source
@@ -15,9 +15,9 @@ Load = Callable[[bytes], Warrior]
 # A fix changes the lines of a source; a line may become several, separated by ends of lines.
 Fix = Callable[[Source, list[str], Load], None]
 # The greatest count of a loop.
-MOST_ITERATIONS = 10_000
+MAX_ITERATIONS = 10_000
 # The maximum number of counts that are computed in a source, each by the assembler.
-MOST_COUNTS = 20
+MAX_COUNTS = 20
 
 
 def fix(data: bytes, load: Load) -> bytes:
@@ -124,7 +124,7 @@ def move_equate(lines: list[str], line: Line, loop: Loop) -> None:
 
 def compute_counts(source: Source, lines: list[str], load: Load) -> None:
     """Replaces each count that has labels by its number, if the labels are before it."""
-    labels, left = source.labels(), MOST_COUNTS
+    labels, left = source.labels(), MAX_COUNTS
     for loop in source.loops:
         number, expression = loop.head.number, "".join(loop.head.rest)
         used = [labels[name].number for name in loop.head.rest if name in labels]
@@ -150,6 +150,6 @@ def value_of(source: Source, number: int, expression: str, load: Load) -> int | 
     try:
         value = max(0, probe(expression))
         is_exact = probe(f"({expression})=={value} || ({expression})<0 && {value}==0") == 1
-    except (Refused, ValueError):
+    except (CorewarError, ValueError):
         return None
-    return value if is_exact and value <= MOST_ITERATIONS else None
+    return value if is_exact and value <= MAX_ITERATIONS else None

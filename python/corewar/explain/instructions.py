@@ -60,7 +60,7 @@ class Operand:
         return NUMBERS["one"].format(field=field, cell=self.target)
 
 
-def instruction_told(cell: str, names: tuple[str, str] = ("", "")) -> str:
+def describe_instruction(cell: str, names: tuple[str, str] = ("", "")) -> str:
     """Returns what a cell does, which is written as `cell_text` returns it, or "" for any other text.
 
     - `names`: for each operand the name of the cell at its distance, or of its number if its mode is `#`; with "" the
@@ -95,11 +95,11 @@ def find_instruction(text: str) -> Line | None:
     return line if is_known and "\n" not in text else None
 
 
-def line_told(line: Line, load: Callable[[bytes], Warrior], core: int) -> list[str]:
+def describe_line(line: Line, load: Callable[[bytes], Warrior], core: int) -> list[str]:
     """Returns an instruction with its modifier and its modes, and what it does. Names that it does not define remain
     as they are written.
 
-    - `load`: assembles a source; it raises `Fault`
+    - `load`: assembles a source; it raises `MarsError`
     - `core`: the core size
     """
     names = [word for word in line.operands if NAME.match(word) and word not in [*PREDEFINED, *line.labels]]
@@ -114,8 +114,8 @@ def line_told(line: Line, load: Callable[[bytes], Warrior], core: int) -> list[s
     named = [
         text if any(word in names or word in line.labels for word in TOKEN.findall(text)) else "" for text in texts
     ]
-    told = instruction_told(found[0], (quoted(named[0]), quoted(named[1])))
-    return [f"{opcode}.{modifier} {a_mode}{named[0] or a}, {b_mode}{named[1] or b}", told]
+    sentence = describe_instruction(found[0], (quoted(named[0]), quoted(named[1])))
+    return [f"{opcode}.{modifier} {a_mode}{named[0] or a}, {b_mode}{named[1] or b}", sentence]
 
 
 def quoted(name: str) -> str:

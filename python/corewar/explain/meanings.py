@@ -5,13 +5,13 @@ import re
 from collections.abc import Iterable, Iterator
 from itertools import islice
 
-from ..model.faults import Fault
+from ..model.errors import MarsError
 from .causes import CAUSES
 from .sentences import SENTENCES
 from .source import read_source
 
 # The maximum number of causes that are reported for an error.
-MOST = 2
+MAX_CAUSES = 2
 GREATER = "increase `-l`, and `-d` with it, which must be at least as large"
 EXPRESSION = SENTENCES["expressions"]
 MEANINGS = {
@@ -49,27 +49,27 @@ MEANINGS = {
 OF_EXPRESSIONS = ("4 Expression ", "1 Text 10 Expression ", "formula 1 Expression ")
 KINDS = {**{head + kind: text for head in OF_EXPRESSIONS for kind, text in EXPRESSION.items()}, **MEANINGS}
 # An error message, after the names of programs and of a file.
-TOLD = re.compile(rf"(?:(.*?): )?(?:(?:line|index) (\d{{1,9}}): )?({'|'.join(map(re.escape, KINDS))})$")
+MESSAGE = re.compile(rf"(?:(.*?): )?(?:(?:line|index) (\d{{1,9}}): )?({'|'.join(map(re.escape, KINDS))})$")
 
 
-def told(fault: Fault, source: bytes) -> list[str]:
+def explain_error(fault: MarsError, source: bytes) -> list[str]:
     """Explains an error and what to do, in one or two sentences: by the causes that the source shows, or in general."""
-    return told_of(re.sub(r"^(line|index) \d+: ", "", str(fault)), fault.line, source)
+    return explain_kind(re.sub(r"^(line|index) \d+: ", "", str(fault)), fault.line, source)
 
 
-def told_of(kind: str, number: int, source: bytes) -> list[str]:
+def explain_kind(kind: str, number: int, source: bytes) -> list[str]:
     """Explains an error by its text and the number of its line."""
     causes: list[str] = []
     if kind in CAUSES:
         text = read_source(source)
         if 0 < number <= len(text.lines):
-            causes = [*islice(CAUSES[kind](text, text.lines[number - 1]), MOST)]
+            causes = [*islice(CAUSES[kind](text, text.lines[number - 1]), MAX_CAUSES)]
     return causes or [KINDS[kind]] if kind in KINDS else []
 
 
 def read_faults(lines: Iterable[str]) -> Iterator[tuple[str, str, int, str]]:
     """Yields the error messages of any program among some lines, each with the file or "", its line, and the error."""
-    for found in filter(None, (TOLD.match(line.strip()) for line in lines)):
+    for found in filter(None, (MESSAGE.match(line.strip()) for line in lines)):
         parts = (found[1] or "").split(": ")
         while parts and re.fullmatch(r"[a-z]*", parts[0]):
             del parts[0]

@@ -6,7 +6,7 @@ from __future__ import annotations
 import re
 from collections.abc import Callable, Iterable, Iterator
 
-from ..model.faults import Fault
+from ..model.errors import MarsError
 from .errors import kind_of
 from .source import MODIFIERS, NAME, OPCODES, Loop, Source, read_source
 
@@ -15,11 +15,11 @@ COMMENTED = re.compile(r"\s*;(name|author)\s*(.*)", re.I)
 ASSERT = re.compile(r"\s*;assert\b(.*)", re.I)
 OPTIONAL = ("DAT", "JMP", "SPL", "NOP")
 # The longest name or author, and line, that both programs read in the same way.
-LONGEST_NAME, LONGEST_LINE = 60, 255
+MAX_NAME_LENGTH, MAX_LINE_LENGTH = 60, 255
 # An operand in which a product is subtracted and something is added after it.
 MINUS = re.compile(r"[\w)] - (?:[+-] )*\w+(?: [*/%] (?:[+-] )*\w+)+ [+-] ")
 # The most loops around a line.
-DEEPEST = 32
+MAX_LOOPS = 32
 # What a source has in a line that pMARS reads differently.
 Found = Iterator[tuple[int, str]]
 LOOKS: list[Callable[[Source], Found]] = []
@@ -41,7 +41,7 @@ def look(function: Callable[[Source], Found]) -> Callable[[Source], Found]:
     return function
 
 
-def read_otherwise(data: bytes, faults: Iterable[Fault] = ()) -> list[str]:
+def read_otherwise(data: bytes, faults: Iterable[MarsError] = ()) -> list[str]:
     """Returns what pMARS reads differently in a source: sentences, each after the number of its line.
 
     - `faults`: the errors of the source
@@ -111,7 +111,7 @@ def loops_of_modifiers(source: Source) -> list[Loop]:
     for line in source.lines:
         while open_loops and open_loops[-1].last <= line.number:
             open_loops.pop()
-        for loop in open_loops[-DEEPEST:] if line.rest[:1] == ["."] else []:
+        for loop in open_loops[-MAX_LOOPS:] if line.rest[:1] == ["."] else []:
             if loop.counter.upper() in MODIFIERS and line.rest[1:2] == [loop.counter]:
                 found[loop.head.number] = loop
         if line.number in heads:
@@ -234,10 +234,10 @@ def directives(source: Source) -> Found:
         directive, named = DIRECTIVE.match(line.text), COMMENTED.match(line.text)
         if directive:
             yield line.number, f"pMARS obeys `; {directive[1]}`, which is a comment here; remove the space."
-        if named and (len(named[2].encode()) > LONGEST_NAME or not (named[2].isascii() and named[2].isprintable())):
-            yield line.number, f"pMARS keeps any `;{named[1]}`; here it has {LONGEST_NAME} bytes of printable ASCII."
-        if len(line.text) > LONGEST_LINE:
-            yield line.number, f"pMARS cuts lines of more than some {LONGEST_LINE} characters."
+        if named and (len(named[2].encode()) > MAX_NAME_LENGTH or not (named[2].isascii() and named[2].isprintable())):
+            yield line.number, f"pMARS keeps any `;{named[1]}`; here it has {MAX_NAME_LENGTH} bytes of printable ASCII."
+        if len(line.text) > MAX_LINE_LENGTH:
+            yield line.number, f"pMARS cuts lines of more than some {MAX_LINE_LENGTH} characters."
     for line in [line for line in kept if re.match(r"\s*;redcode", line.text, re.I)][1:]:
         yield line.number, "pMARS ends the warrior at a second `;redcode`; give each warrior a file."
     starts = {line.word: line for line in kept if line.word in ("ORG", "END") and line.rest}

@@ -19,7 +19,7 @@ ELSEWHERE = "LDP STP PIN XCH PCT STS".split()
 TOKEN = re.compile(r"(?:\w|&(?=[A-Za-z_]))+|==|!=|<=|>=|&&|\|\||[^\0- ]", re.ASCII)
 NAME = re.compile(r"[A-Za-z_][\w&]*$", re.ASCII)
 # How many names are compared with a word; a comparison takes 10 to 20 microseconds for each letter.
-MOST_CHOICES = 1000
+MAX_CHOICES = 1000
 # How many words of a line are compared with the names of operations.
 FIRST_WORDS = 20
 
@@ -160,7 +160,7 @@ def like(word: str, choices: Sequence[str]) -> str | None:
     """Returns the choice that is most similar to a word; the same letters in another order come first, and of equally
     similar ones that with the same first letter.
     """
-    upper = {choice.upper(): choice for choice in choices[:MOST_CHOICES]}
+    upper = {choice.upper(): choice for choice in choices[:MAX_CHOICES]}
     same = [choice for choice in upper if sorted(choice) == sorted(word.upper())]
     close = same or get_close_matches(word.upper(), upper)
     best = [choice for choice in close if likeness(word, choice) == likeness(word, close[0])]

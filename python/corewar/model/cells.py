@@ -7,7 +7,7 @@ from typing import Any
 import numpy as np
 from numpy.typing import NDArray
 
-from .faults import Refused
+from .errors import CorewarError
 
 OPCODES = "DAT MOV ADD SUB MUL DIV MOD JMP JMZ JMN DJN SEQ SNE SLT SPL NOP".split()
 MODIFIERS = "A B AB BA F X I".split()
@@ -31,22 +31,24 @@ def signed(number: int, core: int) -> int:
 def cell_text(cell: Cell | np.void, core: int) -> str:
     """Returns a cell as text, as `mars` lists it: `cell_text(history.state(0).cells[0], 8000)` is `"MOV.I $0, $1"`.
 
-    `core` is the core size; numbers above half of it are printed as negative ones. Raises `Refused` if a number is out
-    of its range.
+    `core` is the core size; numbers above half of it are printed as negative ones. Raises `CorewarError` if a number is
+    out of its range.
     """
     numbers = cell.tolist() if isinstance(cell, np.void) else cell
     op, modifier, a_mode, b_mode, a, b = numbers
     limits = len(OPCODES), len(MODIFIERS), len(MODES), len(MODES), core, core
     if not all(0 <= number < limit for number, limit in zip(numbers, limits)):
-        raise Refused(f"expected the numbers of a cell, below {limits}, not {numbers}")
+        raise CorewarError(f"expected the numbers of a cell, below {limits}, not {numbers}")
     return f"{OPCODES[op]}.{MODIFIERS[modifier]} {MODES[a_mode]}{signed(a, core)}, {MODES[b_mode]}{signed(b, core)}"
 
 
 def cell_of(text: str, core: int) -> Cell:
-    """Returns the numbers of a cell that is written as `cell_text` returns it. Raises `Refused` for any other text."""
+    """Returns the numbers of a cell that is written as `cell_text` returns it. Raises `CorewarError` for any other
+    text.
+    """
     found = TEXT.fullmatch(text)
     if found is None:
-        raise Refused(f"expected a cell such as `MOV.I $0, $1`, not `{text}`")
+        raise CorewarError(f"expected a cell such as `MOV.I $0, $1`, not `{text}`")
     op, modifier, a_mode, a, b_mode, b = found.groups()
     kinds = OPCODES.index(op), MODIFIERS.index(modifier), MODES.index(a_mode), MODES.index(b_mode)
     return *kinds, int(a) % core, int(b) % core

@@ -5,16 +5,16 @@ from dataclasses import dataclass
 
 FORMULA = "(W*W-1)/S"
 # No number of an option or a command has more digits.
-MOST_DIGITS = 18
+MAX_DIGITS = 18
 # The maximum number of warriors of a match, and of a league.
-MOST_WARRIORS, MOST_OF_LEAGUE = 16, 65_536
+MAX_WARRIORS, MAX_LEAGUE = 16, 65_536
 # The maximum size of a source or load file, in bytes.
-LARGEST_FILE = 1_048_576
+MAX_FILE_SIZE = 1_048_576
 
 
 def whole(text: str) -> int | None:
     """Returns the number that decimal digits stand for, or None for another text and for more than 18 digits."""
-    return int(text) if text.isdecimal() and len(text) <= MOST_DIGITS else None
+    return int(text) if text.isdecimal() and len(text) <= MAX_DIGITS else None
 
 
 @dataclass(frozen=True, kw_only=True)
@@ -66,13 +66,13 @@ class Number:
 
     word: str
     meaning: str
-    least: int
-    greatest: int
+    minimum: int
+    maximum: int
     words: str = ""
 
     @property
     def range(self) -> str:
-        return self.words or f"{self.least} to {self.greatest}"
+        return self.words or f"{self.minimum} to {self.maximum}"
 
 
 UP_TO_CORE = "1 to the core size"

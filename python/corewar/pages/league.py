@@ -13,25 +13,25 @@ from .render import render, write_page
 from .site import page_of
 
 # A browser cannot show the matrix of more warriors.
-LARGEST_MATRIX = 250
+MAX_MATRIX_SIZE = 250
 PAGE = "battles.html"
 
 
 def write_pages(folder: Path, league: League) -> None:
     """Writes the page of a league, index.html, and the page of its battles unless it has too many warriors. Raises
-    Refused if the site is not built.
+    CorewarError if the site is not built.
     """
     contest, warriors = league.matches.contest, tuple(league.warriors)
-    has_matrix = len(warriors) <= LARGEST_MATRIX
+    has_matrix = len(warriors) <= MAX_MATRIX_SIZE
     given: dict[str, Any] = {"rounds": contest.rounds, "seed": contest.seed, "position": contest.position}
     match = Match(warriors, settings=contest.settings, **given)
     battles = page_of(match, contest.formula) if has_matrix else ""
     numbers = {**vars(contest.settings), **given}
-    told = [f"{label(name)} {value:,}" for name, value in numbers.items() if value]
+    texts = [f"{label(name)} {value:,}" for name, value in numbers.items() if value]
     page = render(
         "league.html.j2",
         rows=[{**row, "title": title} for row, title in zip(league.rows, league.titles())],
-        settings=[*told, f"score {contest.formula}"],
+        settings=[*texts, f"score {contest.formula}"],
         lines=lines_of(league) if has_matrix else [],
     )
     folder.mkdir(parents=True, exist_ok=True)
@@ -56,8 +56,8 @@ def lines_of(league: League) -> list[list[dict[str, Any] | None]]:
 def cell(league: League, pair: tuple[int, int], counts: list[int], colour: list[int]) -> dict[str, Any]:
     """Returns a cell of the matrix, with a link to the first round of the match."""
     wins, ties, losses = counts
-    told = f"{counted(wins, 'win')}, {counted(ties, 'tie')}, {counted(losses, 'loss')} against "
-    told += league.warriors[pair[1]].called
+    title = f"{counted(wins, 'win')}, {counted(ties, 'tie')}, {counted(losses, 'loss')} against "
+    title += league.warriors[pair[1]].called
     ink = "#000" if sum(colour) > 3 * 130 else "#fff"
     link = f"{PAGE}#w={min(pair)},{max(pair)}"
-    return {"wins": wins, "told": told, "ground": f"#{bytes(colour).hex()}", "ink": ink, "link": link}
+    return {"wins": wins, "title": title, "ground": f"#{bytes(colour).hex()}", "ink": ink, "link": link}

@@ -14,8 +14,8 @@ PAGE = "match.html"
 
 
 class Pages:
-    """A folder with match.html, written at once, and index.html, written after the last round. Raises Refused if the
-    site is not built.
+    """A folder with match.html, written at once, and index.html, written after the last round. Raises CorewarError if
+    the site is not built.
     """
 
     def __init__(self, folder: str, fight: Match, formula: str) -> None:
@@ -28,8 +28,8 @@ class Pages:
     def add(self, one: Round) -> None:
         """Adds a round to the index."""
         history = one.history
-        told = {"number": history.round, "outcomes": one.outcomes, "end": history.end}
-        self.rounds.append({**told, "page": f"{PAGE}#r={history.round}", "words": command(history, "debug")})
+        row = {"number": history.round, "outcomes": one.outcomes, "end": history.end}
+        self.rounds.append({**row, "page": f"{PAGE}#r={history.round}", "words": command(history, "debug")})
 
     def write_index(self) -> None:
         """Writes the page of all rounds."""

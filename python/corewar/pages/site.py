@@ -14,7 +14,7 @@ from typing import Any
 
 from ..engine.calls import Match
 from ..model.edits import Edit
-from ..model.faults import Refused
+from ..model.errors import CorewarError
 from ..model.header import CHECKOUT
 from ..model.settings import FORMULA, Settings
 from ..engine.warriors import Warrior
@@ -29,11 +29,11 @@ NAMES = {"read_limit": "readLimit", "write_limit": "writeLimit"}
 
 
 def site() -> Path:
-    """Returns the folder with the built site. Raises Refused if there is none."""
+    """Returns the folder with the built site. Raises CorewarError if there is none."""
     for folder in (INSTALLED, BUILT):
         if (folder / "one.html").is_file():
             return folder
-    raise Refused("the site is not built; run `make site`")
+    raise CorewarError("the site is not built; run `make site`")
 
 
 def source_of(warrior: Warrior) -> tuple[str, str]:
@@ -62,7 +62,7 @@ def page_of(
     edits: Sequence[tuple[int, Edit]] = (),
 ) -> str:
     """Returns the page of a match: it opens at a turn of a round, with the edits after their turns. A page may have
-    more warriors than a match: then its address selects some. Raises Refused if the site is not built.
+    more warriors than a match: then its address selects some. Raises CorewarError if the site is not built.
     """
     given = {
         "v": VERSION,

@@ -12,7 +12,7 @@ from matplotlib.figure import Figure
 from matplotlib.patches import Patch
 from numpy.typing import NDArray
 
-from ..analysis.captions import fate, outcome, settings_told, title
+from ..analysis.captions import describe_settings, fate, outcome, title
 from ..battle.frames import Frame, frames, parts
 from ..battle.history import History
 from .colours import coloured
@@ -81,7 +81,7 @@ def figure_of(history: History, view: View) -> Figure:
     extent = (view.cells.start, view.cells.stop, last, first)
     axes.imshow(points(history, view), aspect="auto", interpolation="nearest", extent=extent)
     figure.suptitle(f"{title(history)}. {outcome(history)}, {history.end:,} turns", fontsize=12)
-    axes.set_title(", ".join(settings_told(history)), fontsize=8)
+    axes.set_title(", ".join(describe_settings(history)), fontsize=8)
     axes.set(xlabel="cell", ylabel="turn")
     colours = coloured(history)
     for warrior, colour in enumerate(colours):

@@ -14,7 +14,7 @@ from ..engine.sources import Assembler, Overrun
 from ..contests.contest import Contest, Matches, all_pairs
 from ..contests.places import threads
 from ..contests.results import Results
-from ..model.faults import Fault, Refused
+from ..model.errors import CorewarError, MarsError
 from ..model.settings import Settings
 from ..engine.warriors import Warrior
 from .folder import coded
@@ -43,18 +43,18 @@ def contest_of(given: dict[str, Any]) -> Contest:
 
 
 def warrior_of(assembler: Assembler, source: dict[str, str], contest: Contest) -> Warrior:
-    """Returns the warrior of a source. Raises Refused."""
+    """Returns the warrior of a source. Raises CorewarError."""
     text = coded(source["text"])
     try:
         warrior = assembler.assemble(text, settings=contest.settings, rounds=contest.rounds)
         return replace(warrior, file=source["name"], source=text)
-    except (Fault, Overrun) as fault:
-        raise Refused(f"{source['name']}: {fault}") from None
+    except (MarsError, Overrun) as fault:
+        raise CorewarError(f"{source['name']}: {fault}") from None
 
 
 def league(assembler: Assembler, given: dict[str, Any], results: str | None) -> Generator[list[list[int]], None, None]:
     """Runs a match of every two sources. Yields the results of matches as they end, first those that are stored: the
-    two sources, the points, wins, ties and losses of the first, and the points of the second. Raises Refused.
+    two sources, the points, wins, ties and losses of the first, and the points of the second. Raises CorewarError.
     """
     contest = contest_of(given)
     warriors = [warrior_of(assembler, source, contest) for source in given["sources"]]
@@ -64,13 +64,13 @@ def league(assembler: Assembler, given: dict[str, Any], results: str | None) -> 
         here = stack.enter_context(threads(matches, JOBS))
         if kept:
             kept.find()
-        yield rows_told(matches, np.flatnonzero(matches.is_fought))
+        yield rows_as_lists(matches, np.flatnonzero(matches.is_fought))
         for rows in here.fight(matches):
             if kept:
                 kept.keep(rows)
-            yield rows_told(matches, rows)
+            yield rows_as_lists(matches, rows)
 
 
-def rows_told(matches: Matches, rows: NDArray[np.intp]) -> list[list[int]]:
-    told: list[list[int]] = np.hstack([matches.pairs[rows], matches.counts[rows]]).tolist()
-    return told
+def rows_as_lists(matches: Matches, rows: NDArray[np.intp]) -> list[list[int]]:
+    table: list[list[int]] = np.hstack([matches.pairs[rows], matches.counts[rows]]).tolist()
+    return table

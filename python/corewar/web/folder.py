@@ -8,11 +8,11 @@ from pathlib import Path
 from typing import Any
 
 from ..engine.files import replace_file
-from ..model.faults import Refused
-from ..model.settings import LARGEST_FILE
+from ..model.errors import CorewarError
+from ..model.settings import MAX_FILE_SIZE
 
 
-class Changed(Refused):
+class Changed(CorewarError):
     """Something else has changed a file; `seen` names its content."""
 
     def __init__(self, name: str, seen: str) -> None:
@@ -35,11 +35,11 @@ def sources_of(paths: Iterable[Path]) -> dict[str, Path]:
     return {file.name: file.resolve() for file in found if file.is_file()}
 
 
-def told(name: str, path: Path, is_example: bool) -> dict[str, Any]:
+def describe_source(name: str, path: Path, is_example: bool) -> dict[str, Any]:
     """Returns a source as the page gets it, or why it is not read."""
     try:
-        if path.stat().st_size > LARGEST_FILE:
-            return {"name": name, "fault": f"{name} has more than {LARGEST_FILE} bytes; left out"}
+        if path.stat().st_size > MAX_FILE_SIZE:
+            return {"name": name, "fault": f"{name} has more than {MAX_FILE_SIZE} bytes; left out"}
         data = path.read_bytes()
     except OSError as fault:
         return {"name": name, "fault": f"{name}: {fault.strerror}; left out"}
@@ -64,22 +64,22 @@ class Folder:
         files = sources_of(self.paths)
         others = {name: path for name, path in self.examples.items() if name not in files}
         return [
-            *(told(name, path, False) for name, path in files.items()),
-            *(told(name, path, True) for name, path in others.items()),
+            *(describe_source(name, path, False) for name, path in files.items()),
+            *(describe_source(name, path, True) for name, path in others.items()),
         ]
 
     def save(self, name: str, text: str, seen: str) -> str:
         """Saves a source to its file if that is as it was seen, or to a new file. Returns how its content is named.
 
-        Raises Changed, `FileFault` and Refused.
+        Raises Changed, `FileError` and CorewarError.
         """
         data = coded(text)
-        if len(data) > LARGEST_FILE:
-            raise Refused(f"{name} has more than {LARGEST_FILE} bytes; not saved")
+        if len(data) > MAX_FILE_SIZE:
+            raise CorewarError(f"{name} has more than {MAX_FILE_SIZE} bytes; not saved")
         path = sources_of(self.paths).get(name) or self._new(name)
         # A pipe or a device could be read without end.
         if path.exists() and not path.is_file():
-            raise Refused(f"{name} is not a regular file; not saved")
+            raise CorewarError(f"{name} is not a regular file; not saved")
         there = digest(path.read_bytes()) if path.exists() else ""
         if there != seen:
             raise Changed(name, there)
@@ -91,6 +91,6 @@ class Folder:
     def _new(self, name: str) -> Path:
         """Returns the path of a new source: in the first folder, or beside the first file."""
         if name != Path(name).name or not name.endswith(".red") or name == ".red" or "\0" in name:
-            raise Refused(f"`{name}` is not a valid name; expected a name without a folder that ends in .red")
+            raise CorewarError(f"`{name}` is not a valid name; expected a name without a folder that ends in .red")
         first = self.paths[0]
         return (first if first.is_dir() else first.parent) / name

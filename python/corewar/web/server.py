@@ -14,7 +14,7 @@ from typing import Any
 from urllib.parse import unquote, urlsplit
 
 from ..engine.sources import Assembler
-from ..model.faults import Refused
+from ..model.errors import CorewarError
 from .contests import league
 from .folder import Changed, Folder
 
@@ -29,7 +29,7 @@ HEADERS = {
     "X-Frame-Options": "DENY",
 }
 # The maximum size of a message: a source as JSON has at most six times its bytes, and a league has many sources.
-LARGEST_MESSAGE = 64 << 20
+MAX_MESSAGE_SIZE = 64 << 20
 # Where the page finds out that there is a server, and what its browser keeps by.
 META = '<meta name="corewar-server" content="api" data-key="{}">\n<title>'
 
@@ -119,13 +119,13 @@ class Handler(BaseHTTPRequestHandler):
     def _act(self, act: Callable[[dict[str, Any]], None]) -> None:
         """Calls a function with the message of the request. Its errors are answers."""
         length = self.headers.get("Content-Length", "")
-        if not length.isdecimal() or int(length) > LARGEST_MESSAGE:
-            return self._refuse(413, f"expected a message of at most {LARGEST_MESSAGE} bytes")
+        if not length.isdecimal() or int(length) > MAX_MESSAGE_SIZE:
+            return self._refuse(413, f"expected a message of at most {MAX_MESSAGE_SIZE} bytes")
         try:
             act(json.loads(self.rfile.read(int(length))))
         except Changed as fault:
             self._tell(409, {"fault": str(fault), "seen": fault.seen})
-        except Refused as fault:
+        except CorewarError as fault:
             self._tell(400, {"fault": str(fault)})
         except (KeyError, TypeError, ValueError, AttributeError, RecursionError):
             self._tell(400, {"fault": "this message is not one of the page's"})
@@ -143,7 +143,7 @@ class Handler(BaseHTTPRequestHandler):
             while True:
                 self.wfile.write(json.dumps(line).encode() + b"\n")
                 line = next(lines)
-        except Refused as fault:
+        except CorewarError as fault:
             self.wfile.write(json.dumps({"fault": str(fault)}).encode() + b"\n")
         except (StopIteration, ConnectionError):
             # The page is closed, or all matches are run.

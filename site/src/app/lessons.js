@@ -158,8 +158,8 @@ export class Lessons {
     if (lesson.judge === "saved") {
       if (!session.opened?.edits.length) return { isDone: false, text: "You have edited no cell yet." };
       const isSaved = known.deaths.length === 0;
-      const told = isSaved ? "Both survive: you changed history." : "In this future a warrior still dies.";
-      return { isDone: isSaved, text: told };
+      const verdict = isSaved ? "Both survive: you changed history." : "In this future a warrior still dies.";
+      return { isDone: isSaved, text: verdict };
     }
     const isDeath = known.deaths.some((death) => death.turn === turn);
     return { isDone: isDeath, text: isDeath ? "That is the turn." : `In turn ${number(turn)} no warrior dies.` };
@@ -176,10 +176,11 @@ export class Lessons {
     const { cells: made } = await pool.ask("assemble", [own.text, { ...TERMS, warriors: 2 }], "lesson", 2);
     const sources = [own, ...this.#opponents(lesson)];
     const entered = await pool.ask("warriors", [sources, TERMS], "lesson", 1);
-    const [row] = await pool.ask("match", [entered.map(({ warrior }) => warrior), TERMS], "lesson", 1);
-    const told = `${counted(made.length, "cell")}; ${row.wins} won, ${row.ties} tied, ${row.losses} lost of ${ROUNDS}.`;
-    if (made.length > cells) return { isDone: false, text: `${told} Use at most ${cells} cells.` };
-    const isDone = row.wins >= wins && row.wins + row.ties >= survives;
-    return { isDone, text: `${told} ${isDone ? "Well done." : "Not yet."}` };
+    const fighters = entered.map(({ warrior }) => warrior);
+    const [{ wins: won, ties, losses }] = await pool.ask("match", [fighters, TERMS], "lesson", 1);
+    const result = `${counted(made.length, "cell")}; ${won} won, ${ties} tied, ${losses} lost of ${ROUNDS}.`;
+    if (made.length > cells) return { isDone: false, text: `${result} Use at most ${cells} cells.` };
+    const isDone = won >= wins && won + ties >= survives;
+    return { isDone, text: `${result} ${isDone ? "Well done." : "Not yet."}` };
   }
 }

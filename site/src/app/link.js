@@ -4,11 +4,11 @@ import {
   DEFAULTS,
   FORMULA,
   HILLS,
-  LARGEST_SEED,
-  LARGEST_SOURCE,
-  MOST_ROUNDS,
-  MOST_TURNS,
-  MOST_WARRIORS,
+  MAX_ROUNDS,
+  MAX_SEED,
+  MAX_SOURCE_SIZE,
+  MAX_TURNS,
+  MAX_WARRIORS,
   RANGES,
   SETTINGS,
   hillOf,
@@ -24,9 +24,9 @@ import {
 
 const VERSION = 1;
 /** The maximum number of characters of a name and of a formula, and of edits. */
-const LONGEST_NAME = 100;
-const LONGEST_FORMULA = 256;
-const MOST_EDITS = 1000;
+const MAX_NAME_LENGTH = 100;
+const MAX_FORMULA_LENGTH = 256;
+const MAX_EDITS = 1000;
 const LAST_TURN = 1e9;
 
 /**
@@ -70,13 +70,13 @@ export async function pack({ fight, turn, pinned }) {
 /**
  * Returns a whole number of a stranger's link, or the usual one if it has none.
  * @param {unknown} value
- * @param {number} least
- * @param {number} greatest
+ * @param {number} minimum
+ * @param {number} maximum
  * @param {number} usual
  */
-function whole(value, least, greatest, usual) {
+function whole(value, minimum, maximum, usual) {
   if (value === undefined || value === null) return usual;
-  if (typeof value !== "number" || !Number.isInteger(value) || value < least || value > greatest) {
+  if (typeof value !== "number" || !Number.isInteger(value) || value < minimum || value > maximum) {
     throw new Error("a number in it is out of range");
   }
   return value;
@@ -91,8 +91,8 @@ function readSettings(given) {
   if (typeof given !== "object" || given === null) throw new Error("it has no settings");
   const found = /** @type {Record<string, unknown>} */ (given);
   const entries = SETTINGS.map((name) => {
-    const { least, greatest } = RANGES[name];
-    return [name, whole(found[name], least, greatest, DEFAULTS[name])];
+    const { minimum, maximum } = RANGES[name];
+    return [name, whole(found[name], minimum, maximum, DEFAULTS[name])];
   });
   return Object.fromEntries(entries);
 }
@@ -102,10 +102,10 @@ function readSources(given) {
   if (!Array.isArray(given) || given.length < 1) throw new Error("it has no sources");
   return given.map((one) => {
     const [name, text] = Array.isArray(one) ? one : [];
-    if (typeof name !== "string" || typeof text !== "string" || text.length > LARGEST_SOURCE) {
+    if (typeof name !== "string" || typeof text !== "string" || text.length > MAX_SOURCE_SIZE) {
       throw new Error("a source in it is damaged");
     }
-    return { name: name.slice(0, LONGEST_NAME), text };
+    return { name: name.slice(0, MAX_NAME_LENGTH), text };
   });
 }
 
@@ -114,7 +114,7 @@ function readSources(given) {
  * @param {number} core
  */
 function readEdits(given, core) {
-  return (Array.isArray(given) ? given : []).slice(0, MOST_EDITS).map((one) => {
+  return (Array.isArray(given) ? given : []).slice(0, MAX_EDITS).map((one) => {
     const edit = Array.isArray(one) && typeof one[1] === "string" ? parseEdit(one[1], core) : null;
     if (!edit) throw new Error("an edit in it is damaged");
     return { turn: whole(one[0], 0, LAST_TURN, 0), edit };
@@ -135,13 +135,13 @@ export async function unpack(text, selection = {}) {
   const settings = readSettings(short.h);
   const all = readSources(short.w);
   const warriors = (selection.warriors ?? [...all.keys()]).flatMap((index) => all[index] ?? []);
-  if (warriors.length < 1 || warriors.length > MOST_WARRIORS) throw new Error("it has too many warriors, or none");
-  if (settings.cycles * warriors.length > MOST_TURNS) throw new Error("its battle is too long for this page");
-  const rounds = whole(short.n, 1, MOST_ROUNDS, 100);
+  if (warriors.length < 1 || warriors.length > MAX_WARRIORS) throw new Error("it has too many warriors, or none");
+  if (settings.cycles * warriors.length > MAX_TURNS) throw new Error("its battle is too long for this page");
+  const rounds = whole(short.n, 1, MAX_ROUNDS, 100);
   const round = Math.min(selection.round ?? whole(short.r, 0, rounds - 1, 0), rounds - 1);
-  const formula = typeof short.f === "string" ? short.f.slice(0, LONGEST_FORMULA) : FORMULA;
+  const formula = typeof short.f === "string" ? short.f.slice(0, MAX_FORMULA_LENGTH) : FORMULA;
   const position = whole(short.p, 0, settings.core, 0);
-  const seed = whole(short.s, 1, LARGEST_SEED, 1);
+  const seed = whole(short.s, 1, MAX_SEED, 1);
   const edits = readEdits(short.e, settings.core);
   const turn = selection.turn ?? whole(short.t, 0, LAST_TURN, 0);
   const pinned = short.c === undefined ? null : whole(short.c, 0, settings.core - 1, 0);

@@ -1,5 +1,5 @@
 /** The page: what it begins with, and what its parts have to do with each other. */
-import { DEFAULTS, FORMULA, MOST_WARRIORS } from "../model/settings.js";
+import { DEFAULTS, FORMULA, MAX_WARRIORS } from "../model/settings.js";
 import { Bench } from "../view/bench.js";
 import { Cells } from "../view/cells.js";
 import { Console } from "../view/console.js";
@@ -27,7 +27,7 @@ import { Terms } from "./terms.js";
 /** The examples that a newcomer sees first. */
 const FIRST = ["dwarf.red", "imp.red"];
 const USUAL = { settings: DEFAULTS, seed: 1, rounds: 100, position: 0, formula: FORMULA };
-const MOST_WORKERS = 16;
+const MAX_WORKERS = 16;
 
 class Page {
   /**
@@ -41,7 +41,7 @@ class Page {
     this.examples = examples;
     this.meanings = meanings;
     this.isNew = !kept.sources;
-    this.pool = new Pool(made, clamp(navigator.hardwareConcurrency || 4, 1, MOST_WORKERS));
+    this.pool = new Pool(made, clamp(navigator.hardwareConcurrency || 4, 1, MAX_WORKERS));
     this.session = new Session(desk, (text) => this.complain(text));
     this.terms = new Terms((isShown) => this.#takeTerms(isShown));
     this.terms.value = { ...USUAL, ...kept.terms };
@@ -157,8 +157,8 @@ class Page {
     this.complain("");
     document.body.classList.add("busy");
     try {
-      const isMatch = warriors.length >= 1 && warriors.length <= MOST_WARRIORS;
-      if (!isMatch) throw new Error(`A match has 1 to ${MOST_WARRIORS} warriors: mark them in the list of sources.`);
+      const isMatch = warriors.length >= 1 && warriors.length <= MAX_WARRIORS;
+      if (!isMatch) throw new Error(`A match has 1 to ${MAX_WARRIORS} warriors: mark them in the list of sources.`);
       await this.session.open({ ...this.terms.value, round: 0, warriors, edits: [] }, { plays });
       document.body.classList.add("running");
       if (location.hash) history.replaceState(null, "", location.pathname + location.search);
@@ -244,11 +244,11 @@ class Page {
     const carried = text || ownFight();
     if (carried) await this.openLink(carried, selection);
     if (this.session.opened) return;
-    const told = element("complaint").textContent ?? "";
+    const complaint = element("complaint").textContent ?? "";
     const isStill = matchMedia("(prefers-reduced-motion: reduce)").matches;
     const { fighters } = this.shelf;
-    await this.fight(fighters.length ? fighters.slice(0, MOST_WARRIORS) : [this.shelf.all[0]], !isStill);
-    const faults = [told, ...(this.server?.faults ?? []), element("complaint").textContent ?? ""];
+    await this.fight(fighters.length ? fighters.slice(0, MAX_WARRIORS) : [this.shelf.all[0]], !isStill);
+    const faults = [complaint, ...(this.server?.faults ?? []), element("complaint").textContent ?? ""];
     // A page shows a battle, also if the sources that are marked have errors.
     if (!this.session.opened) await this.fight(this.examples.filter(({ name }) => FIRST.includes(name)), !isStill);
     this.complain(faults.join(" ").trim());
@@ -330,9 +330,9 @@ async function main() {
 }
 
 main().catch((error) => {
-  const told = /** @type {Error} */ (error).message;
+  const message = /** @type {Error} */ (error).message;
   const isPoor = ["WebAssembly", "DecompressionStream"].some((name) => !(name in window));
-  const isOld = isPoor || /wasm|compile|memory/i.test(told);
+  const isOld = isPoor || /wasm|compile|memory/i.test(message);
   const what = isOld ? "This browser cannot run the machine, a module of WebAssembly" : "The page cannot start";
-  element("loading").textContent = `${what}: ${told}`;
+  element("loading").textContent = `${what}: ${message}`;
 });

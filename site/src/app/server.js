@@ -87,9 +87,9 @@ export class Server {
       const lines = (rest + part.value).split("\n");
       rest = lines.pop() ?? "";
       for (const line of lines) {
-        const told = JSON.parse(line);
-        if ("fault" in told) throw new Error(told.fault);
-        yield told.map(resultOf);
+        const message = JSON.parse(line);
+        if ("fault" in message) throw new Error(message.fault);
+        yield message.map(resultOf);
       }
     }
   }

@@ -7,7 +7,7 @@ import { pageWith } from "./parts.js";
 /** @typedef {import("../view/session.js").Session} Session */
 
 /** Some programs cut addresses that are longer. */
-const LONGEST = 8000;
+const MAX_LINK_LENGTH = 8000;
 
 /**
  * Returns the text of the fight that is shown, with its edits, its turn and the cell in view.
@@ -27,7 +27,7 @@ export function listenToShare(session) {
     const link = `${location.href.split("#")[0]}#f=${await shared(session)}`;
     const field = typed("link", HTMLInputElement);
     field.value = link;
-    const isLong = link.length > LONGEST;
+    const isLong = link.length > MAX_LINK_LENGTH;
     note(isLong ? `The link has ${number(link.length)} characters, which some programs cut. A page has no limit.` : "");
     typed("sharing", HTMLDialogElement).showModal();
     field.select();

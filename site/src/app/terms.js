@@ -1,5 +1,5 @@
 /** The terms of matches: a hill or own settings, seed, rounds, position and score formula. */
-import { DEFAULTS, FORMULA, HILLS, LARGEST_SEED, MOST_ROUNDS, RANGES, SETTINGS, hillOf } from "../model/settings.js";
+import { DEFAULTS, FORMULA, HILLS, MAX_ROUNDS, MAX_SEED, RANGES, SETTINGS, hillOf } from "../model/settings.js";
 import { clamp, element, make, onClick, typed } from "../view/dom.js";
 
 /** @typedef {import("../model/settings.js").Settings} Settings */
@@ -34,8 +34,8 @@ export class Terms {
   get value() {
     return {
       settings: this.#settings,
-      seed: clamp(Math.round(Number(this.seed.value)) || 1, 1, LARGEST_SEED),
-      rounds: clamp(Math.round(Number(this.rounds.value)) || 100, 1, MOST_ROUNDS),
+      seed: clamp(Math.round(Number(this.seed.value)) || 1, 1, MAX_SEED),
+      rounds: clamp(Math.round(Number(this.rounds.value)) || 100, 1, MAX_ROUNDS),
       position: this.#position,
       formula: this.#formula,
     };
@@ -62,8 +62,8 @@ export class Terms {
 
   #openDialog() {
     const fields = SETTINGS.map((name) => {
-      const { name: title, least, greatest } = RANGES[name];
-      const field = make("input", { id: `own-${name}`, type: "number", min: least, max: greatest, required: true });
+      const { name: title, minimum, maximum } = RANGES[name];
+      const field = make("input", { id: `own-${name}`, type: "number", min: minimum, max: maximum, required: true });
       return make("label", {}, title, field);
     });
     element("own-settings").append(...fields);

@@ -4,7 +4,7 @@
  * A run of a battle is kept as marks at regular distances, and any other turn is played from the mark before it. The
  * records of turns are read when they are needed.
  */
-import { MOST_TURNS } from "../model/settings.js";
+import { MAX_TURNS } from "../model/settings.js";
 import { NOBODY, writeCell } from "../model/cells.js";
 import { describe } from "../engine/warrior.js";
 import { Origins, UNKNOWN } from "./origins.js";
@@ -50,13 +50,13 @@ class Run {
     this.marks = [this.start];
     const chronicle = new Chronicle(start, MOMENTS);
     // An even number, so that the battle is at the last mark after every other one is dropped.
-    const most = 2 * Math.max(1, Math.floor(MARKED / start.bytes / 2));
+    const maxMarks = 2 * Math.max(1, Math.floor(MARKED / start.bytes / 2));
     for (;;) {
       start.play(mars, this.stride, origins, chronicle);
       if (start.battle.over) break;
-      if (start.turn > MOST_TURNS) throw new Error(`the battle is too long: at most ${MOST_TURNS} turns are shown`);
+      if (start.turn > MAX_TURNS) throw new Error(`the battle is too long: at most ${MAX_TURNS} turns are shown`);
       this.marks.push(start.copy());
-      if (this.marks.length > most) this.#thin();
+      if (this.marks.length > maxMarks) this.#thin();
     }
     this.ending = start;
     this.overview = chronicle.finish();

@@ -1,5 +1,5 @@
 /** A battle at a glance: at some moments how much each warrior has, and what happened first. */
-import { MOST_WARRIORS } from "../model/settings.js";
+import { MAX_WARRIORS } from "../model/settings.js";
 import { ADDRESS, DIED, QUEUED, WARRIOR } from "./place.js";
 
 /** @typedef {import("./place.js").Place} Place */
@@ -23,13 +23,14 @@ import { ADDRESS, DIED, QUEUED, WARRIOR } from "./place.js";
 /** The story of a battle of more warriors has only peaks, deaths and edits. */
 const FEW = 4;
 /** Whom a warrior can hit, and one more for its splits. */
-const SIDES = MOST_WARRIORS + 1;
+const SIDES = MAX_WARRIORS + 1;
 
 /** @type {Event} */
 export const EVENT = { turn: 0, kind: "start", warrior: -1, other: -1, address: -1, count: 0 };
 
 /**
- * Takes samples while turns are played: at most `most` in steps of equal length, which doubles if they become too many.
+ * Takes samples while turns are played: at most `maxSamples` in steps of equal length, which doubles if they
+ * become too many.
  */
 export class Sampler {
   /** @type {Overview} */
@@ -39,11 +40,11 @@ export class Sampler {
 
   /**
    * @param {Place} place
-   * @param {number} most an even number
+   * @param {number} maxSamples an even number
    * @param {number} step
    */
-  constructor(place, most, step = 1) {
-    this.most = most;
+  constructor(place, maxSamples, step = 1) {
+    this.maxSamples = maxSamples;
     this.step = step;
     this.first = this.last = place.turn;
     this.cells = place.owned.slice();
@@ -70,7 +71,7 @@ export class Sampler {
     splits.push(this.#splits);
     ends.push(this.#ends);
     this.#splits = this.#ends = 0;
-    if (turns.length > this.most) this.#thin();
+    if (turns.length > this.maxSamples) this.#thin();
   }
 
   /** Drops every other sample after the first. */
@@ -147,10 +148,10 @@ export class Chronicle extends Sampler {
 
   /**
    * @param {Place} place
-   * @param {number} most
+   * @param {number} maxSamples
    */
-  constructor(place, most) {
-    super(place, most);
+  constructor(place, maxSamples) {
+    super(place, maxSamples);
     this.isShort = this.cells.length > FEW;
     /** The turn in which each warrior had the most processes. */
     this.peaks = [...this.processes].map((count) => ({ count, turn: place.turn }));
@@ -194,7 +195,7 @@ export class Chronicle extends Sampler {
    * @param {number} [other]
    */
   #isFirst(warrior, other) {
-    const key = SIDES * warrior + (other ?? MOST_WARRIORS);
+    const key = SIDES * warrior + (other ?? MAX_WARRIORS);
     if (this.isShort || this.#seen[key]) return false;
     this.#seen[key] = 1;
     return true;

@@ -15,13 +15,13 @@
 /** The score of each survivor, in W warriors and S survivors. */
 export const FORMULA = "(W*W-1)/S";
 /** The maximum number of warriors of a match. */
-export const MOST_WARRIORS = 16;
+export const MAX_WARRIORS = 16;
 /** The maximum number of bytes of a source. */
-export const LARGEST_SOURCE = 1_048_576;
+export const MAX_SOURCE_SIZE = 1_048_576;
 /** The maximum number of turns of a battle that is shown: it takes a few seconds to open. */
-export const MOST_TURNS = 16_000_000;
-export const MOST_ROUNDS = 100_000;
-export const LARGEST_SEED = 2_147_483_646;
+export const MAX_TURNS = 16_000_000;
+export const MAX_ROUNDS = 100_000;
+export const MAX_SEED = 2_147_483_646;
 
 /** @type {Settings} */
 export const DEFAULTS = {
@@ -44,16 +44,16 @@ export const HILLS = {
 
 /**
  * The least and the greatest value of each setting; where a value also depends on others, the machine checks that.
- * @type {Record<keyof Settings, {name: string, least: number, greatest: number}>}
+ * @type {Record<keyof Settings, {name: string, minimum: number, maximum: number}>}
  */
 export const RANGES = {
-  core: { name: "Core size", least: 1, greatest: 1_048_576 },
-  cycles: { name: "Cycles", least: 1, greatest: 10_000_000 },
-  processes: { name: "Processes", least: 1, greatest: 65_536 },
-  longest: { name: "Maximum length", least: 1, greatest: 1_048_576 },
-  distance: { name: "Minimum distance", least: 1, greatest: 1_048_576 },
-  readLimit: { name: "Read limit", least: 0, greatest: 1_048_576 },
-  writeLimit: { name: "Write limit", least: 0, greatest: 1_048_576 },
+  core: { name: "Core size", minimum: 1, maximum: 1_048_576 },
+  cycles: { name: "Cycles", minimum: 1, maximum: 10_000_000 },
+  processes: { name: "Processes", minimum: 1, maximum: 65_536 },
+  longest: { name: "Maximum length", minimum: 1, maximum: 1_048_576 },
+  distance: { name: "Minimum distance", minimum: 1, maximum: 1_048_576 },
+  readLimit: { name: "Read limit", minimum: 0, maximum: 1_048_576 },
+  writeLimit: { name: "Write limit", minimum: 0, maximum: 1_048_576 },
 };
 
 export const SETTINGS = /** @type {(keyof Settings)[]} */ (Object.keys(RANGES));

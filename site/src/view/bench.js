@@ -137,8 +137,8 @@ export class Bench {
     const done = this.rows.size + this.#faults.size;
     const against = counted(this.#opponents.length, "opponent");
     const rounds = counted(this.host.terms().rounds, "round");
-    const told = `${against}, ${rounds} each, in ${number(Math.round(this.#took))} ms`;
-    const note = done < this.#opponents.length ? `${done} of ${against} …` : told;
+    const whole = `${against}, ${rounds} each, in ${number(Math.round(this.#took))} ms`;
+    const note = done < this.#opponents.length ? `${done} of ${against} …` : whole;
     element("bench-note").textContent = this.#fault || note;
     refill(element("bench-total"), ...this.#total());
     refill(element("bench-rows"), ...this.#opponents.map((opponent) => this.#line(opponent)));
@@ -155,13 +155,13 @@ export class Bench {
       losses: one.losses + other.losses,
     }));
     const { points, far } = mean(sum);
-    const told = make("span", { className: "soft" }, ` ± ${fixed(far)} points a round`);
+    const error = make("span", { className: "soft" }, ` ± ${fixed(far)} points a round`);
     const shared = [...this.rows].filter(([name]) => this.#base.has(name));
     const changes = shared.map(([name, row]) => mean(row).points - mean(this.#base.get(name) ?? row).points);
     const change = changes.reduce((total, one) => total + one, 0) / changes.length;
     const className = change >= 0 ? "better" : "worse";
     const compared = make("span", { className }, ` ${signed(change)} since “Compare with this”`);
-    return [make("strong", {}, fixed(points)), told, shared.length ? compared : null];
+    return [make("strong", {}, fixed(points)), error, shared.length ? compared : null];
   }
 
   /** @param {Source} opponent */

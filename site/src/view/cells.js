@@ -79,7 +79,7 @@ export class Cells {
     // The turn is announced already; so is a cell that is kept in view.
     element("cell-words").setAttribute("aria-live", pinned === null ? "off" : "polite");
     element("cell-words").textContent = instructionWords(readCell(view.cells, focus), { core: known.core });
-    if (!way) this.#tellChanges(view);
+    if (!way) this.#listChanges(view);
   }
 
   /**
@@ -140,18 +140,18 @@ export class Cells {
    * Lists the last changes of the cell that is looked at, and the next one.
    * @param {View} view
    */
-  async #tellChanges(view) {
+  async #listChanges(view) {
     const { session, focus } = this;
     const { known, future } = session;
     const asked = (this.#asked = `${future} ${focus} ${view.turn}`);
     const { opened } = session;
-    const told = await session.desk.cell(future, focus, view.turn).catch((error) => {
+    const history = await session.desk.cell(future, focus, view.turn).catch((error) => {
       // If another battle has been opened meanwhile, it may not have this turn.
       if (opened === session.opened) throw error;
       return null;
     });
-    if (!told || asked !== this.#asked) return;
-    const { changes, next } = told;
+    if (!history || asked !== this.#asked) return;
+    const { changes, next } = history;
     const link = (/** @type {number} */ turn, /** @type {string} */ text) =>
       make("button", { className: "link", onclick: () => session.jump(turn) }, text);
     const lines = changes.map(({ turn, warrior, before }) => {

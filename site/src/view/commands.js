@@ -16,14 +16,14 @@ const WORDS = ["at", "changes", "reads", "splits", "ends", "dies"];
 const CONDITIONS = "expected a condition: at, changes or reads A[..B] [by W], or splits, ends or dies W";
 
 /** Why a command was not done. */
-export class Refused extends Error {}
+export class CommandError extends Error {}
 
 /**
  * @param {string} text
  * @param {string} what
  */
 function readNumber(text, what) {
-  if (!/^\d{1,9}$/.test(text)) throw new Refused(`expected ${what}, not \`${text}\``);
+  if (!/^\d{1,9}$/.test(text)) throw new CommandError(`expected ${what}, not \`${text}\``);
   return Number(text);
 }
 
@@ -37,8 +37,8 @@ function readWarrior({ known: { names } }, text) {
   const exact = names.indexOf(text);
   const warrior = exact >= 0 ? exact : names.findIndex((name) => name.toLowerCase() === text.toLowerCase());
   if (warrior >= 0) return warrior;
-  const told = names.map((name, index) => `${index} ${name}`).join(", ");
-  throw new Refused(`no warrior \`${text}\`; the warriors are ${told}`);
+  const listing = names.map((name, index) => `${index} ${name}`).join(", ");
+  throw new CommandError(`no warrior \`${text}\`; the warriors are ${listing}`);
 }
 
 /**
@@ -49,11 +49,12 @@ function readWarrior({ known: { names } }, text) {
 function readAddress({ known: { core }, view, opened }, text) {
   const found = /^(\.|[\w.]+?)((?:[+-]\d{1,9})*)$/.exec(text);
   const base = found?.[1] ?? "";
-  if (base === "." && view?.head === null) throw new Refused("`.` is the cell to execute next, but the battle is over");
+  const isOver = base === "." && view?.head === null;
+  if (isOver) throw new CommandError("`.` is the cell to execute next, but the battle is over");
   const label = labels(opened?.labels ?? []).get(base);
   const at = base === "." ? (view?.head ?? 0) : (label ?? (/^\d{1,9}$/.test(base) ? Number(base) : core));
   const wanted = `a number below ${core}, a label or \`.\``;
-  if (!found || at >= core) throw new Refused(`\`${text}\` is not an address: ${wanted}`);
+  if (!found || at >= core) throw new CommandError(`\`${text}\` is not an address: ${wanted}`);
   const added = (found[2].match(/[+-]\d+/g) ?? []).reduce((sum, part) => sum + Number(part), 0);
   return (((at + added) % core) + core) % core;
 }
@@ -76,7 +77,7 @@ function labels(all) {
 function readCondition(session, text) {
   const [word, range, by, ...rest] = text.split(/\s+/);
   if (word === "at" || word === "changes" || word === "reads") {
-    if (!range || (by !== undefined && (by !== "by" || !rest.length))) throw new Refused(CONDITIONS);
+    if (!range || (by !== undefined && (by !== "by" || !rest.length))) throw new CommandError(CONDITIONS);
     const [from, to = from] = range.split("..");
     /** @type {Condition} */
     const cells = { word, first: readAddress(session, from), last: readAddress(session, to) };
@@ -85,7 +86,7 @@ function readCondition(session, text) {
   if ((word === "splits" || word === "ends" || word === "dies") && range) {
     return { word, first: readWarrior(session, text.slice(word.length).trim()) };
   }
-  throw new Refused(CONDITIONS);
+  throw new CommandError(CONDITIONS);
 }
 
 /**
@@ -103,10 +104,10 @@ export function conditionWords({ known }, { word, first, last = first, by }) {
  * @param {Session} session
  */
 function here({ view, move, known, turn }) {
-  const told = turn > 0 && move ? [`turn ${number(turn)}: ${moveWords(move, known)}`] : [];
-  if (!view || view.head === null) return [...told, "the battle is over"];
+  const lines = turn > 0 && move ? [`turn ${number(turn)}: ${moveWords(move, known)}`] : [];
+  if (!view || view.head === null) return [...lines, "the battle is over"];
   const cell = cellText(readCell(view.cells, view.head), known.core);
-  return [...told, `next: ${known.names[view.next]} at ${place(view.head, known)}: ${cell}`];
+  return [...lines, `next: ${known.names[view.next]} at ${place(view.head, known)}: ${cell}`];
 }
 
 /**
@@ -121,7 +122,7 @@ async function step(session, rest, sign) {
     const warrior = readWarrior(session, rest);
     const found = await session.leap([{ word: "moves", first: warrior }], sign > 0);
     const when = `${sign > 0 ? "after" : "before"} turn ${session.turn}`;
-    if (!found) throw new Refused(`${session.known.names[warrior]} has no turn ${when}`);
+    if (!found) throw new CommandError(`${session.known.names[warrior]} has no turn ${when}`);
   }
   return here(session);
 }
@@ -133,9 +134,9 @@ async function step(session, rest, sign) {
  */
 async function search(session, rest, forward) {
   const conditions = rest ? [readCondition(session, rest)] : session.breaks;
-  if (!conditions.length) throw new Refused("no breakpoint is set; use `break CONDITION` or add a condition");
+  if (!conditions.length) throw new CommandError("no breakpoint is set; use `break CONDITION` or add a condition");
   const found = await session.leap(conditions, forward);
-  if (!found) throw new Refused(`not found ${forward ? "after" : "before"} turn ${session.turn}`);
+  if (!found) throw new CommandError(`not found ${forward ? "after" : "before"} turn ${session.turn}`);
   return [`${conditionWords(session, conditions[found.index])}:`, ...here(session)];
 }
 
@@ -146,7 +147,7 @@ async function search(session, rest, forward) {
 async function goto(session, rest) {
   const { end } = session;
   const turn = rest === "start" ? 0 : rest === "end" ? end : readNumber(rest, "a turn, `start` or `end`");
-  if (turn > end) throw new Refused(`the battle has turns 0 to ${end}`);
+  if (turn > end) throw new CommandError(`the battle has turns 0 to ${end}`);
   await session.jump(turn);
   return here(session);
 }
@@ -157,9 +158,9 @@ async function goto(session, rest) {
  */
 async function until(session, rest) {
   const cycle = readNumber(rest, "a number of cycles");
-  if ((session.view?.cycle ?? 0) >= cycle) throw new Refused(`cycle ${cycle} is already completed; use \`goto\``);
+  if ((session.view?.cycle ?? 0) >= cycle) throw new CommandError(`cycle ${cycle} is already completed; use \`goto\``);
   const turn = await session.desk.until(session.future, cycle);
-  if (turn === null) throw new Refused(`the battle ends before cycle ${cycle} is completed`);
+  if (turn === null) throw new CommandError(`the battle ends before cycle ${cycle} is completed`);
   await session.jump(turn);
   return here(session);
 }
@@ -178,7 +179,7 @@ function setBreak(session, rest) {
 function deleteBreak(session, rest) {
   if (rest === "all") session.breaks = [];
   else if (!/^\d+$/.test(rest) || Number(rest) >= session.breaks.length) {
-    throw new Refused(`no breakpoint \`${rest}\`; expected a number or \`all\``);
+    throw new CommandError(`no breakpoint \`${rest}\`; expected a number or \`all\``);
   } else session.breaks.splice(Number(rest), 1);
   return listBreaks(session);
 }
@@ -194,7 +195,7 @@ async function readCellLine(session, line, address) {
   try {
     return await session.cellOf(line, address);
   } catch {
-    throw new Refused(`\`${line}\` is not an instruction`);
+    throw new CommandError(`\`${line}\` is not an instruction`);
   }
 }
 
@@ -208,7 +209,8 @@ async function make(session, edit) {
   try {
     await session.edit(edit);
   } catch (error) {
-    throw new Refused(`the machine refuses \`${editText(edit, known.core)}\`: ${/** @type {Error} */ (error).message}`);
+    const { message } = /** @type {Error} */ (error);
+    throw new CommandError(`the machine refuses \`${editText(edit, known.core)}\`: ${message}`);
   }
   return [`after turn ${number(turn)}: ${editText(edit, known.core)}`];
 }
@@ -224,9 +226,9 @@ async function edit(session, rest) {
 /** @type {Act} */
 async function fill(session, rest) {
   const [from, to, ...line] = rest.split(/\s+/);
-  if (!line.length) throw new Refused("expected two addresses and a line of source");
+  if (!line.length) throw new CommandError("expected two addresses and a line of source");
   const [address, last] = [readAddress(session, from), readAddress(session, to)];
-  if (last < address) throw new Refused(`cannot fill ${address} to ${last}: the first address is above the last`);
+  if (last < address) throw new CommandError(`cannot fill ${address} to ${last}: the first address is above the last`);
   return make(session, { kind: "cell", address, last, cell: await readCellLine(session, line.join(" "), address) });
 }
 
@@ -238,7 +240,7 @@ async function fill(session, rest) {
  */
 function split(session, rest, count) {
   const words = rest.split(/\s+/);
-  if (words.length <= count) throw new Refused("expected a warrior and more: see `help`");
+  if (words.length <= count) throw new CommandError("expected a warrior and more: see `help`");
   return { warrior: readWarrior(session, words.slice(0, -count).join(" ")), words: words.slice(-count) };
 }
 
@@ -266,7 +268,7 @@ async function futures(session, rest) {
   if (rest) {
     const future = readNumber(rest, "the number of a future");
     const last = session.futures.length - 1;
-    if (future > last) throw new Refused(`no future ${future}; there are futures 0 to ${last}`);
+    if (future > last) throw new CommandError(`no future ${future}; there are futures 0 to ${last}`);
     await session.showFuture(future);
   }
   return session.futures.map(({ edits, end }, index) => {
@@ -281,8 +283,8 @@ function list(session, rest) {
   if (!view) return [];
   const [where, count] = rest.split(/\s+/);
   const first = where ? readAddress(session, where) : (view.head ?? 0);
-  const most = Math.min(count ? readNumber(count, "a number of cells") : CELLS, known.core, 1000);
-  return Array.from({ length: most }, (_, index) => {
+  const length = Math.min(count ? readNumber(count, "a number of cells") : CELLS, known.core, 1000);
+  return Array.from({ length }, (_, index) => {
     const address = (first + index) % known.core;
     const cell = cellText(readCell(view.cells, address), known.core);
     const label = (known.labels.get(address) ?? "").padEnd(10);
@@ -410,15 +412,15 @@ function commandsOf(word) {
 }
 
 /**
- * Executes a line and returns what to show. Throws Refused.
+ * Executes a line and returns what to show. Throws CommandError.
  * @param {Session} session
  * @param {string} line
  */
 export async function execute(session, line) {
   const [word, ...rest] = line.trim().split(/\s+/);
   const found = commandsOf(word);
-  if (found.length > 1) throw new Refused(`\`${word}\` can mean ${found.map(nameOf).join(", ")}`);
-  if (!found.length) throw new Refused(`unknown command \`${word}\`; \`help\` lists all commands`);
+  if (found.length > 1) throw new CommandError(`\`${word}\` can mean ${found.map(nameOf).join(", ")}`);
+  if (!found.length) throw new CommandError(`unknown command \`${word}\`; \`help\` lists all commands`);
   return found[0].act(session, rest.join(" "));
 }
 

@@ -4,7 +4,7 @@ import { completions, execute } from "./commands.js";
 
 /** @typedef {import("./session.js").Session} Session */
 
-const MOST_LINES = 400;
+const MAX_LINES = 400;
 
 export class Console {
   /** @type {string[]} */
@@ -84,7 +84,7 @@ export class Console {
   #say(text, className) {
     const answers = element("answers");
     answers.append(make("li", { className }, withCode(text)));
-    while (answers.children.length > MOST_LINES) answers.firstChild?.remove();
+    while (answers.children.length > MAX_LINES) answers.firstChild?.remove();
     answers.scrollTop = answers.scrollHeight;
   }
 }

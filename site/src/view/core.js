@@ -41,8 +41,8 @@ const FONT = 'ui-monospace, Consolas, "DejaVu Sans Mono", monospace';
  */
 function bestColumns(size, width, height) {
   let best = { columns: Math.max(1, Math.floor(width)), unit: 1, worth: 0 };
-  const [least, most] = [Math.sqrt(size) / 3, Math.sqrt(size) * 3];
-  for (let columns = Math.max(1, Math.floor(least)); columns <= Math.min(size, Math.ceil(most)); columns++) {
+  const [minimum, maximum] = [Math.sqrt(size) / 3, Math.sqrt(size) * 3];
+  for (let columns = Math.max(1, Math.floor(minimum)); columns <= Math.min(size, Math.ceil(maximum)); columns++) {
     const room = Math.min(width / columns, height / Math.ceil(size / columns));
     const unit = room >= SMALL ? Math.floor(room) : room;
     const worth = unit * (size % columns === 0 ? 1.04 : 1) + room / 1000;

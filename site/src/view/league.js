@@ -16,7 +16,7 @@ import { errorWords } from "./host.js";
  */
 
 /** The matrix of more warriors is a picture. */
-const LARGEST_TABLE = 40;
+const MAX_TABLE_SIZE = 40;
 const WON = [10, 111, 184];
 const LOST = [213, 72, 10];
 
@@ -152,7 +152,7 @@ export class League {
     const sums = against.map((line) => sumOf(line));
     const order = [...sums.keys()].sort((one, other) => sums[other][0] - sums[one][0]);
     this.#drawProgress(done, total);
-    const isPicture = order.length > LARGEST_TABLE;
+    const isPicture = order.length > MAX_TABLE_SIZE;
     element("league-picture").hidden = !isPicture;
     if (isPicture) this.#drawPicture(order);
     const ranks = isPicture ? [] : order.map((_, rank) => make("th", { className: "rank" }, rank + 1));
@@ -176,8 +176,8 @@ export class League {
     const rounds = counted(this.host.terms().rounds, "round");
     const out = this.#faults.length ? `; left out: ${this.#faults.join(" ")}` : "";
     const time = (this.#took / 1000).toFixed(1);
-    const told = `${number(done)} of ${counted(total, "match")}, ${rounds} each, in ${time} s${out}`;
-    element("league-note").textContent = total ? told : this.#faults.join(" ");
+    const summary = `${number(done)} of ${counted(total, "match")}, ${rounds} each, in ${time} s${out}`;
+    element("league-note").textContent = total ? summary : this.#faults.join(" ");
     element("league-stop").hidden = !isRunning;
     const progress = typed("league-done", HTMLProgressElement);
     progress.max = Math.max(1, total);

@@ -14,8 +14,8 @@ import { swatch } from "./palette.js";
 /** @typedef {Map<string, Map<number, {died: number, killed: number}>>} Hits by the name of a source and its line */
 
 /** The number of rounds that are fought if the match has fewer, and of reasons that are listed. */
-const LEAST = 100;
-const MOST_WHYS = 6;
+const MIN_ROUNDS = 100;
+const MAX_REASONS = 6;
 
 export class Rounds {
   /** @type {Round[]} */
@@ -27,13 +27,13 @@ export class Rounds {
    * @param {Session} session
    * @param {Pool} pool
    * @param {ShowLine} show
-   * @param {(hits: Hits) => void} tellHits
+   * @param {(hits: Hits) => void} showHits
    */
-  constructor(session, pool, show, tellHits) {
+  constructor(session, pool, show, showHits) {
     this.session = session;
     this.pool = pool;
     this.show = show;
-    this.tellHits = tellHits;
+    this.showHits = showHits;
     onClick("all-rounds", () => this.fight());
     session.listen((change) => {
       if (change === "battle") this.#open();
@@ -56,7 +56,7 @@ export class Rounds {
     const { fight } = this.session;
     if (!fight) return;
     const match = this.#match;
-    const rounds = Math.max(LEAST, fight.rounds);
+    const rounds = Math.max(MIN_ROUNDS, fight.rounds);
     this.#rounds = [];
     const asked = Array.from({ length: rounds }, async (_, round) => {
       const made = await this.pool.ask("round", [{ ...fight, rounds, round, edits: [] }], "rounds", 1);
@@ -79,8 +79,8 @@ export class Rounds {
     refill(element("tally"), ...names.map((name, source) => tally(name, source, found)));
     const whys = whysOf(found);
     element("why-box").hidden = whys.length === 0;
-    refill(element("why"), ...whys.slice(0, MOST_WHYS).map((why) => this.#why(why, names)));
-    this.tellHits(hitsOf(whys, fight.warriors.map(({ name }) => name)));
+    refill(element("why"), ...whys.slice(0, MAX_REASONS).map((why) => this.#why(why, names)));
+    this.showHits(hitsOf(whys, fight.warriors.map(({ name }) => name)));
   }
 
   /**
@@ -94,13 +94,13 @@ export class Rounds {
     if (!round || !fight) return make("i");
     const winner = round.outcomes.indexOf("win");
     const how = winner < 0 ? "a tie" : `${names[winner]} wins`;
-    const told = `Round ${index}: ${how} after ${counted(round.end, "turn")}`;
+    const title = `Round ${index}: ${how} after ${counted(round.end, "turn")}`;
     const rounds = Math.max(fight.rounds, this.#rounds.length);
     return make("button", {
       className: `bare ${winner < 0 ? "tie" : ""}`,
       style: winner < 0 ? "" : swatch(winner),
-      title: told,
-      "aria-label": told,
+      title,
+      "aria-label": title,
       "aria-current": index === fight.round ? "true" : null,
       onclick: () => session.open({ ...fight, rounds, round: index, edits: [] }),
     });

@@ -94,7 +94,7 @@ export class Session {
   }
 
   /** @param {Change} change */
-  #tell(change) {
+  #notify(change) {
     for (const listener of this.#listeners) listener(change);
   }
 
@@ -161,7 +161,7 @@ export class Session {
     this.wanted = clamp(this.wanted, 0, end);
     const named = new Map([...labels].reverse().map(({ address, name }) => [address, name]));
     this.known = { names: distinct(names), core, end, deaths, labels: named };
-    this.#tell("battle");
+    this.#notify("battle");
   }
 
   /**
@@ -181,7 +181,7 @@ export class Session {
       while (this.view?.turn !== this.wanted || this.#isIncomplete) await this.#show(this.wanted);
     } catch (error) {
       this.way = 0;
-      this.#tell("play");
+      this.#notify("play");
       this.complain(String(/** @type {Error} */ (error).message));
     } finally {
       this.#going = null;
@@ -189,8 +189,8 @@ export class Session {
   }
 
   get #isIncomplete() {
-    const isUntold = this.way === 0 && !this.origins;
-    return isUntold || this.#wantedBeside !== (this.beside ? this.futures[this.beside.future] : null);
+    const lacksOrigins = this.way === 0 && !this.origins;
+    return lacksOrigins || this.#wantedBeside !== (this.beside ? this.futures[this.beside.future] : null);
   }
 
   /** @param {number} turn */
@@ -206,7 +206,7 @@ export class Session {
     Object.assign(this, shown);
     this.furthest = Math.max(this.furthest, shown.view.turn);
     this.frames++;
-    this.#tell("turn");
+    this.#notify("turn");
   }
 
   /**
@@ -258,14 +258,14 @@ export class Session {
     this.hasEnded = false;
     this.#exact = this.wanted;
     this.#then = performance.now();
-    this.#tell("play");
+    this.#notify("play");
     if (stood) requestAnimationFrame((now) => this.#tick(now));
   }
 
   stop() {
     if (this.way === 0) return;
     this.way = 0;
-    this.#tell("play");
+    this.#notify("play");
     this.go(this.wanted);
   }
 
@@ -285,19 +285,19 @@ export class Session {
   /** @param {number} rate turns a second */
   quicken(rate) {
     this.rate = clamp(rate, SLOWEST, FASTEST);
-    this.#tell("play");
+    this.#notify("play");
   }
 
   /** @param {number | null} address */
   pin(address) {
     this.pinned = address;
-    this.#tell("look");
+    this.#notify("look");
   }
 
   /** @param {number} who */
   choose(who) {
     this.chosen = this.chosen === who ? -1 : who;
-    this.#tell("look");
+    this.#notify("look");
   }
 
   /**
@@ -361,7 +361,7 @@ export class Session {
    */
   compare(future) {
     this.#compare(future === null ? null : this.futures[future]);
-    this.#tell("battle");
+    this.#notify("battle");
     return this.go(this.wanted);
   }
 

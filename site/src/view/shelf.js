@@ -1,7 +1,7 @@
 /** The sources: a list, of which one is in the editor, and those that are marked fight. */
 import { MarsError } from "../engine/mars.js";
 import { cellText } from "../model/cells.js";
-import { LARGEST_SOURCE } from "../model/settings.js";
+import { MAX_SOURCE_SIZE } from "../model/settings.js";
 import { errorsOf } from "../words/errors.js";
 import { Stopped, TooLong } from "../worker/pool.js";
 import { download, element, make, onClick, refill, settled, withCode } from "./dom.js";
@@ -147,7 +147,7 @@ export class Shelf {
   async take(files) {
     let last = null;
     for (const file of files) {
-      if (file.size > LARGEST_SOURCE) {
+      if (file.size > MAX_SOURCE_SIZE) {
         this.#say(`${file.name} is too large: a source has at most 1 MB.`);
         continue;
       }
@@ -313,8 +313,8 @@ export class Shelf {
     this.editor.showErrors(faults);
     element("fault").classList.toggle("bad", this.isBroken);
     const sorted = [...faults].sort((one, other) => one.line - other.line);
-    const told = sorted.flatMap((one) => [make("b", {}, `Line ${one.line}: `), withCode(one.text), make("br")]);
-    if (this.isBroken) refill(element("fault"), ...told);
+    const messages = sorted.flatMap((one) => [make("b", {}, `Line ${one.line}: `), withCode(one.text), make("br")]);
+    if (this.isBroken) refill(element("fault"), ...messages);
     host.checked();
   }
 

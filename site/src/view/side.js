@@ -156,10 +156,10 @@ export class Side {
   /** @param {View} view */
   #drawTurn(view) {
     const { known, way, move } = this.session;
-    element("told").className = way ? "soft" : "";
-    if (way) element("told").textContent = PAUSE;
-    else if (view.turn === 0) element("told").textContent = "The start: no turn is made yet.";
-    else if (move) element("told").textContent = moveWords(move, known);
+    element("turn-words").className = way ? "soft" : "";
+    if (way) element("turn-words").textContent = PAUSE;
+    else if (view.turn === 0) element("turn-words").textContent = "The start: no turn is made yet.";
+    else if (move) element("turn-words").textContent = moveWords(move, known);
     if (way || view.head === null) {
       refill(element("following"));
       return;

@@ -20,7 +20,7 @@ const FASTEST = 200_000;
 /** Below this speed the next instruction is marked while the battle plays. */
 const SLOW = 15;
 /** The maximum number of marked cells that differ between two futures. */
-const MOST_DIFFERENCES = 2000;
+const MAX_DIFFERENCES = 2000;
 const EMPTY = "Empty memory. A process that comes here ends.";
 const EVENTS = { splits: "split", ends: "end of a process", dies: "death" };
 
@@ -231,7 +231,7 @@ export class Theatre {
     if (!view || !beside) return [];
     const [own, other] = [view.cells, beside.view.cells];
     const found = [];
-    for (let at = 0; at < own.length && found.length < MOST_DIFFERENCES; at += 3) {
+    for (let at = 0; at < own.length && found.length < MAX_DIFFERENCES; at += 3) {
       if (own[at] !== other[at] || own[at + 1] !== other[at + 1] || own[at + 2] !== other[at + 2]) found.push(at / 3);
     }
     return found;
@@ -274,8 +274,8 @@ export class Theatre {
     element("whole").hidden = this.track.isWhole;
     const rest = make("span", { className: "cycle" }, ` · cycle ${number(cycle)}`);
     refill(element("now"), make("b", {}, `Turn ${number(turn)}`), make("span", {}, ` of ${number(end)}`), rest);
-    const told = [`turn ${turn} of ${end}`, ...standingWords(known.names, view)];
-    element("time").setAttribute("aria-valuetext", told.join(". "));
+    const lines = [`turn ${turn} of ${end}`, ...standingWords(known.names, view)];
+    element("time").setAttribute("aria-valuetext", lines.join(". "));
   }
 
   /**

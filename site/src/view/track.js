@@ -23,7 +23,7 @@ import { clamp } from "./dom.js";
  */
 
 /** The least number of turns that are shown, and the height of the scale. */
-const LEAST = 12;
+const MIN_LENGTH = 12;
 const FOOT = 17;
 const FONT = "11px system-ui, sans-serif";
 const GROUND = "#0e1217";
@@ -78,7 +78,7 @@ export class Track {
    * @param {number} last
    */
   async show(first, last) {
-    const length = clamp(last - first, Math.min(LEAST, this.#end), this.#end);
+    const length = clamp(last - first, Math.min(MIN_LENGTH, this.#end), this.#end);
     this.first = Math.round(clamp(first, 0, this.#end - length));
     this.last = Math.round(this.first + length);
     const asked = ++this.#asked;
@@ -95,7 +95,7 @@ export class Track {
    * @param {number} turn
    */
   zoom(factor, turn) {
-    const length = clamp((this.last - this.first) * factor, Math.min(LEAST, this.#end), this.#end);
+    const length = clamp((this.last - this.first) * factor, Math.min(MIN_LENGTH, this.#end), this.#end);
     const first = turn - ((turn - this.first) * length) / Math.max(1, this.last - this.first);
     return this.show(first, first + length);
   }
@@ -168,11 +168,11 @@ export class Track {
     const x = (/** @type {number} */ turn) => this.#across(turn, width);
     const middle = Math.round(bottom * 0.56);
     const drawing = { context, palette, overview, warriors: this.#warriors, width, middle, bottom, x };
-    const mostCells = drawCells(drawing);
+    const maxCells = drawCells(drawing);
     drawTicks(drawing);
-    const mostProcesses = drawProcesses(drawing);
+    const maxProcesses = drawProcesses(drawing);
     this.#drawScale(drawing);
-    drawLegend(drawing, mostCells, mostProcesses);
+    drawLegend(drawing, maxCells, maxProcesses);
     this.#drawMoments(drawing);
   }
 
@@ -201,9 +201,9 @@ export class Track {
    * @param {Drawing} drawing
    */
   #drawScale({ context, width, bottom, x }) {
-    const least = (this.last - this.first) / (width / 90);
-    const power = 10 ** Math.floor(Math.log10(Math.max(1, least)));
-    const step = [1, 2, 5, 10].map((times) => times * power).find((value) => value >= least) ?? power;
+    const minimum = (this.last - this.first) / (width / 90);
+    const power = 10 ** Math.floor(Math.log10(Math.max(1, minimum)));
+    const step = [1, 2, 5, 10].map((times) => times * power).find((value) => value >= minimum) ?? power;
     context.fillStyle = "#8793a2";
     context.font = FONT;
     for (let turn = Math.ceil(this.first / step) * step; turn <= this.last; turn += step) {
@@ -224,8 +224,8 @@ function drawCells({ context, palette, overview: { turns, cells }, warriors, mid
   const below = new Float64Array(turns.length);
   const row = (/** @type {number} */ at) => cells.slice(at * warriors, (at + 1) * warriors);
   const sums = turns.map((_, at) => row(at).reduce((sum, count) => sum + count, 0));
-  const most = Math.max(1, ...sums);
-  const y = (/** @type {number} */ at) => middle - 2 - (below[at] / most) * (middle - 8);
+  const maximum = Math.max(1, ...sums);
+  const y = (/** @type {number} */ at) => middle - 2 - (below[at] / maximum) * (middle - 8);
   for (let who = 0; who < warriors; who++) {
     context.beginPath();
     turns.forEach((turn, at) => context.lineTo(x(turn), y(at)));
@@ -238,7 +238,7 @@ function drawCells({ context, palette, overview: { turns, cells }, warriors, mid
     context.fill();
     context.globalAlpha = 1;
   }
-  return most;
+  return maximum;
 }
 
 /**
@@ -246,13 +246,13 @@ function drawCells({ context, palette, overview: { turns, cells }, warriors, mid
  * @param {Drawing} drawing
  */
 function drawProcesses({ context, palette, overview: { turns, processes }, warriors, middle, bottom, x }) {
-  const most = processes.reduce((one, other) => Math.max(one, other), 1);
+  const maximum = processes.reduce((one, other) => Math.max(one, other), 1);
   for (let who = 0; who < warriors; who++) {
     // Equal curves lie beside each other.
     const apart = Math.min(2, 12 / warriors) * who;
     context.beginPath();
     turns.forEach((turn, at) => {
-      const share = Math.sqrt(processes[at * warriors + who] / most);
+      const share = Math.sqrt(processes[at * warriors + who] / maximum);
       context.lineTo(x(turn), bottom - 2 - share * (bottom - middle - 14) - apart);
     });
     context.strokeStyle = palette.text[who];
@@ -260,7 +260,7 @@ function drawProcesses({ context, palette, overview: { turns, processes }, warri
     context.lineJoin = "round";
     context.stroke();
   }
-  return most;
+  return maximum;
 }
 
 /**
@@ -268,29 +268,29 @@ function drawProcesses({ context, palette, overview: { turns, processes }, warri
  * @param {Drawing} drawing
  */
 function drawTicks({ context, overview: { turns, splits, ends }, middle, x }) {
-  const most = [...splits, ...ends].reduce((one, other) => Math.max(one, other), 1);
+  const maximum = [...splits, ...ends].reduce((one, other) => Math.max(one, other), 1);
   for (let at = 1; at < turns.length; at++) {
     const [from, to] = [x(turns[at - 1]), x(turns[at])];
     const wide = Math.max(1, to - from);
-    context.fillStyle = `rgba(255,255,255,${0.18 + (0.5 * splits[at]) / most})`;
+    context.fillStyle = `rgba(255,255,255,${0.18 + (0.5 * splits[at]) / maximum})`;
     if (splits[at]) context.fillRect(to - wide, middle, wide, 3);
-    context.fillStyle = `rgba(255,120,110,${0.25 + (0.6 * ends[at]) / most})`;
+    context.fillStyle = `rgba(255,120,110,${0.25 + (0.6 * ends[at]) / maximum})`;
     if (ends[at]) context.fillRect(to - wide, middle + 4, wide, 3);
   }
 }
 
 /**
  * @param {Drawing} drawing
- * @param {number} mostCells
- * @param {number} mostProcesses
+ * @param {number} maxCells
+ * @param {number} maxProcesses
  */
-function drawLegend({ context, width, middle }, mostCells, mostProcesses) {
+function drawLegend({ context, width, middle }, maxCells, maxProcesses) {
   context.font = FONT;
   context.textAlign = "right";
   context.lineJoin = "round";
   const texts = /** @type {const} */ ([
-    [`cells, up to ${number(mostCells)}`, 13],
-    [`processes, up to ${number(mostProcesses)}`, middle + 17],
+    [`cells, up to ${number(maxCells)}`, 13],
+    [`processes, up to ${number(maxProcesses)}`, middle + 17],
   ]);
   for (const [text, y] of texts) {
     context.strokeStyle = GROUND;

@@ -29,7 +29,7 @@ const ELSEWHERE = "LDP STP PIN XCH PCT STS".split(" ");
 /** A character that no token has. */
 const FOREIGN = /[^\w\0- #$@*{}<>,.+\-/%()&|=!:]/u;
 /** The greatest number that is a token. */
-const GREATEST = 2n ** 63n - 1n;
+const MAX_NUMBER = 2n ** 63n - 1n;
 const OPENING = ["#", "$", "@", "{", "}", "("];
 /** How many words of a line are compared with the names of operations. */
 const FIRST_WORDS = 20;
@@ -85,7 +85,7 @@ function badToken(source, line) {
  * @returns {Cause | undefined}
  */
 function wrongToken({ lines, equates }, line, word, counters) {
-  if (/^\d+$/.test(word)) return BigInt(word) > GREATEST ? { cause: "large", word } : undefined;
+  if (/^\d+$/.test(word)) return BigInt(word) > MAX_NUMBER ? { cause: "large", word } : undefined;
   if (/^\d/.test(word)) return { cause: "half number", word };
   const name = NAME.test(word) ? word.split("&").slice(1).find((one) => !counters.includes(one)) : undefined;
   if (name) return { cause: "not counter", word, name };

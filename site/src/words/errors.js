@@ -24,8 +24,8 @@ import { NAME, codeOf, labelsOf, readSource, wordOf } from "./source.js";
 /** @type {Record<string, Record<number, string>>} */
 const { ASSEMBLY: ERRORS, TEXT: PROBLEMS, EXPRESSION: EXPRESSIONS } = ERROR_NAMES;
 /** The maximum number of causes that are reported for an error, and of errors of a source that are looked for. */
-const MOST_CAUSES = 2;
-const MOST = 10;
+const MAX_CAUSES = 2;
+const MAX_ERRORS = 10;
 /** After these errors the rest of a source cannot be read. */
 const LAST = ["1 Text 9 TooLong", "7 Empty", "8 TooLong"];
 const UNCLOSED = "1 Text 3 UnclosedFor";
@@ -70,15 +70,15 @@ function sentence({ inner, ...cause }, meanings) {
 export function explain(error, text, meanings) {
   const source = readSource(text);
   const [name, line] = [errorName(error), source.lines[error.line - 1]];
-  const causes = line ? (CAUSES[name]?.(source, line) ?? []).slice(0, MOST_CAUSES) : [];
+  const causes = line ? (CAUSES[name]?.(source, line) ?? []).slice(0, MAX_CAUSES) : [];
   const meaning = meanings[name] ?? meanings[name.split(" ").slice(-2).join(" ")] ?? name;
-  const told = causes.map((cause) => sentence(cause, meanings)).join(" ") || meaning;
+  const explanation = causes.map((cause) => sentence(cause, meanings)).join(" ") || meaning;
   // The word may be in an earlier line.
   const isEarlier = causes[0]?.cause === "earlier";
   const first = isEarlier ? causes[0].inner : causes[0];
   const number = isEarlier ? Number(causes[0].line) : error.line;
   const misspelt = ["misspelt", "elsewhere"].includes(first?.cause ?? "") ? first : undefined;
-  return { line: number, ...columns(source.lines[number - 1]?.text ?? "", first?.word), text: told, misspelt };
+  return { line: number, ...columns(source.lines[number - 1]?.text ?? "", first?.word), text: explanation, misspelt };
 }
 
 /**
@@ -105,7 +105,7 @@ export async function errorsOf(text, meanings, assemble) {
   const found = [];
   const source = readSource(text);
   const lines = text.split("\n");
-  while (found.length < MOST) {
+  while (found.length < MAX_ERRORS) {
     const error = await assemble(lines.join("\n"));
     if (!error) break;
     const explained = explain(error, lines.join("\n"), meanings);

@@ -114,8 +114,8 @@ export function instructionWords({ op, modifier, aMode, bMode, a, b }, where) {
   // The sentences of an opcode are for one number, for both, and for whole cells; the last one is for the rest.
   const last = kind === "I" ? 2 : 1;
   const sentence = sentences[Math.min(FIELDS[kind] ? 0 : last, sentences.length - 1)];
-  const told = filled(sentence, wordsOf(kind, operands, where));
+  const text = filled(sentence, wordsOf(kind, operands, where));
   // A jump has no use for its other operand, but its pointers change all the same.
   const added = operands.map((operand) => stepWords(operand, where)).filter(Boolean).join(", ");
-  return `${told[0].toUpperCase()}${told.slice(1)}${added ? ` (${added})` : ""}.`;
+  return `${text[0].toUpperCase()}${text.slice(1)}${added ? ` (${added})` : ""}.`;
 }

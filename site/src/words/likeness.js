@@ -1,9 +1,9 @@
 /** How similar words are, by the measure of Python's difflib, so that the advice is that of `corewar explain`. */
 
 /** The least likeness of a word that is meant. */
-const LEAST = 0.6;
+const MIN_RATIO = 0.6;
 /** The maximum number of names that a word is compared with. */
-const MOST_CHOICES = 1000;
+const MAX_CHOICES = 1000;
 
 /** @param {string} word */
 const sorted = (word) => [...word.toUpperCase()].sort().join("");
@@ -48,7 +48,8 @@ export const likeness = (word, choice) => (sorted(word) === sorted(choice) ? 1 :
  * @param {string[]} choices
  */
 function closest(word, choices) {
-  const found = choices.map((choice) => ({ choice, alike: ratio(choice, word) })).filter(({ alike }) => alike >= LEAST);
+  const rated = choices.map((choice) => ({ choice, alike: ratio(choice, word) }));
+  const found = rated.filter(({ alike }) => alike >= MIN_RATIO);
   found.sort((one, other) => other.alike - one.alike || (one.choice < other.choice ? 1 : -1));
   return found.slice(0, 3).map(({ choice }) => choice);
 }
@@ -60,7 +61,7 @@ function closest(word, choices) {
  * @param {string[]} choices
  */
 export function like(word, choices) {
-  const upper = new Map(choices.slice(0, MOST_CHOICES).map((choice) => [choice.toUpperCase(), choice]));
+  const upper = new Map(choices.slice(0, MAX_CHOICES).map((choice) => [choice.toUpperCase(), choice]));
   const same = [...upper.keys()].filter((choice) => sorted(choice) === sorted(word));
   const close = same.length ? same : closest(word.toUpperCase(), [...upper.keys()]);
   const best = close.filter((choice) => likeness(word, choice) === likeness(word, close[0]));

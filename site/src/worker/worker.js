@@ -3,7 +3,7 @@ import { Mars, MarsError } from "../engine/mars.js";
 import { Desk } from "./desk.js";
 import { Jobs } from "./jobs.js";
 
-/** @typedef {{id: number, call: string, given: unknown[]}} Asked */
+/** @typedef {{id: number, call: string, given: unknown[]}} CallMessage */
 /** @typedef {Record<string, (...given: unknown[]) => unknown>} Calls */
 
 export const DESK_CALLS = "open show edit turn origins move overview search until cell cellOf memory".split(" ");
@@ -44,13 +44,13 @@ function buffersOf(value) {
 }
 
 self.onmessage = async ({ data }) => {
-  const { id, call, given } = /** @type {Asked} */ (data);
+  const { id, call, given } = /** @type {CallMessage} */ (data);
   try {
     if (call === "start") calls = start(/** @type {WebAssembly.Module} */ (given[0]));
     const value = await (await calls)[call](...given);
     postMessage({ id, value }, { transfer: buffersOf(value) });
   } catch (error) {
-    const told = error instanceof MarsError ? { ...error } : String(/** @type {Error} */ (error).message ?? error);
-    postMessage({ id, error: told });
+    const reason = error instanceof MarsError ? { ...error } : String(/** @type {Error} */ (error).message ?? error);
+    postMessage({ id, error: reason });
   }
 };

@@ -36,13 +36,15 @@ MEMORY, SETTINGS, PARAMETERS, FORMULA, ASSEMBLY, LOAD, SCORE, BLOCK, EDIT, WARRI
 )
 
 
-class Refused(Exception):
+class CorewarError(Exception):
     """The base class of the errors of the library and of files, and the error for a number that is out of its range: a
-    `Fault` if it is an argument of the library. Its text is one line.
+    `MarsError` if it is an argument of the library. Its text is one line.
+
+    `Refused` is its older name, which the next version removes.
     """
 
 
-class Fault(Refused):
+class MarsError(CorewarError):
     """An error of a call of the library. Its text is what `mars` prints after the name of the file.
 
     - `code`: the result of the call, as listed in the API for C; `kind` is the first word of most texts
@@ -50,6 +52,8 @@ class Fault(Refused):
     - `problem`, `expression`: the numbers of nested errors, or 0
     - `line`: the line of a source or a load file, from 1; or the address or index of a wrong cell; otherwise 0
     - `warrior`: the index of a wrong warrior or lineup, from 0
+
+    `Fault` is its older name, which the next version removes.
     """
 
     def __init__(
@@ -61,8 +65,8 @@ class Fault(Refused):
         self.name = names(enumeration).get(number, "") if number else ""
         head = [] if code == ASSEMBLY else [self.kind, "1 Expression"] if code == FORMULA else [self.kind]
         nested = "PARAMETERS" if code == BLOCK else "TEXT"
-        told = [numbered(enumeration, number), numbered(nested, problem), numbered("EXPRESSION", expression)]
-        super().__init__(self._place() + " ".join([*head, *filter(None, told)]))
+        parts = [numbered(enumeration, number), numbered(nested, problem), numbered("EXPRESSION", expression)]
+        super().__init__(self._place() + " ".join([*head, *filter(None, parts)]))
 
     def _place(self) -> str:
         """Returns where the error is, as its text begins."""
@@ -72,23 +76,25 @@ class Fault(Refused):
 
     def __reduce__(self) -> tuple[Any, ...]:
         # A pool of processes hangs if an exception cannot be unpickled.
-        return Fault, (self.code, self.number, self.problem, self.expression, self.line, self.warrior)
+        return MarsError, (self.code, self.number, self.problem, self.expression, self.line, self.warrior)
 
 
-class FileFault(Refused):
+class FileError(CorewarError):
     """An error of one file.
 
     - `file`: the name of the file
-    - `fault`: the `Fault`, or a text such as "No such file or directory"
+    - `fault`: the `MarsError`, or a text such as "No such file or directory"
     - `text`: the content of the file, or b"" if it was not read
+
+    `FileFault` is its older name, which the next version removes.
     """
 
-    def __init__(self, file: str, fault: Fault | str, text: bytes = b"") -> None:
+    def __init__(self, file: str, fault: MarsError | str, text: bytes = b"") -> None:
         super().__init__(f"{file}: {fault}")
         self.file, self.fault, self.text = file, fault, text
 
     def __reduce__(self) -> tuple[Any, ...]:
-        return FileFault, (self.file, self.fault, self.text)
+        return FileError, (self.file, self.fault, self.text)
 
 
 def numbered(enumeration: str, number: int) -> str:

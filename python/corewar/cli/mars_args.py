@@ -5,14 +5,14 @@ import re
 
 import click
 
-from ..model.settings import MOST_WARRIORS, NUMBERS
+from ..model.settings import MAX_WARRIORS, NUMBERS
 from .layout import Number
 
-NUMBERS_OF_MARS = {number.word: (number.least, number.greatest) for number in NUMBERS.values()} | {
+NUMBERS_OF_MARS = {number.word: (number.minimum, number.maximum) for number in NUMBERS.values()} | {
     "--history": (1, 1_000_000)
 }
 TOGETHER = f"""Each argument is valid by itself. Together they have to follow these rules:
-- There are 1 to {MOST_WARRIORS} files; --league requires at least two, -F exactly two and --load one.
+- There are 1 to {MAX_WARRIORS} files; --league requires at least two, -F exactly two and --load one.
 - The position of -F is at least the minimum distance, and at most the core size minus it.
 - No option is given twice.
 - -e, --league and --load exclude each other; -F excludes --league and --load.
@@ -29,7 +29,7 @@ MARS = click.Command(
 )
 
 
-def judge(words: list[str]) -> str:
+def check_mars_args(words: list[str]) -> str:
     """Returns the rules for arguments that are valid by themselves. Raises an error of click if one is not."""
     # Click would take the `=` that joins a value to a short option as a part of the value.
     MARS.make_context("mars", [re.sub(r"^(-\w)=", r"\1", word) for word in words])
