@@ -42,9 +42,9 @@ def main(generations: int) -> None:
     for _ in range(generations):
         seed = dice.randrange(1, 1 << 30)
         given = {"settings": NANO, "seeds": seed}
-        made = corewar.outcomes([*warriors, *OPPONENTS], lineups, rounds=ROUNDS, **given)
+        outcomes = corewar.outcomes([*warriors, *OPPONENTS], lineups, rounds=ROUNDS, **given)
         counted = corewar.outcomes([*warriors, *OPPONENTS], lineups, counts=True, **given)[:, 0, 0]
-        rewards = corewar.shares(made, NANO.cycles)[:, :, 0].mean(axis=1)
+        rewards = corewar.shares(outcomes, NANO.cycles)[:, :, 0].mean(axis=1)
         for one, reward, counts in zip(warriors, rewards, counted):
             place = int(counts["spawned"]).bit_length(), int(counts["touched"]) // 10
             if place not in elites or reward > elites[place][0]:

@@ -45,8 +45,8 @@ def fight(hill: Hill, newcomer: corewar.Warrior) -> Any:
     # Each match has a seed of its own. A hill that is made again has the same ones.
     dice = random.Random(hill["challenges"])
     seeds = [dice.randrange(1, 1 << 30) for _ in lineups]
-    made = corewar.outcomes([newcomer, *others], lineups, settings=hill["settings"], rounds=hill["rounds"], seeds=seeds)
-    return made["survived"]
+    given = {"settings": hill["settings"], "rounds": hill["rounds"], "seeds": seeds}
+    return corewar.outcomes([newcomer, *others], lineups, **given)["survived"]
 
 
 def challenge(hill: Hill, newcomer: corewar.Warrior) -> list[Entry]:
@@ -61,11 +61,11 @@ def challenge(hill: Hill, newcomer: corewar.Warrior) -> list[Entry]:
         other["age"] += 1
     # Of equal scores the older one stays above.
     table = sorted([*hill["warriors"], new], key=lambda one: rates(one, hill["rounds"])[0], reverse=True)
-    hill["warriors"], gone = table[: hill["size"]], table[hill["size"] :]
+    hill["warriors"], pushed_off = table[: hill["size"]], table[hill["size"] :]
     for one in hill["warriors"]:
-        for left in gone:
+        for left in pushed_off:
             del one["against"][left["number"]]
-    return gone
+    return pushed_off
 
 
 def replace(path: str, hill: Hill) -> None:
@@ -100,9 +100,9 @@ def main() -> None:
         if not isinstance(hill, dict) or "challenges" not in hill:
             sys.exit(f"hill: {words.state} is not a hill")
     for path in words.files:
-        gone = challenge(hill, corewar.read(path, settings=hill["settings"], rounds=hill["rounds"]))
+        pushed_off = challenge(hill, corewar.read(path, settings=hill["settings"], rounds=hill["rounds"]))
         replace(words.state, hill)
-        for one in gone:
+        for one in pushed_off:
             print(f"{one['title']} is pushed off at age {one['age']}")
     print("  rank   score   won  tied  lost    age  warrior")
     for rank, one in enumerate(hill["warriors"], 1):

@@ -38,7 +38,7 @@ def free_memory() -> int:
     return min(free)
 
 
-def at_a_time(memory: int) -> int:
+def max_parallel(memory: int) -> int:
     """Returns for how many processes with this much memory, in bytes, there are processors and memory: at least one."""
     return max(1, min(len(os.sched_getaffinity(0)), free_memory() // memory))
 

@@ -15,7 +15,7 @@ def clock(seconds: float) -> str:
     return f"{int(seconds) // 60} min {int(seconds) % 60} s"
 
 
-class Reckoning:
+class Estimate:
     """When each crate is expected to be proved, in seconds from the start of a build.
 
     - `path`: the file with the times of the last build
@@ -51,22 +51,22 @@ class Progress:
     """Reports the progress of a build: on a terminal in one line that is rewritten every second, otherwise in a line
     for each proved crate, and one with the crates in progress after a while without a line."""
 
-    def __init__(self, count: int, reckoning: Reckoning | None = None) -> None:
-        self.count, self.reckoning = count, reckoning
+    def __init__(self, count: int, estimate: Estimate | None = None) -> None:
+        self.count, self.estimate = count, estimate
         self.proved: dict[str, float] = {}
-        self.begun = self.printed = time.monotonic()
+        self.started = self.printed = time.monotonic()
         self.is_terminal = sys.stderr.isatty()
 
     def add(self, crate: str) -> None:
         """Reports a crate as proved."""
-        self.proved[crate] = time.monotonic() - self.begun
+        self.proved[crate] = time.monotonic() - self.started
         if not self.is_terminal:
             self.print_line(f"mars: proved {crate}, {len(self.proved)} of {self.count} ({clock(self.proved[crate])})")
 
-    def go_on(self, at_work: list[str]) -> None:
+    def update(self, at_work: list[str]) -> None:
         """Reports the crates in progress, if it is time to."""
         if time.monotonic() - self.printed >= (1 if self.is_terminal else SILENCE):
-            seconds = time.monotonic() - self.begun
+            seconds = time.monotonic() - self.started
             parts = [
                 f"mars: {len(self.proved)} of {self.count} crates proved in {clock(seconds)}",
                 *self.time_left(seconds),
@@ -74,7 +74,7 @@ class Progress:
             self.print_line(f"{', '.join(parts)}; proving {' and '.join(at_work)}")
 
     def time_left(self, seconds: float) -> Iterator[str]:
-        left = self.reckoning.left(self.proved, seconds) if self.reckoning else 0
+        left = self.estimate.left(self.proved, seconds) if self.estimate else 0
         if left > 0:
             yield f"about {left / 60:.0f} min left" if left >= 90 else "about a minute left"
 
@@ -90,7 +90,7 @@ class Progress:
         """Ends the line on a terminal."""
         if self.is_terminal:
             done = (
-                f"mars: proved {len(self.proved)} crates in {clock(time.monotonic() - self.begun)}\n"
+                f"mars: proved {len(self.proved)} crates in {clock(time.monotonic() - self.started)}\n"
                 if len(self.proved) == self.count > 0
                 else ""
             )

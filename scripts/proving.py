@@ -8,7 +8,7 @@ import subprocess
 import tempfile
 from collections.abc import Iterable
 
-from machine import at_a_time, toolchain
+from machine import max_parallel, toolchain
 from program import BUILT as PROGRAM_FILE, CRATE, TOP
 from rooms import all_below, crate_lines, make_room
 from webassembly import keeping_toolchain
@@ -26,11 +26,11 @@ MEMORY_OF_A_JOB = 3_300_000_000
 
 
 class NotProved(Exception):
-    """A crate could not be proved; `said` is the output of the prover."""
+    """A crate could not be proved; `output` is that of the prover."""
 
-    def __init__(self, name: str, said: str) -> None:
+    def __init__(self, name: str, output: str) -> None:
         super().__init__(f"cannot prove {crate_of(name)}")
-        self.said = said
+        self.output = output
 
 
 def crate_of(name: str) -> str:
@@ -48,7 +48,7 @@ def folder_of(name: str) -> str:
     return os.path.join(TOP, "crates", crate_of(name))
 
 
-def made_of(name: str) -> str:
+def output_of(name: str) -> str:
     """Returns the result of proving a crate: the file that is built from it, or its statements."""
     return BUILT.get(name) or os.path.join(folder_of(name), "out", "rlib", f"{name}.rlib")
 
@@ -70,15 +70,15 @@ def time_of(path: str) -> float | None:
     return os.stat(mark if os.path.exists(mark) else written).st_mtime
 
 
-def is_newer(made: str, names: Iterable[str]) -> bool:
+def is_newer(output: str, names: Iterable[str]) -> bool:
     """Returns whether a result is newer than all sources of these crates."""
-    when = time_of(made)
+    when = time_of(output)
     folders = [os.path.join(folder_of(name), part) for name in names for part in ("src", "specs", "proofs")]
     files = [os.path.join(here, file) for folder in folders for here, _, found in os.walk(folder) for file in found]
     return when is not None and all((time_of(path) or 0) < when for path in (os.path.join(TOP, "crates.txt"), *files))
 
 
-def built_anew(lines: dict[str, list[str]]) -> set[str]:
+def up_to_date(lines: dict[str, list[str]]) -> set[str]:
     """Returns which of the program and the archive are newer than all their sources."""
     return {name for name in BUILT.keys() & lines.keys() if is_newer(BUILT[name], [name, *all_below(name, lines)])}
 
@@ -99,13 +99,13 @@ def run(words: list[str], name: str, folder: str) -> str:
     return done.stdout
 
 
-class FromNothing:
+class FromScratch:
     """Proves each crate from scratch, given the statements of those below it, as `rt ci` does, and leaves its
     statements in the same place.
     """
 
     def __init__(self, lines: dict[str, list[str]]) -> None:
-        self.lines, self.kit, self.max_jobs = lines, toolchain(), at_a_time(MEMORY_OF_A_JOB)
+        self.lines, self.kit, self.max_jobs = lines, toolchain(), max_parallel(MEMORY_OF_A_JOB)
 
     def jobs(self, at_once: int) -> int:
         """Returns the number of jobs of each of `at_once` crates. All jobs are busy all the time, so the crates share
@@ -117,62 +117,66 @@ class FromNothing:
         """Returns what need not be proved: unchanged since the program or the archive was built, or since the crate was
         proved in this way.
         """
-        found = built_anew(self.lines)
+        found = up_to_date(self.lines)
         for name in self.lines:
-            made, below = made_of(name), [one for one in self.lines[name] if one in self.lines]
+            output, below = output_of(name), [one for one in self.lines[name] if one in self.lines]
             if (
                 name not in BUILT
                 and found.issuperset(below)
-                and self.is_stated(name)
-                and all((time_of(made_of(one)) or 0) <= (time_of(made) or 0) for one in below)
+                and self.has_statements(name)
+                and all((time_of(output_of(one)) or 0) <= (time_of(output) or 0) for one in below)
             ):
                 found.add(name)
         return found
 
-    def is_stated(self, name: str) -> bool:
+    def has_statements(self, name: str) -> bool:
         """Returns whether the statements of a crate are newer than its sources, and of this prover and this way."""
-        made = made_of(name)
-        is_whole = os.path.exists(os.path.join(os.path.dirname(made), "stamp"))
-        return is_newer(made, [name]) and not is_whole and builder_of(made) == builder_of(f"{self.kit}/rlibs/std.rlib")
+        output = output_of(name)
+        is_whole = os.path.exists(os.path.join(os.path.dirname(output), "stamp"))
+        return (
+            is_newer(output, [name]) and not is_whole and builder_of(output) == builder_of(f"{self.kit}/rlibs/std.rlib")
+        )
 
     def prove(self, name: str, jobs: int) -> None:
         """Proves a crate in `jobs` jobs. The program uses one, since every other one would read the statements of all
         crates again.
         """
-        made = made_of(name)
+        output = output_of(name)
         if name not in BUILT:
-            shutil.rmtree(os.path.dirname(made), ignore_errors=True)
-            os.makedirs(os.path.dirname(made))
-            open(os.path.join(os.path.dirname(made), MARK), "w").close()
-            self.build(name, ["--jobs", str(jobs), "--statements", "-o", made])
+            shutil.rmtree(os.path.dirname(output), ignore_errors=True)
+            os.makedirs(os.path.dirname(output))
+            open(os.path.join(os.path.dirname(output), MARK), "w").close()
+            self.build(name, ["--jobs", str(jobs), "--statements", "-o", output])
             return
-        os.makedirs(os.path.dirname(made), exist_ok=True)
+        os.makedirs(os.path.dirname(output), exist_ok=True)
         tools = f"{self.kit}/toolchain"
         if name == LIBRARY:
             if os.path.exists(MODULE):
                 os.remove(MODULE)
             with tempfile.TemporaryDirectory() as room:
                 keeping = keeping_toolchain(tools, os.path.join(room, "toolchain"), MODULE)
-                self.build(name, ["--toolchain", keeping, "--jobs", str(jobs), "--crate-type", "staticlib", "-o", made])
+                self.build(
+                    name, ["--toolchain", keeping, "--jobs", str(jobs), "--crate-type", "staticlib", "-o", output]
+                )
         else:
-            self.build(name, ["--toolchain", tools, "--jobs", "1", "-o", f"{made}.o"])
-            self.link(f"{made}.o", made)
+            self.build(name, ["--toolchain", tools, "--jobs", "1", "-o", f"{output}.o"])
+            self.link(f"{output}.o", output)
 
     def build(self, name: str, words: list[str]) -> None:
         """Calls the prover to check a crate and build something from it."""
         crate, root = crate_of(name), "src/main.rt" if name == PROGRAM else "src/lib.rt"
         command = [f"{self.kit}/bin/rattle", "build", "--crate-name", crate, root]
         for library in ["std", *self.lines[name]]:
-            made = made_of(library) if library in self.lines else f"{self.kit}/rlibs/{library}.rlib"
-            command += ["--extern", f"{library}={made}"]
-        below = [os.path.dirname(made_of(one)) for one in sorted(all_below(name, self.lines))]
+            output = output_of(library) if library in self.lines else f"{self.kit}/rlibs/{library}.rlib"
+            command += ["--extern", f"{library}={output}"]
+        below = [os.path.dirname(output_of(one)) for one in sorted(all_below(name, self.lines))]
         for folder in [f"{self.kit}/rlibs", *below]:
             command += ["-L", f"dependency={folder}"]
         command += ["--links", f"{crate}=", "--antt-project", f"{self.kit}/rattle/logic/antt-project.json"]
         command += ["--logic-built", f"{self.kit}/logic_built"]
-        said = run([*command, *words], name, folder_of(name))
-        if not re.search(r"^logic=proved ", said, re.M):
-            raise NotProved(name, said)
+        text = run([*command, *words], name, folder_of(name))
+        if not re.search(r"^logic=proved ", text, re.M):
+            raise NotProved(name, text)
 
     def link(self, compiled: str, program: str) -> None:
         """Links the program and replaces an older one, which may be running."""
@@ -184,18 +188,18 @@ class FromNothing:
 
     def tidy(self) -> None:
         """Removes what a build has left of the crates, except the built files."""
-        for folder in (os.path.dirname(made_of(name)) for name in self.lines if name not in BUILT):
+        for folder in (os.path.dirname(output_of(name)) for name in self.lines if name not in BUILT):
             if os.path.exists(os.path.join(folder, MARK)):
                 shutil.rmtree(folder)
 
 
-class Kept:
+class WithStoredWork:
     """Proves crates with `rt lib` and `rt run`, which store work for later checks. `rt` runs one check at a time in a
     crate and in those below it, so each is proved in a room of its own with links to them; the results are moved out of
     there."""
 
     def __init__(self, lines: dict[str, list[str]], rooms: str) -> None:
-        self.lines, self.rooms, self.max_jobs = lines, rooms, at_a_time(MEMORY_OF_A_JOB)
+        self.lines, self.rooms, self.max_jobs = lines, rooms, max_parallel(MEMORY_OF_A_JOB)
 
     def jobs(self, _at_once: int) -> int:
         """Returns all jobs for each crate, since a check begins and ends with one busy job and leaves the others to
@@ -207,7 +211,7 @@ class Kept:
         """Returns what need not be built again: unchanged, with all its work. Changes in the crates below are found by
         `rt`.
         """
-        return {name for name in built_anew(self.lines) if all(map(has_work, (name, *all_below(name, self.lines))))}
+        return {name for name in up_to_date(self.lines) if all(map(has_work, (name, *all_below(name, self.lines))))}
 
     def prove(self, name: str, jobs: int) -> None:
         """Proves a crate in `jobs` jobs, with those below it, and stores the results."""
@@ -215,13 +219,13 @@ class Kept:
         wanted = {name, *all_below(name, self.lines)}
         make_room(room, {one: self.lines[one] for one in self.lines if one in wanted})
         words = ["run", "--jobs", str(jobs), "--", "--help"] if name == PROGRAM else ["lib", "--jobs", str(jobs)]
-        made, kept = os.path.join(room, "crates", crate_of(name)), os.path.join(folder_of(name), "out")
+        crate, kept = os.path.join(room, "crates", crate_of(name)), os.path.join(folder_of(name), "out")
         try:
-            run(["rt", *words], name, made)
+            run(["rt", *words], name, crate)
         finally:
-            if os.path.isdir(os.path.join(made, "out")):
+            if os.path.isdir(os.path.join(crate, "out")):
                 shutil.rmtree(kept, ignore_errors=True)
-                os.rename(os.path.join(made, "out"), kept)
+                os.rename(os.path.join(crate, "out"), kept)
 
     def tidy(self) -> None:
         """Leaves everything, since later checks use it."""

@@ -14,16 +14,17 @@ import { readLesson } from "./tools/lesson.mjs";
 const [wasm, folder, codemirror = "/usr/share/nodejs/codemirror"] = process.argv.slice(2);
 const here = path.dirname(fileURLToPath(import.meta.url));
 const inside = (...parts) => path.join(here, ...parts);
-const made = (name) => path.join(folder, name);
+const output = (name) => path.join(folder, name);
 const read = (file) => fs.readFileSync(file, "utf8");
-const write = (name, content) => fs.writeFileSync(made(name), content);
+const write = (name, content) => fs.writeFileSync(output(name), content);
 const filesOf = (place, ending) => fs.readdirSync(place).filter((name) => name.endsWith(ending)).sort();
 
 /** Bundles a module with everything that it imports. */
 function bundle(from, name, banner) {
   const words = [inside("src", from), "--bundle", "--minify", "--format=iife", "--target=es2022", "--charset=utf8"];
   const editor = path.join(codemirror, "src", "codemirror.js");
-  words.push("--log-level=warning", `--alias:codemirror=${editor}`, `--banner:js=${banner}`, `--outfile=${made(name)}`);
+  words.push("--log-level=warning", `--alias:codemirror=${editor}`, `--banner:js=${banner}`);
+  words.push(`--outfile=${output(name)}`);
   execFileSync("esbuild", words);
 }
 
@@ -58,7 +59,7 @@ fs.rmSync(folder, { recursive: true, force: true });
 fs.mkdirSync(folder, { recursive: true });
 bundle("app/main.js", "app.js", `/*\n${read(inside("static", "codemirror.txt"))}*/`);
 bundle("worker/worker.js", "worker.js", "");
-fs.copyFileSync(wasm, made("mars.wasm"));
+fs.copyFileSync(wasm, output("mars.wasm"));
 
 const known = script(JSON.stringify(data()).replaceAll("<", "\\u003c"), ' id="data" type="application/json"');
 const page = read(inside("static", "index.html")).replace("<!--style-->", () => `<style>${style()}</style>`);
@@ -69,14 +70,14 @@ const strict = page.replace("script-src 'self' 'unsafe-inline'", "script-src 'se
 const many = strict.replace("</title>", ["</title>", ...loads].join("\n"));
 write("index.html", many.replace("<!--parts-->", () => `${known}\n<script src="app.js"></script>`));
 const machine = zlib.gzipSync(fs.readFileSync(wasm), { level: 9 }).toString("base64");
-const worker = plain("worker-code", read(made("worker.js")));
+const worker = plain("worker-code", read(output("worker.js")));
 const parts = [known, plain("page-fight", ""), plain("mars-code", machine), worker];
-write("one.html", page.replace("<!--parts-->", () => [...parts, script(read(made("app.js")))].join("\n")));
+write("one.html", page.replace("<!--parts-->", () => [...parts, script(read(output("app.js")))].join("\n")));
 
 let total = 0;
 for (const name of fs.readdirSync(folder)) {
-  const size = zlib.gzipSync(fs.readFileSync(made(name)), { level: 9 }).length;
+  const size = zlib.gzipSync(fs.readFileSync(output(name)), { level: 9 }).length;
   if (name !== "one.html") total += size;
-  console.log(`${made(name)}: ${(size / 1000).toFixed(0)} kB gzipped`);
+  console.log(`${output(name)}: ${(size / 1000).toFixed(0)} kB gzipped`);
 }
 console.log(`without one.html: ${(total / 1000).toFixed(0)} kB gzipped`);

@@ -80,7 +80,7 @@ MAX_RUN = 1_000_000
 
 def run_lines(turns: int) -> list[str]:
     """The debugger commands that execute a number of turns."""
-    return [f"run {min(MAX_RUN, turns - made)}" for made in range(0, turns, MAX_RUN)]
+    return [f"run {min(MAX_RUN, turns - done)}" for done in range(0, turns, MAX_RUN)]
 
 
 def edit_of(line: str, core: int) -> Edit:
@@ -106,7 +106,7 @@ class State(NamedTuple):
     over: bool
 
 
-def led(fight: Match, round: int = 0, lines: Sequence[str] = (), turns: int = 0) -> Battle:
+def replayed(fight: Match, round: int = 0, lines: Sequence[str] = (), turns: int = 0) -> Battle:
     """The battle of a round after some lines, `step`, `run N` or edits, and then a number of turns. An edit that is
     refused changes nothing.
     """
@@ -126,12 +126,12 @@ def led(fight: Match, round: int = 0, lines: Sequence[str] = (), turns: int = 0)
 
 def record(fight: Match, round: int = 0, lines: Sequence[str] = (), first: int = 0, turns: int = 1) -> Records:
     """The records of turns, after some lines and then `first` turns."""
-    return led(fight, round, lines, first).play(turns, records=turns)[0]
+    return replayed(fight, round, lines, first).play(turns, records=turns)[0]
 
 
 def touched(fight: Match, round: int = 0, lines: Sequence[str] = (), first: int = 0, turns: int = 1) -> Records:
     """The cells that turns touch, with the same arguments."""
-    return led(fight, round, lines, first).play(turns, touched=turns)[1]
+    return replayed(fight, round, lines, first).play(turns, touched=turns)[1]
 
 
 def same(one: State | Battle, other: State | Battle) -> bool:
@@ -153,6 +153,6 @@ def is_listed(fight: Match, lines: Sequence[str], now: State | Battle, round: in
             f"warrior {number} " + (f"dead {dead[number]}" if number in dead else f"processes {len(queue)}")
         )
     expected.append(f"battle {'over' if now.over else 'running'}")
-    asked = [f"list 0 {core}", *(f"queue {number}" for number in range(len(now.queues))), "show"]
-    told = Battle(fight, round).debug([*lines, *asked]).splitlines()[-len(expected) :]
-    return [line.partition(" at ")[0] for line in told] == expected
+    commands = [f"list 0 {core}", *(f"queue {number}" for number in range(len(now.queues))), "show"]
+    replies = Battle(fight, round).debug([*lines, *commands]).splitlines()[-len(expected) :]
+    return [line.partition(" at ")[0] for line in replies] == expected

@@ -31,7 +31,7 @@ ENVIRONMENT = {**os.environ, "PYTHONPATH": str(TOP / "python"), "PYTHONUNBUFFERE
 Run = Callable[..., "subprocess.CompletedProcess[str]"]
 
 
-class Begun(subprocess.Popen[str]):
+class StartedCommand(subprocess.Popen[str]):
     """A command whose `with` doesn't wait for it if the test has failed."""
 
     def __exit__(self, *failure: Any) -> None:
@@ -40,10 +40,10 @@ class Begun(subprocess.Popen[str]):
         super().__exit__(*failure)
 
 
-def begin(*words: object, **how: Any) -> Begun:
+def begin(*words: object, **how: Any) -> StartedCommand:
     """`corewar` with words, as it is begun and not waited for."""
     options: dict[str, Any] = {"env": ENVIRONMENT, "stdout": subprocess.PIPE, "stderr": subprocess.PIPE, "text": True}
-    return Begun([*COMMAND, *map(str, words)], **{**options, **how})
+    return StartedCommand([*COMMAND, *map(str, words)], **{**options, **how})
 
 
 @pytest.fixture

@@ -53,7 +53,7 @@ def fight(page: Browser, *names: str) -> None:
     page.run(code, list(names))
 
 
-def stand(page: Browser, turn: int) -> None:
+def go_to_turn(page: Browser, turn: int) -> None:
     """Shows a turn, with all that is shown of it."""
     page.run("corewar.session.jump(given[0])", turn)
     page.until("corewar.session.isSettled")
@@ -65,7 +65,7 @@ def test_a_newcomer_sees_a_fight(page: Browser) -> None:
     page.until(f"corewar.session.turn > {first} && corewar.session.way === 1")
     assert page.value("document.title") == "Dwarf against Imp · Core War"
     # A slow machine reads the page when the first caption is over, so it goes back.
-    stand(page, 0)
+    go_to_turn(page, 0)
     assert "share a ring of 8,000 cells" in page.text("caption")
     assert page.value("!document.getElementById('what').hidden")
     # The story keeps its end for the end, unless a user wants to know.
@@ -83,7 +83,7 @@ def test_keys_move_in_time(page: Browser) -> None:
     page.until(f"corewar.session.turn === {at + 1}")
     page.press("Left", held="Shift")
     page.until(f"corewar.session.turn === {max(0, at - 9)}")
-    stand(page, 5000)
+    go_to_turn(page, 5000)
     page.press("j")
     page.until("corewar.session.turn < 5000")
     page.press("k", "d")
@@ -94,7 +94,7 @@ def test_keys_move_in_time(page: Browser) -> None:
 
 
 def test_a_turn_in_words(page: Browser) -> None:
-    stand(page, 7797)
+    go_to_turn(page, 7797)
     executed = "Dwarf executed MOV.I $2, @2 at 1. It wrote DAT.F #0, #-2800 to 5,203, over Imp’s MOV.I $0, $1."
     assert page.text("turn-words") == f"{executed} It looked at 3 (bomb)."
     assert page.text("following").endswith("End the process that executes this. dwarf.red, line 12")
@@ -102,7 +102,7 @@ def test_a_turn_in_words(page: Browser) -> None:
 
 def test_a_cell_is_looked_at(page: Browser) -> None:
     """Under the pointer in words; a click pins it, and it is listed with its changes."""
-    stand(page, 7797)
+    go_to_turn(page, 7797)
     point = page.value("corewar.theatre.core.pointOf(5203)")
     page.mouse(point["x"], point["y"])
     page.until("!document.getElementById('tip').hidden")
@@ -124,7 +124,7 @@ def test_turns_are_those_of_the_program(page: Browser, names: tuple[str, str]) -
     fight(page, *names)
     end = page.value("corewar.session.end")
     for turn in (1, end // 3, end // 2 + 1, end):
-        stand(page, turn)
+        go_to_turn(page, turn)
         assert page.value("corewar.session.turn") == turn
         listed = native("-e", *files(*names), given=f"run {turn}\nlist 0 8000\n").splitlines()[-8000:]
         cells = page.value("[...corewar.session.view.cells]")
@@ -141,7 +141,7 @@ def text_of(words: list[int]) -> str:
 
 
 def test_the_end_leads_to_the_death(page: Browser) -> None:
-    page.run("corewar.session.jump(7700); corewar.session.quicken(400); corewar.session.play(1)")
+    page.run("corewar.session.jump(7700); corewar.session.setRate(400); corewar.session.play(1)")
     page.until("!document.getElementById('ending').hidden")
     assert page.text("winner") == "Dwarf wins"
     page.click("#why-now")
@@ -150,7 +150,7 @@ def test_the_end_leads_to_the_death(page: Browser) -> None:
 
 
 def test_edits_make_futures(page: Browser) -> None:
-    stand(page, 7790)
+    go_to_turn(page, 7790)
     page.run("corewar.session.pin(2); await new Promise(done => setTimeout(done, 300))")
     page.click("#listing .focus .text")
     page.press("a", held="Control")
@@ -253,7 +253,7 @@ def test_the_line_is_completed(page: Browser) -> None:
 
 
 def test_a_link_carries_the_fight(page: Browser, site: str) -> None:
-    stand(page, 7795)
+    go_to_turn(page, 7795)
     page.run("corewar.session.pin(2); await corewar.console.run('edit 2 jmp 0')")
     end, link = page.run("return [corewar.session.end, await shared(corewar.session)]")
     assert len(link) < 900
@@ -316,7 +316,7 @@ def test_a_source_that_takes_minutes(page: Browser) -> None:
     page.until("document.getElementById('fault').textContent.includes('Dwarf: 4 of 100 cells')")
     page.run("corewar.fight([{name: 'slow.red', text: given[0]}])", slow())
     page.until("document.getElementById('complaint').textContent === 'it takes too long'")
-    stand(page, 7798)
+    go_to_turn(page, 7798)
     assert "Imp is dead" in page.text("turn-words")
 
 
@@ -404,10 +404,10 @@ def test_a_lesson_is_judged(page: Browser) -> None:
     page.click("[data-view=learn]")
     judge = "document.querySelectorAll('#lessons .lesson')[given[0]].querySelector('.main').click()"
     verdict = "document.querySelectorAll('#lessons .verdict')[%d].textContent === '%s'"
-    stand(page, 536)
+    go_to_turn(page, 536)
     page.run(judge, 1)
     page.until(verdict % (1, "In turn 536 no warrior dies."))
-    stand(page, 7798)
+    go_to_turn(page, 7798)
     page.run(judge, 1)
     page.until(verdict % (1, "That is the turn."))
     page.run("document.querySelectorAll('#lessons .lesson')[3].querySelector('button').click()")
@@ -481,7 +481,7 @@ def test_a_screen_reader_follows(page: Browser) -> None:
     page.run("document.querySelectorAll('#lessons .lesson')[1].querySelector('button').click()")
     page.until("document.activeElement.id === 'lesson-box' && corewar.session.way === 1")
     assert page.run(HEADINGS)[:2] == [1, 2]
-    stand(page, 7796)
+    go_to_turn(page, 7796)
     page.press("Right")
     told = "[...document.querySelectorAll('#side [aria-live=polite]')].map(one => one.textContent).join('')"
     page.until(f"{told}.startsWith('Dwarf executed MOV.I $2, @2 at 1.')")
@@ -514,7 +514,7 @@ def test_memory_stays(page: Browser) -> None:
 
 def test_a_page_in_one_file(page: Browser, browser: Browser, tmp_path: Path) -> None:
     """It opens from a disk, and saves another one."""
-    stand(page, 7797)
+    go_to_turn(page, 7797)
     text = page.run("return pageWith(await shared(corewar.session))")
     (tmp_path / "fight.html").write_text(text, encoding="utf-8")
     browser.open(f"file://{tmp_path}/fight.html")

@@ -15,9 +15,9 @@ from battles import is_listed, matches
 from hypothesis import given, strategies as st
 from numpy.typing import NDArray
 
-from corewar.engine.battles import Battle, resumed
-from corewar.engine.binding import ROOM, array, call, held, kind, library, slice_of
-from corewar.engine.calls import Match, assemble, fighters
+from corewar.engine.battles import Battle, battle_of_words
+from corewar.engine.binding import ROOM, array, call, dtype_of, library, settings_struct, slice_of
+from corewar.engine.calls import Match, assemble, warrior_arrays
 from corewar.model.cells import MODES, MODIFIERS, OPCODES
 from corewar.model.errors import MarsError
 from corewar.model.settings import Settings
@@ -32,9 +32,11 @@ def slices(words: Words) -> tuple[Any, int]:
 
 def started(fight: Match, round: int = 0) -> Words:
     """The battle of a round, with the capacity that it needs."""
-    settings = held(fight.settings, round + 1, fight.seed, fight.position)
+    settings = settings_struct(fight.settings, round + 1, fight.seed, fight.position)
     words = array("uint32_t", library()[1].mars_words(settings, len(fight.warriors)))
-    assert call("mars_start", settings, *fighters(fight.warriors, fight.settings.core), round, *slices(words)) == 0
+    assert (
+        call("mars_start", settings, *warrior_arrays(fight.warriors, fight.settings.core), round, *slices(words)) == 0
+    )
     return words
 
 
@@ -54,7 +56,7 @@ def edit(words: Words, what: int, warrior: int = 0, place: int = 0, address: int
 
 
 def header(words: Words) -> Any:
-    return words[:64].view(kind("MarsBattle"))[0]
+    return words[:64].view(dtype_of("MarsBattle"))[0]
 
 
 def is_turn(before: Battle, row: Any, touched: Any, after: Battle) -> bool:
@@ -86,16 +88,16 @@ def test_turns(fight: Match, round: int, first: int, more: int) -> None:
     except MarsError:
         return
     play(words, first)
-    assert is_listed(fight, [f"run {first}"] if first else [], resumed(words), round)
+    assert is_listed(fight, [f"run {first}"] if first else [], battle_of_words(words), round)
     single = words.copy()
     records, touched = play(words, more, more + 2)
     for turn in range(more):
-        before = resumed(single)
+        before = battle_of_words(single)
         play(single, 1)
         if before.over:
             assert not records[turn:].view(np.uint32).any() and not touched[turn:].view(np.uint32).any()
             break
-        assert is_turn(before, records[turn], touched[turn], resumed(single))
+        assert is_turn(before, records[turn], touched[turn], battle_of_words(single))
     length = header(words)["words"]
     assert np.array_equal(words[:length], single[:length])
 
@@ -125,7 +127,7 @@ def test_edits(fight: Match, first: int, what: int, warrior: int, place: int, ad
     except MarsError as fault:
         refused = str(fault)
         assert fault.code == EDIT and np.array_equal(words, before)
-    assert is_listed(fight, lines, resumed(words))
+    assert is_listed(fight, lines, battle_of_words(words))
     assert Battle(fight).debug(lines).splitlines()[-1] == refused or not refused
 
 

@@ -64,7 +64,7 @@ def worker(start: Start, address: str, **how: str) -> subprocess.Popen[bytes]:
     return start("worker", address, "--no-nanny", "--nthreads", "1", **how)
 
 
-def begun(*words: object) -> subprocess.Popen[str]:
+def start_league(*words: object) -> subprocess.Popen[str]:
     """A league of the examples that was started."""
     return begin("league", *words, *FILES, cwd=EXAMPLES)
 
@@ -82,7 +82,7 @@ def test_it_is_the_same_there(run: Run, start: Start, scheduler: tuple[str, Any]
 
 def test_a_worker_dies_and_another_comes(start: Start, scheduler: tuple[str, Any], tmp_path: Path, run: Run) -> None:
     first = worker(start, scheduler[0])
-    process = begun("-r", LONG, "--scheduler", scheduler[0], "--results", tmp_path / "kept.sqlite")
+    process = start_league("-r", LONG, "--scheduler", scheduler[0], "--results", tmp_path / "kept.sqlite")
     wait_for(lambda: (tmp_path / "kept.sqlite").exists())
     time.sleep(2)
     first.kill()
@@ -98,7 +98,7 @@ def test_ends(start: Start, scheduler: tuple[str, Any]) -> None:
     """Ctrl-C, and the end of a scheduler, are reported in a line."""
     worker(start, scheduler[0])
     for status in (130, 1):
-        process = begun("-r", LONG, "--scheduler", scheduler[0])
+        process = start_league("-r", LONG, "--scheduler", scheduler[0])
         time.sleep(4)
         (process if status == 130 else scheduler[1]).send_signal(signal.SIGINT if status == 130 else signal.SIGKILL)
         output, told = process.communicate(timeout=120)

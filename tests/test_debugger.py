@@ -11,10 +11,10 @@ from battles import MOVES, is_listed, matches
 from conftest import EXAMPLES, Run, begin
 from hypothesis import given, strategies as st
 
-from corewar.battle.history import History, distinct
+from corewar.battle.history import History, make_distinct
 from corewar.battle.labels import Sources
 from corewar.debugger.commands import COMMANDS, QuitDebugger, execute, find_command
-from corewar.debugger.prompt import Lines
+from corewar.debugger.prompt import LineHistory
 from corewar.debugger.session import Session
 from corewar.engine.calls import Match, assemble
 from corewar.engine.sources import read
@@ -122,7 +122,7 @@ def test_edits_make_futures() -> None:
     assert refused(session, "fill 5 3 nop") == "cannot fill 5 to 3: the first address is above the last"
 
 
-def test_what_is_told() -> None:
+def test_what_is_described() -> None:
     session = session_of("dwarf", "imp")
     assert execute(session, "show") == ["turn 0, cycle 0, battle of 7798 turns", "Dwarf: 1 process", "Imp: 1 process"]
     execute(session, "run")
@@ -143,7 +143,7 @@ def test_what_is_told() -> None:
     assert [line.split()[0] for line in execute(session, "list 7999 3")] == ["7999", "0", "1"]
 
 
-def test_help_tells_each_command() -> None:
+def test_help_describes_each_command() -> None:
     session = session_of("imp")
     told = "\n".join(execute(session, "help"))
     assert all(one.usage in told for one in COMMANDS.values())
@@ -186,7 +186,7 @@ def test_a_number_is_one_before_a_name() -> None:
     session = Session(History(fight), Sources(History(fight)))
     named = ["0", "1", "Imp", "imp", "IMP", "imp.red"]
     assert [session.warrior(name) for name in named] == [0, 1, 2, 3, 2, 3]
-    assert distinct(["Imp", "Imp", "Imp 1"]) == ["Imp 2", "Imp 3", "Imp 1"]
+    assert make_distinct(["Imp", "Imp", "Imp 1"]) == ["Imp 2", "Imp 3", "Imp 1"]
 
 
 def test_numbers_of_thousands_of_digits_are_refused() -> None:
@@ -235,7 +235,7 @@ def test_a_terminal_with_bytes_that_are_not_utf_8(tmp_path: Path) -> None:
         child.expect("turn 1>")
         child.sendcontrol("d")
         child.expect(pexpect.EOF)
-    Lines("/dev/full").store_string("step")
+    LineHistory("/dev/full").store_string("step")
 
 
 def test_control_characters_of_sources_are_not_shown(run: Run, tmp_path: Path) -> None:
@@ -277,7 +277,7 @@ def test_instructions_in_words() -> None:
     assert refused(session, "explain").startswith("`.` is the cell to execute next, but the battle is over")
 
 
-def test_undo_of_an_edit_is_told() -> None:
+def test_undo_of_an_edit_is_reported() -> None:
     """The turn is the same, but the future is another one."""
     session = session_of("dwarf", "imp")
     execute(session, "edit 5 dat 1, 1")

@@ -12,7 +12,7 @@ import pytest
 from conftest import TOP, Run
 
 from corewar.engine.calls import assemble
-from corewar.explain import LOOKED_FOR, errors_of, explain_error, explain_kind, fix, read_faults, read_otherwise
+from corewar.explain import CHECKED_ROWS, errors_of, explain_error, explain_kind, fix, pmars_differences, read_faults
 from corewar.explain.instructions import describe_instruction
 from corewar.explain.meanings import EXPRESSION, KINDS
 from corewar.explain.source import MODIFIERS, OPERATIONS, PREDEFINED
@@ -286,9 +286,9 @@ def test_pmars(run: Run, tmp_path: Path) -> None:
     expected = ["line 1: pMARS obeys `; name`", "line 3: pMARS takes `start`", "line 4: pMARS reads `DAT #0, 1`"]
     expected += ["line 6: pMARS joins the counter `i`", "line 7: pMARS reads `.i` as a modifier"]
     assert len(lines) == 5 and all(line.startswith(f"other.red: {told}") for line, told in zip(lines, expected))
-    nothing = f"dwarf.red: none of the {LOOKED_FOR} known differences from pMARS was found\n"
+    nothing = f"dwarf.red: none of the {CHECKED_ROWS} known differences from pMARS was found\n"
     assert run("explain", "--pmars", "@dwarf").stdout.endswith(nothing)
-    assert read_otherwise(b"i FOR 2\nmov.I 0, i\nROF\nx equ 2\n") == []
+    assert pmars_differences(b"i FOR 2\nmov.I 0, i\nROF\nx equ 2\n") == []
     assert run("explain", "--pmars").returncode == 2
 
 
@@ -334,14 +334,14 @@ OF_MATCHES = ["three and more warriors", "starting positions", "`-F`", "`-l` abo
 @pytest.mark.parametrize("row, text, expected", DIFFERENT)
 def test_each_row_of_the_table_is_looked_for(row: str, text: str, expected: str) -> None:
     faults = [fault for fault, _ in errors_of(text.encode(), assemble)]
-    assert any(expected in note for note in read_otherwise(text.encode(), faults))
+    assert any(expected in note for note in pmars_differences(text.encode(), faults))
 
 
 def test_the_table_has_these_rows() -> None:
     document = (TOP / "docs" / "user" / "LANGUAGE.md").read_text().partition("## Differences from pMARS")[2]
     rows = re.findall(r"^\| (?!\*\*|\||pMARS|-)(.+?) \|", document, re.M)
     known = [*(row for row, _, _ in DIFFERENT), *OF_MATCHES]
-    assert len(rows) == len(known) and LOOKED_FOR == len(DIFFERENT)
+    assert len(rows) == len(known) and CHECKED_ROWS == len(DIFFERENT)
     assert all(any(row.startswith(one) for row in rows) for one in known)
 
 
@@ -411,11 +411,11 @@ def test_it_is_soon_there() -> None:
     for name, text in sources.items():
         with pytest.raises(MarsError) as found:
             assemble(text)
-        begun = time.process_time()
+        started = time.process_time()
         assert explain_error(found.value, text.encode()), name
-        read_otherwise(text.encode())
+        pmars_differences(text.encode())
         fix(text.encode(), assemble)
-        assert time.process_time() - begun < 20, name
+        assert time.process_time() - started < 20, name
 
 
 def test_faults_of_all_commands_are_explained(run: Run) -> None:

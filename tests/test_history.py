@@ -13,8 +13,8 @@ from battles import (
     edits,
     is_listed,
     matches,
-    led,
     record,
+    replayed,
     run_lines,
     same,
     touched,
@@ -24,7 +24,7 @@ from hypothesis import given, strategies as st
 
 from corewar.battle import history as module
 from corewar.battle.conditions import Condition, last_change, search
-from corewar.battle.frames import frames, parts
+from corewar.battle.frames import frames, part_ends
 from corewar.battle.history import BY_HAND, NOBODY, History
 from corewar.engine.battles import Battle
 from corewar.engine.calls import Match, assemble
@@ -36,9 +36,9 @@ from corewar.model.errors import CorewarError, MarsError
 
 @pytest.fixture(autouse=True)
 def small_blocks(monkeypatch: pytest.MonkeyPatch) -> None:
-    monkeypatch.setattr(module, "BLOCK", 7)
-    monkeypatch.setattr(module, "KEPT", 3)
-    monkeypatch.setattr(module, "MARKS", 4)
+    monkeypatch.setattr(module, "BLOCK_SIZE", 7)
+    monkeypatch.setattr(module, "CACHED_BLOCKS", 3)
+    monkeypatch.setattr(module, "MAX_MARKS", 4)
 
 
 def edited(history: History, places: list[tuple[float, str]]) -> tuple[History, list[str]]:
@@ -61,13 +61,13 @@ def edited(history: History, places: list[tuple[float, str]]) -> tuple[History, 
     return history, lines
 
 
-def told(history: History, turn: int) -> State:
+def block_state(history: History, turn: int) -> State:
     """The state after a turn as the block with its record has it."""
     block = history.block(turn)
     queues = [block.queue(warrior, turn) for warrior in range(len(history.warriors))]
     over = history.head(turn) is None
     return State(
-        *(block.cells(turn), queues, history.deaths(turn), turn, block.cycle(turn), block.following(turn), over)
+        *(block.cells(turn), queues, history.deaths(turn), turn, block.cycle(turn), block.next_warrior(turn), over)
     )
 
 
@@ -86,8 +86,8 @@ def test_each_state_is_the_machine_s(fight: Match, round: int, places: list[tupl
     history, lines = edited(History(fight, round), places)
     first = history.segments[-1].first
     for turn in range(first, history.end + 1):
-        expected = led(fight, round, lines, turn - first)
-        assert same(history.state(turn), expected) and same(told(history, turn), expected)
+        expected = replayed(fight, round, lines, turn - first)
+        assert same(history.state(turn), expected) and same(block_state(history, turn), expected)
         assert np.array_equal(history.deaths(turn), expected.deaths)
     assert np.array_equal(history.ending.cells, history.state(history.end).cells)
     made = record(fight, round, lines, 0, history.end - first + 3)
@@ -103,7 +103,7 @@ def test_each_state_is_the_machine_s(fight: Match, round: int, places: list[tupl
 
 @given(matches(), st.integers(0, 2), st.lists(MOVES, max_size=4), st.integers(0, 60))
 def test_a_state_is_what_the_debugger_lists(fight: Match, round: int, lines: list[str], turn: int) -> None:
-    assert is_listed(fight, [*lines, *run_lines(turn)], led(fight, round, lines, turn), round)
+    assert is_listed(fight, [*lines, *run_lines(turn)], replayed(fight, round, lines, turn), round)
 
 
 def steps(history: History) -> Iterator[tuple[int, Battle, Battle]]:
@@ -158,7 +158,7 @@ def test_reads_are_those_of_each_turn(fight: Match, first: int, more: int, place
 def test_frames_show_who_changed_a_cell_last(fight: Match, count: int, places: list[tuple[float, str]]) -> None:
     history, _ = edited(History(fight), places)
     owners = history.owners(0)
-    for frame in list(frames(history, parts(0, history.end, count)))[1:]:
+    for frame in list(frames(history, part_ends(0, history.end, count)))[1:]:
         owners[frame.addresses] = frame.writers
         assert np.array_equal(owners, history.owners(frame.turn))
         assert all(np.array_equal(*queues) for queues in zip(frame.queues, history.state(frame.turn).queues))
@@ -228,7 +228,7 @@ def test_an_edit_is_refused_where_the_debugger_refuses_it(fight: Match, part: fl
     else:
         made = history.edited(turn, edit)
         assert made.edits == ((turn, edit),) and edit_of(edit.text(fight.settings.core), fight.settings.core) == edit
-        assert same(made.state(turn), led(fight, 0, [*run_lines(turn), line]))
+        assert same(made.state(turn), replayed(fight, 0, [*run_lines(turn), line]))
 
 
 def test_a_notebook_shows_its_end() -> None:
@@ -289,7 +289,7 @@ def test_a_battle_is_a_value(fight: Match, round: int, first: int, more: int, li
     battle, other = Battle(fight, round), Battle(fight, round)
     battle.play(first)
     restored, copied = Battle.of_bytes(bytes(battle)), battle.copy()
-    assert battle == restored == copied and same(battle, led(fight, round, turns=first))
+    assert battle == restored == copied and same(battle, replayed(fight, round, turns=first))
     records, seen = copied.play(more, records=more + 2, touched=more)
     assert battle == restored and restored.play(more)[0].size == 0 and restored == copied
     assert np.array_equal(records, record(fight, round, first=first, turns=more)[: len(records)])

@@ -99,7 +99,7 @@ def test_it_calls_what_is_installed(prefix: Path) -> None:
     assert f"{prefix}/lib/libmars.so.2\n" in told and told.endswith(f" {prefix}/share/doc/mars/examples\n")
 
 
-def test_a_library_that_is_not_there_is_told(prefix: Path) -> None:
+def test_a_missing_library_is_reported(prefix: Path) -> None:
     example = prefix / "share/doc/mars/examples/imp.red"
     done = started(prefix, "sh", "-c", f"MARS_LIBRARY=/none.so corewar why {example}")
     assert (done.stdout, done.returncode) == ("", 1)
@@ -129,7 +129,7 @@ def test_installed_anew_and_taken_away(tmp_path: Path) -> None:
     assert files_below(tmp_path / "room") == []
 
 
-def test_what_is_not_built_is_told(tmp_path: Path) -> None:
+def test_what_is_not_built_is_reported(tmp_path: Path) -> None:
     without({"make": "make"})
     done = make("install", f"PREFIX={tmp_path}/prefix", "LIBRARY=none.a")
     assert (done.returncode, done.stderr.splitlines()[0]) == (
@@ -183,11 +183,11 @@ def test_one_version() -> None:
 
 def test_one_list_of_packages(tmp_path: Path) -> None:
     """The dependencies of `corewar` are the same for pip, for the Debian package, and for scripts/setup."""
-    asked = {
+    required = {
         f"python3-{name}" for name in tomllib.loads((TOP / "pyproject.toml").read_text())["project"]["dependencies"]
     }
     control = (TOP / "packaging" / "debian" / "control").read_text().partition("Package: corewar")[2]
-    assert {*re.findall(r"^ (python3-[\w-]+),$", control, re.M)} == asked
+    assert {*re.findall(r"^ (python3-[\w-]+),$", control, re.M)} == required
     # No package is installed for this stub.
     (tmp_path / "dpkg-query").write_text("#!/bin/sh\n")
     (tmp_path / "dpkg-query").chmod(0o755)
@@ -195,7 +195,7 @@ def test_one_list_of_packages(tmp_path: Path) -> None:
     command = [str(TOP / "scripts" / "setup"), "--dry-run"]
     done = subprocess.run(command, env={"PATH": str(tmp_path)}, capture_output=True, text=True)
     assert done.returncode == 1 and "apt-get install" in done.stderr
-    assert asked == {word for word in done.stderr.split() if word.startswith("python3-")}
+    assert required == {word for word in done.stderr.split() if word.startswith("python3-")}
 
 
 def test_man_pages_are_well_formed(prefix: Path) -> None:

@@ -65,7 +65,7 @@ def test_late_lines_are_those_of_unchanged_cells(monkeypatch: pytest.MonkeyPatch
 def test_origins(fight: Match, round: int, places: list[tuple[float, str]], part: float) -> None:
     """At any turn and after edits, each cell has the opcode, the modifier and the modes of its origin."""
     with pytest.MonkeyPatch.context() as patch:
-        patch.setattr(module, "BLOCK", 7)
+        patch.setattr(module, "BLOCK_SIZE", 7)
         history = History(fight, round)
         loaded, turn = history.state(0).cells, 0
         for ahead, line in places:

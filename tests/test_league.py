@@ -23,12 +23,12 @@ from test_pages import unpacked
 import corewar
 from corewar.engine.calls import assemble
 from corewar.contests.contest import Contest, Matches, all_pairs, digests_of
-from corewar.contests.places import Place, threads
+from corewar.contests.places import Executor, threads
 from corewar.contests.results import Results
 from corewar.contests.table import League
 from corewar.model.errors import CorewarError
 from corewar.model.settings import HILLS, Settings
-from corewar.pictures.shades import LOST, NO_MATCH, TIED, WON, mixed
+from corewar.pictures.shades import LOST, NO_MATCH, TIED, WON, mix_colours
 
 PROGRAM = TOP / "crates" / "mars" / "out" / "mars"
 NAMES = sorted(path.name for path in EXAMPLES.glob("*.red"))
@@ -151,7 +151,7 @@ def test_json(run: Run, folder: Path) -> None:
     assert done.stdout.splitlines()[1].split()[:4] == [b"0", b"0", b"0", b"4"]
 
 
-def test_nothing_tells_an_error(run: Run, folder: Path) -> None:
+def test_no_error_is_known_from_one_round(run: Run, folder: Path) -> None:
     """One round can be compared with no other, and with a given position nothing is drawn."""
     for words in (["-r", 1], ["-r", 4, "-F", 300]):
         told = json.loads(run("league", "--format", "json", *words, "stay.red", "dead.red").stdout)
@@ -189,7 +189,7 @@ def test_matrix(run: Run, folder: Path) -> None:
 def test_colours() -> None:
     counts = np.array([[4, 0, 0], [0, 2, 0], [0, 0, 9], [0, 1, 9], [0, 0, 0]])
     shade = [round((9 * lost + tied) / 10) for lost, tied in zip(LOST, TIED)]
-    assert mixed(counts).tolist() == [[*WON], [*TIED], [*LOST], shade, [NO_MATCH] * 3]
+    assert mix_colours(counts).tolist() == [[*WON], [*TIED], [*LOST], shade, [NO_MATCH] * 3]
 
 
 def test_picture(run: Run, folder: Path) -> None:
@@ -439,11 +439,11 @@ def test_counts_of_a_worker_are_checked(sent: object) -> None:
     matches, answer = Matches(Contest(), [imp, imp], all_pairs(2)), Future[object]()
     answer.set_result(sent)
     with pytest.raises(CorewarError, match="^invalid result from a worker: "):
-        list(Place(lambda rows: answer, 1, 1).fight(matches))
+        list(Executor(lambda rows: answer, 1, 1).fight(matches))
     assert not matches.is_fought.any()
 
 
-def test_it_tells_what_is_kept_the_other_way_round(run: Run, folder: Path) -> None:
+def test_results_of_the_other_order_are_reported(run: Run, folder: Path) -> None:
     run("league", "--results", "kept.sqlite", "stay.red", "dead.red", "late.red")
     told = run("league", "--results", "kept.sqlite", "dead.red", "stay.red", "late.red").stderr
     assert told.startswith("corewar: 1 of 3 matches are stored only with the warriors in the other order")

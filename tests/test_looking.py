@@ -13,7 +13,7 @@ from pathlib import Path
 import pytest
 from conftest import ENVIRONMENT, EXAMPLES, Run, begin
 
-from corewar.analysis.endings import ending_of, last_turns
+from corewar.analysis.endings import last_turns, summarize_last_turns
 from corewar.battle.history import History
 from corewar.battle.labels import Sources
 from corewar.engine.calls import Match, match
@@ -51,7 +51,7 @@ def test_why(run: Run) -> None:
     assert bad.returncode == 2 and "no warrior `nobody`; the warriors are 0 Dwarf, 1 Imp" in bad.stderr
 
 
-def test_why_tells_what_another_made(run: Run) -> None:
+def test_why_shows_what_another_wrote(run: Run) -> None:
     """If a warrior executed a cell of another one, the turn that wrote it is reported, however far back."""
     told = run("why", "--turns", 2, "--of", "Dwarf", "@dwarf", "@paper").stdout
     assert told.startswith("Dwarf died in turn 23543:\n")
@@ -272,7 +272,7 @@ def test_lines_at_the_end_are_those_of_the_turns(names: tuple[str, ...]) -> None
                 for turn in last_turns(history, one)
                 if (line := sources.line(history, int(history.record(turn)["address"]), turn - 1))
             }
-            told = ending_of(history, sources, history.names, one)
+            told = summarize_last_turns(history, sources, history.names, one)
             for owner, numbers in re.findall(r"(?:(\w+)'s )?lines? ((?:[\d-]+(?:, (?=\d))?)+)", told):
                 for first, last in re.findall(r"(\d+)(?:-(\d+))?", numbers):
                     of = history.names.index(owner) if owner else one

@@ -53,7 +53,7 @@ def text_of(source: str) -> Text:
     return Text(source, assemble, Settings())
 
 
-def asked(text: Text, method: str, line: int, column: int, **more: Any) -> Any:
+def request(text: Text, method: str, line: int, column: int, **more: Any) -> Any:
     """The answer about a position, from 0."""
     where = {"line": line, "character": column}
     params = {"textDocument": {"uri": URI}, "position": where, "range": {"start": where, "end": where}, **more}
@@ -141,11 +141,11 @@ def test_errors_are_at_their_words_and_corrected(editor: Editor) -> None:
 def test_corrections(source: str, title: str, expected: str) -> None:
     text = text_of(source)
     where = text.error_range(text.errors[0])["start"]
-    found = asked(text, "codeAction", where["line"], where["character"])
+    found = request(text, "codeAction", where["line"], where["character"])
     assert len(found) == bool(title)
     for one in found:
         assert title in one["title"] and edited(source, one["edit"]) == expected
-    assert asked(text, "codeAction", 50, 0) == []
+    assert request(text, "codeAction", 50, 0) == []
 
 
 def test_each_correction_removes_an_error() -> None:
@@ -154,7 +154,7 @@ def test_each_correction_removes_an_error() -> None:
         text = text_of(source)
         for error in text.errors:
             where = text.error_range(error)
-            for one in asked(text, "codeAction", *where["start"].values()):
+            for one in request(text, "codeAction", *where["start"].values()):
                 count += 1
                 assert len(text_of(edited(source, one["edit"])).errors) < len(text.errors)
     assert count > 30
@@ -175,13 +175,13 @@ def edited(text: str, edit: Params) -> str:
 
 def test_no_error_of_an_answer_ends_the_server(editor: Editor, tmp_path: Path) -> None:
     assert editor.write(GOOD) == []
-    asked: list[tuple[str, dict[str, Any], int]] = [
+    request: list[tuple[str, dict[str, Any], int]] = [
         ("textDocument/hover", {"textDocument": {"uri": URI}}, -32603),
         ("textDocument/hover", {"textDocument": {"uri": "file:///other.red"}, "position": {}}, -32803),
         ("textDocument/hover", {"textDocument": 5}, -32603),
         ("textDocument/formatting", {"textDocument": {"uri": URI}}, -32601),
     ]
-    for method, params, code in asked:
+    for method, params, code in request:
         assert editor.ask(method, **params)["error"]["code"] == code
     for body in (b"{", b"[]", b"\xff", b"", b"[" * 100_000):
         editor.process.stdin.write(b"Content-Length: %d\r\nX: y\r\n\r\n%s" % (len(body), body))
@@ -245,27 +245,27 @@ def test_a_large_source() -> None:
     loops = "".join(f"i{n} FOR 1\nx{n}&i{n} NOP x{n}01\nROF\n" for n in range(10_000))
     long_line = "x" + "1" * 300_000 + " NOP " + "1+" * 100_000 + ";\U0001f600"
     for source, count in ((loops, 80_000), ("i FOR 1\n" * 30_000, 90_000), (long_line, 200_003)):
-        assert len(asked(text_of(source), "semanticTokens/full", 0, 0)["data"]) == 5 * count
+        assert len(request(text_of(source), "semanticTokens/full", 0, 0)["data"]) == 5 * count
 
 
 def test_hover() -> None:
     text = text_of(GOOD)
-    told = asked(text, "hover", 1, 6)["contents"]["value"]
+    told = request(text, "hover", 1, 6)["contents"]["value"]
     assert told.split("\n") == [
         "0  ADD.AB #4, $3",
         "Add 4 to the B-number of the cell 3 ahead.",
     ]
-    assert asked(text, "hover", 1, 11)["contents"]["value"] == "`step`: 4 here; line 1: `step EQU 4`"
-    assert asked(text, "hover", 3, 6)["contents"]["value"].startswith("`loop`: -2 here; line 2: `loop ADD ")
-    assert asked(text, "hover", 0, 1)["contents"]["value"] == "`step`: line 1: `step EQU 4`"
-    assert asked(text, "hover", 4, 1)["contents"]["value"].startswith("3  DAT.F #0, #0\n")
+    assert request(text, "hover", 1, 11)["contents"]["value"] == "`step`: 4 here; line 1: `step EQU 4`"
+    assert request(text, "hover", 3, 6)["contents"]["value"].startswith("`loop`: -2 here; line 2: `loop ADD ")
+    assert request(text, "hover", 0, 1)["contents"]["value"] == "`step`: line 1: `step EQU 4`"
+    assert request(text, "hover", 4, 1)["contents"]["value"].startswith("3  DAT.F #0, #0\n")
     loops = text_of("i FOR 9\nDAT i, CORESIZE\nROF\n")
-    assert asked(loops, "hover", 1, 4)["contents"]["value"] == "`i`: 1, 2, 3, 4, .. here; line 1: `i FOR 9`"
-    assert asked(loops, "hover", 1, 8)["contents"]["value"] == "`CORESIZE`: 8000 here; core size"
-    assert asked(loops, "hover", 1, 1)["contents"]["value"].split("\n")[3:5] == ["3  DAT.F $4, $0", "and 5 more"]
+    assert request(loops, "hover", 1, 4)["contents"]["value"] == "`i`: 1, 2, 3, 4, .. here; line 1: `i FOR 9`"
+    assert request(loops, "hover", 1, 8)["contents"]["value"] == "`CORESIZE`: 8000 here; core size"
+    assert request(loops, "hover", 1, 1)["contents"]["value"].split("\n")[3:5] == ["3  DAT.F $4, $0", "and 5 more"]
     # With an error there are no cells; the word is explained.
-    assert asked(text_of(BAD), "hover", 1, 6)["contents"]["value"] == "`ADD`: B becomes B + A"
-    assert asked(text, "hover", 99, 0) is None and asked(text, "hover", 0, 99) is None
+    assert request(text_of(BAD), "hover", 1, 6)["contents"]["value"] == "`ADD`: B becomes B + A"
+    assert request(text, "hover", 99, 0) is None and request(text, "hover", 0, 99) is None
 
 
 @pytest.mark.parametrize(
@@ -303,19 +303,19 @@ def test_names() -> None:
     }
     for found in places.values():
         for line, column in found:
-            ranges = [one["range"]["start"] for one in asked(text, "references", line, column)]
+            ranges = [one["range"]["start"] for one in request(text, "references", line, column)]
             assert [(one["line"], one["character"]) for one in ranges] == found
-            (defined,) = asked(text, "definition", line, column)
+            (defined,) = request(text, "definition", line, column)
             assert tuple(defined["range"]["start"].values()) == found[0]
-    kept = asked(text, "references", 1, 0, context={"includeDeclaration": False})
+    kept = request(text, "references", 1, 0, context={"includeDeclaration": False})
     assert len(kept) == 3
-    assert [one["name"] for one in asked(text, "documentSymbol", 0, 0)] == ["i", "x", "y"]
-    assert asked(text, "foldingRange", 0, 0) == [{"startLine": 0, "endLine": 2}]
+    assert [one["name"] for one in request(text, "documentSymbol", 0, 0)] == ["i", "x", "y"]
+    assert request(text, "foldingRange", 0, 0) == [{"startLine": 0, "endLine": 2}]
 
 
 def test_completion() -> None:
     def offered(line: int, column: int) -> set[str]:
-        return {one["label"] for one in asked(text, "completion", line, column)}
+        return {one["label"] for one in request(text, "completion", line, column)}
 
     text = text_of("step EQU 4\ni FOR 2\nx&i ADD.AB #st, x01 ; st\nROF\n;assert CO\nloop \n")
     assert {"step", "i", "loop", "CORESIZE"} <= offered(2, 14) and "DAT" not in offered(2, 14)
@@ -340,9 +340,9 @@ def test_renames_are_refused() -> None:
         (1, 6, "x", "expected a label"),
     ):
         with pytest.raises(CorewarError, match=why):
-            asked(text, "rename", line, column, newName=new)
+            request(text, "rename", line, column, newName=new)
     with pytest.raises(CorewarError, match="correct the errors first"):
-        asked(text_of(BAD), "prepareRename", 0, 0)
+        request(text_of(BAD), "prepareRename", 0, 0)
 
 
 def outcomes(source: str) -> list[bytes | str]:
@@ -368,7 +368,7 @@ def test_no_rename_changes_a_warrior() -> None:
             for new in ("fresh_name", *dice.sample(clashes, min(3, len(clashes)))):
                 where = text.range_of(token)["start"]
                 try:
-                    edit = asked(text, "rename", where["line"], where["character"], newName=new)
+                    edit = request(text, "rename", where["line"], where["character"], newName=new)
                 except CorewarError:
                     is_possible = not text.errors and token.kind != "predefined" and new == "fresh_name"
                     count[0] += is_possible
@@ -389,7 +389,7 @@ def test_any_text_is_answered(source: str, data: st.DataObject) -> None:
     assert all(diagnostic(text, error)["message"] for error in text.errors)
     for method in ANSWERS:
         try:
-            json.dumps(asked(text, method.partition("/")[2], *where, newName="fresh_name"))
+            json.dumps(request(text, method.partition("/")[2], *where, newName="fresh_name"))
         except CorewarError:
             pass
 
@@ -410,7 +410,7 @@ def test_semantic_tokens() -> None:
     text = text_of(source)
     line = column = 0
     found = []
-    numbers = iter(asked(text, "semanticTokens/full", 0, 0)["data"])
+    numbers = iter(request(text, "semanticTokens/full", 0, 0)["data"])
     for down, right, length, kind, _ in zip(*[numbers] * 5):
         line, column = line + down, right + (0 if down else column)
         units = source.split("\n")[line].encode("utf-16-le")[2 * column : 2 * (column + length)]

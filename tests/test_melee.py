@@ -131,11 +131,11 @@ def test_the_command(run: Run, tmp_path: Path) -> None:
 def test_it_can_be_stopped() -> None:
     """Ctrl-C ends it at once."""
     files = [EXAMPLES / f"{name}.red" for name in NAMES]
-    begun = time.monotonic()
+    start_time = time.monotonic()
     begin("melee", "--lineups", 1, *files).communicate()
     started = begin("melee", "--lineups", 100000, *files)
     # By then it runs matches, also on a slow machine.
-    time.sleep(2 * (time.monotonic() - begun))
+    time.sleep(2 * (time.monotonic() - start_time))
     started.send_signal(signal.SIGINT)
     _, told = started.communicate(timeout=20)
     assert (started.returncode, told) == (130, "corewar: stopped\n")

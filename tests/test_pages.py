@@ -112,11 +112,11 @@ def test_pictures_of_each_kind(run: Run, tmp_path: Path) -> None:
 
 def test_the_points_of_a_picture() -> None:
     """An imp in a core of 8: in row K its process is in column K + 1 of 8, on white or on its own cells."""
-    from corewar.pictures.timeline import View, points
+    from corewar.pictures.timeline import View, pixels_of
 
     imp = read(EXAMPLES / "imp.red", warriors=1)
     history = History(Match((imp,), settings=Settings(core=8, cycles=7, longest=1, distance=1)))
-    made = points(history, View(list(range(8)), range(8), 8))
+    made = pixels_of(history, View(list(range(8)), range(8), 8))
     owned, standing = made[0, 0], made[0, 1]
     for row in range(7):
         assert (made[row, row + 1] == standing).all()

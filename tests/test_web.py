@@ -19,7 +19,7 @@ from conftest import ENVIRONMENT, EXAMPLES, TOP, begin
 from counting import skip
 
 from corewar.model.errors import CorewarError
-from corewar.pages.site import site as built_site
+from corewar.pages.site import site_folder
 
 WAIT = 20
 if not (TOP / "build" / "site").is_dir():
@@ -129,10 +129,10 @@ def test_its_port_is_the_same_each_time(tmp_path: Path) -> None:
         assert site.address.startswith(f"http://127.0.0.1:{port}/")
 
 
-def test_a_site_that_is_not_built_is_told(monkeypatch: pytest.MonkeyPatch) -> None:
+def test_a_site_that_is_not_built_is_reported(monkeypatch: pytest.MonkeyPatch) -> None:
     monkeypatch.setattr("corewar.pages.site.BUILT", Path("none"))
     with pytest.raises(CorewarError, match="^the site is not built; run `make site`$"):
-        built_site()
+        site_folder()
 
 
 def test_requests_that_are_none(site: Site) -> None:

@@ -17,7 +17,7 @@ from conftest import TOP
 from counting import PROGRAM, skip
 from test_explain import NEWCOMERS, SOURCES, line_to_correct, mutated
 
-from corewar.battle.conditions import OF_WARRIORS, Condition, search
+from corewar.battle.conditions import WARRIOR_CONDITIONS, Condition, search
 from corewar.battle.history import History
 from corewar.battle.labels import Sources
 from corewar.engine.calls import Match, assemble
@@ -68,8 +68,8 @@ def randomly(count: int) -> list[dict[str, Any]]:
 
     def question(core: int) -> dict[str, Any]:
         word = pick(["at", "changes", "reads", "splits", "ends", "dies", "moves"])
-        condition: dict[str, Any] = {"word": word, "first": number(2) if word in OF_WARRIORS else number(core)}
-        if word not in OF_WARRIORS and number(2):
+        condition: dict[str, Any] = {"word": word, "first": number(2) if word in WARRIOR_CONDITIONS else number(core)}
+        if word not in WARRIOR_CONDITIONS and number(2):
             condition |= {"last": number(core)} | ({"by": number(2)} if number(2) else {})
         return {"condition": condition, "turn": number(80), "forward": bool(number(2))}
 

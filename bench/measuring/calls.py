@@ -99,19 +99,19 @@ def record_all(warriors: list[corewar.Warrior]) -> None:
 
 def outcomes_of(warriors: list[corewar.Warrior], seed: int, counts: bool) -> None:
     """Plays ten rounds of a match that lasts until its cycle limit."""
-    made = corewar.outcomes(warriors, rounds=10, seeds=seed + 1, position=4000, counts=counts)
-    if (made["turns"] != 160_000).any():
+    rows = corewar.outcomes(warriors, rounds=10, seeds=seed + 1, position=4000, counts=counts)
+    if (rows["turns"] != 160_000).any():
         sys.exit("measure: a warrior dies")
 
 
 def match_cost(cycles: int, folder: str) -> float:
     """Returns the machine instructions of a match of two warriors in nano settings."""
-    made = os.path.join(folder, "match")
-    with open(f"{made}.c", "w") as file:
+    program = os.path.join(folder, "match")
+    with open(f"{program}.c", "w") as file:
         file.write(MATCH)
     library = os.path.join(TOP, "build", "libmars.a")
-    subprocess.run(["gcc", "-O2", f"-I{TOP}/include", f"{made}.c", library, "-o", made], check=True)
-    few, many = (instructions([made, str(count), str(cycles)])[0] for count in (1, 1001))
+    subprocess.run(["gcc", "-O2", f"-I{TOP}/include", f"{program}.c", library, "-o", program], check=True)
+    few, many = (instructions([program, str(count), str(cycles)])[0] for count in (1, 1001))
     return (many - few) / 1000
 
 

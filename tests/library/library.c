@@ -185,7 +185,7 @@ static int are_battles_values(void) {
 }
 
 /* The lines of a source's instructions, and the same error as when it is assembled. */
-static int are_lines_told(void) {
+static int are_lines_reported(void) {
     Left got, other;
     const uint8_t *wrong = (const uint8_t *)"NOP\nFOO 1";
     call(1, &got);
@@ -207,7 +207,7 @@ static int is_refused_for(uint32_t number, const MarsSettings *settings, size_t 
 }
 
 /* An error has the same number in each call, before the parameters, or after them and before the formula and the warriors. */
-static int are_mistakes_told_in_order(void) {
+static int are_mistakes_reported_in_order(void) {
     MarsSettings bad = SETTINGS, placed = SETTINGS, both = SETTINGS;
     bad.core = 0, placed.position = 1, both.position = 1, both.distance = 0;
     MarsRow rows[3];
@@ -243,7 +243,7 @@ int main(void) {
             passed += is_so, failed += !is_so;
             if (!is_so) printf("call %d, %s refused\n", which, each ? "all from one on" : "one");
         }
-    int others[] = {mars_version() == MARS_VERSION, are_nulls_taken(), are_lines_told(), are_loads_read(), are_outcomes_rows(), are_mistakes_told_in_order(), are_battles_values()};
+    int others[] = {mars_version() == MARS_VERSION, are_nulls_taken(), are_lines_reported(), are_loads_read(), are_outcomes_rows(), are_mistakes_reported_in_order(), are_battles_values()};
     for (size_t i = 0; i < sizeof others / sizeof *others; i++) {
         passed += others[i], failed += !others[i];
         if (!others[i]) printf("%s\n", (const char *[]){"the version", "null pointers", "the lines of a source", "load files", "outcomes", "the order of mistakes", "battles as values"}[i]);

@@ -347,24 +347,24 @@ def test_terminal(place: Place) -> None:
 def test_progress(folder: str, monkeypatch: pytest.MonkeyPatch) -> None:
     """The remaining time, by the last build; and a build without a terminal is not silent."""
     path = os.path.join(folder, "last-start.json")
-    unknown = progress.Reckoning(path, ["a", "b", "c"], 600)
+    unknown = progress.Estimate(path, ["a", "b", "c"], 600)
     assert [unknown.left({}, 0), unknown.left({"a": 50}, 100)] == [600, 500], "without a last start"
     unknown.keep({"a": 100, "b": 200, "c": 400})
-    known = progress.Reckoning(path, ["a", "b", "c"], 600)
+    known = progress.Estimate(path, ["a", "b", "c"], 600)
     assert [known.left({}, 50), known.left({"a": 100}, 150)] == [350, 250], "as the last one"
     assert [known.left({"a": 50}, 50), known.left({"a": 200}, 200), known.left({}, 200)] == [
         150,
         600,
         600,
     ], "quicker, and slower"
-    assert progress.Reckoning(path, ["a", "d"], 600).due == {"d": 600}, "a crate that isn't known"
+    assert progress.Estimate(path, ["a", "d"], 600).due == {"d": 600}, "a crate that isn't known"
     told: list[str] = []
     monkeypatch.setattr(progress, "SILENCE", 0)
-    monkeypatch.setattr(progress.Progress, "tell", lambda _, line: told.append(line))
+    monkeypatch.setattr(progress.Progress, "print_line", lambda _, line: told.append(line))
     one = progress.Progress(2)
     one.is_terminal = False
     one.add("a")
-    one.go_on(["b", "c"])
+    one.update(["b", "c"])
     assert told == [
         "mars: proved a, 1 of 2 (0 min 0 s)",
         "mars: 1 of 2 crates proved in 0 min 0 s; proving b and c",

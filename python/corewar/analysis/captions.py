@@ -5,7 +5,7 @@ import shlex
 
 from ..battle.history import History
 from ..model.settings import NUMBERS, Settings, label
-from .telling import joined
+from .formatting import join_names
 
 
 def title(history: History) -> str:
@@ -20,7 +20,7 @@ def outcome(history: History) -> str:
         return "No survivors"
     if len(living) == 1:
         return f"{living[0]} {'wins' if len(history.names) > 1 else 'lives'}"
-    return f"Tie between {joined(living)}"
+    return f"Tie between {join_names(living)}"
 
 
 def fate(history: History, warrior: int) -> str:
@@ -42,7 +42,7 @@ def describe_settings(history: History) -> list[str]:
     return [f"{label(name)} {value:,}" for name, value in numbers.items() if value or name == "round"]
 
 
-def words(history: History) -> list[str]:
+def arguments(history: History) -> list[str]:
     """Returns the arguments of `corewar` that select this battle, with its files."""
     fight, given = history.fight, Settings()
     numbers = {**vars(fight.settings), "rounds": fight.rounds, "seed": fight.seed, "position": fight.position}
@@ -57,4 +57,4 @@ def words(history: History) -> list[str]:
 
 def command(history: History, subcommand: str) -> str:
     """Returns the command line of a subcommand for this battle."""
-    return shlex.join(["corewar", *subcommand.split(), *words(history)])
+    return shlex.join(["corewar", *subcommand.split(), *arguments(history)])

@@ -7,10 +7,10 @@ from ..battle.conditions import Condition, last_change, search
 from ..battle.history import History
 from ..model.cells import OPCODES
 from .endings import describe_survivor, own_turns
-from .telling import BattleFormatter
+from .formatting import BattleFormatter
 
 # How many more turns are searched for one in which a warrior executed a cell of another.
-FAR = 500
+EXTRA_TURNS = 500
 
 
 def describe_change(formatter: BattleFormatter, address: int, turn: int) -> list[str]:
@@ -18,8 +18,9 @@ def describe_change(formatter: BattleFormatter, address: int, turn: int) -> list
     history = formatter.history
     found, by_hand = last_change(history, address, turn), history.by_hand(address, turn)
     if by_hand and by_hand[0] >= (found or 0):
-        behind, before, after = by_hand
-        return [f"Cell {address} was edited after turn {behind}: {formatter.cell(before)} -> {formatter.cell(after)}"]
+        edit_turn, before, after = by_hand
+        change = f"{formatter.cell(before)} -> {formatter.cell(after)}"
+        return [f"Cell {address} was edited after turn {edit_turn}: {change}"]
     if found is None:
         return [f"Cell {address} has not changed since the start."]
     return [f"Cell {address} was last changed in turn {found}:", *formatter.lines(found)]
@@ -36,7 +37,7 @@ def describe_cause(formatter: BattleFormatter, address: int, turn: int) -> list[
     return lines
 
 
-def stranger(history: History, turn: int) -> int | None:
+def foreign_write(history: History, turn: int) -> int | None:
     """Returns the turn of another warrior that wrote the cell that a turn executed, if another wrote it."""
     record = history.record(turn)
     found = last_change(history, int(record["address"]), turn - 1)
@@ -45,16 +46,16 @@ def stranger(history: History, turn: int) -> int | None:
 
 def describe_turn(formatter: BattleFormatter, turn: int, shown: set[tuple[int, int]]) -> Iterator[str]:
     """Describes a turn, and the turn of another warrior that wrote the cell it executed, unless `shown` has it."""
-    history, made = formatter.history, stranger(formatter.history, turn)
+    history, write_turn = formatter.history, foreign_write(formatter.history, turn)
     yield from formatter.lines(turn)
     address = int(history.record(turn)["address"])
-    if made is not None and (made, address) not in shown:
-        shown.add((made, address))
-        before = history.block(made - 1).cell(address, made - 1)
-        record = history.record(made)
+    if write_turn is not None and (write_turn, address) not in shown:
+        shown.add((write_turn, address))
+        before = history.block(write_turn - 1).cell(address, write_turn - 1)
+        record = history.record(write_turn)
         who = f"{formatter.names[record['warrior']]} at {record['address']}"
-        cell = formatter.cell(history.executed(made))
-        yield f"    {address} was {formatter.cell(before)} until turn {made} of {who}: {cell}"
+        cell = formatter.cell(history.executed(write_turn))
+        yield f"    {address} was {formatter.cell(before)} until turn {write_turn} of {who}: {cell}"
 
 
 def describe_death(formatter: BattleFormatter, warrior: int, count: int) -> Iterator[str]:
@@ -77,17 +78,17 @@ def describe_death(formatter: BattleFormatter, warrior: int, count: int) -> Iter
     if line:
         yield f"    {line}"
     yield from describe_cause(formatter, int(history.record(death)["address"]), death - 1)
-    turns = [turn for turn, _ in zip(own_turns(history, warrior, death - 1), range(count + FAR))]
+    turns = [turn for turn, _ in zip(own_turns(history, warrior, death - 1), range(count + EXTRA_TURNS))]
     if turns:
         yield "Its turns before that:"
     shown: set[tuple[int, int]] = set()
     for turn in reversed(turns[:count]):
         yield from describe_turn(formatter, turn, shown)
-    if not shown and stranger(history, death) is None:
-        strayed = next((turn for turn in turns[count:] if stranger(history, turn) is not None), None)
-        if strayed is not None:
+    if not shown and foreign_write(history, death) is None:
+        earlier = next((turn for turn in turns[count:] if foreign_write(history, turn) is not None), None)
+        if earlier is not None:
             yield "Earlier it executed a cell that another warrior wrote:"
-            yield from describe_turn(formatter, strayed, shown)
+            yield from describe_turn(formatter, earlier, shown)
     if search(history, [Condition("splits", warrior, warrior)], 0):
         yield from describe_hit(formatter, warrior)
 

@@ -9,7 +9,7 @@ import numpy as np
 
 from ..battle.history import NOBODY, History
 from ..battle.labels import Line, Sources
-from .telling import BattleFormatter, counted
+from .formatting import BattleFormatter, pluralize
 
 # How many of the last turns of a warrior are shown, and the most lines of a table.
 LAST_TURNS, MAX_ROWS = 1000, 8
@@ -43,18 +43,19 @@ def describe_survivor(formatter: BattleFormatter, warrior: int) -> Iterator[str]
     """Describes what a warrior that lives at the end did last."""
     history, name = formatter.history, formatter.names[warrior]
     processes = len(history.ending.queues[warrior])
-    yield f"{name} is alive after turn {history.end}, the last one, with {counted(processes, 'process')}."
+    yield f"{name} is alive after turn {history.end}, the last one, with {pluralize(processes, 'process')}."
     turns = last_turns(history, warrior)
     lines = {turn: describe_line(formatter, warrior, turn) for turn in turns}
     written = {turn: written_by(history, turn) for turn in turns}
-    yield f"Its last {counted(len(turns), 'turn')}:"
+    yield f"Its last {pluralize(len(turns), 'turn')}:"
     yield "  turns  cells written  line"
     rows = Counter(lines.values()).most_common()
     for line, count in rows[:MAX_ROWS]:
         cells = {address for turn in turns if lines[turn] == line for address in written[turn]}
         yield f"{count:7} {len(cells):14}  {line}"
-    if rows[MAX_ROWS:]:
-        yield f"{sum(count for _, count in rows[MAX_ROWS:]):7} {'':14}  in {counted(len(rows) - MAX_ROWS, 'more line')}"
+    rest = rows[MAX_ROWS:]
+    if rest:
+        yield f"{sum(count for _, count in rest):7} {'':14}  in {pluralize(len(rest), 'more line')}"
     yield from describe_hits(formatter, warrior, {address for cells in written.values() for address in cells})
 
 
@@ -76,7 +77,7 @@ def describe_hits(formatter: BattleFormatter, warrior: int, cells: set[int]) -> 
             yield f"{name} executed {count or 'none'} of the cells written, in its last turns."
 
 
-def ending_of(history: History, sources: Sources, names: Sequence[str], warrior: int) -> str:
+def summarize_last_turns(history: History, sources: Sources, names: Sequence[str], warrior: int) -> str:
     """Returns in short what a survivor executed last: lines whose cells are as they were loaded except for their
     numbers, and whose other cells. Names are in the order of turns.
     """

@@ -9,8 +9,8 @@ from dataclasses import dataclass
 from ..battle.conditions import last_change
 from ..battle.history import NOBODY, History
 from ..battle.labels import Sources
-from .endings import LAST_TURNS, ending_of
-from .telling import counted
+from .endings import LAST_TURNS, summarize_last_turns
+from .formatting import pluralize
 
 # The most ways to die, or to tie, that are listed for a warrior.
 MAX_ROWS = 10
@@ -45,13 +45,13 @@ def fates_of(history: History, names: Sequence[str]) -> Iterator[Death | Tie]:
     sources, in_turn = Sources(history), [names[number] for number in order]
     dead = history.ending.deaths["warrior"].tolist()
     for place in dead:
-        yield Death(order[place], history.round, *death_of(history, sources, in_turn, place))
+        yield Death(order[place], history.round, *cause_of_death(history, sources, in_turn, place))
     living = [place for place in range(len(names)) if place not in dead]
     for place in living if len(living) > 1 else []:
-        yield Tie(order[place], history.round, ending_of(history, sources, in_turn, place))
+        yield Tie(order[place], history.round, summarize_last_turns(history, sources, in_turn, place))
 
 
-def death_of(history: History, sources: Sources, names: Sequence[str], warrior: int) -> tuple[str, str]:
+def cause_of_death(history: History, sources: Sources, names: Sequence[str], warrior: int) -> tuple[str, str]:
     """Returns what a warrior died on, as it was before it was hit, and what hit it: the turn that gave the cell its
     opcode, or else the one that changed it last. Names are in the order of turns.
     """
@@ -81,14 +81,14 @@ def describe_losses(name: str, rounds: int, deaths: Sequence[Death]) -> Iterator
     if not deaths:
         yield f"{name} lost none of {rounds} rounds."
         return
-    yield f"{name} lost {len(deaths)} of {counted(rounds, 'round')}:"
+    yield f"{name} lost {len(deaths)} of {pluralize(rounds, 'round')}:"
     yield from table_of("losses", ("died on", "hit by"), [((death.cell, death.by), death.round) for death in deaths])
 
 
 def describe_ties(name: str, rounds: int, ties: Sequence[Tie]) -> Iterator[str]:
     """Describes the ties of a warrior in a match in the same way."""
     if ties:
-        yield f"{name} tied {len(ties)} of {counted(rounds, 'round')}:"
+        yield f"{name} tied {len(ties)} of {pluralize(rounds, 'round')}:"
         head = f"executed in its last {LAST_TURNS} turns"
         yield from table_of("ties", (head,), [((tie.executed,), tie.round) for tie in ties])
 

@@ -14,7 +14,7 @@ from ..battle.history import NOBODY, History
 from ..battle.labels import Sources
 from ..battle.origins import Origins
 from ..model.cells import OPCODES
-from .telling import BattleFormatter, counted
+from .formatting import BattleFormatter, pluralize
 
 Numbers = NDArray[np.int64]
 COMPARING = [OPCODES.index(name) for name in ("SEQ", "SNE", "SLT", "JMZ", "JMN", "DJN")]
@@ -88,8 +88,8 @@ class Study:
     def describe(self) -> Iterator[str]:
         """Yields the lines of the report: how it ends, when it first hits itself, and what it writes and scans."""
         history, name = self.history, self.history.names[0]
-        fate = f"{'lives' if history.death(0) is None else 'dies'} after {counted(history.end, 'turn')}"
-        size, processes = counted(len(history.warriors[0]), "cell"), counted(self.processes, "process")
+        fate = f"{'lives' if history.death(0) is None else 'dies'} after {pluralize(history.end, 'turn')}"
+        size, processes = pluralize(len(history.warriors[0]), "cell"), pluralize(self.processes, "process")
         yield f"{name} without an opponent: {size}, at most {processes}; {fate}."
         yield self._describe_hit()
         written = len(np.unique(self.writes.addresses))
@@ -134,7 +134,7 @@ class Study:
         for cells, count, turn, stride, name in rows[:MAX_ROWS]:
             yield f"  {count:6} {cells:6} {turn:7}  {stride:20} {name}"
         if rows[MAX_ROWS:]:
-            yield f"  and {counted(len(rows) - MAX_ROWS, 'more line')}"
+            yield f"  and {pluralize(len(rows) - MAX_ROWS, 'more line')}"
 
 
 def joined(parts: list[Accesses]) -> Accesses:

@@ -147,7 +147,7 @@ class Block:
         queue: NDArray[np.uint32] = np.concatenate([self.start.queues[warrior], processes[: queued[place]]])
         return queue[turns[place] :]
 
-    def following(self, turn: int) -> int:
+    def next_warrior(self, turn: int) -> int:
         """Returns the warrior whose turn is next after a turn."""
         return self.start.next if turn == self.first else int(self.records["next"][turn - self.first - 1])
 

@@ -12,7 +12,7 @@ from .blocks import Block, Touches
 from .history import History
 
 # The conditions on cells, and those on a warrior.
-OF_CELLS, OF_WARRIORS = ("at", "changes", "reads"), ("splits", "ends", "dies")
+CELL_CONDITIONS, WARRIOR_CONDITIONS = ("at", "changes", "reads"), ("splits", "ends", "dies")
 
 
 @dataclass(frozen=True)
@@ -39,11 +39,11 @@ class Condition:
         """
         records = block.records
         if self.word == "at":
-            held = self._among(records["address"], core) & self._of(records["warrior"])
+            held = self._contains(records["address"], core) & self._is_by(records["warrior"])
             return block.first + np.flatnonzero(held)
         if self.word in ("changes", "reads", "becomes"):
             found: Touches = block.reads if self.word == "reads" else block.changes
-            held = self._among(found.addresses, core) & self._of(found.warriors)
+            held = self._contains(found.addresses, core) & self._is_by(found.warriors)
             if self.word == "becomes":
                 held &= block.changes.before["op"] != block.changes.after["op"]
             return np.asarray(np.unique(found.turns[held]), np.int64)
@@ -51,11 +51,11 @@ class Condition:
         field, value = fields[self.word]
         return block.first + 1 + np.flatnonzero((records["warrior"] == self.first) & (records[field] == value))
 
-    def _among(self, addresses: NDArray[np.uint32], core: int) -> NDArray[np.bool_]:
+    def _contains(self, addresses: NDArray[np.uint32], core: int) -> NDArray[np.bool_]:
         distances = (addresses.astype(np.int64) - self.first) % core
         return np.asarray(distances <= (self.last - self.first) % core)
 
-    def _of(self, warriors: NDArray[np.uint32]) -> NDArray[np.bool_]:
+    def _is_by(self, warriors: NDArray[np.uint32]) -> NDArray[np.bool_]:
         return np.asarray(warriors == self.by) if self.by is not None else np.ones(len(warriors), bool)
 
 

@@ -22,7 +22,7 @@ class Frame:
     queues: list[NDArray[np.uint32]]
 
 
-def parts(first: int, last: int, count: int) -> list[int]:
+def part_ends(first: int, last: int, count: int) -> list[int]:
     """Returns the ends of `count` parts of the turns from `first` to `last`, or of fewer if there are fewer turns."""
     count = max(1, min(last - first, count))
     return [first + (last - first) * part // count for part in range(count + 1)]

@@ -17,7 +17,7 @@ from typing import Any
 import numpy as np
 from numpy.typing import NDArray
 
-from ..engine.battles import Battle, of_mark
+from ..engine.battles import Battle, battle_of_mark
 from ..engine.calls import Match
 from ..model.edits import Edit
 from ..model.errors import CorewarError
@@ -25,9 +25,9 @@ from ..model.settings import whole
 from .blocks import Block
 
 # The number of turns of a block, and of blocks in the cache, 5 to 13 MB each.
-BLOCK, KEPT = 65_536, 24
+BLOCK_SIZE, CACHED_BLOCKS = 65_536, 24
 # The maximum number of marks of a run, an even number, and of their bytes together.
-MARKS, MARKED = 64, 64 << 20
+MAX_MARKS, MAX_MARK_BYTES = 64, 64 << 20
 # The owner of a cell: a warrior's number, or one of these.
 NOBODY, BY_HAND = 255, 254
 Owners = NDArray[np.uint8]
@@ -52,16 +52,16 @@ class Run:
 
     def at(self, turn: int) -> Battle:
         """Returns a copy of the battle after a turn."""
-        battle = of_mark(self.marks[min((turn - self.first) // self.stride, len(self.marks) - 1)])
+        battle = battle_of_mark(self.marks[min((turn - self.first) // self.stride, len(self.marks) - 1)])
         battle.play(turn - battle.turns)
         return battle
 
 
 def run_of(battle: Battle, edit: Edit | None = None, before: Battle | None = None) -> Run:
     """Plays a battle to its end. If the marks become too many, every other one is dropped, and the stride doubles."""
-    first, marks, stride = battle.turns, [bytes(battle)], BLOCK
+    first, marks, stride = battle.turns, [bytes(battle)], BLOCK_SIZE
     # An even number, so that the battle is at the last mark after every other one is dropped.
-    max_marks = max(2, min(MARKS, MARKED // len(marks[0]) // 2 * 2))
+    max_marks = max(2, min(MAX_MARKS, MAX_MARK_BYTES // len(marks[0]) // 2 * 2))
     battle.play(stride)
     while not battle.over:
         marks.append(bytes(battle))
@@ -99,8 +99,8 @@ class History:
         self.fight, self.round, self.core = fight, round, fight.settings.core
         self.segments = [whole_segment(run_of(Battle(fight, round)))]
         self.warriors = fight.warriors[round % len(fight.warriors) :] + fight.warriors[: round % len(fight.warriors)]
-        self.names = distinct([warrior.called for warrior in self.warriors])
-        self._blocks = lru_cache(maxsize=KEPT)(ask)
+        self.names = make_distinct([warrior.called for warrior in self.warriors])
+        self._blocks = lru_cache(maxsize=CACHED_BLOCKS)(read_block)
         self._written: dict[int, tuple[Owners, NDArray[np.int64]]] = {}
 
     def __repr__(self) -> str:
@@ -161,8 +161,8 @@ class History:
     def block(self, turn: int) -> Block:
         """Returns the block of the state after a turn and after the edits made there. Raises CorewarError."""
         segment = self._segment(turn)
-        first = turn - (turn - segment.first) % BLOCK
-        return self._blocks(segment.run, first, min(BLOCK, segment.last - first))
+        first = turn - (turn - segment.first) % BLOCK_SIZE
+        return self._blocks(segment.run, first, min(BLOCK_SIZE, segment.last - first))
 
     def block_of(self, turn: int) -> Block:
         """Returns the block with the record of a turn, from 1. Raises CorewarError."""
@@ -191,8 +191,8 @@ class History:
         `CorewarError` if the battle has no such turn.
         """
         block = self.block_of(turn)
-        made: np.void = block.records[turn - block.first - 1]
-        return made
+        record: np.void = block.records[turn - block.first - 1]
+        return record
 
     def state(self, turn: int) -> Battle:
         """Returns the battle after a turn. Raises `CorewarError` if the battle has no such turn."""
@@ -206,7 +206,7 @@ class History:
     def head(self, turn: int) -> int | None:
         """Returns the address that is executed next after a turn, or None if the battle is over."""
         block = self.block(turn)
-        return None if turn == self.end else int(block.queue(block.following(turn), turn)[0])
+        return None if turn == self.end else int(block.queue(block.next_warrior(turn), turn)[0])
 
     @property
     def ending(self) -> Battle:
@@ -294,20 +294,20 @@ class History:
         before = self.state(turn)
         after = before.copy()
         after.edit(edit)
-        made = History.__new__(History)
-        made.__dict__.update(vars(self))
+        edited = History.__new__(History)
+        edited.__dict__.update(vars(self))
         kept = [Segment(one.run, min(one.last, turn)) for one in self.segments if one.first <= turn]
-        made.segments = [*kept, whole_segment(run_of(after, edit, before))]
+        edited.segments = [*kept, whole_segment(run_of(after, edit, before))]
         # What is known at the turn itself lacks the cells that the edit changes.
-        made._written = {at: written for at, written in self._written.items() if at < turn}
-        return made
+        edited._written = {at: written for at, written in self._written.items() if at < turn}
+        return edited
 
 
 def whole_segment(run: Run) -> Segment:
     return Segment(run, run.ending.turns)
 
 
-def ask(run: Run, first: int, count: int) -> Block:
+def read_block(run: Run, first: int, count: int) -> Block:
     """Reads the `count` turns of a run after turn `first` from the library."""
     start = run.at(first)
     return Block(
@@ -315,12 +315,12 @@ def ask(run: Run, first: int, count: int) -> Block:
     )
 
 
-def distinct(names: list[str]) -> list[str]:
+def make_distinct(names: list[str]) -> list[str]:
     """Returns distinct names: equal ones are followed by numbers, so that no two are the same."""
-    made: list[str] = []
+    found: list[str] = []
     for name in names:
         new, numbers = name, count(1)
-        while names.count(name) > 1 and new in (*names, *made):
+        while names.count(name) > 1 and new in (*names, *found):
             new = f"{name} {next(numbers)}"
-        made.append(new)
-    return made
+        found.append(new)
+    return found

@@ -47,7 +47,7 @@ class Origins:
     def __init__(self, history: History) -> None:
         # Origins are stored by their history, which they must not keep alive.
         self.history = proxy(history)
-        self._ways = ways(Battle(history.fight, history.round).cells)
+        self._copied = copied_operands(Battle(history.fight, history.round).cells)
         self._traced: dict[int, Traced] = {}
         # The last turn up to which all blocks are traced.
         self._end = 0
@@ -72,13 +72,13 @@ class Origins:
         else:
             found = np.arange(self.history.core)
         edited = self.history.changed_by_hand(block.first)
-        found[edited] = len(self._ways) + np.arange(len(edited))
-        self._ways += ways(block.start.cells[edited])
+        found[edited] = len(self._copied) + np.arange(len(edited))
+        self._copied += copied_operands(block.start.cells[edited])
         return found
 
     def _trace(self, block: Block, before: Places) -> Traced:
-        origins, touched, known = before.tolist(), block.touched(), self._ways
-        executed, made = list[int](), list[tuple[int, int, int]]()
+        origins, touched, known = before.tolist(), block.touched(), self._copied
+        executed, writes = list[int](), list[tuple[int, int, int]]()
         turns = zip(touched["address"].tolist(), touched["count"].tolist())
         for turn, (addresses, count) in enumerate(turns, block.first + 1):
             origin = origins[addresses[0]]
@@ -86,12 +86,12 @@ class Origins:
             if known[origin]:
                 # The last touched cell is the one that is written.
                 origins[addresses[count - 1]] = copied = origins[addresses[known[origin]]]
-                made.append((turn, addresses[count - 1], copied))
-        copies = np.array(made, np.int64).reshape(-1, 3)
+                writes.append((turn, addresses[count - 1], copied))
+        copies = np.array(writes, np.int64).reshape(-1, 3)
         return Traced(before, np.array(executed, np.int64), copies[:, 0], copies[:, 1], copies[:, 2])
 
 
-def ways(cells: Cells) -> list[int]:
+def copied_operands(cells: Cells) -> list[int]:
     """Returns for each cell which of the cells that it touches it copies, or 0 if it copies none."""
     copies = (cells["op"] == MOV) & (cells["modifier"] == WHOLE)
     found: list[int] = np.where(copies, np.where(np.isin(cells["a_mode"], DIRECT), 1, 3), 0).tolist()

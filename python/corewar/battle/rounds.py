@@ -43,6 +43,6 @@ def rounds_of(fight: Match, count: int) -> Iterator[Round]:
         yield Round(history, tuple("loss" if place in dead else survived for place in places))
 
 
-def sums(outcomes: list[tuple[str, ...]]) -> list[list[int]]:
+def count_outcomes(outcomes: list[tuple[str, ...]]) -> list[list[int]]:
     """Returns the number of wins, ties and losses of each warrior, given the outcomes of each round."""
     return [[own.count(outcome) for outcome in OUTCOMES] for own in zip(*outcomes)]

@@ -9,7 +9,7 @@ import click
 
 from ..engine.sources import Assembler, Overrun, read_file, read_warriors
 from ..engine.warriors import Warrior
-from ..explain import LOOKED_FOR, errors_of, excerpt, explain_error, explain_kind, fix, read_faults, read_otherwise
+from ..explain import CHECKED_ROWS, errors_of, excerpt, explain_error, explain_kind, fix, pmars_differences, read_faults
 from ..explain.errors import kind_of
 from ..explain.instructions import describe_line, find_instruction
 from ..explain.source import Line
@@ -17,7 +17,7 @@ from ..model.errors import ASSEMBLY, CorewarError, FileError, MarsError
 from ..model.printing import printable
 from .layout import Command
 from .options import BattleOptions, battle_options
-from .telling import tell, tell_fault
+from .reporting import report, report_error
 
 EXAMPLES = [
     "corewar explain dwarf.red",
@@ -93,7 +93,7 @@ def explain_file(options: BattleOptions, path: str) -> int:
             write([f"{path}: {fault}", *excerpt(text, fault.line), *sentences])
             found = True
     except FileError as unread:
-        tell_fault(unread)
+        report_error(unread)
         return 1
     if not found:
         write([f"{path}: no error"])
@@ -105,8 +105,9 @@ def compare_file(options: BattleOptions, path: str) -> None:
     data = read_file(path)
     with Assembler(options.limit) as assembler:
         faults = [fault for fault, _ in errors_of(data, loader(options, path, assembler))]
-    notes = read_otherwise(data, faults)
-    write([f"{path}: {note}" for note in notes or [f"none of the {LOOKED_FOR} known differences from pMARS was found"]])
+    notes = pmars_differences(data, faults)
+    notes = notes or [f"none of the {CHECKED_ROWS} known differences from pMARS was found"]
+    write([f"{path}: {note}" for note in notes])
 
 
 def fix_file(options: BattleOptions, path: str) -> int:
@@ -118,7 +119,7 @@ def fix_file(options: BattleOptions, path: str) -> int:
         errors = [*errors_of(fixed, load)]
     click.echo(fixed, nl=False)
     for fault, sentences in errors:
-        tell(f"{path}: not fixed: {fault}")
+        report(f"{path}: not fixed: {fault}")
         click.echo("".join(f"  {printable(sentence)}\n" for sentence in sentences), err=True, nl=False)
     return int(bool(errors))
 

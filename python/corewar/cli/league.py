@@ -14,7 +14,7 @@ import numpy as np
 
 from ..engine.files import replace_file
 from ..engine.warriors import Warrior
-from ..contests.contest import Contest, Matches, Rows, all_pairs, enter
+from ..contests.contest import Contest, Matches, Rows, all_pairs, read_entrants
 from ..contests.challenge import FORMATS as CHALLENGE_FORMATS
 from ..contests.challenge import Challenge
 from ..contests.comparison import Comparison, compare
@@ -25,15 +25,15 @@ from ..model.errors import FileError
 from ..model.printing import printable
 from .layout import EXECUTION, STATUSES, Command, Number, Option
 from .options import BattleOptions, Decorator, Output, Picture, battle_options, is_given, with_options
-from .telling import tell, tell_fault
+from .reporting import report, report_error
 from .waiting import progress
 
 ADDRESS = re.compile(r"(tcp://)?(\[[0-9a-fA-F:]+\]|[^\s/:\[\]]+):\d+")
-TURNED = "{} of {} matches are stored only with the warriors in the other order; those are different matches"
+REVERSED_ORDER = "{} of {} matches are stored only with the warriors in the other order; those are different matches"
 LEFT_OUT = f"{STATUSES}; 1 also if a file with an error was left out"
 
 
-def address(context: click.Context, param: click.Parameter, given: str | None) -> str | None:
+def check_address(context: click.Context, param: click.Parameter, given: str | None) -> str | None:
     if given is not None and not ADDRESS.fullmatch(given):
         raise click.BadParameter("expected HOST:PORT, as in first.lan:8786")
     return given
@@ -48,7 +48,7 @@ JOBS = click.option(
     default=len(os.sched_getaffinity(0)),
     help="Number of parallel matches, 1 or more  [default: number of CPUs]",
 )
-PLACE = [
+EXECUTION_OPTIONS = [
     click.option(
         "--results",
         cls=Option,
@@ -61,7 +61,7 @@ PLACE = [
         "--scheduler",
         cls=Option,
         group=EXECUTION,
-        callback=address,
+        callback=check_address,
         metavar="HOST:PORT",
         help="Run the matches on the workers of a Dask cluster",
     ),
@@ -82,14 +82,14 @@ class MatchRunner:
             if not self.results:
                 self._fight(matches, lambda rows: None)
                 return
-            with Results(self.results, matches) as kept:
-                turned = kept.find()
-                if turned:
-                    tell(TURNED.format(turned, len(matches)))
-                self._fight(matches, kept.keep)
+            with Results(self.results, matches) as stored:
+                reversed_count = stored.find()
+                if reversed_count:
+                    report(REVERSED_ORDER.format(reversed_count, len(matches)))
+                self._fight(matches, stored.keep)
         except KeyboardInterrupt:
             done = f"{matches.is_fought.sum()} of {len(matches)} matches stored; run the same command to continue"
-            tell(done if self.results else "stopped")
+            report(done if self.results else "stopped")
             # A match that is under way isn't waited for.
             os._exit(130)
 
@@ -111,7 +111,7 @@ def contest_options(command: Callable[..., Any]) -> Callable[..., Any]:
             raise click.UsageError("expected at least two files")
         return command(options, MatchRunner(results, jobs, scheduler), **given)
 
-    return with_options(*PLACE)(wrapper)
+    return with_options(*EXECUTION_OPTIONS)(wrapper)
 
 
 def contest_of(options: BattleOptions) -> Contest:
@@ -124,12 +124,12 @@ def contest_of(options: BattleOptions) -> Contest:
     )
 
 
-def entered(options: BattleOptions) -> tuple[Contest, list[Warrior], list[FileError]]:
+def entrants_of(options: BattleOptions) -> tuple[Contest, list[Warrior], list[FileError]]:
     """The contest, the warriors of the files, and the errors of the files without one, which are reported."""
     contest = contest_of(options)
-    warriors, faults = enter(contest, options.files, options.limit)
+    warriors, faults = read_entrants(contest, options.files, options.limit)
     for fault in faults:
-        tell_fault(fault)
+        report_error(fault)
     return contest, warriors, faults
 
 
@@ -190,7 +190,7 @@ def league(options: BattleOptions, runner: MatchRunner, order: str, form: str, *
 
     The first warrior of a match is the one whose file is given earlier. A file with an error is reported and left out.
     """
-    contest, warriors, faults = entered(options)
+    contest, warriors, faults = entrants_of(options)
     if not warriors:
         return 1
     matches = Matches(contest, warriors, all_pairs(len(warriors)))
@@ -234,8 +234,8 @@ def challenge(options: BattleOptions, runner: MatchRunner, only_sum: bool, old: 
     nothing is run.
     """
     if old is not None:
-        return tell_change(options, runner, only_sum, old)
-    contest, warriors, faults = entered(options)
+        return print_change(options, runner, only_sum, old)
+    contest, warriors, faults = entrants_of(options)
     if not warriors or any(fault.file == options.files[0] for fault in faults):
         return 1
     opponents = np.arange(1, len(warriors))
@@ -245,12 +245,12 @@ def challenge(options: BattleOptions, runner: MatchRunner, only_sum: bool, old: 
     return 1 if faults else 0
 
 
-def tell_change(options: BattleOptions, runner: MatchRunner, only_sum: bool, old: str) -> int:
+def print_change(options: BattleOptions, runner: MatchRunner, only_sum: bool, old: str) -> int:
     """Prints the scores of two versions of a warrior, and what the change shows."""
     if any(map(is_given, ("form", "results", "scheduler"))):
         raise click.UsageError("--old cannot be used with --format, --results or --scheduler")
     both = [old, options.files[0]]
-    contest, warriors, faults = entered(replace(options, files=(*both, *options.files[1:])))
+    contest, warriors, faults = entrants_of(replace(options, files=(*both, *options.files[1:])))
     if len(warriors) < 3 or any(fault.file in both for fault in faults):
         return 1
     opponents, parts = warriors[2:], []

@@ -9,7 +9,7 @@ from ..analysis.causes import describe_change, describe_death
 from ..analysis.endings import describe_survivor
 from ..analysis.losses import Death, Tie, describe_losses, describe_ties, fates_of
 from ..analysis.study import Study
-from ..analysis.telling import BattleFormatter
+from ..analysis.formatting import BattleFormatter
 from ..battle.history import History
 from ..battle.labels import MAX_TRACED_TURNS, Sources
 from ..battle.rounds import rounds_of
@@ -62,7 +62,7 @@ def why(options: BattleOptions, named: str | None, turns: int) -> None:
     it counts by which lines each warrior died, and what it executed last in ties.
     """
     if options.rounds > 1 and not is_given("round_"):
-        tell_losses(options, named)
+        print_losses(options, named)
         return
     formatter = formatter_of(options)
     died = [int(number) for number in formatter.history.ending.deaths["warrior"]]
@@ -76,7 +76,7 @@ def why(options: BattleOptions, named: str | None, turns: int) -> None:
             click.echo("\n".join(describe_survivor(formatter, number)))
 
 
-def tell_losses(options: BattleOptions, named: str | None) -> None:
+def print_losses(options: BattleOptions, named: str | None) -> None:
     """Prints how warriors died and tied in all rounds: the one selected by its name, or all that did."""
     fight = options.fight()
     first = History(fight)

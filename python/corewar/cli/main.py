@@ -12,7 +12,7 @@ from .. import __version__
 from ..model.errors import FORMULA, PARAMETERS, SETTINGS, CorewarError, MarsError
 from .layout import Command
 from .options import HELP
-from .telling import tell, tell_fault
+from .reporting import report, report_error
 
 # The commands by groups, each with its module in this folder, which is imported only when the command is used.
 GROUPS = {
@@ -89,17 +89,17 @@ def main() -> None:
         fault.show()
         sys.exit(fault.exit_code)
     except (click.Abort, KeyboardInterrupt):
-        tell("stopped")
+        report("stopped")
         sys.exit(130)
     except CorewarError as fault:
-        tell_fault(fault)
+        report_error(fault)
         sys.exit(2 if isinstance(fault, MarsError) and fault.code in USAGE else 1)
     except MemoryError:
-        tell("out of memory")
+        report("out of memory")
         sys.exit(1)
     except OSError as fault:
         if not isinstance(fault, BrokenPipeError):
-            tell(": ".join(str(part) for part in (fault.filename, fault.strerror) if part is not None))
+            report(": ".join(str(part) for part in (fault.filename, fault.strerror) if part is not None))
         # What standard output didn't accept isn't written again at the end.
         os.dup2(os.open(os.devnull, os.O_WRONLY), sys.stdout.fileno())
         sys.exit(1)

@@ -11,7 +11,7 @@ from .layout import Number
 NUMBERS_OF_MARS = {number.word: (number.minimum, number.maximum) for number in NUMBERS.values()} | {
     "--history": (1, 1_000_000)
 }
-TOGETHER = f"""Each argument is valid by itself. Together they have to follow these rules:
+COMBINATIONS = f"""Each argument is valid by itself. Together they have to follow these rules:
 - There are 1 to {MAX_WARRIORS} files; --league requires at least two, -F exactly two and --load one.
 - The position of -F is at least the minimum distance, and at most the core size minus it.
 - No option is given twice.
@@ -33,4 +33,4 @@ def check_mars_args(words: list[str]) -> str:
     """Returns the rules for arguments that are valid by themselves. Raises an error of click if one is not."""
     # Click would take the `=` that joins a value to a short option as a part of the value.
     MARS.make_context("mars", [re.sub(r"^(-\w)=", r"\1", word) for word in words])
-    return TOGETHER
+    return COMBINATIONS

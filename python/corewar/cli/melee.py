@@ -5,7 +5,7 @@ import os
 
 import click
 
-from ..contests.contest import enter
+from ..contests.contest import read_entrants
 from ..contests.melee import melee as run
 from ..contests.melee import records_of, table_of
 from ..contests.scores import HEAD, NAMES, RATES, csv_text, json_text
@@ -13,8 +13,8 @@ from ..model.settings import MAX_WARRIORS
 from .layout import Command, Number
 from .league import JOBS, LEFT_OUT, contest_of, format_option, write_results
 from .options import BattleOptions, battle_options
-from .telling import tell, tell_fault
-from .waiting import awaited, progress
+from .reporting import report, report_error
+from .waiting import progress, run_in_thread
 
 
 @click.command(
@@ -44,17 +44,17 @@ def melee(options: BattleOptions, size: int, lineups: int, form: str, jobs: int)
     if len(options.files) < size:
         raise click.UsageError(f"expected at least {size} files for matches of {size}, not {len(options.files)}")
     contest = contest_of(options)
-    warriors, faults = enter(contest, options.files, options.limit, size)
+    warriors, faults = read_entrants(contest, options.files, options.limit, size)
     for fault in faults:
-        tell_fault(fault)
+        report_error(fault)
     if len(warriors) < size:
-        tell(f"{len(warriors)} warriors are left, but a match has {size}")
+        report(f"{len(warriors)} warriors are left, but a match has {size}")
         return 1
     try:
         with progress(lineups, "matches") as advance:
-            table = awaited(lambda: run(contest, warriors, size, lineups, jobs, advance))
+            table = run_in_thread(lambda: run(contest, warriors, size, lineups, jobs, advance))
     except KeyboardInterrupt:
-        tell("stopped")
+        report("stopped")
         # Matches that are under way aren't waited for.
         os._exit(130)
     if form == "table":

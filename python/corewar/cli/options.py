@@ -63,7 +63,7 @@ class Picture(Output):
         return super().convert(value, param, context)
 
 
-def with_folders(files: Sequence[str]) -> Iterator[str]:
+def expand_folders(files: Sequence[str]) -> Iterator[str]:
     """Yields files, and in place of each folder the sources in it, by name, without those that are given as files.
 
     Raises FileError.
@@ -192,7 +192,7 @@ def battle_options(*, one_round: bool = False, needs_files: bool = True) -> Deco
                 message = f"a match of {contest['rounds']} has rounds 0 to {contest['rounds'] - 1}"
                 raise click.BadParameter(message, param_hint="--round")
             return command(
-                BattleOptions(tuple(with_folders(files)), settings, round=round_, limit=limit, **contest), **given
+                BattleOptions(tuple(expand_folders(files)), settings, round=round_, limit=limit, **contest), **given
             )
 
         files = click.argument(

@@ -7,7 +7,7 @@ from pathlib import Path
 
 import click
 
-from ..battle.frames import parts
+from ..battle.frames import part_ends
 from ..battle.history import History
 from ..engine.calls import assemble
 from ..model.cells import Cell
@@ -38,15 +38,15 @@ def output_options(kind: Output, usual: str) -> tuple[Decorator, Decorator]:
     )
 
 
-def ends_of(history: History, first: int, turns: int | None, count: int) -> list[int]:
+def frame_ends(history: History, first: int, turns: int | None, count: int) -> list[int]:
     """The turns at which `count` frames of a part of a battle end."""
     if first > max(1, history.end):
         raise click.BadParameter(f"the battle has turns 1 to {history.end}", param_hint="--from")
     last = history.end if turns is None else min(history.end, first - 1 + turns)
-    return parts(first - 1, last, count)
+    return part_ends(first - 1, last, count)
 
 
-def named(output: str | None, usual: str, force: bool) -> str:
+def output_file(output: str | None, usual: str, force: bool) -> str:
     """The file to write. Raises FileError if it is the usual one, which exists and may not be overwritten."""
     if output is None and os.path.exists(usual) and not force:
         raise FileError(usual, "already exists; use --force to overwrite it or -o to name another file")
@@ -87,10 +87,10 @@ def picture(
     """
     from ..pictures.timeline import View, draw
 
-    output = named(output, "battle.png", force)
+    output = output_file(output, "battle.png", force)
     history = History(options.fight(), options.round)
     shown = cells_of(cells, history.core)
-    draw(history, View(ends_of(history, first, turns, rows), shown, min(columns, len(shown))), output)
+    draw(history, View(frame_ends(history, first, turns, rows), shown, min(columns, len(shown))), output)
     click.echo(f"{output}: {history.end} turns")
 
 
@@ -134,9 +134,9 @@ def page(options: BattleOptions, turn: int, edits: tuple[str, ...], output: str 
     from ..pages.site import page_of
 
     fight = options.fight()
-    made = [edit_of(text, options) for text in edits]
-    output = named(output, "battle.html", force)
-    write_page(Path(output), page_of(fight, options.formula, options.round, turn, made))
+    turns_and_edits = [edit_of(text, options) for text in edits]
+    output = output_file(output, "battle.html", force)
+    write_page(Path(output), page_of(fight, options.formula, options.round, turn, turns_and_edits))
     click.echo(f"{output}: {' against '.join(printable(warrior.called) for warrior in fight.warriors)}")
 
 

@@ -7,13 +7,13 @@ import click
 import numpy as np
 
 from ..analysis.captions import command
-from ..analysis.telling import counted
-from ..battle.rounds import portions, rounds_of, sums
+from ..analysis.formatting import pluralize
+from ..battle.rounds import count_outcomes, portions, rounds_of
 from ..engine.calls import Match, Row, match
 from ..model.printing import printable
 from .layout import Command
 from .options import BattleOptions, Output, battle_options
-from .waiting import awaited, progress
+from .waiting import progress, run_in_thread
 
 # The number of cycles after which the bar moves, at most a quarter of a second of two warriors.
 CYCLES = 6_000_000
@@ -25,7 +25,7 @@ def rows_of(fought: Match, formula: str) -> list[Row]:
     """The rows of a match, with a bar on a terminal."""
 
     def run(part: Match) -> list[Row]:
-        return awaited(lambda: match(formula=formula, **vars(part)))
+        return run_in_thread(lambda: match(formula=formula, **vars(part)))
 
     counts = np.zeros((len(fought.warriors), 4), object)
     with progress(fought.rounds, "rounds") as advance:
@@ -84,8 +84,8 @@ def rounds(options: BattleOptions, pages: str | None) -> None:
         outcomes.append(one.outcomes)
         if pages:
             written.add(one)
-    for number, (wins, ties, losses) in enumerate(sums(outcomes)):
-        click.echo(f"warrior {number}: {counted(wins, 'win')}, {counted(ties, 'tie')}, {counted(losses, 'loss')}")
+    for number, (wins, ties, losses) in enumerate(count_outcomes(outcomes)):
+        click.echo(f"warrior {number}: {pluralize(wins, 'win')}, {pluralize(ties, 'tie')}, {pluralize(losses, 'loss')}")
     if pages:
         written.write_index()
         click.echo(f"{printable(pages)}: index.html and match.html")

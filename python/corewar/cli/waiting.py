@@ -11,13 +11,13 @@ from typing import TypeVar
 Result = TypeVar("Result")
 
 
-def awaited(act: Callable[[], Result]) -> Result:
+def run_in_thread(function: Callable[[], Result]) -> Result:
     """Returns the result of a function. It runs in another thread, so that Ctrl-C doesn't wait for it."""
     result: Future[Result] = Future()
 
     def call() -> None:
         try:
-            result.set_result(act())
+            result.set_result(function())
         except Exception as fault:
             result.set_exception(fault)
 

@@ -39,9 +39,9 @@ def web(port: int, browser: bool, results: str | None, files: tuple[str, ...]) -
     The site has an editor, a view of the core, the debugger, a bench and leagues. FILE is a source or a folder of
     sources; without any, the current folder is used. Only this machine can connect.
     """
-    from ..pages.site import site
+    from ..pages.site import site_folder
     from ..web.folder import Folder, sources_of
-    from ..web.server import Served, serve
+    from ..web.server import ServedSite, serve
 
     # A page with the token, through which the browser is led there, is removed at the end.
     signal.signal(signal.SIGTERM, signal.default_int_handler)
@@ -50,4 +50,4 @@ def web(port: int, browser: bool, results: str | None, files: tuple[str, ...]) -
             raise FileError(name, "No such file or directory")
     examples = sources_of([path for path in EXAMPLES if path.is_dir()][:1])
     folder = Folder([Path(name) for name in files or (".",)], examples)
-    serve(Served(site(), folder, results), port, browser, click.echo)
+    serve(ServedSite(site_folder(), folder, results), port, browser, click.echo)

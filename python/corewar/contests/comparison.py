@@ -7,13 +7,13 @@ from dataclasses import dataclass
 import numpy as np
 from numpy.typing import NDArray
 
-from ..engine.outcomes import played, table_of
+from ..engine.outcomes import run_lineups, table_of
 from ..engine.warriors import Warrior
 from ..model.printing import printable
 from .contest import Contest, score_of
 
 # The number of standard errors from which a change is more than chance.
-SURE = 2
+MIN_STANDARD_ERRORS = 2
 
 
 @dataclass(frozen=True, eq=False)
@@ -62,7 +62,7 @@ def verdict(change: float, error: float | None) -> str:
     if error == 0:
         return f"{'The change is the same' if change else 'Both versions score the same'} in every round."
     size = abs(change) / error
-    if size < SURE:
+    if size < MIN_STANDARD_ERRORS:
         return f"The change is {size:.1f} standard errors, which may be chance. More rounds show smaller changes."
     return f"The new version is {'better' if change > 0 else 'worse'}: the change is {size:.1f} standard errors."
 
@@ -75,8 +75,8 @@ def compare(
         some = opponents[first : first + jobs]
         pairs = [(version, 2 + number) for version in (0, 1) for number in range(len(some))]
         warriors, table = [old, new, *some], table_of(pairs, contest.seed)
-        made = played(warriors, table, contest.settings, contest.rounds, contest.position, jobs)
-        own, others = np.moveaxis(made["survived"].astype(bool), 2, 0)
+        outcomes = run_lineups(warriors, table, contest.settings, contest.rounds, contest.position, jobs)
+        own, others = np.moveaxis(outcomes["survived"].astype(bool), 2, 0)
         scores = np.zeros(own.shape)
         # A formula needs no value for rounds that do not occur.
         for survivors, rounds in ((1, own & ~others), (2, own & others)):

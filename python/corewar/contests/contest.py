@@ -11,7 +11,7 @@ import numpy as np
 from numpy.typing import NDArray
 
 from ..engine.calls import assemble, match
-from ..engine.outcomes import played, table_of
+from ..engine.outcomes import run_lineups, table_of
 from ..engine.sources import Assembler, Limit, read_warrior
 from ..engine.warriors import Warrior
 from ..model.errors import SCORE, CorewarError, FileError, MarsError
@@ -50,7 +50,7 @@ def fight(contest: Contest, warriors: Mapping[int, Warrior], pairs: Pairs) -> Co
     numbers, places = np.unique(pairs, return_inverse=True)
     table = table_of(places.reshape(pairs.shape), contest.seed)
     fighters = [warriors[number] for number in numbers.tolist()]
-    survived = played(fighters, table, contest.settings, contest.rounds, contest.position)["survived"].astype(bool)
+    survived = run_lineups(fighters, table, contest.settings, contest.rounds, contest.position)["survived"].astype(bool)
     ties = survived.all(axis=2).sum(axis=1)
     wins = survived.sum(axis=1) - ties[:, None]
     # A formula is refused even if no warrior survives, but has a value only if one does.
@@ -75,7 +75,7 @@ def fits(points: int) -> bool:
     return -(2**63) <= points < 2**63
 
 
-def checked(counts: object, matches: int, rounds: int) -> Counts:
+def check_counts(counts: object, matches: int, rounds: int) -> Counts:
     """Returns the counts of a number of matches, which come from a file or from another machine. Raises CorewarError if
     they are not the counts of any matches of that many rounds.
     """
@@ -101,7 +101,7 @@ def digests_of(warrior: Warrior) -> tuple[bytes, bytes]:
     return hashlib.sha256(first + b"\n" + rest).digest(), hashlib.sha256(warrior.load).digest()
 
 
-def enter(
+def read_entrants(
     contest: Contest, files: Sequence[str], limit: Limit, count: int = 2
 ) -> tuple[list[Warrior], list[FileError]]:
     """Returns the warriors of files, for matches of `count` warriors, in order, and the errors of the other files.
@@ -140,11 +140,11 @@ class Matches:
         if not len(self):
             return np.full(len(pairs), -1)
         # A pair as one number.
-        wanted, asked = (numbers[:, 0] * len(self.warriors) + numbers[:, 1] for numbers in (self.pairs, pairs))
-        rows = np.searchsorted(wanted, asked).clip(max=len(self) - 1)
-        return np.where(wanted[rows] == asked, rows, -1)
+        wanted, sought = (numbers[:, 0] * len(self.warriors) + numbers[:, 1] for numbers in (self.pairs, pairs))
+        rows = np.searchsorted(wanted, sought).clip(max=len(self) - 1)
+        return np.where(wanted[rows] == sought, rows, -1)
 
-    def take_kept(self, kept: Iterator[tuple[Any, ...]]) -> int:
+    def take_stored(self, stored: Iterator[tuple[Any, ...]]) -> int:
         """Fills in what was stored, by two digests and counts. Returns how many matches are stored only with the
         warriors in the other order. Raises CorewarError if the counts are not those of a match.
         """
@@ -154,16 +154,16 @@ class Matches:
                 numbers.setdefault(digest, set()).add(number)
         found = [
             (one, other, *counts)
-            for first, second, *counts in kept
+            for first, second, *counts in stored
             for one in numbers.get(first, ())
             for other in numbers.get(second, ())
         ]
         pairs = np.array([row[:2] for row in found], np.intp).reshape(-1, 2)
-        counts = checked([row[2:] for row in found] or np.empty((0, 5)), len(found), self.contest.rounds)
-        rows, turned = self.rows_of(pairs), self.rows_of(pairs[:, ::-1])
+        counts = check_counts([row[2:] for row in found] or np.empty((0, 5)), len(found), self.contest.rounds)
+        rows, reversed_rows = self.rows_of(pairs), self.rows_of(pairs[:, ::-1])
         self.fill_in(rows[rows >= 0], counts[rows >= 0])
-        turned = np.unique(turned[turned >= 0])
-        return int((~self.is_fought[turned]).sum())
+        reversed_rows = np.unique(reversed_rows[reversed_rows >= 0])
+        return int((~self.is_fought[reversed_rows]).sum())
 
     def bundles(self, cycles: int) -> Iterator[Rows]:
         """Yields the rows of the matches left to run, in bundles of at most `cycles` cycles or one match."""

@@ -42,15 +42,15 @@ class Standing:
 
 def lineups_of(warriors: int, size: int, count: int, dice: random.Random) -> list[list[int]]:
     """Returns random lineups of different warriors, in which all of them are equally often, or one more time."""
-    met = [0] * warriors
-    made = []
+    matches_of = [0] * warriors
+    lineups = []
     for _ in range(count):
-        lineup = sorted(range(warriors), key=lambda one: (met[one], dice.random()))[:size]
+        lineup = sorted(range(warriors), key=lambda one: (matches_of[one], dice.random()))[:size]
         dice.shuffle(lineup)
         for one in lineup:
-            met[one] += 1
-        made.append(lineup)
-    return made
+            matches_of[one] += 1
+        lineups.append(lineup)
+    return lineups
 
 
 def melee(
@@ -75,14 +75,14 @@ def melee(
         part = slice(at, at + step)
         parts.append(outcomes(warriors, lineups[part], seeds=seeds[part], jobs=jobs, **numbers))
         advance(len(parts[-1]))
-    made = np.concatenate(parts)
-    places = np.broadcast_to(np.array(lineups)[:, None, :], made.shape)
+    results = np.concatenate(parts)
+    places = np.broadcast_to(np.array(lineups)[:, None, :], results.shape)
     # In how many rounds each warrior was one of 0, 1, 2 .. survivors.
     lives = np.zeros((len(warriors), size + 1), np.int64)
-    survivors = np.broadcast_to(made["survived"].sum(axis=-1, keepdims=True), made.shape)
-    np.add.at(lives, (places, survivors), made["survived"])
+    survivors = np.broadcast_to(results["survived"].sum(axis=-1, keepdims=True), results.shape)
+    np.add.at(lives, (places, survivors), results["survived"])
     values = [score_of(contest.formula, size, left) if lives[:, left].any() else 0 for left in range(size + 1)]
-    matches = (made["survived"] * np.array(values, float)[survivors]).sum(axis=1)
+    matches = (results["survived"] * np.array(values, float)[survivors]).sum(axis=1)
     errors = errors_of(np.array(lineups).ravel(), matches.ravel(), len(warriors))
     rounds = np.bincount(places[:, 0].ravel(), minlength=len(warriors)) * contest.rounds
     return ranked(warriors, rounds.tolist(), lives.tolist(), values, errors / contest.rounds)

@@ -15,28 +15,28 @@ import numpy as np
 from ..engine.binding import library
 from ..model.errors import CorewarError
 from ..engine.warriors import Warrior
-from .contest import Contest, Counts, Matches, Pairs, Rows, checked, fight
+from .contest import Contest, Counts, Matches, Pairs, Rows, check_counts, fight
 
 # The maximum cycles of a bundle here, a quarter of a second, and the number of bundles that wait for a thread.
 CYCLES = 6_000_000
-AHEAD = 2
+BUNDLES_PER_JOB = 2
 # The same at a scheduler, where each bundle costs some milliseconds.
-CYCLES_THERE = 50_000_000
-AT_A_SCHEDULER = 500
+WORKER_CYCLES = 50_000_000
+SCHEDULED_BUNDLES = 500
 # The seconds without a result after which the cluster is checked for workers.
-LOOK_EACH = 5
+CHECK_SECONDS = 5
 NO_PACKAGE = f"--scheduler: {sys.executable} cannot import distributed; run apt-get install python3-distributed"
 
 
 @dataclass(frozen=True)
-class Place:
+class Executor:
     """How bundles are run: how one is submitted, its maximum number of cycles, the number of bundles at a time, what is
     checked while they run, and how to get the counts of one."""
 
     submit: Callable[[Rows], Future[Any]]
     cycles: int
     at_a_time: int
-    look: Callable[[], None] = lambda: None
+    check: Callable[[], None] = lambda: None
     counts_of: Callable[[Future[Any]], object] = Future.result
 
     def fight(self, matches: Matches) -> Iterator[Rows]:
@@ -50,21 +50,21 @@ class Place:
                 out[self.submit(bundle)] = bundle
             if not out:
                 return
-            done = wait(out, LOOK_EACH, FIRST_COMPLETED).done
+            done = wait(out, CHECK_SECONDS, FIRST_COMPLETED).done
             for future in done:
                 rows = out.pop(future)
                 counts = self.counts_of(future)
                 try:
-                    matches.fill_in(rows, checked(counts, len(rows), matches.contest.rounds))
+                    matches.fill_in(rows, check_counts(counts, len(rows), matches.contest.rounds))
                 except CorewarError as fault:
                     raise CorewarError(f"invalid result from a worker: {fault}") from None
                 yield rows
             if not done:
-                self.look()
+                self.check()
 
 
 @contextmanager
-def threads(matches: Matches, jobs: int) -> Iterator[Place]:
+def threads(matches: Matches, jobs: int) -> Iterator[Executor]:
     """Runs `jobs` matches at a time here. Matches that have not begun at the end are dropped."""
     pool = ThreadPoolExecutor(jobs)
 
@@ -72,7 +72,7 @@ def threads(matches: Matches, jobs: int) -> Iterator[Place]:
         return pool.submit(fight, matches.contest, matches.warriors, matches.pairs[rows])
 
     try:
-        yield Place(submit, CYCLES, AHEAD * jobs)
+        yield Executor(submit, CYCLES, BUNDLES_PER_JOB * jobs)
     finally:
         pool.shutdown(wait=False, cancel_futures=True)
 
@@ -84,7 +84,7 @@ def versions() -> str:
     return f"corewar {__version__}, library {library()[1].mars_version()}"
 
 
-def fight_there(wanted: str, contest: Contest, warriors: dict[int, Warrior], pairs: Pairs) -> Counts | str:
+def fight_on_worker(wanted: str, contest: Contest, warriors: dict[int, Warrior], pairs: Pairs) -> Counts | str:
     """Returns the counts of a bundle, on a worker; an error as text, since text can be sent. A worker with other
     versions runs nothing, because its results would be stored for good.
     """
@@ -96,7 +96,7 @@ def fight_there(wanted: str, contest: Contest, warriors: dict[int, Warrior], pai
         return str(fault)
 
 
-def counts_there(future: Future[Counts | str]) -> object:
+def counts_of_worker(future: Future[Counts | str]) -> object:
     """Returns what a worker has sent as the counts of a bundle. Raises CorewarError."""
     try:
         counts = future.result()
@@ -112,25 +112,25 @@ def counts_there(future: Future[Counts | str]) -> object:
     return counts
 
 
-def teller_of_absence(client: Any) -> Callable[[], None]:
+def absence_reporter(client: Any) -> Callable[[], None]:
     """Returns a function that reports each time the scheduler loses its last worker."""
-    was_alone = False
+    was_without = False
 
-    def look() -> None:
-        nonlocal was_alone
+    def check() -> None:
+        nonlocal was_without
         try:
-            is_alone = not client.nthreads()
+            is_without = not client.nthreads()
         except OSError:
             return
-        if is_alone and not was_alone:
+        if is_without and not was_without:
             print("corewar: the scheduler has no workers; waiting for one", file=sys.stderr)
-        was_alone = is_alone
+        was_without = is_without
 
-    return look
+    return check
 
 
 @contextmanager
-def cluster(matches: Matches, address: str) -> Iterator[Place]:
+def cluster(matches: Matches, address: str) -> Iterator[Executor]:
     """Runs matches on the workers of a Dask scheduler. Unfinished ones are dropped at the end. Raises CorewarError."""
     try:
         import distributed
@@ -148,11 +148,11 @@ def cluster(matches: Matches, address: str) -> Iterator[Place]:
         pairs = matches.pairs[rows]
         # A worker needs no source.
         warriors = {number: replace(matches.warriors[number], source=None) for number in np.unique(pairs).tolist()}
-        handed_out: Future[Any] = executor.submit(fight_there, wanted, matches.contest, warriors, pairs)
-        return handed_out
+        future: Future[Any] = executor.submit(fight_on_worker, wanted, matches.contest, warriors, pairs)
+        return future
 
     wanted = versions()
     with client:
-        executor, look = client.get_executor(pure=False), teller_of_absence(client)
-        look()
-        yield Place(submit, CYCLES_THERE, AT_A_SCHEDULER, look, counts_there)
+        executor, check = client.get_executor(pure=False), absence_reporter(client)
+        check()
+        yield Executor(submit, WORKER_CYCLES, SCHEDULED_BUNDLES, check, counts_of_worker)

@@ -26,9 +26,9 @@ FIND = "SELECT first, second, points, wins, ties, losses, theirs FROM fought WHE
 KEEP = "INSERT OR IGNORE INTO fought VALUES (?, ?, ?, ?, ?, ?, ?, ?)"
 # In seconds: how long another process may lock the file, how long one attempt takes, during which Ctrl-C waits, and how
 # long results wait to be written.
-PATIENCE = 60
-TRY_FOR = 1
-WRITE_EACH = 1
+LOCK_SECONDS = 60
+TRY_SECONDS = 1
+WRITE_SECONDS = 1
 
 
 Done = TypeVar("Done")
@@ -41,10 +41,10 @@ class Results:
         self.path, self.matches, self.contest = path, matches, shlex.join(matches.contest.words)
         self.new: list[tuple[Any, ...]] = []
         self.written = time.monotonic()
-        with self.telling():
+        with self.file_errors():
             # Some names do not mean a file to SQLite; an absolute path always does.
-            self.file = sqlite3.connect(os.path.abspath(path), timeout=TRY_FOR)
-            self.patiently(lambda: self.file.execute(TABLE))
+            self.file = sqlite3.connect(os.path.abspath(path), timeout=TRY_SECONDS)
+            self.retry_while_locked(lambda: self.file.execute(TABLE))
 
     def __enter__(self) -> Results:
         return self
@@ -54,7 +54,7 @@ class Results:
         self.file.close()
 
     @contextmanager
-    def telling(self) -> Iterator[None]:
+    def file_errors(self) -> Iterator[None]:
         """Raises an error of SQLite as one of the file."""
         try:
             yield
@@ -63,9 +63,10 @@ class Results:
 
     def find(self) -> int:
         """Fills in the stored matches. Returns how many are stored only in the other order."""
-        with self.telling():
+        with self.file_errors():
             try:
-                return self.matches.take_kept(self.patiently(lambda: self.file.execute(FIND, [self.contest])))
+                stored = self.retry_while_locked(lambda: self.file.execute(FIND, [self.contest]))
+                return self.matches.take_stored(stored)
             except CorewarError as fault:
                 raise CorewarError(f"{self.path}: invalid result: {fault}") from None
 
@@ -74,25 +75,25 @@ class Results:
         digests, counts = self.matches.digests, self.matches.counts[rows].tolist()
         for (first, second), numbers in zip(self.matches.pairs[rows].tolist(), counts):
             self.new.append((self.contest, digests[first], digests[second], *numbers))
-        if time.monotonic() - self.written >= WRITE_EACH:
+        if time.monotonic() - self.written >= WRITE_SECONDS:
             self.write()
 
     def write(self) -> None:
         """Writes the waiting results."""
-        with self.telling():
-            self.patiently(self._insert)
+        with self.file_errors():
+            self.retry_while_locked(self._insert)
         self.new, self.written = [], time.monotonic()
 
     def _insert(self) -> None:
         with self.file:
             self.file.executemany(KEEP, self.new)
 
-    def patiently(self, act: Callable[[], Done]) -> Done:
+    def retry_while_locked(self, function: Callable[[], Done]) -> Done:
         """Returns the result of a function, which is tried again while another process has locked the file."""
-        end, is_shown = time.monotonic() + PATIENCE, False
+        end, is_shown = time.monotonic() + LOCK_SECONDS, False
         while True:
             try:
-                return act()
+                return function()
             except sqlite3.OperationalError as fault:
                 # The lowest byte is the error; an extended one has more.
                 if fault.sqlite_errorcode & 255 != sqlite3.SQLITE_BUSY or time.monotonic() > end:

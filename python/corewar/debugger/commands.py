@@ -8,7 +8,7 @@ from typing import NoReturn
 import numpy as np
 
 from ..analysis.causes import describe_cause, describe_change, describe_death
-from ..analysis.telling import counted
+from ..analysis.formatting import pluralize
 from ..battle.conditions import Condition, search
 from ..explain.instructions import describe_instruction
 from ..model.cells import MODES
@@ -49,12 +49,12 @@ COMMANDS: dict[str, Command] = {}
 def command(usage: str, summary: str, *short: str, repeats: bool = False) -> Callable[[Act], Act]:
     """Enters a function into the table."""
 
-    def enter(act: Act) -> Act:
-        made = Command(usage, summary, short, repeats, act)
-        COMMANDS[made.name] = made
+    def register(act: Act) -> Act:
+        entry = Command(usage, summary, short, repeats, act)
+        COMMANDS[entry.name] = entry
         return act
 
-    return enter
+    return register
 
 
 def find_command(word: str) -> Command:
@@ -69,11 +69,11 @@ def find_command(word: str) -> Command:
     return found[0]
 
 
-def here(session: Session) -> Iterator[str]:
+def show_position(session: Session) -> Iterator[str]:
     """The turn that led here, and what comes next."""
     if session.turn:
         yield session.formatter.turn(session.turn)
-    yield session.formatter.following(session.turn)
+    yield session.formatter.next_turn(session.turn)
 
 
 def step_by(session: Session, rest: str, sign: int) -> Iterator[str]:
@@ -88,7 +88,7 @@ def step_by(session: Session, rest: str, sign: int) -> Iterator[str]:
     else:
         to = session.turn + sign * session.number(rest or "1", "a number of turns")
         session.go(max(0, min(session.history.end, to)))
-    yield from here(session)
+    yield from show_position(session)
 
 
 @command("step [N|W]", "execute one turn, N turns, or up to the next turn of warrior W", "s", "n", repeats=True)
@@ -114,7 +114,7 @@ def goto(session: Session, rest: str) -> Iterator[str]:
     if turn > end:
         raise CorewarError(f"the battle has turns 0 to {end}")
     session.go(turn)
-    yield from here(session)
+    yield from show_position(session)
 
 
 @command("until C", "execute turns until C cycles are completed")
@@ -125,7 +125,7 @@ def until(session: Session, rest: str) -> Iterator[str]:
         found = block.first + 1 + np.flatnonzero(block.records["cycle"] >= cycle)
         if len(found):
             session.go(int(found[0]))
-            yield from here(session)
+            yield from show_position(session)
             return
     if passed:
         raise CorewarError(
@@ -135,61 +135,61 @@ def until(session: Session, rest: str) -> Iterator[str]:
 
 
 @command("continue [CONDITION]", "go to the next breakpoint, or to where the condition holds next", "c", repeats=True)
-def go_on(session: Session, rest: str) -> Iterator[str]:
-    yield from searched(session, rest, True)
+def continue_forward(session: Session, rest: str) -> Iterator[str]:
+    yield from search_from_here(session, rest, True)
 
 
 @command(
     "reverse-continue [CONDITION]", "go back to the previous breakpoint, or to where it held last", "rc", repeats=True
 )
-def go_back(session: Session, rest: str) -> Iterator[str]:
-    yield from searched(session, rest, False)
+def continue_back(session: Session, rest: str) -> Iterator[str]:
+    yield from search_from_here(session, rest, False)
 
 
-def searched(session: Session, rest: str, forward: bool) -> Iterator[str]:
-    conditions = [session.condition(rest.split())] if rest else session.breaks
+def search_from_here(session: Session, rest: str, forward: bool) -> Iterator[str]:
+    conditions = [session.condition(rest.split())] if rest else session.breakpoints
     yield f"{session.describe_condition(session.search(conditions, forward))}:"
-    yield from here(session)
+    yield from show_position(session)
 
 
 @command("break [CONDITION]", "set a breakpoint for continue, or list all breakpoints", "b")
 def set_break(session: Session, rest: str) -> Iterator[str]:
     if rest:
-        session.breaks.append(session.condition(rest.split()))
-    for number, condition in enumerate(session.breaks):
+        session.breakpoints.append(session.condition(rest.split()))
+    for number, condition in enumerate(session.breakpoints):
         yield f"breakpoint {number}: {session.describe_condition(condition)}"
 
 
 @command("delete N", "delete breakpoint N, or `all` breakpoints", "d")
 def delete(session: Session, rest: str) -> Iterator[str]:
     if rest == "all":
-        session.breaks.clear()
+        session.breakpoints.clear()
     else:
         number = whole(rest)
-        if number is None or number >= len(session.breaks):
+        if number is None or number >= len(session.breakpoints):
             raise CorewarError(f"no breakpoint `{rest}`; expected a number or `all`")
-        del session.breaks[number]
+        del session.breakpoints[number]
     yield from set_break(session, "")
 
 
 @command("undo", "undo the last move or edit", "u", repeats=True)
 def undo(session: Session, _: str) -> Iterator[str]:
-    yield from moved(session, session.undo)
+    yield from undo_or_redo(session, session.undo)
 
 
 @command("redo", "redo the last move or edit that was undone", repeats=True)
 def redo(session: Session, _: str) -> Iterator[str]:
-    yield from moved(session, session.redo)
+    yield from undo_or_redo(session, session.redo)
 
 
-def moved(session: Session, act: Callable[[], None]) -> Iterator[str]:
+def undo_or_redo(session: Session, act: Callable[[], None]) -> Iterator[str]:
     """Undoes or redoes, and says which future this leads to if it is another one: the turn may be the same."""
     before = session.history
     act()
     if session.history is not before:
         number = session.futures.index(session.history)
         yield f"now in future {number}: {'; '.join(session.edits(session.history)) or 'no edits'}"
-    yield from here(session)
+    yield from show_position(session)
 
 
 @command("edit A LINE", "set the cell at A to a line of source, as in `edit 3 jmp bomb`", "e")
@@ -241,7 +241,7 @@ def spawn(session: Session, rest: str) -> Iterator[str]:
     warrior, address = session.warrior(name), session.address(where)
     count = len(session.history.block(session.turn).queue(warrior, session.turn))
     if not 0 < count < session.history.fight.settings.processes:
-        why = f"has {counted(count, 'process')}, the maximum" if count else "is dead"
+        why = f"has {pluralize(count, 'process')}, the maximum" if count else "is dead"
         raise CorewarError(f"cannot add a process: {session.names[warrior]} {why}")
     session.edit(Edit.add(warrior, address))
     yield from queue(session, name)
@@ -278,7 +278,7 @@ def list_cells(session: Session, rest: str) -> Iterator[str]:
 @command("queue [W]", "list the addresses of the processes of warrior W, the next one first", "p")
 def queue(session: Session, rest: str) -> Iterator[str]:
     block = session.history.block(session.turn)
-    warrior = session.warrior(rest) if rest else block.following(session.turn)
+    warrior = session.warrior(rest) if rest else block.next_warrior(session.turn)
     addresses = " ".join(map(str, block.queue(warrior, session.turn)))
     yield f"{session.formatter.names[warrior]}: {addresses}".rstrip()
 
@@ -288,7 +288,7 @@ def show(session: Session, _: str) -> Iterator[str]:
     end, turn = session.history.end, session.turn
     state = "over" if turn == end else f"of {end} turns"
     yield f"turn {turn}, cycle {session.history.block(turn).cycle(turn)}, battle {state}"
-    yield from session.formatter.standing(turn)
+    yield from session.formatter.warrior_states(turn)
 
 
 @command("why [W]", "explain why warrior W died, or how the next cell to execute got its value")
@@ -298,7 +298,7 @@ def why(session: Session, rest: str) -> Iterator[str]:
     if rest or died:
         yield from describe_death(formatter, session.warrior(rest) if rest else died[0], TURNS)
         return
-    yield formatter.following(turn)
+    yield formatter.next_turn(turn)
     address = session.history.head(turn)
     if address is not None:
         yield from describe_cause(formatter, address, turn)
@@ -337,7 +337,7 @@ moves or lists."""
 
 
 @command("help [COMMAND]", "list all commands, or explain one", "h", "?")
-def tell_help(session: Session, rest: str) -> Iterator[str]:
+def show_help(session: Session, rest: str) -> Iterator[str]:
     for one in [find_command(rest)] if rest else COMMANDS.values():
         short = f" ({', '.join(one.short)})" if one.short else ""
         yield f"{one.usage:29}{one.summary}{short}"
@@ -346,7 +346,7 @@ def tell_help(session: Session, rest: str) -> Iterator[str]:
 
 
 @command("quit", "quit the debugger", "q")
-def leave(session: Session, _: str) -> NoReturn:
+def quit_debugger(session: Session, _: str) -> NoReturn:
     raise QuitDebugger
 
 

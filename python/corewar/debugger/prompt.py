@@ -18,7 +18,7 @@ from prompt_toolkit.history import FileHistory, InMemoryHistory
 from prompt_toolkit.lexers import PygmentsLexer
 from pygments.lexers.esoteric import RedcodeLexer
 
-from ..battle.conditions import OF_CELLS, OF_WARRIORS
+from ..battle.conditions import CELL_CONDITIONS, WARRIOR_CONDITIONS
 from ..engine.sources import read_file
 from ..model.errors import CorewarError
 from ..model.printing import printable
@@ -26,17 +26,17 @@ from .commands import COMMANDS, Command, QuitDebugger, execute, find_command
 from .session import Session
 
 # The colours of warriors, as a terminal numbers them.
-PAINTS = (91, 94, 92, 93, 95, 96, 31, 34, 32, 33, 35, 36)
+COLOUR_CODES = (91, 94, 92, 93, 95, 96, 31, 34, 32, 33, 35, 36)
 # How deep `source` may be nested.
 MAX_DEPTH = 8
 
 
 def paint(number: int, text: str) -> str:
     """A warrior's name in its colour."""
-    return f"\x1b[{PAINTS[number % len(PAINTS)]}m{text}\x1b[0m"
+    return f"\x1b[{COLOUR_CODES[number % len(COLOUR_CODES)]}m{text}\x1b[0m"
 
 
-class Words(Completer):
+class CommandCompleter(Completer):
     """Completes commands, conditions, labels and names of warriors."""
 
     def __init__(self, session: Session) -> None:
@@ -57,7 +57,7 @@ class Words(Completer):
             yield from ((name, "") for name in COMMANDS)
         command = command_of(words[0])
         if len(words) + is_new == 2 and command and "CONDITION" in command.usage:
-            yield from ((word, "") for word in (*OF_CELLS, *OF_WARRIORS))
+            yield from ((word, "") for word in (*CELL_CONDITIONS, *WARRIOR_CONDITIONS))
         yield from ((label, str(address)) for label, address in self.session.sources.addresses.items())
         yield from ((name, f"warrior {number}") for number, name in enumerate(self.session.names))
 
@@ -75,7 +75,7 @@ def as_utf8(line: str) -> str:
     return line.encode("utf-8", "replace").decode()
 
 
-class Lines(FileHistory):
+class LineHistory(FileHistory):
     """The history of lines in a file. A line that cannot be written is lost, and the debugger continues."""
 
     def store_string(self, string: str) -> None:
@@ -93,22 +93,22 @@ class Runner:
         self.log: TextIO | None = None
         self.depth = 0
 
-    def make(self, line: str) -> None:
+    def execute_line(self, line: str) -> None:
         """Executes a line and shows the result. Raises QuitDebugger."""
         word, _, file = line.strip().partition(" ")
         try:
             name = find_command(word).name if word else ""
             if name == "log":
-                self.begin_log(file)
+                self.start_log(file)
             elif name == "source":
-                self.make_all(file)
+                self.execute_file(file)
             elif name:
                 self.show("\n".join(execute(self.session, line)))
-                self.keep(line.strip())
+                self.log_line(line.strip())
         except CorewarError as fault:
             self.show("\n".join(map(printable, str(fault).split("\n"))))
 
-    def begin_log(self, file: str) -> None:
+    def start_log(self, file: str) -> None:
         """Begins to log executed lines to a new file, which `source` can execute again."""
         log, self.log = self.log, None
         if log:
@@ -118,7 +118,7 @@ class Runner:
         except (OSError, ValueError) as fault:
             raise CorewarError(f"{file}: {fault.strerror if isinstance(fault, OSError) else fault}") from None
 
-    def keep(self, line: str) -> None:
+    def log_line(self, line: str) -> None:
         """Logs a line that was executed. If that fails, the log is closed."""
         if self.log is None:
             return
@@ -128,7 +128,7 @@ class Runner:
             name, self.log = self.log.name, None
             raise CorewarError(f"{name}: {fault.strerror}") from None
 
-    def make_all(self, file: str) -> None:
+    def execute_file(self, file: str) -> None:
         """Executes the lines of a file, which may contain `source` again."""
         if self.depth == MAX_DEPTH:
             raise CorewarError(f"{file}: `source` is nested more than {MAX_DEPTH} deep")
@@ -136,7 +136,7 @@ class Runner:
         try:
             # All of it is read first: it may be the log, which grows.
             for line in read_file(file).decode("utf-8", "replace").splitlines():
-                self.make(line)
+                self.execute_line(line)
         finally:
             self.depth -= 1
 
@@ -150,7 +150,7 @@ def run_lines(session: Session, lines: Iterable[str]) -> None:
     runner = Runner(session, lambda text: print(text, flush=True))
     try:
         for line in lines:
-            runner.make(line)
+            runner.execute_line(line)
     except QuitDebugger:
         return
 
@@ -171,18 +171,18 @@ def run_prompt(session: Session, coloured: bool) -> None:
     session.paint = paint if coloured else session.paint
     file = state_file()
     prompt: PromptSession[str] = PromptSession(
-        history=Lines(str(file)) if file else InMemoryHistory(),
-        completer=Words(session),
+        history=LineHistory(str(file)) if file else InMemoryHistory(),
+        completer=CommandCompleter(session),
         complete_while_typing=True,
         lexer=PygmentsLexer(RedcodeLexer) if coloured else None,
         auto_suggest=AutoSuggestFromHistory(),
-        bottom_toolbar=lambda: ANSI(bar(session)),
+        bottom_toolbar=lambda: ANSI(status_bar(session)),
     )
     runner, last = Runner(session, lambda text: print(text, flush=True)), ""
     while True:
         try:
             line = as_utf8(prompt.prompt(f"turn {session.turn}> ")).strip() or last
-            runner.make(line)
+            runner.execute_line(line)
             command = command_of(line)
             last = line if command and command.repeats else ""
         except KeyboardInterrupt:
@@ -191,7 +191,7 @@ def run_prompt(session: Session, coloured: bool) -> None:
             return
 
 
-def bar(session: Session) -> str:
+def status_bar(session: Session) -> str:
     """Returns the state of the battle in one line."""
     block = session.history.block(session.turn)
     counts = [len(block.queue(number, session.turn)) for number in range(len(session.names))]

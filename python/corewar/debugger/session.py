@@ -5,8 +5,8 @@ import re
 from collections.abc import Callable, Sequence
 from dataclasses import dataclass, field
 
-from ..analysis.telling import BattleFormatter
-from ..battle.conditions import OF_CELLS, OF_WARRIORS, Condition, search
+from ..analysis.formatting import BattleFormatter
+from ..battle.conditions import CELL_CONDITIONS, WARRIOR_CONDITIONS, Condition, search
 from ..battle.history import History
 from ..battle.labels import Sources
 from ..engine.calls import assemble
@@ -32,7 +32,7 @@ class Session:
     turn: int = 0
     past: list[tuple[History, int]] = field(default_factory=list)
     undone: list[tuple[History, int]] = field(default_factory=list)
-    breaks: list[Condition] = field(default_factory=list)
+    breakpoints: list[Condition] = field(default_factory=list)
     futures: list[History] = field(default_factory=list)
 
     def __post_init__(self) -> None:
@@ -120,17 +120,17 @@ class Session:
         """Returns the condition of some words. Raises CorewarError."""
         word, rest = (words[0], list(words[1:])) if words else ("", [])
         by = self.warrior(" ".join(rest[2:])) if len(rest) > 2 and rest[1] == "by" else None
-        if word in OF_CELLS and rest and (len(rest) == 1 or by is not None):
+        if word in CELL_CONDITIONS and rest and (len(rest) == 1 or by is not None):
             first, _, last = rest[0].partition("..")
             return Condition(word, self.address(first), self.address(last or first), by)
-        if word in OF_WARRIORS and rest:
+        if word in WARRIOR_CONDITIONS and rest:
             number = self.warrior(" ".join(rest))
             return Condition(word, number, number)
         raise CorewarError(CONDITION)
 
     def describe_condition(self, condition: Condition) -> str:
         """Returns a condition as text."""
-        if condition.word in OF_WARRIORS:
+        if condition.word in WARRIOR_CONDITIONS:
             return f"{condition.word} {self.names[condition.first]}"
         where = self.formatter.where(condition.first)
         until = "" if condition.last == condition.first else f"..{self.formatter.where(condition.last)}"

@@ -42,11 +42,11 @@ SYMBOLS = {"label": FUNCTION, "stem": FUNCTION, "equate": CONSTANT, "counter": V
 def answers(method: str) -> Callable[[Answer], Answer]:
     """Enters a function as the answer to a request."""
 
-    def enter(answer: Answer) -> Answer:
+    def register(answer: Answer) -> Answer:
         ANSWERS[f"textDocument/{method}"] = answer
         return answer
 
-    return enter
+    return register
 
 
 def token_at(text: Text, params: Params) -> Token | None:
@@ -64,23 +64,23 @@ def diagnostic(text: Text, error: Error) -> Params:
 def actions(text: Text, params: Params) -> Any:
     """Returns the corrections of the errors in a range."""
     found, first, last = [], params["range"]["start"]["line"], params["range"]["end"]["line"]
-    here = [error for error in text.errors if first <= text.error_range(error)["start"]["line"] <= last]
-    for error in here:
+    in_range = [error for error in text.errors if first <= text.error_range(error)["start"]["line"] <= last]
+    for error in in_range:
         word = text.word_range(error)
         if word and error.advice and error.advice.new:
             title = f"Replace `{error.advice.old}` by `{error.advice.new}`"
-            edit = changed(params, [{"range": word, "newText": error.advice.new}])
+            edit = workspace_edit(params, [{"range": word, "newText": error.advice.new}])
             found.append({"title": title, "kind": QUICK_FIX, "edit": edit, "diagnostics": [diagnostic(text, error)]})
-    fixed = fix(text.data, text.load) if here and not found else text.data
+    fixed = fix(text.data, text.load) if in_range and not found else text.data
     if fixed != text.data:
         whole = {"start": {"line": 0, "character": 0}, "end": {"line": len(text.source.lines), "character": 0}}
-        edit = changed(params, [{"range": whole, "newText": fixed.decode("utf-8", "replace")}])
+        edit = workspace_edit(params, [{"range": whole, "newText": fixed.decode("utf-8", "replace")}])
         title = "Replace what only pMARS reads, as `corewar explain --fix` does"
         found.append({"title": title, "kind": QUICK_FIX, "edit": edit})
     return found
 
 
-def changed(params: Params, edits: list[Params]) -> Params:
+def workspace_edit(params: Params, edits: list[Params]) -> Params:
     return {"changes": {params["textDocument"]["uri"]: edits}}
 
 
@@ -118,8 +118,8 @@ def describe_name(text: Text, token: Token) -> list[str]:
         meaning = f"line {first}: `{' '.join(text.line(first).partition(';')[0].split())}`"
     values = [*dict.fromkeys(text.values(token.number, token.whole))]
     more = ", .." if len(values) > MAX_SHOWN else ""
-    here = [f"{', '.join(map(str, values[:MAX_SHOWN]))}{more} here"] if values else []
-    return [f"`{token.whole}`: {'; '.join([*here, meaning])}"]
+    shown = [f"{', '.join(map(str, values[:MAX_SHOWN]))}{more} here"] if values else []
+    return [f"`{token.whole}`: {'; '.join([*shown, meaning])}"]
 
 
 def describe_word(token: Token) -> list[str]:
@@ -149,13 +149,13 @@ def places(text: Text, params: Params, is_wanted: Callable[[Token], bool]) -> li
 
 @answers("prepareRename")
 def prepare_rename(text: Text, params: Params) -> Any:
-    return text.range_of(renamed(text, params))
+    return text.range_of(name_to_rename(text, params))
 
 
 @answers("rename")
 def rename(text: Text, params: Params) -> Any:
     """Replaces a name everywhere if the load file stays the same."""
-    token, new = renamed(text, params), params["newName"]
+    token, new = name_to_rename(text, params), params["newName"]
     check_name(text, new)
     found = text.names.same(token)
     lines = [line.text for line in text.source.lines]
@@ -169,10 +169,10 @@ def rename(text: Text, params: Params) -> Any:
         is_same = False
     if not is_same:
         raise CorewarError(f"with `{new}` in place of `{token.text}` this would be another warrior; nothing is changed")
-    return changed(params, [{"range": text.range_of(one), "newText": new} for one in found])
+    return workspace_edit(params, [{"range": text.range_of(one), "newText": new} for one in found])
 
 
-def renamed(text: Text, params: Params) -> Token:
+def name_to_rename(text: Text, params: Params) -> Token:
     """Returns the name at a position. Raises CorewarError if it cannot be renamed."""
     token = token_at(text, params)
     if token is None or not token.key or token.kind == "predefined":

@@ -14,7 +14,7 @@ from .text import Text
 from .wire import Message, Wire
 
 # Errors are looked for if nothing comes for this many seconds. A source is assembled within these limits.
-QUIET, LIMIT = 0.05, Limit(2, 500)
+IDLE_SECONDS, LIMIT = 0.05, Limit(2, 500)
 CAPABILITIES = {
     "textDocumentSync": {"openClose": True, "change": 1},
     "hoverProvider": True,
@@ -48,7 +48,7 @@ class Server:
         is_shut_down = False
         with self.assembler:
             while True:
-                if self.changed and self.wire.is_quiet(QUIET):
+                if self.changed and self.wire.is_quiet(IDLE_SECONDS):
                     self.send_errors()
                 try:
                     message = self.wire.receive()
@@ -58,9 +58,9 @@ class Server:
                 if message is None or message.get("method") == "exit":
                     return 0 if is_shut_down else 1
                 is_shut_down = is_shut_down or message.get("method") == "shutdown"
-                self.take(message)
+                self.handle(message)
 
-    def take(self, message: Message) -> None:
+    def handle(self, message: Message) -> None:
         """Takes a message, and answers a request. No error of an answer ends the server."""
         method, params = message.get("method"), message.get("params") or {}
         if method is None:

@@ -152,5 +152,5 @@ class Text:
         lines = self.data.split(b"\n")
         probe = [*self.source.lines[number - 1].labels, "DAT.F", "#" + ", #".join(expressions)]
         lines[number - 1] = " ".join(probe).encode("utf-8", "replace")
-        made = self.cells_of(b"\n".join(lines)).get(number, [])
-        return [(int(one[1]), int(one[2])) for one in (FIELDS.fullmatch(cell) for _, cell in made) if one]
+        probed = self.cells_of(b"\n".join(lines)).get(number, [])
+        return [(int(one[1]), int(one[2])) for one in (FIELDS.fullmatch(cell) for _, cell in probed) if one]

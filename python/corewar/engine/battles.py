@@ -10,9 +10,9 @@ from numpy.typing import NDArray
 from ..model.cells import Cells, Records
 from ..model.edits import SET, Edit
 from ..model.errors import EDIT, MarsError
-from .binding import MAX_UINT32, array, call, counted, held, kind, library, number, slice_of, text
-from .calls import Match, check_count, fighters
-from .warriors import fitted
+from .binding import MAX_UINT32, array, call, check_size, clamp, dtype_of, library, read_text, settings_struct, slice_of
+from .calls import Match, check_count, warrior_arrays
+from .warriors import clamp_fields
 
 Words = NDArray[np.uint32]
 # The number of words before the cells.
@@ -37,16 +37,16 @@ class Battle:
 
     def __init__(self, fight: Match, round: int = 0) -> None:
         check_count(len(fight.warriors))
-        settings = held(fight.settings, round + 1, fight.seed, fight.position)
+        settings = settings_struct(fight.settings, round + 1, fight.seed, fight.position)
         self._words: Words = array("uint32_t", library()[1].mars_words(settings, len(fight.warriors)))
-        call("mars_start", settings, *fighters(fight.warriors, fight.settings.core), number(round), *self._slice())
+        call("mars_start", settings, *warrior_arrays(fight.warriors, fight.settings.core), clamp(round), *self._slice())
 
     @staticmethod
     def of_bytes(data: bytes) -> Battle:
         """Returns the battle with these bytes. Raises `MarsError` if they are not a battle."""
         words = np.frombuffer(bytearray(data), np.uint32, len(data) // 4)
         call("mars_check", *slice_of("uint32_t", words))
-        return resumed(words)
+        return battle_of_words(words)
 
     def __bytes__(self) -> bytes:
         return self._words[: self._head["words"]].tobytes()
@@ -64,7 +64,7 @@ class Battle:
 
     @property
     def _head(self) -> np.void:
-        head: np.void = self._words[:HEADER].view(kind("MarsBattle"))[0]
+        head: np.void = self._words[:HEADER].view(dtype_of("MarsBattle"))[0]
         return head
 
     @property
@@ -90,7 +90,7 @@ class Battle:
     @property
     def cells(self) -> Cells:
         """The core, an array with the fields op, modifier, a_mode, b_mode, a and b."""
-        return self._words[HEADER : HEADER + 3 * self._head["core"]].view(kind("MarsCell"))
+        return self._words[HEADER : HEADER + 3 * self._head["core"]].view(dtype_of("MarsCell"))
 
     @property
     def queues(self) -> list[NDArray[np.uint32]]:
@@ -107,7 +107,7 @@ class Battle:
 
     def copy(self) -> Battle:
         """Returns a copy, which changes independently."""
-        return resumed(self._words)
+        return battle_of_words(self._words)
 
     def check(self) -> None:
         """Raises `MarsError` if something that was written to the battle is invalid."""
@@ -124,12 +124,12 @@ class Battle:
         `CorewarError` for a negative number, and `MarsError` if something that was written to the battle is invalid.
         """
         before = self.turns
-        made, seen = array("MarsRecord", records), array("MarsTouched", touched)
-        rows = *slice_of("MarsRecord", made), *slice_of("MarsTouched", seen)
+        recorded, seen = array("MarsRecord", records), array("MarsTouched", touched)
+        rows = *slice_of("MarsRecord", recorded), *slice_of("MarsTouched", seen)
         # No battle has the greatest number of turns.
-        call("mars_play", *self._slice(), MAX_UINT32 if turns is None else counted(turns), *rows)
+        call("mars_play", *self._slice(), MAX_UINT32 if turns is None else check_size(turns), *rows)
         count = self.turns - before
-        return made[:count], seen[:count]
+        return recorded[:count], seen[:count]
 
     def edit(self, edit: Edit) -> None:
         """Makes an edit, also if the battle is over.
@@ -141,8 +141,8 @@ class Battle:
         is_fill = edit.what == SET and edit.last != edit.address
         if is_fill and not edit.address <= edit.last < self._head["core"]:
             raise MarsError(EDIT, ADDRESS)
-        places = [number(edit.what), number(edit.warrior), number(edit.place), number(edit.address)]
-        call("mars_edit", *self._slice(), library()[0].new("MarsEdit *", [*places, fitted(edit.cell)]))
+        places = [clamp(edit.what), clamp(edit.warrior), clamp(edit.place), clamp(edit.address)]
+        call("mars_edit", *self._slice(), library()[0].new("MarsEdit *", [*places, clamp_fields(edit.cell)]))
         if is_fill:
             # The library has checked the new cell.
             self.cells[edit.address : edit.last + 1] = self.cells[edit.address]
@@ -158,20 +158,20 @@ class Battle:
         """
         if isinstance(lines, str):
             raise TypeError("expected a sequence of debugger commands, not a text")
-        given = [*self._slice(), number(history), *slice_of("uint8_t", "".join(f"{line}\n" for line in lines).encode())]
-        return text(65536, lambda *room: call("mars_debug", *given, *room)).decode("latin-1")
+        given = [*self._slice(), clamp(history), *slice_of("uint8_t", "".join(f"{line}\n" for line in lines).encode())]
+        return read_text(65536, lambda *room: call("mars_debug", *given, *room)).decode("latin-1")
 
 
-def of_mark(data: bytes) -> Battle:
+def battle_of_mark(data: bytes) -> Battle:
     """Returns the battle of bytes that are known to be one."""
-    return resumed(np.frombuffer(data, np.uint32))
+    return battle_of_words(np.frombuffer(data, np.uint32))
 
 
-def resumed(words: Words) -> Battle:
+def battle_of_words(words: Words) -> Battle:
     """Returns the battle of words that are known to be one, with the capacity that it needs."""
-    head = words[:HEADER].view(kind("MarsBattle"))[0]
+    head = words[:HEADER].view(dtype_of("MarsBattle"))[0]
     core, warriors, processes, length = (int(head[name]) for name in ("core", "warriors", "processes", "words"))
-    made = Battle.__new__(Battle)
-    made._words = array("uint32_t", HEADER + 3 * core + warriors * processes)
-    made._words[:length] = words[:length]
-    return made
+    battle = Battle.__new__(Battle)
+    battle._words = array("uint32_t", HEADER + 3 * core + warriors * processes)
+    battle._words[:length] = words[:length]
+    return battle

@@ -28,9 +28,9 @@ ROOM = 10
 MAX_UINT32 = (1 << 32) - 1
 # The numbers that are None if they are not given.
 OPTIONAL = ("read_limit", "write_limit", "position")
-OPENING = Lock()
+OPEN_LOCK = Lock()
 # The types of the header that setup.py puts into a wheel.
-READY = ENGINE / "declared.py"
+COMPILED_TYPES = ENGINE / "declared.py"
 
 
 class NoLibrary(CorewarError):
@@ -41,12 +41,12 @@ def library() -> tuple[Any, Any]:
     """Returns the types of the header, and the library: the same for all threads, since types of two headers are
     incompatible.
     """
-    with OPENING:
-        return opened()
+    with OPEN_LOCK:
+        return open_library()
 
 
 @lru_cache(maxsize=None)
-def opened() -> tuple[Any, Any]:
+def open_library() -> tuple[Any, Any]:
     """Returns the types of the header, and the library."""
     below = [folder / "lib" / "libmars.so.2" for folder in INSTALLED]
     built = [ENGINE / "libmars.so.2", CHECKOUT / "build" / "libmars.so", *below]
@@ -68,8 +68,8 @@ def types() -> tuple[Any, str]:
     """Returns the types of the header for cffi, and where they are from. A wheel has them ready, so that no header is
     parsed at each start.
     """
-    if READY.is_file() and "MARS_HEADER" not in os.environ:
-        return import_module(f".{READY.stem}", __package__).ffi, str(READY)
+    if COMPILED_TYPES.is_file() and "MARS_HEADER" not in os.environ:
+        return import_module(f".{COMPILED_TYPES.stem}", __package__).ffi, str(COMPILED_TYPES)
     path = header()
     if path is None:
         raise NoLibrary("cannot find mars.h; install it with `make install` or set MARS_HEADER")
@@ -79,50 +79,50 @@ def types() -> tuple[Any, str]:
 
 
 @lru_cache(maxsize=None)
-def kind(name: str) -> np.dtype[Any]:
+def dtype_of(name: str) -> np.dtype[Any]:
     """Returns the type of the elements of an array, for a type of the header."""
-    return kind_of(library()[0].typeof(name))
+    return dtype_of_type(library()[0].typeof(name))
 
 
-def kind_of(declared: Any) -> np.dtype[Any]:
+def dtype_of_type(declared: Any) -> np.dtype[Any]:
     if declared.kind == "array":
-        return np.dtype((kind_of(declared.item), (declared.length,)))
+        return np.dtype((dtype_of_type(declared.item), (declared.length,)))
     if declared.kind == "struct":
-        return np.dtype([(name, kind_of(field.type)) for name, field in declared.fields], align=True)
+        return np.dtype([(name, dtype_of_type(field.type)) for name, field in declared.fields], align=True)
     return np.dtype(np.uintp if declared.cname == "size_t" else declared.cname.removesuffix("_t"))
 
 
 def array(name: str, count: int) -> NDArray[Any]:
     """Returns an array of `count` values of a type of the header, all 0. Raises CorewarError for a negative number."""
-    return np.zeros(counted(count), kind(name))
+    return np.zeros(check_size(count), dtype_of(name))
 
 
 def slice_of(name: str, values: bytes | bytearray | NDArray[Any]) -> tuple[Any, int]:
     """Returns a pointer to values of a type, and their number."""
     if name == "uint8_t" and isinstance(values, bytes):
         return values, len(values)
-    held = library()[0].from_buffer(f"{name}[]", values)
-    return held, len(held)
+    view = library()[0].from_buffer(f"{name}[]", values)
+    return view, len(view)
 
 
-def number(value: int, maximum: int = MAX_UINT32) -> int:
+def clamp(value: int, maximum: int = MAX_UINT32) -> int:
     """Returns a number as an argument of the library. In place of one that does not fit it is the greatest that does,
     which the library refuses by the name of the argument.
     """
     return value if 0 <= value <= maximum else maximum
 
 
-def counted(value: int) -> int:
+def check_size(value: int) -> int:
     """Returns a number of turns, records or bytes. Raises CorewarError if no argument of the library can be that."""
     if not 0 <= value <= MAX_UINT32:
         raise CorewarError(f"expected a number from 0 to {MAX_UINT32}, not {value}")
     return value
 
 
-def held(settings: Settings, rounds: int = 1, seed: int = 1, position: int | None = None) -> Any:
+def settings_struct(settings: Settings, rounds: int = 1, seed: int = 1, position: int | None = None) -> Any:
     """Returns the settings in the form that a call expects. There, 0 says of some that they are not given."""
     numbers = {**vars(settings), "rounds": rounds, "seed": seed, "position": position}
-    given = {name: 0 if value is None else number(value) for name, value in numbers.items()}
+    given = {name: 0 if value is None else clamp(value) for name, value in numbers.items()}
     given |= {name: MAX_UINT32 for name in OPTIONAL if numbers[name] == 0}
     return library()[0].new("MarsSettings *", given)
 
@@ -137,10 +137,10 @@ def call(name: str, *given: Any) -> int:
     return answer
 
 
-def text(room: int, ask: Callable[..., int]) -> bytes:
+def read_text(room: int, fill: Callable[..., int]) -> bytes:
     """Returns the text of a call. A buffer that is too short is replaced once."""
     length, buffer = library()[0].new("size_t *"), bytearray(room)
-    if ask(*slice_of("uint8_t", buffer), length) == ROOM:
+    if fill(*slice_of("uint8_t", buffer), length) == ROOM:
         buffer = bytearray(length[0])
-        ask(*slice_of("uint8_t", buffer), length)
+        fill(*slice_of("uint8_t", buffer), length)
     return bytes(buffer[: length[0]])

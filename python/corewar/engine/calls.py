@@ -10,7 +10,7 @@ import numpy as np
 
 from ..model.errors import CorewarError, MarsError
 from ..model.settings import FORMULA, MAX_WARRIORS, Settings, settings_of
-from .binding import array, call, held, number, slice_of, text
+from .binding import array, call, clamp, read_text, settings_struct, slice_of
 from .warriors import Warrior, program
 
 
@@ -86,17 +86,17 @@ def assemble(
     is no limit of time and memory: use `Assembler` of `corewar.engine.sources` for the sources of strangers.
     """
     data = source.encode() if isinstance(source, str) else source
-    made = program("mars_assemble", settings, rounds, [number(warriors)], data)
-    return replace(made, file=os.fspath(file), source=data)
+    result = program("mars_assemble", settings, rounds, [clamp(warriors)], data)
+    return replace(result, file=os.fspath(file), source=data)
 
 
 def source_lines(
     source: bytes, settings: Settings = Settings(), rounds: int = 1, warriors: int = 2
 ) -> list[tuple[int, list[str]]]:
     """Returns the number of the line, from 1, and the labels of each instruction of a source. Raises `MarsError`."""
-    given = [held(settings, rounds), number(warriors), *slice_of("uint8_t", source)]
-    made = text(4096, lambda *room: call("mars_lines", *given, *room)).decode("latin-1")
-    return [(int(words[0]), words[1:]) for words in map(str.split, made.splitlines())]
+    given = [settings_struct(settings, rounds), clamp(warriors), *slice_of("uint8_t", source)]
+    result = read_text(4096, lambda *room: call("mars_lines", *given, *room)).decode("latin-1")
+    return [(int(words[0]), words[1:]) for words in map(str.split, result.splitlines())]
 
 
 def match(
@@ -165,7 +165,7 @@ def check_count(warriors: int) -> None:
         raise CorewarError(f"a match has at most {MAX_WARRIORS} warriors, not {warriors}")
 
 
-def fighters(warriors: Sequence[Warrior], core: int) -> tuple[Any, ...]:
+def warrior_arrays(warriors: Sequence[Warrior], core: int) -> tuple[Any, ...]:
     """Returns the cells of warriors one after another, and the length and start of each, for a core of a size."""
     cells, places = list[bytes](), list[int]()
     for index, warrior in enumerate(warriors):
@@ -175,7 +175,7 @@ def fighters(warriors: Sequence[Warrior], core: int) -> tuple[Any, ...]:
             cells.append(warrior.cells_in(core))
         except MarsError as fault:
             raise MarsError(fault.code, fault.number, line=fault.line, warrior=index) from None
-        places += len(warrior), number(warrior.start)
+        places += len(warrior), clamp(warrior.start)
     return *slice_of("MarsCell", b"".join(cells)), *slice_of("MarsWarrior", np.array(places, np.uint32))
 
 
@@ -188,7 +188,7 @@ def rows(
     count: int,
 ) -> list[Row]:
     """Returns the rows of a call, whose numbers are rounds, seed and position."""
-    given, made = settings_of(settings), array("MarsRow", count)
-    words = held(given, *numbers), *slice_of("uint8_t", formula.encode())
-    call(name, *words, *fighters(warriors, given.core), *slice_of("MarsRow", made))
-    return [Row(*row) for row in made.tolist()]
+    given, result = settings_of(settings), array("MarsRow", count)
+    words = settings_struct(given, *numbers), *slice_of("uint8_t", formula.encode())
+    call(name, *words, *warrior_arrays(warriors, given.core), *slice_of("MarsRow", result))
+    return [Row(*row) for row in result.tolist()]

@@ -10,8 +10,8 @@ from numpy.typing import ArrayLike, NDArray
 
 from ..model.errors import LINEUP, CorewarError, MarsError
 from ..model.settings import NUMBERS, Settings, settings_of
-from .binding import MAX_UINT32, array, call, held, slice_of
-from .calls import check_count, fighters, population
+from .binding import MAX_UINT32, array, call, settings_struct, slice_of
+from .calls import check_count, population, warrior_arrays
 from .warriors import Warrior
 
 # What is known of a warrior in a round.
@@ -73,7 +73,7 @@ def outcomes(
         seed = seeds if isinstance(seeds, int) else 1
         population([], [], settings=given, rounds=rounds, seed=seed, position=position)
     table["counting"] = counts
-    rows = played(warriors, table, given, rounds, position, jobs)
+    rows = run_lineups(warriors, table, given, rounds, position, jobs)
     found = np.empty(rows.shape, COUNTED if counts else OUTCOME)
     for field in ("survived", "turns", "start", *(COUNTS if counts else ())):
         found[field] = rows[field]
@@ -81,7 +81,7 @@ def outcomes(
     return found
 
 
-def played(
+def run_lineups(
     warriors: Sequence[Warrior],
     table: NDArray[Any],
     given: Settings,
@@ -94,20 +94,21 @@ def played(
     # The library refuses 0 by the same name as any number out of the range, and 0 rounds need no memory.
     rounds = rounds if 0 < rounds <= NUMBERS["rounds"].maximum else 0
     # The library refuses a seed that is out of its range, but takes 0 in a lineup for that of the settings.
-    fixed = held(given, rounds, int(table["seed"].min(initial=1)), position), *fighters(warriors, given.core)
+    struct = settings_struct(given, rounds, int(table["seed"].min(initial=1)), position)
+    fixed = struct, *warrior_arrays(warriors, given.core)
     size = max(1, -(-len(table) // (jobs * PARTS)) if jobs > 1 else len(table))
 
     def run(first: int) -> NDArray[Any]:
         part = table[first : first + size]
-        made = array("MarsOutcome", len(part) * rounds * count)
+        rows = array("MarsOutcome", len(part) * rounds * count)
         try:
-            call("mars_outcomes", *fixed, *slice_of("MarsLineup", part), *slice_of("MarsOutcome", made))
+            call("mars_outcomes", *fixed, *slice_of("MarsLineup", part), *slice_of("MarsOutcome", rows))
         except MarsError as fault:
             # A part counts its lineups from 0.
             if fault.code == LINEUP:
                 raise MarsError(LINEUP, fault.number, warrior=first + fault.warrior) from None
             raise
-        return made
+        return rows
 
     if jobs == 1:
         rows = run(0)
@@ -130,12 +131,12 @@ def table_of(lineups: ArrayLike, seeds: int | Sequence[int]) -> NDArray[Any]:
         raise ValueError(f"expected an array of lineups, with 2 dimensions and not {indices.ndim}")
     check_count(indices.shape[1])
     table = array("MarsLineup", len(indices))
-    table["count"], table["warrior"][:, : indices.shape[1]] = indices.shape[1], fitting(indices)
-    table["seed"] = fitting(np.asarray(seeds))
+    table["count"], table["warrior"][:, : indices.shape[1]] = indices.shape[1], clamped(indices)
+    table["seed"] = clamped(np.asarray(seeds))
     return table
 
 
-def fitting(numbers: NDArray[Any]) -> NDArray[np.int64]:
+def clamped(numbers: NDArray[Any]) -> NDArray[np.int64]:
     """Returns numbers as the library takes them; it refuses those that do not fit."""
     fits = (numbers >= 0) & (numbers <= MAX_UINT32)
     return np.where(fits, numbers, MAX_UINT32).astype(np.int64)
@@ -151,7 +152,7 @@ def cycles_of(turns: NDArray[np.uint32], survived: NDArray[np.bool_], limit: int
     # Those that survive come last, since no number of turns has more than 32 bits.
     order = np.argsort(np.where(survived, 1 << 32, turns.astype(np.int64)), axis=-1, kind="stable")
     deaths = np.take_along_axis(turns, order, -1).astype(np.int64)
-    made = np.empty(turns.shape, np.int64)
+    complete_at = np.empty(turns.shape, np.int64)
     # The last turn of the cycle of the latest death, and the number of cycles that are complete then.
     end, complete = np.zeros((2, *turns.shape[:-1]), np.int64)
     for place in range(count):
@@ -159,10 +160,10 @@ def cycles_of(turns: NDArray[np.uint32], survived: NDArray[np.bool_], limit: int
         whole = (deaths[..., place] - 1 - end) // left
         # Otherwise it died in the cycle of the death before it.
         is_later = whole >= 0
-        made[..., place] = complete - 1 + np.where(is_later, whole + 1, 0)
-        end, complete = end + np.where(is_later, (whole + 1) * left, 0), made[..., place] + 1
-    found = np.empty_like(made)
-    np.put_along_axis(found, order, made, -1)
+        complete_at[..., place] = complete - 1 + np.where(is_later, whole + 1, 0)
+        end, complete = end + np.where(is_later, (whole + 1) * left, 0), complete_at[..., place] + 1
+    found = np.empty_like(complete_at)
+    np.put_along_axis(found, order, complete_at, -1)
     return np.where(survived, limit, found)
 
 

@@ -70,14 +70,14 @@ class Assembler:
             assert self._pipe is not None
             try:
                 self._pipe.send((source, {"settings": settings, "rounds": rounds, "warriors": warriors}))
-                made: Warrior | MarsError = self._pipe.recv()
+                result: Warrior | MarsError = self._pipe.recv()
             except (EOFError, OSError):
                 raise self._overrun() from None
-        if isinstance(made, Warrior):
-            return made
-        if made.code == MEMORY:
+        if isinstance(result, Warrior):
+            return result
+        if result.code == MEMORY:
             raise Overrun(f"assembling takes more than {self.limit.megabytes} MB of memory")
-        raise made
+        raise result
 
     def _begin(self) -> None:
         # A missing library is reported by this call, and not by the process.
@@ -114,8 +114,8 @@ def serve(pipe: Connection, limit: Limit, other: Connection | None) -> None:
     # The limit is for what a source adds to the memory that the process has at its start.
     with open("/proc/self/statm") as file:
         taken = int(file.read().split()[0]) * resource.getpagesize()
-    lower(resource.RLIMIT_AS, taken + limit.megabytes * 1_000_000)
-    lower(resource.RLIMIT_CORE, 0)
+    lower_limit(resource.RLIMIT_AS, taken + limit.megabytes * 1_000_000)
+    lower_limit(resource.RLIMIT_CORE, 0)
     while True:
         try:
             given = pipe.recv()
@@ -123,14 +123,14 @@ def serve(pipe: Connection, limit: Limit, other: Connection | None) -> None:
             return
         used = resource.getrusage(resource.RUSAGE_SELF)
         # The limit of the system is for the whole life of the process, and in whole seconds.
-        lower(resource.RLIMIT_CPU, int(used.ru_utime + used.ru_stime) + 1 + limit.seconds)
+        lower_limit(resource.RLIMIT_CPU, int(used.ru_utime + used.ru_stime) + 1 + limit.seconds)
         try:
-            pipe.send(answer(*given))
+            pipe.send(assemble_or_error(*given))
         except BrokenPipeError:
             return
 
 
-def answer(source: bytes, given: dict[str, Any]) -> Warrior | MarsError:
+def assemble_or_error(source: bytes, given: dict[str, Any]) -> Warrior | MarsError:
     """Returns the warrior of a source, without it, or its error."""
     try:
         return replace(assemble(source, **given), source=None)
@@ -140,7 +140,7 @@ def answer(source: bytes, given: dict[str, Any]) -> Warrior | MarsError:
         return MarsError(MEMORY)
 
 
-def lower(kind: int, soft: int) -> None:
+def lower_limit(kind: int, soft: int) -> None:
     """Sets a soft limit of this process, as far as its hard one allows."""
     hard = resource.getrlimit(kind)[1]
     resource.setrlimit(kind, (soft if hard == resource.RLIM_INFINITY else min(soft, hard), hard))
@@ -168,8 +168,8 @@ def read_warrior(
     try:
         if path.endswith(".load"):
             return read_load(text, settings, path)
-        made = assemble(text, settings=settings, rounds=rounds, warriors=warriors)
-        return replace(made, file=path, source=text)
+        result = assemble(text, settings=settings, rounds=rounds, warriors=warriors)
+        return replace(result, file=path, source=text)
     except Overrun as overrun:
         raise FileError(path, str(overrun), text) from None
     except MarsError as fault:

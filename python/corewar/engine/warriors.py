@@ -12,7 +12,7 @@ import numpy as np
 from ..model.cells import Cell, Cells
 from ..model.printing import printable
 from ..model.settings import Settings, settings_of
-from .binding import MAX_UINT32, ROOM, array, call, held, kind, library, number, slice_of, text
+from .binding import MAX_UINT32, ROOM, array, call, clamp, dtype_of, library, read_text, settings_struct, slice_of
 
 # A cell as the library has it: opcode, modifier, modes and numbers. No cell has the greatest of them.
 CELL, MAX_CELL = struct.Struct("=4B2I"), (255, 255, 255, 255, MAX_UINT32, MAX_UINT32)
@@ -62,12 +62,12 @@ class Warrior:
         Raises ValueError for what is not six numbers. Their ranges are checked by the calls that use the warrior, which
         raise `MarsError`, such as `warrior 4 Field`.
         """
-        return Warrior(name, author, packed(cells), start, settings_of(settings).core)
+        return Warrior(name, author, pack_cells(cells), start, settings_of(settings).core)
 
     @property
     def cells(self) -> Cells:
         """The cells, a read-only array with the fields op, modifier, a_mode, b_mode, a and b."""
-        return np.frombuffer(self.data, kind("MarsCell"))
+        return np.frombuffer(self.data, dtype_of("MarsCell"))
 
     def cells_in(self, core: int) -> bytes:
         """Returns the cells as a core of a size reads them: each number by value. Raises `MarsError`."""
@@ -80,12 +80,12 @@ class Warrior:
         """The load file. Raises `MarsError` if a name, the start or a cell is invalid."""
         # The library refuses a name of more than 60 bytes.
         names = [name.encode(errors="surrogatepass")[:64] for name in (self.name, self.author)]
-        program = library()[0].new("MarsProgram *", [[len(self), number(self.start)], *names])
+        program = library()[0].new("MarsProgram *", [[len(self), clamp(self.start)], *names])
         given = [
-            held(Settings(core=self.core, longest=self.core, distance=self.core)),
+            settings_struct(Settings(core=self.core, longest=self.core, distance=self.core)),
             *slice_of("MarsCell", self.data),
         ]
-        return text(1024, lambda *room: call("mars_write_load", *given, program, *room))
+        return read_text(1024, lambda *room: call("mars_write_load", *given, program, *room))
 
     @property
     def title(self) -> str:
@@ -114,9 +114,9 @@ class Warrior:
         return f"<Warrior {self.title} of length {len(self)}>"
 
 
-def packed(cells: Sequence[Cell | np.void] | Cells) -> bytes:
+def pack_cells(cells: Sequence[Cell | np.void] | Cells) -> bytes:
     """Returns cells as bytes. Raises ValueError."""
-    if isinstance(cells, np.ndarray) and cells.dtype == kind("MarsCell"):
+    if isinstance(cells, np.ndarray) and cells.dtype == dtype_of("MarsCell"):
         return cells.tobytes()
     try:
         rows = [cell.tolist() if isinstance(cell, np.void) else cell for cell in cells]
@@ -124,14 +124,14 @@ def packed(cells: Sequence[Cell | np.void] | Cells) -> bytes:
             return b"".join([CELL.pack(*row) for row in rows])
         except struct.error:
             # Numbers that do not fit are looked for only then, since evolvers make many cells.
-            return b"".join([CELL.pack(*fitted(row)) for row in rows])
+            return b"".join([CELL.pack(*clamp_fields(row)) for row in rows])
     except (struct.error, TypeError, ValueError) as fault:
         raise ValueError(f"expected the six numbers of each cell: {fault}") from None
 
 
-def fitted(cell: Cell) -> list[int]:
+def clamp_fields(cell: Cell) -> list[int]:
     """Returns the numbers of a cell as the library takes them; it refuses those that do not fit. Raises ValueError."""
-    return [number(one, maximum) for one, maximum in zip(cell, MAX_CELL, strict=True)]
+    return [clamp(one, maximum) for one, maximum in zip(cell, MAX_CELL, strict=True)]
 
 
 def read_load(load: bytes, settings: Settings | str = "94nop", file: str = "") -> Warrior:
@@ -142,10 +142,10 @@ def read_load(load: bytes, settings: Settings | str = "94nop", file: str = "") -
 def program(call_name: str, settings: Settings | str, rounds: int, more: list[int], data: bytes) -> Warrior:
     """Returns the warrior of a source or a load file."""
     given = settings_of(settings)
-    parts = [held(given, rounds), *more, *slice_of("uint8_t", data)]
-    cells, made = array("MarsCell", CELLS), library()[0].new("MarsProgram *")
-    if call(call_name, *parts, *slice_of("MarsCell", cells), made) == ROOM:
-        cells = array("MarsCell", made.warrior.length)
-        call(call_name, *parts, *slice_of("MarsCell", cells), made)
-    name, author = (bytes(field).rstrip(b"\0").decode("ascii") for field in (made.name, made.author))
-    return Warrior(name, author, cells[: made.warrior.length].tobytes(), made.warrior.start, given.core)
+    parts = [settings_struct(given, rounds), *more, *slice_of("uint8_t", data)]
+    cells, result = array("MarsCell", CELLS), library()[0].new("MarsProgram *")
+    if call(call_name, *parts, *slice_of("MarsCell", cells), result) == ROOM:
+        cells = array("MarsCell", result.warrior.length)
+        call(call_name, *parts, *slice_of("MarsCell", cells), result)
+    name, author = (bytes(field).rstrip(b"\0").decode("ascii") for field in (result.name, result.author))
+    return Warrior(name, author, cells[: result.warrior.length].tobytes(), result.warrior.start, given.core)

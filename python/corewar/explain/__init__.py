@@ -2,16 +2,16 @@
 from .errors import errors_of
 from .fixes import fix
 from .meanings import explain_error, explain_kind, read_faults
-from .pmars import LOOKED_FOR, read_otherwise
+from .pmars import CHECKED_ROWS, pmars_differences
 from .source import excerpt
 
 __all__ = [
-    "LOOKED_FOR",
+    "CHECKED_ROWS",
     "errors_of",
     "excerpt",
     "explain_error",
     "explain_kind",
     "fix",
     "read_faults",
-    "read_otherwise",
+    "pmars_differences",
 ]

@@ -6,7 +6,7 @@ from collections.abc import Callable, Iterator
 from decimal import Decimal
 from unicodedata import name as character_name
 
-from .sentences import said
+from .sentences import cause_sentence
 from .source import (
     ELSEWHERE,
     MODIFIERS,
@@ -19,8 +19,8 @@ from .source import (
     Loop,
     Misspelt,
     Source,
-    like,
     misspelt,
+    most_similar,
 )
 
 Cause = Callable[[Source, Line], Iterator[str]]
@@ -36,22 +36,22 @@ OPENING = ("#", "$", "@", "{", "}", "(")
 def not_ascii(source: Source, line: Line) -> Iterator[str]:
     raw = source.data.split(b"\n")[line.number - 1].split(b";")[0]
     if line.number == 1 and raw.startswith((b"\xff\xfe", b"\xfe\xff")):
-        yield said("utf16")
+        yield cause_sentence("utf16")
     elif line.number == 1 and raw.startswith(b"\xef\xbb\xbf"):
-        yield said("mark")
+        yield cause_sentence("mark")
     else:
         found = re.search(r"[^\x00-\x7f]", raw.decode("utf-8", "replace"))
         if found:
             named = character_name(found[0], "without a name").lower()
-            yield said("not ascii", column=found.start() + 1, word=found[0], named=named)
+            yield cause_sentence("not ascii", column=found.start() + 1, word=found[0], named=named)
 
 
 def bad_token(source: Source, line: Line) -> Iterator[str]:
     found = FOREIGN.search(line.code)
     if found and found[0] == "\\":
-        yield said("backslash")
+        yield cause_sentence("backslash")
     elif found:
-        yield said("foreign", word=found[0])
+        yield cause_sentence("foreign", word=found[0])
     else:
         counters = {loop.counter for loop in source.loops_around(line.number)}
         for token in TOKEN.findall(line.code):
@@ -62,35 +62,35 @@ def wrong_token(source: Source, line: Line, token: str, counters: set[str]) -> I
     """Says why a token is none, or is not allowed in a line."""
     joined_names = [name for name in token.split("&")[1:] if name not in counters]
     if token.isdecimal() and Decimal(token) > MAX_NUMBER:
-        yield said("large", word=token)
+        yield cause_sentence("large", word=token)
     elif token[0].isdecimal() and not token.isdecimal():
-        yield said("half number", word=token)
+        yield cause_sentence("half number", word=token)
     elif NAME.match(token) and joined_names:
-        yield said("not counter", word=token, name=joined_names[0])
+        yield cause_sentence("not counter", word=token, name=joined_names[0])
     elif token in source.equates and token != line.operation and source.equates[token] is not line:
         first = source.equates[token].number
         if first < len(source.lines) and source.lines[first].word == "EQU" and not source.lines[first].labels:
-            yield said("equ lines", word=token, line=first)
+            yield cause_sentence("equ lines", word=token, line=first)
 
 
 def bad_count(source: Source, line: Line) -> Iterator[str]:
     if line.word == "FOR":
-        known = said("curline") if "CURLINE" in line.rest else ""
-        yield said("count", word="".join(line.rest), known=known)
+        known = cause_sentence("curline") if "CURLINE" in line.rest else ""
+        yield cause_sentence("count", word="".join(line.rest), known=known)
 
 
 def operation(source: Source, line: Line) -> Iterator[str]:
     dashed, word = DASHED.match(line.code), misspelt(source, line)
     if COMMENT.search(line.code):
-        yield said("comment")
+        yield cause_sentence("comment")
     elif dashed:
         name = dashed[1].replace("-", "_")
-        yield Advice(said("dashed", new=name), dashed[1], name)
+        yield Advice(cause_sentence("dashed", new=name), dashed[1], name)
     elif word:
         yield word
     elif line.operation in source.equates:
         first = source.equates[line.operation].number
-        yield said("equate", word=line.operation, line=first)
+        yield cause_sentence("equate", word=line.operation, line=first)
     elif line.rest[:1] == ["."]:
         yield from modifier(source, line, "".join(line.rest[1:2]))
 
@@ -98,9 +98,9 @@ def operation(source: Source, line: Line) -> Iterator[str]:
 def modifier(source: Source, line: Line, named: str) -> Iterator[str]:
     for loop in source.loops_around(line.number):
         if loop.counter == named:
-            yield said("counter modifier", word=named, line=loop.head.number, new=named.swapcase())
+            yield cause_sentence("counter modifier", word=named, line=loop.head.number, new=named.swapcase())
     if named.upper() not in MODIFIERS:
-        yield said("modifier", word=named, all=", ".join(MODIFIERS))
+        yield cause_sentence("modifier", word=named, all=", ".join(MODIFIERS))
 
 
 def duplicate(source: Source, line: Line) -> Iterator[str]:
@@ -110,11 +110,11 @@ def duplicate(source: Source, line: Line) -> Iterator[str]:
     for name in dict.fromkeys(line.labels):
         other = min((found.get(name, line) for found in (labels, source.equates)), key=lambda one: one.number)
         if name in PREDEFINED:
-            yield said("predefined", word=name)
+            yield cause_sentence("predefined", word=name)
         elif other.number < line.number:
             yield taken(source, line, name, other)
         elif line.labels.count(name) > 1:
-            yield said("twice", word=name)
+            yield cause_sentence("twice", word=name)
         elif loops:
             yield joined(name, loops)
 
@@ -123,41 +123,41 @@ def joined(name: str, loops: list[Loop]) -> str:
     """Returns how a name in loops is made distinct: by the counters of all loops around it, from the outermost one."""
     head = next((loop.head for loop in loops if not loop.counter), None)
     if head is not None:
-        return said("no counter", word=name, line=head.number)
+        return cause_sentence("no counter", word=name, line=head.number)
     missing = [loop.counter for loop in loops if loop.counter not in name.split("&")[1:]]
     new = "&".join([name, *missing])
-    return Advice(said("joined", word=name, new=new), name, new)
+    return Advice(cause_sentence("joined", word=name, new=new), name, new)
 
 
 def taken(source: Source, line: Line, name: str, other: Line) -> str:
     """Returns why a name is in an earlier line."""
     word = misspelt(source, other)
-    equ = next((one for one in other.labels[1:] if like(one, ["EQU"])), "")
+    equ = next((one for one in other.labels[1:] if most_similar(one, ["EQU"])), "")
     if not word and equ:
         # The text that it should name has an opcode, so the line is an instruction.
-        word = Misspelt(said("misspelt", word=equ, new="EQU"), equ, "EQU")
+        word = Misspelt(cause_sentence("misspelt", word=equ, new="EQU"), equ, "EQU")
     if word:
-        return Misspelt(said("earlier", line=other.number, inner=word), word.old, word.new, other.number)
+        return Misspelt(cause_sentence("earlier", line=other.number, inner=word), word.old, word.new, other.number)
     if line.word == "EQU" and not other.operation:
-        return said("before equ", word=name, line=other.number)
-    return said("duplicate", word=name, line=other.number)
+        return cause_sentence("before equ", word=name, line=other.number)
+    return cause_sentence("duplicate", word=name, line=other.number)
 
 
 def syntax(source: Source, line: Line) -> Iterator[str]:
     tokens = line.operands
     if COMMENT.search(line.code):
-        yield said("comment")
+        yield cause_sentence("comment")
         return
     if line.word in OPCODES and tokens and tokens[0].upper() in OPCODES:
-        yield said("opcode label", word=line.operation)
+        yield cause_sentence("opcode label", word=line.operation)
         return
     for before, after in zip(tokens, tokens[1:]):
         if (before == ")" or re.match(r"\w", before)) and (after in OPENING or re.match(r"\w", after)):
             found = re.search(rf"{re.escape(before)}\s*{re.escape(after)}", line.code)
             old = found[0] if found else ""
-            yield Advice(said("comma", before=before, after=after), old, f"{before}, {after}")
+            yield Advice(cause_sentence("comma", before=before, after=after), old, f"{before}, {after}")
     if tokens.count("(") != tokens.count(")"):
-        yield said("parentheses", opened=tokens.count("("), closed=tokens.count(")"))
+        yield cause_sentence("parentheses", opened=tokens.count("("), closed=tokens.count(")"))
 
 
 def unknown(source: Source, line: Line) -> Iterator[str]:
@@ -172,27 +172,27 @@ def unknown(source: Source, line: Line) -> Iterator[str]:
         elif name not in labels:
             yield undefined(source, name, {**labels, **source.equates})
         elif line.text.lstrip().startswith(";"):
-            yield said("assert", word=name)
+            yield cause_sentence("assert", word=name)
 
 
 def undefined(source: Source, name: str, known: dict[str, Line]) -> str:
     """Returns why a name is undefined."""
     for loop in source.loops:
         if name in loop.head.labels:
-            return said("counter", word=name, line=loop.head.number)
+            return cause_sentence("counter", word=name, line=loop.head.number)
     for line in source.lines:
         if line.unread and name in line.labels:
-            return said("unread", word=name, line=line.number, inner=line.unread)
+            return cause_sentence("unread", word=name, line=line.number, inner=line.unread)
     if name.upper() in OPCODES + ELSEWHERE:
-        return said("opcode name", word=name)
-    near = like(name, [*known, *PREDEFINED])
+        return cause_sentence("opcode name", word=name)
+    near = most_similar(name, [*known, *PREDEFINED])
     if name == "PSPACESIZE":
-        return said("p-space", word=name)
+        return cause_sentence("p-space", word=name)
     if near is None:
-        return said("undefined", word=name)
-    where = said("where", line=known[near].number) if near in known else ""
-    case = said("case") if near.lower() == name.lower() else ""
-    return Advice(said("near", word=name, new=near, case=case, where=where), name, near)
+        return cause_sentence("undefined", word=name)
+    where = cause_sentence("where", line=known[near].number) if near in known else ""
+    case = cause_sentence("case") if near.lower() == name.lower() else ""
+    return Advice(cause_sentence("near", word=name, new=near, case=case, where=where), name, near)
 
 
 # The functions that look for the causes of an error, by its text.

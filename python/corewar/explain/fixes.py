@@ -32,7 +32,7 @@ def fix(data: bytes, load: Load) -> bytes:
     return data
 
 
-def changed(line: str, old: str, new: str) -> str:
+def replace_name(line: str, old: str, new: str) -> str:
     """Returns a line with a name replaced in its code."""
     code, mark, comment = line.partition(";")
     return re.sub(rf"(?<![\w.&]){old}(?![\w&])", new, code) + mark + comment
@@ -117,8 +117,8 @@ def move_equate(lines: list[str], line: Line, loop: Loop) -> None:
     name = line.labels[0]
     joined = name if loop.counter in name.split("&")[1:] else f"{name}&{loop.counter}"
     for at in range(loop.head.number, min(loop.last - 1, len(lines))):
-        lines[at] = changed(lines[at], name, joined)
-    lines[loop.head.number - 1] += "\n" + changed(lines[line.number - 1], name, joined)
+        lines[at] = replace_name(lines[at], name, joined)
+    lines[loop.head.number - 1] += "\n" + replace_name(lines[line.number - 1], name, joined)
     lines[line.number - 1] = ""
 
 
@@ -144,8 +144,8 @@ def value_of(source: Source, number: int, expression: str, load: Load) -> int | 
     before = [replaced(line, source, "") if line.word in OPCODES else line.text for line in source.lines[: number - 1]]
 
     def probe(text: str) -> int:
-        made = load("\n".join([*before, f"DAT.F #({text}), #0", ""]).encode("latin-1", "replace"))
-        return signed(int(made.cells[-1]["a"]), made.core)
+        warrior = load("\n".join([*before, f"DAT.F #({text}), #0", ""]).encode("latin-1", "replace"))
+        return signed(int(warrior.cells[-1]["a"]), warrior.core)
 
     try:
         value = max(0, probe(expression))

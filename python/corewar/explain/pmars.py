@@ -22,7 +22,7 @@ MINUS = re.compile(r"[\w)] - (?:[+-] )*\w+(?: [*/%] (?:[+-] )*\w+)+ [+-] ")
 MAX_LOOPS = 32
 # What a source has in a line that pMARS reads differently.
 Found = Iterator[tuple[int, str]]
-LOOKS: list[Callable[[Source], Found]] = []
+CHECKS: list[Callable[[Source], Found]] = []
 # What pMARS makes of an error of this kit.
 ACCEPTED = {
     "1 Text 5 BadCount": "pMARS reads a count below 0 as no iteration; write `(count)*(count>0)`.",
@@ -32,22 +32,22 @@ ACCEPTED = {
     "4 Expression 4 Range": "pMARS may hang on this value.",
 }
 # The number of rows of the table that are looked for: an error shows some of them, and two errors one row.
-LOOKED_FOR = 28
+CHECKED_ROWS = 28
 
 
-def look(function: Callable[[Source], Found]) -> Callable[[Source], Found]:
+def check(function: Callable[[Source], Found]) -> Callable[[Source], Found]:
     """Enters a function into the list."""
-    LOOKS.append(function)
+    CHECKS.append(function)
     return function
 
 
-def read_otherwise(data: bytes, faults: Iterable[MarsError] = ()) -> list[str]:
+def pmars_differences(data: bytes, faults: Iterable[MarsError] = ()) -> list[str]:
     """Returns what pMARS reads differently in a source: sentences, each after the number of its line.
 
     - `faults`: the errors of the source
     """
     source = read_source(data)
-    found = {note for one in LOOKS for note in one(source)}
+    found = {note for one in CHECKS for note in one(source)}
     for fault in faults:
         kind, text = kind_of(fault), source.lines[fault.line - 1].text if fault.line <= len(source.lines) else ""
         if kind in ACCEPTED and (kind != "5 AssertFailed" or "VERSION" in text):
@@ -55,7 +55,7 @@ def read_otherwise(data: bytes, faults: Iterable[MarsError] = ()) -> list[str]:
     return [f"line {number}: {note}" if number else note for number, note in sorted(found)]
 
 
-def sides(tokens: list[str]) -> list[list[str]]:
+def split_operands(tokens: list[str]) -> list[list[str]]:
     """Returns the tokens of each operand."""
     found: list[list[str]] = [[]] if tokens else []
     for token in tokens:
@@ -66,27 +66,27 @@ def sides(tokens: list[str]) -> list[list[str]]:
     return found
 
 
-def written(tokens: list[str]) -> str:
+def without_spaces(tokens: list[str]) -> str:
     """Returns an operand as it is written without spaces."""
     return "".join(tokens)
 
 
-@look
+@check
 def immediate(source: Source) -> Found:
     for line in source.lines:
-        operands = sides(line.operands) if line.word in OPCODES else []
+        operands = split_operands(line.operands) if line.word in OPCODES else []
         if len(operands) == 2 and operands[0][:1] in (["<"], [">"], ["{"], ["}"]) and operands[1][:1] == ["#"]:
             yield line.number, "pMARS reads the B-operand before the side effect of the A-operand, this kit after it."
 
 
-@look
+@check
 def opcodes(source: Source) -> Found:
     for line in source.lines:
         if line.word == "CMP":
             yield line.number, "In pMARS a cell with CMP is not equal to one with SEQ, here it is; write SEQ."
 
 
-@look
+@check
 def extensions(source: Source) -> Found:
     for line in source.lines:
         words = [*([] if line.operation else line.labels), *line.operands]
@@ -95,7 +95,7 @@ def extensions(source: Source) -> Found:
                 yield line.number, f"pMARS knows `{word}`; this kit has neither P-space nor registers."
 
 
-@look
+@check
 def modifiers(source: Source) -> Found:
     for loop in loops_of_modifiers(source):
         yield loop.head.number, (
@@ -119,7 +119,7 @@ def loops_of_modifiers(source: Source) -> list[Loop]:
     return [*found.values()]
 
 
-@look
+@check
 def counts(source: Source) -> Found:
     labels = source.labels()
     for line in source.lines:
@@ -130,7 +130,7 @@ def counts(source: Source) -> Found:
                 yield line.number, f"pMARS reads this count as 0, since the EQU of `{name}` is later; move the EQU up."
 
 
-@look
+@check
 def equates(source: Source) -> Found:
     last = {loop.counter: loop.head.number for loop in source.loops}
     for line in source.lines:
@@ -151,7 +151,7 @@ def equates(source: Source) -> Found:
             yield line.number, "pMARS rejects an EQU name for an opcode with its modifier; write the opcode itself."
 
 
-@look
+@check
 def prose(source: Source) -> Found:
     is_open = any(loop.last > len(source.lines) for loop in source.loops)
     for line in source.lines:
@@ -161,7 +161,7 @@ def prose(source: Source) -> Found:
             )
 
 
-@look
+@check
 def names(source: Source) -> Found:
     first, labels = dict[str, int](), source.labels()
     for line in source.lines:
@@ -179,7 +179,7 @@ def names(source: Source) -> Found:
             yield line.number, "pMARS rejects a space before the `:` of a label."
 
 
-@look
+@check
 def asserts(source: Source) -> Found:
     labels = source.labels()
     for line in source.lines:
@@ -193,7 +193,7 @@ def asserts(source: Source) -> Found:
                 yield line.number, "VERSION is 92 in pMARS and 80 here."
 
 
-@look
+@check
 def ends_of_lines(source: Source) -> Found:
     for line in source.lines:
         if line.unread:
@@ -207,12 +207,12 @@ def ends_of_lines(source: Source) -> Found:
             yield line.number, "pMARS joins numbers that are separated by spaces; here an operator is missing."
 
 
-@look
+@check
 def operands(source: Source) -> Found:
     for line in source.lines:
-        found = sides(line.operands)
+        found = split_operands(line.operands)
         if line.word == "DAT" and len(found) == 1:
-            text = written(found[0])
+            text = without_spaces(found[0])
             yield line.number, f"pMARS reads `DAT #0, {text}`, this kit `DAT $0, {text}`; write both operands."
         if line.word in OPCODES and (
             not found and line.word in ("DAT", "NOP") or len(found) == 1 and line.word not in OPTIONAL
@@ -220,14 +220,14 @@ def operands(source: Source) -> Found:
             yield line.number, f"pMARS rejects {line.word} with this number of operands; write both."
 
 
-@look
+@check
 def products(source: Source) -> Found:
     for line in source.lines:
         if MINUS.search(" ".join(line.operands)):
             yield line.number, "pMARS subtracts all that follows this `-`, as in `1-(2*3+4)`; write parentheses."
 
 
-@look
+@check
 def directives(source: Source) -> Found:
     kept = [line for line in source.lines if not line.unread]
     for line in kept:
@@ -245,7 +245,7 @@ def directives(source: Source) -> Found:
         yield starts["END"].number, "pMARS starts where END says, this kit where ORG says; remove one of them."
 
 
-@look
+@check
 def lone_labels(source: Source) -> Found:
     kept = [line for line in source.lines if line.code.strip() and not line.unread]
     for before, line in zip(kept, kept[1:]):

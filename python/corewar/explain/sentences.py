@@ -7,6 +7,6 @@ from importlib.resources import files
 SENTENCES: dict[str, dict[str, str]] = json.loads((files("corewar.explain") / "meanings.json").read_text("ascii"))
 
 
-def said(cause: str, **values: object) -> str:
+def cause_sentence(cause: str, **values: object) -> str:
     """Returns the sentence on a cause."""
     return SENTENCES["causes"][cause].format(**values)

@@ -9,7 +9,7 @@ from operator import itemgetter
 from typing import Self
 
 from . import words
-from .sentences import said
+from .sentences import cause_sentence
 
 OPCODES, MODIFIERS, PREDEFINED = [*words.OPCODES], [*words.MODIFIERS], [*words.PREDEFINED]
 OPERATIONS = [*words.OPCODES, *words.DIRECTIVES]
@@ -34,9 +34,9 @@ class Advice(str):
     line: int
 
     def __new__(cls, sentence: str, old: str, new: str = "", line: int = 0) -> Self:
-        made = super().__new__(cls, sentence)
-        made.old, made.new, made.line = old, new, line
-        return made
+        advice = super().__new__(cls, sentence)
+        advice.old, advice.new, advice.line = old, new, line
+        return advice
 
 
 class Misspelt(Advice):
@@ -136,9 +136,9 @@ def read_source(data: bytes) -> Source:
         source.lines.append(line)
         line.skipped = zeros > 0
         if number < first:
-            line.unread = said("before redcode", line=first)
+            line.unread = cause_sentence("before redcode", line=first)
         elif end:
-            line.unread = said("after end", line=end)
+            line.unread = cause_sentence("after end", line=end)
         elif line.word == "END":
             end = number
         elif line.skipped and (line.word not in ("FOR", "ROF") or len(line.labels) > 1):
@@ -156,7 +156,7 @@ def read_source(data: bytes) -> Source:
     return source
 
 
-def like(word: str, choices: Sequence[str]) -> str | None:
+def most_similar(word: str, choices: Sequence[str]) -> str | None:
     """Returns the choice that is most similar to a word; the same letters in another order come first, and of equally
     similar ones that with the same first letter.
     """
@@ -181,12 +181,12 @@ def misspelt(source: Source, line: Line) -> Misspelt | None:
     labels = [word for word in line.labels[:FIRST_WORDS] if not source.is_operand(word)]
     for word in labels:
         if word.upper() in ELSEWHERE:
-            return Misspelt(said("elsewhere", word=word), word)
-    found = [(likeness(word, meant), word, meant) for word in labels if (meant := like(word, OPERATIONS))]
+            return Misspelt(cause_sentence("elsewhere", word=word), word)
+    found = [(likeness(word, meant), word, meant) for word in labels if (meant := most_similar(word, OPERATIONS))]
     if not found:
         return None
     _, word, meant = max(found, key=itemgetter(0))
-    return Misspelt(said("misspelt", word=word, new=meant), word, meant)
+    return Misspelt(cause_sentence("misspelt", word=word, new=meant), word, meant)
 
 
 def excerpt(data: bytes, number: int) -> list[str]:

@@ -4,11 +4,11 @@ from __future__ import annotations
 from pathlib import Path
 from typing import Any
 
-from ..analysis.telling import counted
+from ..analysis.formatting import pluralize
 from ..engine.calls import Match
 from ..contests.table import League
 from ..model.settings import label
-from ..pictures.shades import mixed
+from ..pictures.shades import mix_colours
 from .render import render, write_page
 from .site import page_of
 
@@ -43,7 +43,7 @@ def write_pages(folder: Path, league: League) -> None:
 def lines_of(league: League) -> list[list[dict[str, Any] | None]]:
     """Returns the cells of the matrix, row by row, with None for a warrior against itself."""
     balances, order = league.balances(), league.order
-    colours, counts = mixed(balances).tolist(), balances.tolist()
+    colours, counts = mix_colours(balances).tolist(), balances.tolist()
     return [
         [
             None if one == other else cell(league, (one, other), counts[x][y], colours[x][y])
@@ -56,7 +56,7 @@ def lines_of(league: League) -> list[list[dict[str, Any] | None]]:
 def cell(league: League, pair: tuple[int, int], counts: list[int], colour: list[int]) -> dict[str, Any]:
     """Returns a cell of the matrix, with a link to the first round of the match."""
     wins, ties, losses = counts
-    title = f"{counted(wins, 'win')}, {counted(ties, 'tie')}, {counted(losses, 'loss')} against "
+    title = f"{pluralize(wins, 'win')}, {pluralize(ties, 'tie')}, {pluralize(losses, 'loss')} against "
     title += league.warriors[pair[1]].called
     ink = "#000" if sum(colour) > 3 * 130 else "#fff"
     link = f"{PAGE}#w={min(pair)},{max(pair)}"

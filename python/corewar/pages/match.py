@@ -5,10 +5,10 @@ from pathlib import Path
 from typing import Any
 
 from ..analysis.captions import command
-from ..battle.rounds import Round, sums
+from ..battle.rounds import Round, count_outcomes
 from ..engine.calls import Match
 from .render import render, write_page
-from .site import page_of, site
+from .site import page_of, site_folder
 
 PAGE = "match.html"
 
@@ -21,7 +21,7 @@ class Pages:
     def __init__(self, folder: str, fight: Match, formula: str) -> None:
         self.folder, self.fight = Path(folder), fight
         self.rounds: list[dict[str, Any]] = []
-        site()
+        site_folder()
         self.folder.mkdir(parents=True, exist_ok=True)
         write_page(self.folder / PAGE, page_of(fight, formula))
 
@@ -33,6 +33,6 @@ class Pages:
 
     def write_index(self) -> None:
         """Writes the page of all rounds."""
-        counted = sums([one["outcomes"] for one in self.rounds])
+        counted = count_outcomes([one["outcomes"] for one in self.rounds])
         index = render("match.html.j2", warriors=self.fight.warriors, sums=counted, rounds=self.rounds)
         write_page(self.folder / "index.html", index)

@@ -28,7 +28,7 @@ VERSION = 1
 NAMES = {"read_limit": "readLimit", "write_limit": "writeLimit"}
 
 
-def site() -> Path:
+def site_folder() -> Path:
     """Returns the folder with the built site. Raises CorewarError if there is none."""
     for folder in (INSTALLED, BUILT):
         if (folder / "one.html").is_file():
@@ -47,7 +47,7 @@ def settings_of(settings: Settings) -> dict[str, int]:
     return {NAMES.get(name, name): number or 0 for name, number in vars(settings).items()}
 
 
-def packed(fight: dict[str, Any]) -> str:
+def pack_fight(fight: dict[str, Any]) -> str:
     """Returns the text of a fight, as addresses and pages carry it."""
     deflate = zlib.compressobj(9, wbits=-15)
     data = deflate.compress(json.dumps(fight, separators=(",", ":")).encode()) + deflate.flush()
@@ -76,5 +76,5 @@ def page_of(
         "e": [(after, edit.text(fight.settings.core)) for after, edit in edits],
         "t": turn,
     }
-    text = packed(given)
-    return FIGHT.sub(lambda found: found[1] + text, (site() / "one.html").read_text(encoding="utf-8"), count=1)
+    text = pack_fight(given)
+    return FIGHT.sub(lambda found: found[1] + text, (site_folder() / "one.html").read_text(encoding="utf-8"), count=1)

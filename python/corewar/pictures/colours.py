@@ -11,7 +11,7 @@ COLOURS = (
 )
 
 
-def coloured(history: History) -> list[str]:
+def warrior_colours(history: History) -> list[str]:
     """Returns the colours of a battle's warriors. Each has the same colour in all rounds of a match."""
     count = len(history.warriors)
     return [COLOURS[(number + history.round) % count] for number in range(count)]

@@ -10,7 +10,7 @@ from matplotlib.patches import Patch
 from numpy.typing import NDArray
 
 from .saving import save
-from .shades import LOST, TIED, WON, mixed
+from .shades import LOST, TIED, WON, mix_colours
 
 # The size of a cell, and the maximum size of the matrix, in inches; smaller letters, in points, are left out.
 CELL, SIDE, LETTER = 0.25, 20.0, 4.0
@@ -24,7 +24,7 @@ def draw(titles: Sequence[str], ranks: Sequence[int], balances: NDArray[np.int64
     letter = min(9.0, 72 * side / max(1, len(titles)) * 0.7)
     figure = Figure(figsize=(side + 4, side + 1), layout="constrained")
     axes = figure.subplots()
-    axes.imshow(mixed(balances), interpolation="none")
+    axes.imshow(mix_colours(balances), interpolation="none")
     places = range(len(titles)) if letter >= LETTER else []
     axes.set_xticks(places, [str(ranks[place]) for place in places], fontsize=letter)
     axes.set_yticks(places, [f"{titles[place]}  {ranks[place]}" for place in places], fontsize=letter)

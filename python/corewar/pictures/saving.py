@@ -10,6 +10,6 @@ from ..engine.files import replace_file
 
 def save(figure: Figure, path: str) -> None:
     """Writes a figure. The same figure gives the same bytes at any time."""
-    kind, made = path.rpartition(".")[2], BytesIO()
-    figure.savefig(made, format=kind, metadata={"Date": None} if kind == "svg" else None)
-    replace_file(path, made.getvalue())
+    kind, buffer = path.rpartition(".")[2], BytesIO()
+    figure.savefig(buffer, format=kind, metadata={"Date": None} if kind == "svg" else None)
+    replace_file(path, buffer.getvalue())

@@ -8,7 +8,7 @@ WON, TIED, LOST = (30, 80, 200), (216, 216, 216), (200, 30, 30)
 NO_MATCH = 255
 
 
-def mixed(balances: NDArray[np.int64]) -> NDArray[np.uint8]:
+def mix_colours(balances: NDArray[np.int64]) -> NDArray[np.uint8]:
     """Returns red, green and blue of matches, from 0 to 255, by their wins, ties and losses in the last dimension."""
     rounds = balances.sum(axis=-1, keepdims=True)
     colours = balances @ np.array([WON, TIED, LOST]) / np.maximum(rounds, 1)

@@ -13,15 +13,15 @@ from matplotlib.patches import Patch
 from numpy.typing import NDArray
 
 from ..analysis.captions import describe_settings, fate, outcome, title
-from ..battle.frames import Frame, frames, parts
+from ..battle.frames import Frame, frames, part_ends
 from ..battle.history import History
-from .colours import coloured
+from .colours import warrior_colours
 from .saving import save
 
 # The maximum number of columns and of rows of a picture, if none is given.
 COLUMNS, ROWS = 400, 300
 # The share of a warrior's colour on cells that it owns, that it wrote, and where its processes are.
-OWNED, WRITTEN, STANDING = 0.3, 0.6, 1.0
+OWNED, WRITTEN, EXECUTED = 0.3, 0.6, 1.0
 
 
 @dataclass(frozen=True)
@@ -40,35 +40,35 @@ class View:
         return np.where(sums.max(axis=0) > 0, sums.argmax(axis=0), -1)
 
 
-def standing(frame: Frame) -> tuple[NDArray[np.int64], NDArray[np.int64]]:
+def process_addresses(frame: Frame) -> tuple[NDArray[np.int64], NDArray[np.int64]]:
     """Returns the addresses of the processes, and their warriors."""
     whose = np.repeat(np.arange(len(frame.queues)), [len(queue) for queue in frame.queues])
     return np.concatenate(frame.queues).astype(np.int64), whose
 
 
-def points(history: History, view: View) -> NDArray[np.float64]:
+def pixels_of(history: History, view: View) -> NDArray[np.float64]:
     """Returns the colours of the picture, by rows and columns."""
     count, owners = len(history.warriors), history.owners(view.ends[0]).astype(np.int64)
-    shades = np.array([to_rgb(colour) for colour in coloured(history)])
-    made = np.ones((len(view.ends) - 1, view.columns, 3))
+    shades = np.array([to_rgb(colour) for colour in warrior_colours(history)])
+    pixels = np.ones((len(view.ends) - 1, view.columns, 3))
     moments = frames(history, view.ends)
     next(moments)
-    for row, frame in zip(made, moments):
+    for row, frame in zip(pixels, moments):
         owners[frame.addresses] = frame.writers
         layers = (
             (OWNED, (np.arange(history.core), owners)),
             (WRITTEN, (frame.addresses, frame.writers.astype(np.int64))),
-            (STANDING, standing(frame)),
+            (EXECUTED, process_addresses(frame)),
         )
         for part, (addresses, warriors) in layers:
             leaders = view.leaders(addresses, warriors, count)
             row[leaders >= 0] = 1 - part * (1 - shades[leaders[leaders >= 0]])
-    return made
+    return pixels
 
 
 def whole(history: History) -> View:
     """Returns the view of a whole battle."""
-    return View(parts(0, history.end, ROWS), range(history.core), min(COLUMNS, history.core))
+    return View(part_ends(0, history.end, ROWS), range(history.core), min(COLUMNS, history.core))
 
 
 # `$` in a name does not begin a formula.
@@ -79,11 +79,11 @@ def figure_of(history: History, view: View) -> Figure:
     axes = figure.subplots()
     first, last = view.ends[0], view.ends[-1]
     extent = (view.cells.start, view.cells.stop, last, first)
-    axes.imshow(points(history, view), aspect="auto", interpolation="nearest", extent=extent)
+    axes.imshow(pixels_of(history, view), aspect="auto", interpolation="nearest", extent=extent)
     figure.suptitle(f"{title(history)}. {outcome(history)}, {history.end:,} turns", fontsize=12)
     axes.set_title(", ".join(describe_settings(history)), fontsize=8)
     axes.set(xlabel="cell", ylabel="turn")
-    colours = coloured(history)
+    colours = warrior_colours(history)
     for warrior, colour in enumerate(colours):
         death = history.death(warrior)
         if death is not None and first < death <= last:

@@ -17,7 +17,7 @@ from ..contests.results import Results
 from ..model.errors import CorewarError, MarsError
 from ..model.settings import Settings
 from ..engine.warriors import Warrior
-from .folder import coded
+from .folder import encode_source
 
 JOBS = len(os.sched_getaffinity(0))
 # The names of settings in the messages of the page, in which 0 is the core size for a limit, and no position.
@@ -44,7 +44,7 @@ def contest_of(given: dict[str, Any]) -> Contest:
 
 def warrior_of(assembler: Assembler, source: dict[str, str], contest: Contest) -> Warrior:
     """Returns the warrior of a source. Raises CorewarError."""
-    text = coded(source["text"])
+    text = encode_source(source["text"])
     try:
         warrior = assembler.assemble(text, settings=contest.settings, rounds=contest.rounds)
         return replace(warrior, file=source["name"], source=text)

@@ -12,7 +12,7 @@ from ..model.errors import CorewarError
 from ..model.settings import MAX_FILE_SIZE
 
 
-class Changed(CorewarError):
+class ChangedOnDisk(CorewarError):
     """Something else has changed a file; `seen` names its content."""
 
     def __init__(self, name: str, seen: str) -> None:
@@ -20,7 +20,7 @@ class Changed(CorewarError):
         self.seen = seen
 
 
-def coded(text: str) -> bytes:
+def encode_source(text: str) -> bytes:
     """Returns the bytes of a source. Invalid UTF-8 survives reading and saving."""
     return text.encode("utf-8", "surrogateescape")
 
@@ -71,9 +71,9 @@ class Folder:
     def save(self, name: str, text: str, seen: str) -> str:
         """Saves a source to its file if that is as it was seen, or to a new file. Returns how its content is named.
 
-        Raises Changed, `FileError` and CorewarError.
+        Raises ChangedOnDisk, `FileError` and CorewarError.
         """
-        data = coded(text)
+        data = encode_source(text)
         if len(data) > MAX_FILE_SIZE:
             raise CorewarError(f"{name} has more than {MAX_FILE_SIZE} bytes; not saved")
         path = sources_of(self.paths).get(name) or self._new(name)
@@ -82,7 +82,7 @@ class Folder:
             raise CorewarError(f"{name} is not a regular file; not saved")
         there = digest(path.read_bytes()) if path.exists() else ""
         if there != seen:
-            raise Changed(name, there)
+            raise ChangedOnDisk(name, there)
         replace_file(path, data)
         if name not in sources_of(self.paths):
             self.paths.append(path)

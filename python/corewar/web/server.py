@@ -16,7 +16,7 @@ from urllib.parse import unquote, urlsplit
 from ..engine.sources import Assembler
 from ..model.errors import CorewarError
 from .contests import league
-from .folder import Changed, Folder
+from .folder import ChangedOnDisk, Folder
 
 HOST = "127.0.0.1"
 TYPES = {".html": "text/html; charset=utf-8", ".js": "text/javascript; charset=utf-8", ".wasm": "application/wasm"}
@@ -35,7 +35,7 @@ META = '<meta name="corewar-server" content="api" data-key="{}">\n<title>'
 
 
 @dataclass
-class Served:
+class ServedSite:
     """What is served: the folder of the built site, the sources, and the file of stored results."""
 
     site: Path
@@ -48,7 +48,7 @@ class Served:
 class Handler(BaseHTTPRequestHandler):
     """Answers requests below `/TOKEN/`: the files of the site, and `api`, the sources and leagues."""
 
-    served: Served
+    served: ServedSite
     server: ThreadingHTTPServer
 
     def log_message(self, *_: object) -> None:
@@ -57,7 +57,7 @@ class Handler(BaseHTTPRequestHandler):
     def do_GET(self) -> None:
         path = self._path()
         if path == "api/sources":
-            self._tell(200, self.served.folder.all())
+            self._send_json(200, self.served.folder.all())
         elif path is not None:
             self._send_file(path or "index.html")
 
@@ -65,14 +65,14 @@ class Handler(BaseHTTPRequestHandler):
         path = self._path()
         if path is not None and path.startswith("api/sources/"):
             name = path.removeprefix("api/sources/")
-            self._act(lambda given: self._save(name, given))
+            self._handle(lambda given: self._save(name, given))
         elif path is not None:
             self._refuse(404, "not found")
 
     def do_POST(self) -> None:
         path = self._path()
         if path == "api/league":
-            self._act(self._run_league)
+            self._handle(self._run_league)
         elif path is not None:
             self._refuse(404, "not found")
 
@@ -92,9 +92,9 @@ class Handler(BaseHTTPRequestHandler):
     def _refuse(self, status: int, why: str) -> None:
         # What was sent is not read, so nothing can follow it.
         self.close_connection = True
-        self._tell(status, {"fault": why})
+        self._send_json(status, {"fault": why})
 
-    def _tell(self, status: int, value: object) -> None:
+    def _send_json(self, status: int, value: object) -> None:
         self._send(status, json.dumps(value).encode(), "application/json")
 
     def _send(self, status: int, body: bytes, kind: str) -> None:
@@ -116,22 +116,22 @@ class Handler(BaseHTTPRequestHandler):
             body = body.replace(b"<title>", META.format(self.served.folder.key).encode(), 1)
         self._send(200, body, TYPES[path.suffix])
 
-    def _act(self, act: Callable[[dict[str, Any]], None]) -> None:
+    def _handle(self, act: Callable[[dict[str, Any]], None]) -> None:
         """Calls a function with the message of the request. Its errors are answers."""
         length = self.headers.get("Content-Length", "")
         if not length.isdecimal() or int(length) > MAX_MESSAGE_SIZE:
             return self._refuse(413, f"expected a message of at most {MAX_MESSAGE_SIZE} bytes")
         try:
             act(json.loads(self.rfile.read(int(length))))
-        except Changed as fault:
-            self._tell(409, {"fault": str(fault), "seen": fault.seen})
+        except ChangedOnDisk as fault:
+            self._send_json(409, {"fault": str(fault), "seen": fault.seen})
         except CorewarError as fault:
-            self._tell(400, {"fault": str(fault)})
+            self._send_json(400, {"fault": str(fault)})
         except (KeyError, TypeError, ValueError, AttributeError, RecursionError):
-            self._tell(400, {"fault": "this message is not one of the page's"})
+            self._send_json(400, {"fault": "this message is not one of the page's"})
 
     def _save(self, name: str, given: dict[str, Any]) -> None:
-        self._tell(200, {"seen": self.served.folder.save(name, str(given["text"]), str(given["seen"]))})
+        self._send_json(200, {"seen": self.served.folder.save(name, str(given["text"]), str(given["seen"]))})
 
     def _run_league(self, given: dict[str, Any]) -> None:
         """Sends the results of matches as they end, some in each line. A later error is the last line."""
@@ -157,7 +157,7 @@ class Server(ThreadingHTTPServer):
 
     daemon_threads = True
 
-    def __init__(self, served: Served, port: int) -> None:
+    def __init__(self, served: ServedSite, port: int) -> None:
         handler = type("Handler", (Handler,), {"served": served, "protocol_version": "HTTP/1.1"})
         try:
             super().__init__((HOST, port), handler)
@@ -168,7 +168,7 @@ class Server(ThreadingHTTPServer):
         """Says nothing: a browser may end a connection at any time."""
 
 
-def serve(served: Served, port: int, opens: bool, say: Callable[[str], object]) -> None:
+def serve(served: ServedSite, port: int, opens_browser: bool, say: Callable[[str], object]) -> None:
     """Serves until it is stopped."""
     with Server(served, port) as server:
         taken = server.server_address[1]
@@ -176,12 +176,12 @@ def serve(served: Served, port: int, opens: bool, say: Callable[[str], object]) 
             say(f"Port {port} is taken. A browser keeps unsaved texts by the port, so this one has none of that one.")
         address = f"http://{HOST}:{taken}/{served.token}/"
         say(f"The site is at {address} (press Ctrl-C to stop)")
-        with opened(address) if opens else nullcontext(), served.assembler:
+        with open_browser(address) if opens_browser else nullcontext(), served.assembler:
             server.serve_forever()
 
 
 @contextmanager
-def opened(address: str) -> Iterator[None]:
+def open_browser(address: str) -> Iterator[None]:
     """Opens an address in the browser, through a page that redirects there and that only this user may read, since all
     users of the machine see the arguments of a process.
     """

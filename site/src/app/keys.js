@@ -8,7 +8,7 @@ import { element, typed } from "../view/dom.js";
  *   edit: () => void}} Acts
  */
 
-const FASTER = 1.6;
+const SPEED_FACTOR = 1.6;
 /** Fields keep their keys; the slider of time shares the page's. */
 const FIELDS = "input:not([type='range']), select, textarea, .CodeMirror, dialog";
 
@@ -24,10 +24,10 @@ function keysOf({ session, theatre, another, round, edit }) {
     j: () => session.play(-1),
     k: () => session.stop(),
     l: () => session.play(1),
-    ArrowLeft: (far) => session.step(-far),
-    ArrowRight: (far) => session.step(far),
-    ArrowUp: () => session.quicken(session.rate * FASTER),
-    ArrowDown: () => session.quicken(session.rate / FASTER),
+    ArrowLeft: (steps) => session.step(-steps),
+    ArrowRight: (steps) => session.step(steps),
+    ArrowUp: () => session.setRate(session.rate * SPEED_FACTOR),
+    ArrowDown: () => session.setRate(session.rate / SPEED_FACTOR),
     Home: () => session.jump(0),
     End: () => session.jump(session.end),
     s: (_, isShift) => theatre.leap("splits", !isShift),

@@ -2,7 +2,7 @@
 import { element, make, refill, withCode } from "../view/dom.js";
 import { errorWords } from "../view/host.js";
 import { FORMULA, HILLS } from "../model/settings.js";
-import { counted, number } from "../words/battle.js";
+import { number, pluralize } from "../words/battle.js";
 
 /** @typedef {import("../model/fight.js").Source} Source */
 /** @typedef {import("../view/host.js").Host} Host */
@@ -105,8 +105,8 @@ export class Lessons {
 
   /** @param {Lesson} lesson */
   #own({ id }) {
-    const held = this.host.shelf.find(`${id}.red`);
-    return held && { name: held.name, text: held.doc.getValue() };
+    const entry = this.host.shelf.find(`${id}.red`);
+    return entry && { name: entry.name, text: entry.doc.getValue() };
   }
 
   /** @param {Lesson} lesson */
@@ -116,9 +116,9 @@ export class Lessons {
     if (lesson.start && !shelf.find(name)) shelf.add({ name, text: lesson.start, saved: "" });
     const own = this.#own(lesson);
     const sources = shelf.mark([...(own ? [own] : []), ...this.#opponents(lesson)]);
-    const held = shelf.find(name);
-    if (held) shelf.show(held);
-    if (held) this.host.edit();
+    const entry = shelf.find(name);
+    if (entry) shelf.show(entry);
+    if (entry) this.host.edit();
     this.#open(lesson);
     const fought = this.host.fight(sources);
     element("lesson-box").focus({ preventScroll: true });
@@ -173,13 +173,13 @@ export class Lessons {
   async #judgeMatch(lesson, own) {
     const { pool } = this.host;
     const { wins = 0, survives = 0, cells = Infinity } = lesson.goal;
-    const { cells: made } = await pool.ask("assemble", [own.text, { ...TERMS, warriors: 2 }], "lesson", 2);
+    const { cells: code } = await pool.ask("assemble", [own.text, { ...TERMS, warriors: 2 }], "lesson", 2);
     const sources = [own, ...this.#opponents(lesson)];
     const entered = await pool.ask("warriors", [sources, TERMS], "lesson", 1);
     const fighters = entered.map(({ warrior }) => warrior);
     const [{ wins: won, ties, losses }] = await pool.ask("match", [fighters, TERMS], "lesson", 1);
-    const result = `${counted(made.length, "cell")}; ${won} won, ${ties} tied, ${losses} lost of ${ROUNDS}.`;
-    if (made.length > cells) return { isDone: false, text: `${result} Use at most ${cells} cells.` };
+    const result = `${pluralize(code.length, "cell")}; ${won} won, ${ties} tied, ${losses} lost of ${ROUNDS}.`;
+    if (code.length > cells) return { isDone: false, text: `${result} Use at most ${cells} cells.` };
     const isDone = won >= wins && won + ties >= survives;
     return { isDone, text: `${result} ${isDone ? "Well done." : "Not yet."}` };
   }

@@ -59,7 +59,7 @@ export async function pack({ fight, turn, pinned }) {
     p: position || undefined,
     f: formula === FORMULA ? undefined : formula,
     w: warriors.map(({ name, text }) => [name, text]),
-    e: edits.length ? edits.map((made) => [made.turn, editText(made.edit, settings.core)]) : undefined,
+    e: edits.length ? edits.map((entry) => [entry.turn, editText(entry.edit, settings.core)]) : undefined,
     t: turn || undefined,
     c: pinned ?? undefined,
   };
@@ -68,14 +68,14 @@ export async function pack({ fight, turn, pinned }) {
 }
 
 /**
- * Returns a whole number of a stranger's link, or the usual one if it has none.
+ * Returns a whole number of a stranger's link, or `fallback` if it has none.
  * @param {unknown} value
  * @param {number} minimum
  * @param {number} maximum
- * @param {number} usual
+ * @param {number} fallback
  */
-function whole(value, minimum, maximum, usual) {
-  if (value === undefined || value === null) return usual;
+function whole(value, minimum, maximum, fallback) {
+  if (value === undefined || value === null) return fallback;
   if (typeof value !== "number" || !Number.isInteger(value) || value < minimum || value > maximum) {
     throw new Error("a number in it is out of range");
   }

@@ -18,7 +18,7 @@ import { readAddress, unpack } from "./link.js";
 import { data, ownFight, pageWith, parts } from "./parts.js";
 import { Server } from "./server.js";
 import { listenToShare, shared } from "./share.js";
-import { keep, kept } from "./store.js";
+import { keep, stored } from "./store.js";
 import { Terms } from "./terms.js";
 
 /** @typedef {import("../model/fight.js").Source} Source */
@@ -26,25 +26,25 @@ import { Terms } from "./terms.js";
 
 /** The examples that a newcomer sees first. */
 const FIRST = ["dwarf.red", "imp.red"];
-const USUAL = { settings: DEFAULTS, seed: 1, rounds: 100, position: 0, formula: FORMULA };
+const DEFAULT_TERMS = { settings: DEFAULTS, seed: 1, rounds: 100, position: 0, formula: FORMULA };
 const MAX_WORKERS = 16;
 
 class Page {
   /**
-   * @param {import("../worker/pool.js").Parts} made
+   * @param {import("../worker/pool.js").Parts} workerParts
    * @param {import("../view/session.js").RemoteDesk} desk
    * @param {Server | null} server
    * @param {Data} given
    */
-  constructor(made, desk, server, { examples, lessons, meanings }) {
+  constructor(workerParts, desk, server, { examples, lessons, meanings }) {
     this.server = server;
     this.examples = examples;
     this.meanings = meanings;
-    this.isNew = !kept.sources;
-    this.pool = new Pool(made, clamp(navigator.hardwareConcurrency || 4, 1, MAX_WORKERS));
+    this.isNew = !stored.sources;
+    this.pool = new Pool(workerParts, clamp(navigator.hardwareConcurrency || 4, 1, MAX_WORKERS));
     this.session = new Session(desk, (text) => this.complain(text));
     this.terms = new Terms((isShown) => this.#takeTerms(isShown));
-    this.terms.value = { ...USUAL, ...kept.terms };
+    this.terms.value = { ...DEFAULT_TERMS, ...stored.terms };
     this.shelf = new Shelf({
       pool: this.pool,
       folder: server,
@@ -71,7 +71,7 @@ class Page {
     this.rounds = new Rounds(this.session, this.pool, showLine, (hits) => this.shelf.takeHits(hits));
     this.console = new Console(this.session);
     const learner = { ...host, session: this.session, examples, edit: () => this.showDesk(true) };
-    this.lessons = new Lessons(learner, lessons, kept.done ?? [], (done) => keep({ done }));
+    this.lessons = new Lessons(learner, lessons, stored.done ?? [], (done) => keep({ done }));
     this.session.listen((change) => this.#follow(change, side));
     this.#fillShelf();
   }
@@ -85,11 +85,11 @@ class Page {
     return this.session.fight?.warriors.some((one) => one.name === name && one.text !== text) ?? false;
   }
 
-  /** Takes what was kept, or the files of the folder; then the examples. */
+  /** Takes what was stored, or the files of the folder; then the examples. */
   #fillShelf() {
     const { server, shelf } = this;
     const files = (server?.sources ?? []).filter(({ isExample }) => !isExample);
-    const own = kept.sources ?? [];
+    const own = stored.sources ?? [];
     // What was not saved is found again; files are as they are now, and the first of them fights an example.
     const drafts = server ? own.filter(({ text, saved, isExample }) => text !== saved && !isExample) : own;
     files.forEach(({ name, text }, index) => {
@@ -102,14 +102,14 @@ class Page {
     for (const example of missing) {
       if (!shelf.find(example.name)) shelf.add({ ...example, isExample: true, fights: first.includes(example.name) });
     }
-    const shown = shelf.find(kept.shown ?? "") ?? shelf.held.find(({ fights }) => fights) ?? shelf.held[0];
+    const shown = shelf.find(stored.shown ?? "") ?? shelf.sources.find(({ fights }) => fights) ?? shelf.sources[0];
     shelf.show(shown);
     if (server) element("download").textContent = "Save";
-    if (kept.desk) this.showDesk(true);
+    if (stored.desk) this.showDesk(true);
   }
 
   #keepSources() {
-    const sources = this.shelf.held.map(({ name, doc, saved, isExample, fights }) => ({
+    const sources = this.shelf.sources.map(({ name, doc, saved, isExample, fights }) => ({
       name,
       text: doc.getValue(),
       saved,
@@ -317,12 +317,12 @@ function changeTheme() {
 }
 
 async function main() {
-  if (kept.theme) document.documentElement.dataset.theme = kept.theme;
-  const made = parts();
-  const desk = remoteDesk(made);
+  if (stored.theme) document.documentElement.dataset.theme = stored.theme;
+  const workerParts = parts();
+  const desk = remoteDesk(workerParts);
   const server = await Server.find();
-  const page = new Page(made, desk, server, data());
-  await made.module;
+  const page = new Page(workerParts, desk, server, data());
+  await workerParts.module;
   await page.begin();
   page.listen();
   // For tests, and for the curious.
@@ -331,8 +331,8 @@ async function main() {
 
 main().catch((error) => {
   const message = /** @type {Error} */ (error).message;
-  const isPoor = ["WebAssembly", "DecompressionStream"].some((name) => !(name in window));
-  const isOld = isPoor || /wasm|compile|memory/i.test(message);
+  const lacksFeatures = ["WebAssembly", "DecompressionStream"].some((name) => !(name in window));
+  const isOld = lacksFeatures || /wasm|compile|memory/i.test(message);
   const what = isOld ? "This browser cannot run the machine, a module of WebAssembly" : "The page cannot start";
   element("loading").textContent = `${what}: ${message}`;
 });

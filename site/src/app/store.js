@@ -23,13 +23,13 @@ function read() {
   }
 }
 
-export const kept = read();
+export const stored = read();
 
 /** @param {Kept} changes */
 export function keep(changes) {
-  Object.assign(kept, changes);
+  Object.assign(stored, changes);
   try {
-    localStorage.setItem(NAME, JSON.stringify(kept));
+    localStorage.setItem(NAME, JSON.stringify(stored));
   } catch {
     // The browser doesn't let the page, or it is full: the page works without.
   }

@@ -70,7 +70,7 @@ export class Terms {
     onClick("own-cancel", () => typed("own", HTMLDialogElement).close());
     const dialog = typed("own", HTMLDialogElement);
     dialog.addEventListener("close", () => (this.hill.value = hillOf(this.#settings)));
-    element("own-form").addEventListener("submit", () => this.#take());
+    element("own-form").addEventListener("submit", () => this.#apply());
   }
 
   #fill() {
@@ -79,7 +79,7 @@ export class Terms {
     typed("own-formula", HTMLInputElement).value = this.#formula;
   }
 
-  #take() {
+  #apply() {
     const number = (/** @type {string} */ id) => Number(typed(id, HTMLInputElement).value);
     const entries = SETTINGS.map((name) => [name, number(`own-${name}`)]);
     this.#settings = /** @type {Settings} */ (Object.fromEntries(entries));

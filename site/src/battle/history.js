@@ -28,7 +28,7 @@ import { Place, RECORD_WORDS, changesOf } from "./place.js";
 
 /** The distance of marks in turns, which doubles if a run has too many, and the bytes of all marks of a run. */
 const STRIDE = 4096;
-const MARKED = 76 << 20;
+const MAX_MARK_BYTES = 76 << 20;
 /** The maximum number of moments of an overview. */
 export const MOMENTS = 1200;
 
@@ -50,7 +50,7 @@ class Run {
     this.marks = [this.start];
     const chronicle = new Chronicle(start, MOMENTS);
     // An even number, so that the battle is at the last mark after every other one is dropped.
-    const maxMarks = 2 * Math.max(1, Math.floor(MARKED / start.bytes / 2));
+    const maxMarks = 2 * Math.max(1, Math.floor(MAX_MARK_BYTES / start.bytes / 2));
     for (;;) {
       start.play(mars, this.stride, origins, chronicle);
       if (start.battle.over) break;
@@ -118,10 +118,10 @@ export class History {
    * @param {Match} match
    */
   static fight(mars, match) {
-    const made = new History(mars, match, new Origins(), []);
-    const run = new Run(mars, made.origins, made.#loaded(), { edit: null, dead: 0 });
-    made.segments = [{ run, last: run.ending.turn }];
-    return made;
+    const history = new History(mars, match, new Origins(), []);
+    const run = new Run(mars, history.origins, history.#loaded(), { edit: null, dead: 0 });
+    history.segments = [{ run, last: run.ending.turn }];
+    return history;
   }
 
   /** Returns where the battle starts, with the loaded cells. */
@@ -319,8 +319,8 @@ export class History {
     place.noteEdit(before, this.origins);
     const run = new Run(this.mars, this.origins, place, { edit, dead });
     const started = this.segments.filter((one) => one.run.first <= turn);
-    const kept = started.map((one) => ({ ...one, last: Math.min(one.last, turn) }));
-    return new History(this.mars, this.match, this.origins, [...kept, { run, last: run.ending.turn }]);
+    const earlier = started.map((one) => ({ ...one, last: Math.min(one.last, turn) }));
+    return new History(this.mars, this.match, this.origins, [...earlier, { run, last: run.ending.turn }]);
   }
 
   /**

@@ -21,7 +21,7 @@ import { ADDRESS, DIED, QUEUED, WARRIOR } from "./place.js";
  */
 
 /** The story of a battle of more warriors has only peaks, deaths and edits. */
-const FEW = 4;
+const MAX_STORY_WARRIORS = 4;
 /** Whom a warrior can hit, and one more for its splits. */
 const SIDES = MAX_WARRIORS + 1;
 
@@ -78,12 +78,12 @@ export class Sampler {
   #thin() {
     const count = this.cells.length;
     const { turns, cells, processes, splits, ends } = this.overview;
-    const kept = [...turns.keys()].filter((place) => place % 2 === 0);
-    const sums = (/** @type {number[]} */ values) => kept.map((place) => values[place] + (values[place - 1] ?? 0));
+    const remaining = [...turns.keys()].filter((place) => place % 2 === 0);
+    const sums = (/** @type {number[]} */ values) => remaining.map((place) => values[place] + (values[place - 1] ?? 0));
     const rows = (/** @type {number[]} */ values) =>
-      kept.flatMap((place) => values.slice(place * count, (place + 1) * count));
+      remaining.flatMap((place) => values.slice(place * count, (place + 1) * count));
     this.overview = {
-      turns: kept.map((place) => turns[place]),
+      turns: remaining.map((place) => turns[place]),
       cells: rows(cells),
       processes: rows(processes),
       splits: sums(splits),
@@ -152,7 +152,7 @@ export class Chronicle extends Sampler {
    */
   constructor(place, maxSamples) {
     super(place, maxSamples);
-    this.isShort = this.cells.length > FEW;
+    this.isShort = this.cells.length > MAX_STORY_WARRIORS;
     /** The turn in which each warrior had the most processes. */
     this.peaks = [...this.processes].map((count) => ({ count, turn: place.turn }));
   }

@@ -8,6 +8,10 @@ import {
   DONE,
   KILL_PROCESS,
   MOVE_PROCESS,
+  OUT_OF_MEMORY,
+  ROOM,
+  SET_CELL,
+  VERSION,
   MarsCell,
   MarsEdit,
   MarsFault,
@@ -17,10 +21,6 @@ import {
   MarsSettings,
   MarsTouched,
   MarsWarrior,
-  OUT_OF_MEMORY,
-  ROOM,
-  SET_CELL,
-  VERSION,
 } from "./layout.js";
 import { Battle } from "./battle.js";
 import { DEFAULTS, FORMULA } from "../model/settings.js";
@@ -127,7 +127,7 @@ export class Mars {
    */
   writeLoad({ name, author, start, cells }, { settings = DEFAULTS } = {}) {
     return this.#within(() => {
-      const program = this.#take(MarsProgram.size);
+      const program = this.#allocate(MarsProgram.size);
       const bytes = new Uint8Array(this.#exports.memory.buffer, Number(program), MarsProgram.size).fill(0);
       // The library refuses a name of more than 60 bytes.
       bytes.set(encoder.encode(name).subarray(0, 64), MarsProgram.name);
@@ -192,7 +192,7 @@ export class Mars {
     return this.#within(() => {
       const given = this.#settings(settings, { rounds, seed, position });
       const words = Number(this.#exports.mars_words(given, warriors.length));
-      const block = this.#take(4 * words);
+      const block = this.#allocate(4 * words);
       this.#call("mars_start", [given, ...this.#fighters(warriors), round, block, BigInt(words)]);
       return new Battle(this.#words(block, words).slice());
     });
@@ -209,15 +209,15 @@ export class Mars {
     return this.#within(() => {
       const first = battle.turns;
       const [block, words] = this.#block(battle);
-      const recordRows = this.#take(MarsRecord.size * records);
-      const touchedRows = this.#take(MarsTouched.size * touched);
+      const recordRows = this.#allocate(MarsRecord.size * records);
+      const touchedRows = this.#allocate(MarsTouched.size * touched);
       const given = [block, words, turns, recordRows, BigInt(records), touchedRows, BigInt(touched)];
       this.#call("mars_play", given);
       battle.words.set(this.#words(block, battle.words.length));
-      const made = battle.turns - first;
+      const played = battle.turns - first;
       return {
-        records: this.#words(recordRows, RECORD_WORDS * Math.min(made, records)).slice(),
-        touched: this.#words(touchedRows, TOUCHED_WORDS * Math.min(made, touched)).slice(),
+        records: this.#words(recordRows, RECORD_WORDS * Math.min(played, records)).slice(),
+        touched: this.#words(touchedRows, TOUCHED_WORDS * Math.min(played, touched)).slice(),
       };
     });
   }
@@ -231,7 +231,7 @@ export class Mars {
   edit(battle, { kind, warrior = 0, place = 0, address = 0, cell }) {
     this.#within(() => {
       const [block, words] = this.#block(battle);
-      const edit = this.#take(MarsEdit.size);
+      const edit = this.#allocate(MarsEdit.size);
       const fields = this.#words(edit, MarsEdit.size / 4);
       fields.fill(0);
       fields.set([KINDS[kind], warrior, place, address]);
@@ -280,7 +280,7 @@ export class Mars {
    * Allocates a block until the end of the call.
    * @param {number} size in bytes
    */
-  #take(size) {
+  #allocate(size) {
     const block = this.#exports.mars_alloc(BigInt(Math.max(1, size)));
     if (!block) throw new MarsError(OUT_OF_MEMORY);
     this.#blocks.push(block);
@@ -307,7 +307,7 @@ export class Mars {
    */
   #bytes(data) {
     const bytes = typeof data === "string" ? encoder.encode(data) : data;
-    const block = this.#take(bytes.length);
+    const block = this.#allocate(bytes.length);
     new Uint8Array(this.#exports.memory.buffer, Number(block), bytes.length).set(bytes);
     return [block, BigInt(bytes.length)];
   }
@@ -317,7 +317,7 @@ export class Mars {
    * @param {Uint32Array} words
    */
   #wordsOf(words) {
-    const block = this.#take(4 * words.length);
+    const block = this.#allocate(4 * words.length);
     this.#words(block, words.length).set(words);
     return block;
   }
@@ -336,7 +336,7 @@ export class Mars {
    * @param {{rounds?: number, seed?: number, position?: number}} terms
    */
   #settings(settings, { rounds = 1, seed = 1, position = 0 }) {
-    const block = this.#take(MarsSettings.size);
+    const block = this.#allocate(MarsSettings.size);
     const { core, processes, cycles, readLimit, writeLimit, longest, distance } = settings;
     const fields = { core, processes, cycles, longest, distance, rounds, seed, position };
     const named = { ...fields, read_limit: readLimit, write_limit: writeLimit };
@@ -354,13 +354,13 @@ export class Mars {
   #fighters(warriors) {
     const counts = warriors.map(({ cells }) => cells.length / CELL_WORDS);
     const total = counts.reduce((sum, count) => sum + count, 0);
-    const cells = this.#take(MarsCell.size * total);
+    const cells = this.#allocate(MarsCell.size * total);
     let end = 0;
     for (const warrior of warriors) {
       this.#words(cells, CELL_WORDS * total).set(warrior.cells, end);
       end += warrior.cells.length;
     }
-    const places = this.#take(MarsWarrior.size * warriors.length);
+    const places = this.#allocate(MarsWarrior.size * warriors.length);
     this.#words(places, 2 * warriors.length).set(warriors.flatMap(({ start }, index) => [counts[index], start]));
     return [cells, BigInt(total), places, BigInt(warriors.length)];
   }
@@ -371,7 +371,7 @@ export class Mars {
    * @param {Arguments} given
    */
   #call(name, given, allowed = DONE) {
-    const fault = this.#take(MarsFault.size);
+    const fault = this.#allocate(MarsFault.size);
     const result = this.#exports[name](...given, fault);
     if (result === DONE || result === allowed) return result;
     const view = this.#view(fault);
@@ -392,12 +392,12 @@ export class Mars {
    * @returns {Warrior}
    */
   #program(name, given) {
-    const program = this.#take(MarsProgram.size);
-    let cells = this.#take(MarsCell.size * CELLS);
+    const program = this.#allocate(MarsProgram.size);
+    let cells = this.#allocate(MarsCell.size * CELLS);
     const result = this.#call(name, [...given, cells, BigInt(CELLS), program], ROOM);
     const [length, start] = this.#words(program, 2);
     if (result === ROOM) {
-      cells = this.#take(MarsCell.size * length);
+      cells = this.#allocate(MarsCell.size * length);
       this.#call(name, [...given, cells, BigInt(length), program]);
     }
     const bytes = new Uint8Array(this.#exports.memory.buffer, Number(program), MarsProgram.size);
@@ -415,12 +415,12 @@ export class Mars {
    * @param {number} size
    */
   #text(name, given, size) {
-    const length = this.#take(8);
+    const length = this.#allocate(8);
     const lengthOf = () => Number(this.#view(length).getBigUint64(0, true));
-    let buffer = this.#take(size);
+    let buffer = this.#allocate(size);
     if (this.#call(name, [...given, buffer, BigInt(size), length], ROOM) === ROOM) {
       const needed = lengthOf();
-      buffer = this.#take(needed);
+      buffer = this.#allocate(needed);
       this.#call(name, [...given, buffer, BigInt(needed), length]);
     }
     return new Uint8Array(this.#exports.memory.buffer, Number(buffer), lengthOf()).slice();
@@ -436,7 +436,7 @@ export class Mars {
    */
   #rows(name, warriors, count, { settings = DEFAULTS, rounds = 1, seed = 1, position = 0, formula = FORMULA }) {
     return this.#within(() => {
-      const rows = this.#take(MarsRow.size * count);
+      const rows = this.#allocate(MarsRow.size * count);
       const given = [this.#settings(settings, { rounds, seed, position }), ...this.#bytes(formula)];
       this.#call(name, [...given, ...this.#fighters(warriors), rows, BigInt(count)]);
       const view = this.#view(rows);

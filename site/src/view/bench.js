@@ -1,7 +1,7 @@
 /** The bench: the source in the editor against each opponent, fought again whenever it changes. */
 import { MarsError } from "../engine/mars.js";
-import { counted, number } from "../words/battle.js";
-import { element, make, onClick, refill, settled, typed } from "./dom.js";
+import { number, pluralize } from "../words/battle.js";
+import { debounce, element, make, onClick, refill, typed } from "./dom.js";
 import { errorWords, mean } from "./host.js";
 
 /** @typedef {import("./host.js").Host} Host */
@@ -38,9 +38,9 @@ export class Bench {
   #took = 0;
   #run = 0;
   #fought = "";
-  #later = settled(() => this.#draw(), 40);
+  #later = debounce(() => this.#draw(), 40);
   /** The source in the editor has changed. */
-  checked = settled(() => {
+  checked = debounce(() => {
     if (this.isOpen && !this.host.shelf.isBroken) this.fight();
   }, 350);
 
@@ -135,8 +135,8 @@ export class Bench {
   #draw() {
     element("bench-title").textContent = this.#title;
     const done = this.rows.size + this.#faults.size;
-    const against = counted(this.#opponents.length, "opponent");
-    const rounds = counted(this.host.terms().rounds, "round");
+    const against = pluralize(this.#opponents.length, "opponent");
+    const rounds = pluralize(this.host.terms().rounds, "round");
     const whole = `${against}, ${rounds} each, in ${number(Math.round(this.#took))} ms`;
     const note = done < this.#opponents.length ? `${done} of ${against} …` : whole;
     element("bench-note").textContent = this.#fault || note;
@@ -200,7 +200,7 @@ const signed = (change) => `${change >= 0 ? "+" : "−"}${fixed(Math.abs(change)
  * @param {Row} row
  */
 function stack({ wins, ties, losses }) {
-  const title = `${counted(wins, "win")}, ${counted(ties, "tie")}, ${counted(losses, "loss")}`;
+  const title = `${pluralize(wins, "win")}, ${pluralize(ties, "tie")}, ${pluralize(losses, "loss")}`;
   const part = (/** @type {string} */ className, /** @type {number} */ value) =>
     make("i", { className, style: `flex:${value}` });
   const parts = [part("win", wins), part("tie", ties), part("loss", losses)];

@@ -2,7 +2,7 @@
 import { cellText, readCell } from "../model/cells.js";
 import { number, ownerName } from "../words/battle.js";
 import { instructionWords } from "../words/instruction.js";
-import { buttons, element, make, onClick, refill, settled } from "./dom.js";
+import { buttons, debounce, element, make, onClick, refill } from "./dom.js";
 import { swatch } from "./palette.js";
 
 /** @typedef {import("../battle/conditions.js").Word} Word */
@@ -17,7 +17,7 @@ const NOT_A_LINE = "This is not an instruction: write it as in a source, such as
 
 export class Cells {
   #isEditing = false;
-  #asked = "";
+  #request = "";
 
   /**
    * @param {Session} session
@@ -26,7 +26,7 @@ export class Cells {
   constructor(session, side) {
     this.session = session;
     this.side = side;
-    this.look = settled(() => this.#list(), 40);
+    this.look = debounce(() => this.#list(), 40);
     onClick("release", () => session.pin(null));
     for (const button of buttons("#seek button")) {
       button.onclick = () => this.#seek(button, /** @type {keyof typeof DONE} */ (button.dataset.word));
@@ -143,14 +143,14 @@ export class Cells {
   async #listChanges(view) {
     const { session, focus } = this;
     const { known, future } = session;
-    const asked = (this.#asked = `${future} ${focus} ${view.turn}`);
+    const request = (this.#request = `${future} ${focus} ${view.turn}`);
     const { opened } = session;
     const history = await session.desk.cell(future, focus, view.turn).catch((error) => {
       // If another battle has been opened meanwhile, it may not have this turn.
       if (opened === session.opened) throw error;
       return null;
     });
-    if (!history || asked !== this.#asked) return;
+    if (!history || request !== this.#request) return;
     const { changes, next } = history;
     const link = (/** @type {number} */ turn, /** @type {string} */ text) =>
       make("button", { className: "link", onclick: () => session.jump(turn) }, text);
@@ -192,7 +192,7 @@ export class Cells {
       event.preventDefault();
       event.stopPropagation();
       if (event.key === "Escape") done();
-      else if (await this.#take(address, input)) {
+      else if (await this.#applyEdit(address, input)) {
         done();
         button.focus();
       }
@@ -206,7 +206,7 @@ export class Cells {
    * @param {number} address
    * @param {HTMLInputElement} input
    */
-  async #take(address, input) {
+  async #applyEdit(address, input) {
     try {
       const cell = await this.session.cellOf(input.value, address);
       input.onblur = null;

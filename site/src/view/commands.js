@@ -272,8 +272,8 @@ async function futures(session, rest) {
     await session.showFuture(future);
   }
   return session.futures.map(({ edits, end }, index) => {
-    const made = edits.map((one) => `after turn ${one.turn}: ${editText(one.edit, session.known.core)}`);
-    return `${index === session.future ? ">" : " "} ${index}: ${made.join("; ") || "no edits"}; ${end} turns`;
+    const edited = edits.map((one) => `after turn ${one.turn}: ${editText(one.edit, session.known.core)}`);
+    return `${index === session.future ? ">" : " "} ${index}: ${edited.join("; ") || "no edits"}; ${end} turns`;
   });
 }
 

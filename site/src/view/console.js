@@ -58,7 +58,7 @@ export class Console {
     if (certain.length > word.length) field.setRangeText(certain, end - word.length, end, "end");
     else {
       this.#listed = before;
-      this.#say(found.join("  "), "asked");
+      this.#print(found.join("  "), "asked");
     }
     return true;
   }
@@ -69,11 +69,11 @@ export class Console {
     if (!given) return;
     if (given !== this.#past.at(-1)) this.#past.push(given);
     this.#at = this.#past.length;
-    this.#say(`turn ${this.session.turn}> ${given}`, "asked");
+    this.#print(`turn ${this.session.turn}> ${given}`, "asked");
     try {
-      for (const answer of await execute(this.session, given)) this.#say(answer, "");
+      for (const answer of await execute(this.session, given)) this.#print(answer, "");
     } catch (error) {
-      this.#say(String(/** @type {Error} */ (error).message), "refused");
+      this.#print(String(/** @type {Error} */ (error).message), "refused");
     }
   }
 
@@ -81,7 +81,7 @@ export class Console {
    * @param {string} text
    * @param {string} className
    */
-  #say(text, className) {
+  #print(text, className) {
     const answers = element("answers");
     answers.append(make("li", { className }, withCode(text)));
     while (answers.children.length > MAX_LINES) answers.firstChild?.remove();

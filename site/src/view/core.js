@@ -21,7 +21,7 @@ import { SHADES } from "./palette.js";
  */
 
 /** The largest number of processes of a warrior with rings around them, and the cells in pixels that need none. */
-const FEW = 3;
+const MAX_RINGED = 3;
 const LARGE = 16;
 /** The least size of cells in pixels that show their instruction. */
 const READABLE = 46;
@@ -65,7 +65,7 @@ export class Core {
   #ys = new Uint32Array(2);
   #image = new ImageData(1, 1);
   #pixels = new Uint32Array(1);
-  #stands = new Uint8Array(1);
+  #processOwners = new Uint8Array(1);
 
   /** @param {HTMLCanvasElement} canvas */
   constructor(canvas) {
@@ -102,7 +102,7 @@ export class Core {
     this.canvas.style.height = `${this.canvas.height / ratio}px`;
     this.#image = this.context.createImageData(wide, tall);
     this.#pixels = new Uint32Array(this.#image.data.buffer);
-    this.#stands = new Uint8Array(size);
+    this.#processOwners = new Uint8Array(size);
   }
 
   /**
@@ -161,14 +161,14 @@ export class Core {
   #drawProcesses({ queues, processes }, palette) {
     /** @type {{address: number, warrior: number}[]} */
     const few = [];
-    this.#stands.fill(0);
+    this.#processOwners.fill(0);
     let first = 0;
     processes.forEach((count, warrior) => {
       for (const address of queues.subarray(first, first + count)) {
-        if (this.#stands[address] === warrior + 1) continue;
-        if (count <= FEW) few.push({ address, warrior });
-        this.#drawProcess(address, palette.process[warrior], this.#stands[address] > 0);
-        this.#stands[address] = warrior + 1;
+        if (this.#processOwners[address] === warrior + 1) continue;
+        if (count <= MAX_RINGED) few.push({ address, warrior });
+        this.#drawProcess(address, palette.process[warrior], this.#processOwners[address] > 0);
+        this.#processOwners[address] = warrior + 1;
       }
       first += count;
     });

@@ -76,7 +76,7 @@ export function refill(place, ...parts) {
  * @param {() => void} act
  * @param {number} wait
  */
-export function settled(act, wait) {
+export function debounce(act, wait) {
   /** @type {ReturnType<typeof setTimeout>} */
   let waiting;
   return () => {

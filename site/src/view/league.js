@@ -1,7 +1,7 @@
 /** The league: a match of every two sources. The table and the wins of each pair grow as matches end. */
 import { MarsError } from "../engine/mars.js";
-import { counted, number } from "../words/battle.js";
-import { element, make, onClick, refill, settled, typed } from "./dom.js";
+import { number, pluralize } from "../words/battle.js";
+import { debounce, element, make, onClick, refill, typed } from "./dom.js";
 import { errorWords } from "./host.js";
 
 /** @typedef {import("../engine/warrior.js").Warrior} Warrior */
@@ -37,7 +37,7 @@ export class League {
   #run = 0;
   #began = 0;
   #took = 0;
-  #later = settled(() => this.draw(), 60);
+  #later = debounce(() => this.draw(), 60);
 
   /**
    * @param {Host} host
@@ -85,24 +85,24 @@ export class League {
   async #enter(sources, terms) {
     /** @type {string[]} */
     const faults = [];
-    const asked = sources.map(async (source) => {
+    const pending = sources.map(async (source) => {
       try {
-        const [made] = await this.host.pool.ask("warriors", [[source], terms], "league", 2);
-        return { source, ...made };
+        const [entrant] = await this.host.pool.ask("warriors", [[source], terms], "league", 2);
+        return { source, ...entrant };
       } catch (error) {
         if (!(error instanceof MarsError)) throw error;
         faults.push(errorWords(error, [source], this.host.meanings));
         return null;
       }
     });
-    const entered = (await Promise.all(asked)).flatMap((made) => made ?? []);
+    const entrants = (await Promise.all(pending)).flatMap((entrant) => entrant ?? []);
     this.#faults = faults;
-    this.#sources = entered.map(({ source }) => source);
-    this.#names = entered.map(({ source, name }) => name || source.name);
-    this.against = entered.map(() => entered.map(() => null));
+    this.#sources = entrants.map(({ source }) => source);
+    this.#names = entrants.map(({ source, name }) => name || source.name);
+    this.against = entrants.map(() => entrants.map(() => null));
     this.done = 0;
-    this.total = (entered.length * (entered.length - 1)) / 2;
-    return entered.map(({ warrior }) => warrior);
+    this.total = (entrants.length * (entrants.length - 1)) / 2;
+    return entrants.map(({ warrior }) => warrior);
   }
 
   /**
@@ -114,7 +114,7 @@ export class League {
     const pairs = warriors.flatMap((_, one) => warriors.slice(one + 1).map((_, index) => [one, one + 1 + index]));
     const fights = pairs.map(async ([one, other]) => {
       const rows = await this.host.pool.ask("match", [[warriors[one], warriors[other]], terms], "league");
-      if (run === this.#run) this.#take([[one, other, rows[0], rows[1]]]);
+      if (run === this.#run) this.#addResults([[one, other, rows[0], rows[1]]]);
     });
     await Promise.allSettled(fights);
   }
@@ -128,7 +128,7 @@ export class League {
     try {
       for await (const results of runner(this.#sources, terms)) {
         if (run !== this.#run) return;
-        this.#take(results);
+        this.#addResults(results);
       }
     } catch (error) {
       this.#faults.push(String(/** @type {Error} */ (error).message));
@@ -136,7 +136,7 @@ export class League {
   }
 
   /** @param {Result[]} results */
-  #take(results) {
+  #addResults(results) {
     for (const [one, other, row, reverse] of results) {
       this.against[one][other] = row;
       this.against[other][one] = reverse;
@@ -173,10 +173,10 @@ export class League {
    */
   #drawProgress(done, total) {
     const isRunning = done < total;
-    const rounds = counted(this.host.terms().rounds, "round");
+    const rounds = pluralize(this.host.terms().rounds, "round");
     const out = this.#faults.length ? `; left out: ${this.#faults.join(" ")}` : "";
     const time = (this.#took / 1000).toFixed(1);
-    const summary = `${number(done)} of ${counted(total, "match")}, ${rounds} each, in ${time} s${out}`;
+    const summary = `${number(done)} of ${pluralize(total, "match")}, ${rounds} each, in ${time} s${out}`;
     element("league-note").textContent = total ? summary : this.#faults.join(" ");
     element("league-stop").hidden = !isRunning;
     const progress = typed("league-done", HTMLProgressElement);
@@ -194,7 +194,7 @@ export class League {
     const row = this.against[who][other];
     if (!row) return make("td", { className: "match" }, who === other ? "·" : "");
     const [red, green, blue, share] = shade(row);
-    const counts = `${counted(row.wins, "win")}, ${counted(row.ties, "tie")}, ${counted(row.losses, "loss")}`;
+    const counts = `${pluralize(row.wins, "win")}, ${pluralize(row.ties, "tie")}, ${pluralize(row.losses, "loss")}`;
     const title = `${this.#names[who]} against ${this.#names[other]}: ${counts}. A click shows the first round.`;
     const button = make("button", { className: "bare", title, onclick: () => this.#show(who, other) }, row.wins);
     const style = `background:rgba(${red},${green},${blue},${share.toFixed(2)})`;

@@ -1,6 +1,6 @@
 /** All rounds of the match: who won each of them, and by which lines warriors died. */
-import { counted, number } from "../words/battle.js";
-import { element, make, onClick, refill, settled } from "./dom.js";
+import { number, pluralize } from "../words/battle.js";
+import { debounce, element, make, onClick, refill } from "./dom.js";
 import { swatch } from "./palette.js";
 
 /** @typedef {import("../worker/jobs.js").Round} Round */
@@ -21,7 +21,7 @@ export class Rounds {
   /** @type {Round[]} */
   #rounds = [];
   #match = "";
-  #later = settled(() => this.#draw(), 30);
+  #later = debounce(() => this.#draw(), 30);
 
   /**
    * @param {Session} session
@@ -58,13 +58,13 @@ export class Rounds {
     const match = this.#match;
     const rounds = Math.max(MIN_ROUNDS, fight.rounds);
     this.#rounds = [];
-    const asked = Array.from({ length: rounds }, async (_, round) => {
-      const made = await this.pool.ask("round", [{ ...fight, rounds, round, edits: [] }], "rounds", 1);
+    const pending = Array.from({ length: rounds }, async (_, round) => {
+      const outcome = await this.pool.ask("round", [{ ...fight, rounds, round, edits: [] }], "rounds", 1);
       if (match !== this.#match) return;
-      this.#rounds[round] = made;
+      this.#rounds[round] = outcome;
       this.#later();
     });
-    await Promise.allSettled(asked);
+    await Promise.allSettled(pending);
     this.#draw();
   }
 
@@ -94,7 +94,7 @@ export class Rounds {
     if (!round || !fight) return make("i");
     const winner = round.outcomes.indexOf("win");
     const how = winner < 0 ? "a tie" : `${names[winner]} wins`;
-    const title = `Round ${index}: ${how} after ${counted(round.end, "turn")}`;
+    const title = `Round ${index}: ${how} after ${pluralize(round.end, "turn")}`;
     const rounds = Math.max(fight.rounds, this.#rounds.length);
     return make("button", {
       className: `bare ${winner < 0 ? "tie" : ""}`,
@@ -134,7 +134,7 @@ export class Rounds {
 function tally(name, source, rounds) {
   const count = (/** @type {string} */ what) => rounds.filter(({ outcomes }) => outcomes[source] === what).length;
   const losses = count("loss");
-  const words = `${counted(count("win"), "win")}, ${counted(count("tie"), "tie")}, ${counted(losses, "loss")}`;
+  const words = `${pluralize(count("win"), "win")}, ${pluralize(count("tie"), "tie")}, ${pluralize(losses, "loss")}`;
   return make("li", { style: swatch(source) }, make("i", { className: "chip" }), make("b", {}, name), ` ${words}`);
 }
 

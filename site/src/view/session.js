@@ -137,7 +137,7 @@ export class Session {
     this.chosen = -1;
     this.#compare(null);
     this.fight = fight;
-    this.#take(opened);
+    this.#setBattle(opened);
     await this.go(turn);
     if (plays) this.play(1);
   }
@@ -151,7 +151,7 @@ export class Session {
   }
 
   /** @param {Opened} opened */
-  #take(opened) {
+  #setBattle(opened) {
     const { names, core, end, deaths, labels, future } = opened;
     this.opened = opened;
     this.future = future;
@@ -253,13 +253,13 @@ export class Session {
   play(way) {
     if (way > 0 && this.wanted >= this.end) this.wanted = 0;
     if (way < 0 && this.wanted <= 0) this.wanted = this.end;
-    const stood = this.way === 0;
+    const wasStopped = this.way === 0;
     this.way = way;
     this.hasEnded = false;
     this.#exact = this.wanted;
     this.#then = performance.now();
     this.#notify("play");
-    if (stood) requestAnimationFrame((now) => this.#tick(now));
+    if (wasStopped) requestAnimationFrame((now) => this.#tick(now));
   }
 
   stop() {
@@ -283,7 +283,7 @@ export class Session {
   }
 
   /** @param {number} rate turns a second */
-  quicken(rate) {
+  setRate(rate) {
     this.rate = clamp(rate, SLOWEST, FASTEST);
     this.#notify("play");
   }
@@ -338,7 +338,7 @@ export class Session {
       this.futures.push({ edits: opened.edits, end: opened.end, parent, visited: -1 });
       this.futures[parent].visited = opened.future;
     }
-    this.#take(opened);
+    this.#setBattle(opened);
     await this.go(turn);
   }
 
@@ -351,7 +351,7 @@ export class Session {
     if (parent >= 0) this.futures[parent].visited = future;
     const turn = this.wanted;
     if (this.#wantedBeside === this.futures[future]) this.#compare(null);
-    this.#take(await this.desk.show(future));
+    this.#setBattle(await this.desk.show(future));
     await this.go(turn);
   }
 

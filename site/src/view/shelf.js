@@ -3,8 +3,8 @@ import { MarsError } from "../engine/mars.js";
 import { cellText } from "../model/cells.js";
 import { MAX_SOURCE_SIZE } from "../model/settings.js";
 import { errorsOf } from "../words/errors.js";
-import { Stopped, TooLong } from "../worker/pool.js";
-import { download, element, make, onClick, refill, settled, withCode } from "./dom.js";
+import { Stopped, TimedOut } from "../worker/pool.js";
+import { debounce, download, element, make, onClick, refill, withCode } from "./dom.js";
 import { Editor, newDocument } from "./editor.js";
 
 /** @typedef {import("codemirror").Document} Document */
@@ -12,7 +12,7 @@ import { Editor, newDocument } from "./editor.js";
 /** @typedef {import("../model/settings.js").Settings} Settings */
 /** @typedef {import("../worker/pool.js").Pool} Pool */
 /** @typedef {import("./rounds.js").Hits} Hits */
-/** @typedef {{name: string, doc: Document, saved: string, isExample: boolean, fights: boolean}} Held */
+/** @typedef {{name: string, doc: Document, saved: string, isExample: boolean, fights: boolean}} OpenSource */
 /**
  * Where sources are saved. `save` returns null, or why one was not; `isOther` is whether something else changed the
  * file. `load` returns the text of a file as it is now, or null if it is gone.
@@ -36,9 +36,9 @@ const NEW = [";redcode-94", ";name My first warrior", ";author ", "; What does i
 NEW.push("start   MOV     0, 1            ; copies itself to the next cell", "        END     start", "");
 
 export class Shelf {
-  /** @type {Held[]} */
-  held = [];
-  /** @type {Held | null} */
+  /** @type {OpenSource[]} */
+  sources = [];
+  /** @type {OpenSource | null} */
   shown = null;
   /** Whether the source in the editor has an error. */
   isBroken = false;
@@ -48,7 +48,7 @@ export class Shelf {
   /** @param {Host} host */
   constructor(host) {
     this.host = host;
-    const [lint, keep] = [settled(() => this.lint(), 250), settled(() => host.changed(), 400)];
+    const [lint, keep] = [debounce(() => this.lint(), 250), debounce(() => host.changed(), 400)];
     this.editor = new Editor({
       save: () => this.save(false),
       fight: () => host.fight(),
@@ -95,9 +95,9 @@ export class Shelf {
    * @param {{name: string, text: string, isExample?: boolean, saved?: string, fights?: boolean}} source
    */
   add({ name, text, isExample = false, saved = text, fights = false }) {
-    const held = { name: this.#freeName(name), doc: newDocument(text), saved, isExample, fights };
-    this.held.push(held);
-    return held;
+    const entry = { name: this.#freeName(name), doc: newDocument(text), saved, isExample, fights };
+    this.sources.push(entry);
+    return entry;
   }
 
   /** @param {string} name */
@@ -110,16 +110,16 @@ export class Shelf {
 
   /** @param {string} name */
   find(name) {
-    return this.held.find((held) => held.name === name);
+    return this.sources.find((entry) => entry.name === name);
   }
 
   /** The sources that are marked. */
   get fighters() {
-    return this.held.filter(({ fights }) => fights).map(sourceOf);
+    return this.sources.filter(({ fights }) => fights).map(sourceOf);
   }
 
   get all() {
-    return this.held.map(sourceOf);
+    return this.sources.map(sourceOf);
   }
 
   /** The source in the editor. */
@@ -132,9 +132,9 @@ export class Shelf {
    * @param {Source[]} sources
    */
   mark(sources) {
-    const holding = (/** @type {string} */ text) => this.held.find(({ doc }) => doc.getValue() === text);
+    const holding = (/** @type {string} */ text) => this.sources.find(({ doc }) => doc.getValue() === text);
     const found = sources.map((source) => holding(source.text) ?? this.add(source));
-    for (const held of this.held) held.fights = found.includes(held);
+    for (const entry of this.sources) entry.fights = found.includes(entry);
     this.list();
     if (!this.shown || !found.includes(this.shown)) this.show(found[0]);
     return found.map(sourceOf);
@@ -148,7 +148,7 @@ export class Shelf {
     let last = null;
     for (const file of files) {
       if (file.size > MAX_SOURCE_SIZE) {
-        this.#say(`${file.name} is too large: a source has at most 1 MB.`);
+        this.#showMessage(`${file.name} is too large: a source has at most 1 MB.`);
         continue;
       }
       last = this.add({ name: file.name, text: await textOf(file) });
@@ -161,8 +161,8 @@ export class Shelf {
   }
 
   #create() {
-    const held = this.add({ name: "warrior.red", saved: "", text: NEW.join("\n") });
-    this.show(held);
+    const entry = this.add({ name: "warrior.red", saved: "", text: NEW.join("\n") });
+    this.show(entry);
     this.host.changed();
     this.editor.mirror.focus();
     this.editor.mirror.setCursor(1, NEW[1].length);
@@ -170,11 +170,11 @@ export class Shelf {
 
   #remove() {
     const { shown } = this;
-    if (!shown || this.held.length < 2) return;
+    if (!shown || this.sources.length < 2) return;
     const where = this.host.folder ? "The file in the folder stays." : "It is stored nowhere else.";
     if (!shown.isExample && !confirm(`Remove ${shown.name} from the list? ${where}`)) return;
-    this.held = this.held.filter((held) => held !== shown);
-    this.show(this.held[0]);
+    this.sources = this.sources.filter((entry) => entry !== shown);
+    this.show(this.sources[0]);
     this.host.changed();
   }
 
@@ -202,39 +202,39 @@ export class Shelf {
     this.list();
     this.sign();
     this.host.changed();
-    if (folder) this.#say("saved");
+    if (folder) this.#showMessage("saved");
   }
 
   /**
    * Takes a source as it is in the folder now.
-   * @param {Held} held
+   * @param {OpenSource} entry
    */
-  async #reload(held) {
-    const text = await this.host.folder?.load(held.name);
+  async #reload(entry) {
+    const text = await this.host.folder?.load(entry.name);
     if (typeof text !== "string") return;
-    held.saved = text;
-    held.doc.setValue(text);
+    entry.saved = text;
+    entry.doc.setValue(text);
     this.list();
     this.sign();
   }
 
   /** @param {string} text */
-  #say(text) {
+  #showMessage(text) {
     element("saved").textContent = text;
   }
 
   /** Draws the list. */
   list() {
-    const lines = this.held.map((held) => {
-      const { name, isExample, fights } = held;
+    const lines = this.sources.map((entry) => {
+      const { name, isExample, fights } = entry;
       const box = make("input", { type: "checkbox", checked: fights, "aria-label": `${name} fights` });
       box.onchange = () => {
-        held.fights = box.checked;
+        entry.fights = box.checked;
         this.host.changed();
       };
-      const isShown = held === this.shown;
-      const show = { className: "bare", onclick: () => this.show(held), "aria-current": String(isShown) };
-      const button = make("button", show, titleOf(held));
+      const isShown = entry === this.shown;
+      const show = { className: "bare", onclick: () => this.show(entry), "aria-current": String(isShown) };
+      const button = make("button", show, titleOf(entry));
       const label = make("label", { title: "Fights" }, box);
       const kind = make("small", {}, isExample ? "example" : "");
       return make("li", { className: isShown ? "shown" : "" }, label, button, kind);
@@ -243,10 +243,10 @@ export class Shelf {
     element("names").querySelector(".shown")?.scrollIntoView({ block: "nearest" });
   }
 
-  /** @param {Held} held */
-  show(held) {
-    this.shown = held;
-    this.editor.show(held.doc);
+  /** @param {OpenSource} entry */
+  show(entry) {
+    this.shown = entry;
+    this.editor.show(entry.doc);
     this.list();
     this.sign();
     this.#showHits();
@@ -272,10 +272,10 @@ export class Shelf {
    * @param {number} line
    */
   showLine(name, line) {
-    const held = this.find(name);
-    if (!held) return;
+    const entry = this.find(name);
+    if (!entry) return;
     element("desk").hidden = false;
-    if (held !== this.shown) this.show(held);
+    if (entry !== this.shown) this.show(entry);
     this.editor.showLine(line);
   }
 
@@ -296,8 +296,8 @@ export class Shelf {
     const button = element("names").querySelector(".shown button");
     if (button) button.textContent = titleOf(shown);
     const unsaved = host.folder ? "not saved" : "stored in this browser; Download writes a file";
-    if (host.isStale(shown.name, text)) this.#say("changed since this fight: Ctrl-Enter fights it");
-    else this.#say(text === shown.saved ? "" : unsaved);
+    if (host.isStale(shown.name, text)) this.#showMessage("changed since this fight: Ctrl-Enter fights it");
+    else this.#showMessage(text === shown.saved ? "" : unsaved);
   }
 
   /** Assembles the source in the editor, and shows its errors. */
@@ -339,7 +339,7 @@ export class Shelf {
       });
     } catch (error) {
       if (error instanceof Stopped) return null;
-      const why = error instanceof TooLong ? "it takes too long" : String(/** @type {Error} */ (error).message);
+      const why = error instanceof TimedOut ? "it takes too long" : String(/** @type {Error} */ (error).message);
       return [{ line: 1, from: 0, to: 0, text: `This source cannot be assembled: ${why}.` }];
     }
   }
@@ -361,12 +361,12 @@ export class Shelf {
 }
 
 /**
- * @param {Held} held
+ * @param {OpenSource} entry
  * @returns {Source}
  */
 const sourceOf = ({ name, doc }) => ({ name, text: doc.getValue() });
 
-/** @param {Held} held */
+/** @param {OpenSource} entry */
 const titleOf = ({ name, doc, saved }) => name.replace(/\.red$/, "") + (doc.getValue() === saved ? "" : " •");
 
 /**

@@ -1,7 +1,7 @@
 /** Beside the core: who fights, the story of the battle, the turn that is shown, and the futures. */
 import { cellText, readCell } from "../model/cells.js";
 import { editText } from "../model/fight.js";
-import { counted, eventWords, joined, moveWords, number, outcome, place } from "../words/battle.js";
+import { eventWords, joinNames, moveWords, number, outcome, place, pluralize } from "../words/battle.js";
 import { instructionWords } from "../words/instruction.js";
 import { element, make, onClick, refill } from "./dom.js";
 import { swatch } from "./palette.js";
@@ -16,7 +16,7 @@ import { swatch } from "./palette.js";
  */
 
 /** With more warriors than that, rows are small. */
-const FEW = 4;
+const MAX_LARGE_ROWS = 4;
 const PAUSE = "Pause, or step with the arrow keys, to read each turn in words.";
 
 export class Side {
@@ -50,11 +50,11 @@ export class Side {
     if (!opened) return;
     const { names } = known;
     if (this.session.furthest === 0) this.#isWhole = false;
-    const title = names.length === 2 ? names.join(" against ") : joined(names);
+    const title = names.length === 2 ? names.join(" against ") : joinNames(names);
     document.title = `${title} · Core War`;
     element("title").textContent = title;
     this.#rows = names.map((_, who) => this.#row(who));
-    element("legend").className = names.length > FEW ? "many" : "";
+    element("legend").className = names.length > MAX_LARGE_ROWS ? "many" : "";
     refill(element("legend"), ...this.#rows.map(({ row }) => row));
     refill(element("story"), ...opened.events.map((event) => this.#event(event)));
     this.#openFutures();
@@ -97,8 +97,8 @@ export class Side {
     element("redo").toggleAttribute("disabled", !session.canRedo);
     element("alone").hidden = beside === null;
     const lines = futures.map(({ edits, end }, index) => {
-      const made = edits.map(({ turn, edit }) => `turn ${number(turn)}: ${editText(edit, known.core)}`);
-      const text = `${index}: ${made.join("; ") || "as it was fought"} (${counted(end, "turn")})`;
+      const edited = edits.map(({ turn, edit }) => `turn ${number(turn)}: ${editText(edit, known.core)}`);
+      const text = `${index}: ${edited.join("; ") || "as it was fought"} (${pluralize(end, "turn")})`;
       const current = index === future ? "true" : null;
       const here = { className: "bare", "aria-current": current, onclick: () => session.showFuture(index) };
       const compare = { className: "link", title: "Show it beside this one", onclick: () => session.compare(index) };
@@ -113,7 +113,7 @@ export class Side {
     this.#rows.forEach((row, who) => this.#drawRow(row, who, view));
     this.#drawStory(view.turn);
     const isOver = view.turn === opened.end;
-    element("outcome").textContent = isOver ? `${outcome(known)} after ${counted(opened.end, "turn")}.` : "";
+    element("outcome").textContent = isOver ? `${outcome(known)} after ${pluralize(opened.end, "turn")}.` : "";
     element("alone").hidden = this.session.beside === null;
     this.#drawTurn(view);
   }

@@ -65,7 +65,7 @@ export class Theatre {
     onClick("again", () => session.play(1));
     onClick("why-now", () => this.#showDeath());
     const speed = typed("speed", HTMLInputElement);
-    speed.oninput = () => session.quicken(FASTEST ** (Number(speed.value) / 100));
+    speed.oninput = () => session.setRate(FASTEST ** (Number(speed.value) / 100));
     for (const button of buttons("#leaps button")) {
       button.onclick = () => this.leap(/** @type {Word} */ (button.dataset.word), button.dataset.way === "on");
     }
@@ -82,7 +82,7 @@ export class Theatre {
     if (death && death.address >= 0) this.session.pin(death.address);
     if (found) return;
     const what = EVENTS[/** @type {keyof typeof EVENTS} */ (word)];
-    this.#say(`There is no ${what} ${forward ? "after" : "before"} turn ${number(this.session.turn)}.`);
+    this.#announce(`There is no ${what} ${forward ? "after" : "before"} turn ${number(this.session.turn)}.`);
   }
 
   #showDeath() {
@@ -128,7 +128,7 @@ export class Theatre {
    * Says something below the core, until the turn changes.
    * @param {string} text
    */
-  #say(text) {
+  #announce(text) {
     element("caption").textContent = text;
     this.#caption = text;
   }
@@ -291,7 +291,7 @@ export class Theatre {
     if (caption === this.#caption || (way && isNumber && now - this.#saidAt < 500)) return;
     this.#saidAt = now;
     element("caption").setAttribute("aria-live", isNumber ? "off" : "polite");
-    this.#say(caption);
+    this.#announce(caption);
   }
 
   /**

@@ -39,7 +39,7 @@ export class Track {
   #deaths = [];
   /** @type {number[]} */
   #edits = [];
-  #asked = 0;
+  #request = 0;
   #film = document.createElement("canvas");
   /** @type {unknown[]} */
   #drawn = [];
@@ -65,7 +65,7 @@ export class Track {
     this.#edits = edits.map(({ turn }) => turn);
     this.#warriors = order.length;
     this.first = 0;
-    this.#asked++;
+    this.#request++;
   }
 
   get isWhole() {
@@ -81,10 +81,10 @@ export class Track {
     const length = clamp(last - first, Math.min(MIN_LENGTH, this.#end), this.#end);
     this.first = Math.round(clamp(first, 0, this.#end - length));
     this.last = Math.round(this.first + length);
-    const asked = ++this.#asked;
+    const request = ++this.#request;
     this.changed();
     const overview = await this.ask(this.first, this.last);
-    if (asked !== this.#asked) return;
+    if (request !== this.#request) return;
     this.#overview = overview;
     this.changed();
   }

@@ -28,13 +28,13 @@ export const number = (value) => value.toLocaleString("en");
  * @param {number} value
  * @param {string} what
  */
-export function counted(value, what) {
+export function pluralize(value, what) {
   const ending = /(s|ch)$/.test(what) ? "es" : "s";
   return `${number(value)} ${what}${value === 1 ? "" : ending}`;
 }
 
 /** @param {string[]} names */
-export const joined = (names) =>
+export const joinNames = (names) =>
   names.length > 1 ? `${names.slice(0, -1).join(", ")} and ${names[names.length - 1]}` : (names[0] ?? "");
 
 /**
@@ -43,14 +43,14 @@ export const joined = (names) =>
  */
 export function distinct(names) {
   /** @type {string[]} */
-  const made = [];
+  const result = [];
   for (const name of names) {
     let found = name;
     const isShared = names.indexOf(name) !== names.lastIndexOf(name);
-    for (let count = 1; isShared && [...names, ...made].includes(found); count++) found = `${name} ${count}`;
-    made.push(found);
+    for (let count = 1; isShared && [...names, ...result].includes(found); count++) found = `${name} ${count}`;
+    result.push(found);
   }
-  return made;
+  return result;
 }
 
 /**
@@ -77,7 +77,7 @@ export function outcome({ names, deaths }) {
   const living = names.filter((_, who) => !dead.has(who));
   if (living.length === 0) return "No warrior survives";
   if (living.length === 1) return `${living[0]} ${names.length > 1 ? "wins" : "survives"}`;
-  return living.length === 2 && names.length === 2 ? "A tie: both survive" : `A tie of ${joined(living)}`;
+  return living.length === 2 && names.length === 2 ? "A tie: both survive" : `A tie of ${joinNames(living)}`;
 }
 
 /**
@@ -93,7 +93,7 @@ export function moveWords(move, known) {
   for (const write of move.writes) sentences.push(writeWords(write, move.warrior, known));
   if (move.reads.length) {
     const cells = move.reads.slice(0, 4).map((address) => place(address, known));
-    sentences.push(`It looked at ${joined(cells)}.`);
+    sentences.push(`It looked at ${joinNames(cells)}.`);
   }
   sentences.push(endWords(move, known));
   return sentences.filter(Boolean).join(" ");
@@ -121,7 +121,7 @@ function endWords({ warrior, address, queued, died, left }, known) {
   if (died) return `That was its last process: ${known.names[warrior]} is dead.`;
   if (queued.length === 0) return `That process ended; ${number(left)} left.`;
   const cells = queued.map((one) => place(one, known));
-  if (queued.length === 2) return `It split: processes continue at ${joined(cells)}.`;
+  if (queued.length === 2) return `It split: processes continue at ${joinNames(cells)}.`;
   return queued[0] === (address + 1) % known.core ? "" : `It continues at ${cells[0]}.`;
 }
 
@@ -135,7 +135,7 @@ export function eventWords(event, known) {
   const name = names[event.warrior] ?? "";
   switch (event.kind) {
     case "start": {
-      const who = names.length > 4 ? `${names.length} warriors` : joined(names);
+      const who = names.length > 4 ? `${names.length} warriors` : joinNames(names);
       return `${who} ${names.length > 1 ? "are" : "is"} loaded into the core`;
     }
     case "split":
@@ -149,7 +149,7 @@ export function eventWords(event, known) {
     case "death":
       return deathWords(event, known);
     default:
-      return `${outcome(known)} after ${counted(event.turn, "turn")}`;
+      return `${outcome(known)} after ${pluralize(event.turn, "turn")}`;
   }
 }
 
@@ -175,7 +175,7 @@ function deathWords({ warrior, other, address, count }, known) {
  * @param {{processes: number[], owned: number[]}} view
  */
 export const standingWords = (names, { processes, owned }) =>
-  names.map((name, who) => `${name}: ${counted(processes[who], "process")}, ${counted(owned[who], "cell")}`);
+  names.map((name, who) => `${name}: ${pluralize(processes[who], "process")}, ${pluralize(owned[who], "cell")}`);
 
 /**
  * Returns what a newcomer sees while the battle plays. `cells` and `processes` are those of each warrior.
@@ -192,7 +192,7 @@ export function captionWords(turn, events, known, { processes, cells }) {
   if (latest) return `${eventWords(latest, known)}.`;
   if (turn < end / 10) {
     if (names.length === 1) return `${names[0]} has the core to itself.`;
-    return `${joined(names)} share a ring of ${number(core)} cells, and each tries to end the other.`;
+    return `${joinNames(names)} share a ring of ${number(core)} cells, and each tries to end the other.`;
   }
   const [leader, many] = [cells, processes].map((counts) => counts.indexOf(Math.max(...counts)));
   const share = `${names[leader]} owns ${Math.round((100 * cells[leader]) / core)} % of the core`;

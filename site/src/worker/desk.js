@@ -50,8 +50,8 @@ import { CELL_WORDS } from "../model/cells.js";
 /** @typedef {{turn: number, warrior: number, before: Uint32Array, after: Uint32Array}} CellChange */
 
 /** The number of changes of a cell that are reported, and of futures whose histories are kept. */
-const FEW = 5;
-const KEPT = 4;
+const MAX_CHANGES = 5;
+const MAX_HISTORIES = 4;
 
 export class Desk {
   /** @type {Map<number, History>} */
@@ -104,7 +104,7 @@ export class Desk {
     this.#histories.delete(future);
     this.#histories.set(future, found);
     const oldest = [...this.#histories.keys()].find((one) => one !== 0);
-    if (this.#histories.size > KEPT && oldest !== undefined) this.#histories.delete(oldest);
+    if (this.#histories.size > MAX_HISTORIES && oldest !== undefined) this.#histories.delete(oldest);
     return found;
   }
 
@@ -115,13 +115,13 @@ export class Desk {
    * @param {Edit} edit
    */
   edit(future, turn, edit) {
-    const kept = this.#futures[future].filter((made) => made.turn <= turn);
-    const edits = [...kept, { turn, edit }];
+    const earlier = this.#futures[future].filter((one) => one.turn <= turn);
+    const edits = [...earlier, { turn, edit }];
     const there = this.#futures.findIndex((other) => isSame(other, edits));
     if (there >= 0) return this.show(there);
-    const before = this.#futures.findIndex((other) => isSame(other, kept));
-    const made = this.#history(before).edited(turn, edit);
-    this.#histories.set(this.#futures.push(edits) - 1, made);
+    const before = this.#futures.findIndex((other) => isSame(other, earlier));
+    const edited = this.#history(before).edited(turn, edit);
+    this.#histories.set(this.#futures.push(edits) - 1, edited);
     return this.show(this.#futures.length - 1);
   }
 
@@ -283,7 +283,7 @@ export class Desk {
     const history = this.#history(future);
     /** @type {CellChange[]} */
     const changes = [];
-    for (let at = history.place(turn).written[address]; at > 0 && changes.length < FEW; ) {
+    for (let at = history.place(turn).written[address]; at > 0 && changes.length < MAX_CHANGES; ) {
       const { records } = history.record(at);
       const change = changesOf(records, 0).find((one) => one.address === address);
       // An edit is no turn.

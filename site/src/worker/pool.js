@@ -18,9 +18,9 @@ import { MarsError } from "../engine/mars.js";
 /** What a job that was dropped fails with. */
 export class Stopped extends Error {}
 /** What a call that takes too long fails with; its worker is ended. */
-export class TooLong extends Error {}
+export class TimedOut extends Error {}
 
-class Hand {
+class WorkerClient {
   /** @type {Map<number, Waiting>} */
   #waiting = new Map();
   #last = 0;
@@ -29,11 +29,11 @@ class Hand {
   constructor({ script, module }) {
     this.worker = new Worker(script);
     this.worker.onmessage = ({ data }) => {
-      const asked = this.#waiting.get(data.id);
+      const request = this.#waiting.get(data.id);
       this.#waiting.delete(data.id);
-      if (!("error" in data)) asked?.done(data.value);
-      else if (typeof data.error === "string") asked?.failed(new Error(data.error));
-      else asked?.failed(new MarsError(data.error.code, data.error));
+      if (!("error" in data)) request?.done(data.value);
+      else if (typeof data.error === "string") request?.failed(new Error(data.error));
+      else request?.failed(new MarsError(data.error.code, data.error));
     };
     this.worker.onerror = (event) => this.#fail(new Error(event.message || "the worker does not start"));
     /** @type {Promise<unknown>} */
@@ -54,19 +54,19 @@ class Hand {
   }
 
   /**
-   * Makes a call, once the machine has started. Throws TooLong after `patience` milliseconds.
+   * Makes a call, once the machine has started. Throws TimedOut after `timeout` milliseconds.
    * @param {string} call
    * @param {unknown[]} given
-   * @param {number} patience
+   * @param {number} timeout
    */
-  async ask(call, given, patience) {
+  async ask(call, given, timeout) {
     await this.ready;
     const answer = this.#send(call, given);
     // If it is late, nothing waits for it.
     answer.catch(() => {});
     let timer;
     const late = new Promise((_, failed) => {
-      timer = setTimeout(() => failed(new TooLong("it takes too long")), patience);
+      timer = setTimeout(() => failed(new TimedOut("it takes too long")), timeout);
     });
     try {
       return await Promise.race([answer, late]);
@@ -91,9 +91,9 @@ class Hand {
  * Milliseconds that a job, a source in the editor, and a battle that is opened may take: a few lines can take
  * minutes.
  */
-const PATIENCE = 60_000;
-const PATIENCE_OF_TYPING = 4_000;
-const PATIENCE_OF_OPENING = 20_000;
+const JOB_TIMEOUT = 60_000;
+const LINT_TIMEOUT = 4_000;
+const OPEN_TIMEOUT = 20_000;
 
 /**
  * The desk in a worker of its own. If a call takes too long, the worker is ended, and another one opens the last
@@ -106,7 +106,7 @@ export class RemoteDesk {
   /** @param {Parts} parts */
   constructor(parts) {
     this.parts = parts;
-    this.hand = new Hand(parts);
+    this.client = new WorkerClient(parts);
   }
 
   /**
@@ -115,18 +115,18 @@ export class RemoteDesk {
    * @returns {Promise<unknown>}
    */
   async ask(call, given) {
-    const { hand } = this;
+    const { client } = this;
     try {
-      const answer = await hand.ask(call, given, PATIENCE_OF_OPENING);
+      const answer = await client.ask(call, given, OPEN_TIMEOUT);
       if (call === "open") this.#last = given;
       return answer;
     } catch (error) {
       // The calls that waited for a worker that was ended are made again.
-      if (error instanceof Stopped && hand !== this.hand) return this.ask(call, given);
-      if (error instanceof TooLong && hand === this.hand) {
-        hand.end();
-        this.hand = new Hand(this.parts);
-        if (this.#last) await this.hand.ask("open", this.#last, PATIENCE);
+      if (error instanceof Stopped && client !== this.client) return this.ask(call, given);
+      if (error instanceof TimedOut && client === this.client) {
+        client.end();
+        this.client = new WorkerClient(this.parts);
+        if (this.#last) await this.client.ask("open", this.#last, JOB_TIMEOUT);
       }
       throw error;
     }
@@ -146,13 +146,13 @@ export function remoteDesk(parts) {
 }
 
 /**
- * A job that waits for a hand: of several the most urgent one is taken, and of those the first.
+ * A job that waits for a worker: of several the most urgent one is taken, and of those the first.
  * @typedef {Waiting & {call: string, given: unknown[], urgency: number, group: string}} Job
  */
 
-/** Hands that take jobs. */
+/** Workers that run jobs. */
 export class Pool {
-  /** @type {Hand[]} */
+  /** @type {WorkerClient[]} */
   #idle = [];
   /** @type {Job[]} */
   #jobs = [];
@@ -171,7 +171,7 @@ export class Pool {
    * @template {keyof Work} K
    * @param {K} call
    * @param {Parameters<Work[K]>} given
-   * @param {string} group what `drop` names; the group "lint" has less patience
+   * @param {string} group what `drop` names; the group "lint" has a shorter timeout
    * @param {number} urgency
    * @returns {Promise<ReturnType<Work[K]>>}
    */
@@ -197,28 +197,28 @@ export class Pool {
   #next() {
     while (this.#jobs.length && (this.#idle.length || this.#count < this.size)) {
       const job = /** @type {Job} */ (this.#jobs.shift());
-      this.#work(this.#idle.pop() ?? this.#hire(), job);
+      this.#work(this.#idle.pop() ?? this.#startWorker(), job);
     }
   }
 
-  #hire() {
+  #startWorker() {
     this.#count++;
-    return new Hand(this.parts);
+    return new WorkerClient(this.parts);
   }
 
   /**
-   * @param {Hand} hand
+   * @param {WorkerClient} client
    * @param {Job} job
    */
-  async #work(hand, job) {
+  async #work(client, job) {
     try {
-      job.done(await hand.ask(job.call, job.given, job.group === "lint" ? PATIENCE_OF_TYPING : PATIENCE));
-      this.#idle.push(hand);
+      job.done(await client.ask(job.call, job.given, job.group === "lint" ? LINT_TIMEOUT : JOB_TIMEOUT));
+      this.#idle.push(client);
     } catch (error) {
       job.failed(error);
-      if (error instanceof MarsError) this.#idle.push(hand);
+      if (error instanceof MarsError) this.#idle.push(client);
       else {
-        hand.end();
+        client.end();
         this.#count--;
       }
     }

@@ -11,20 +11,20 @@ from ..battle.labels import Sources
 from ..model.cells import Cell, cell_text
 
 # How many of many texts are shown.
-FEW = 8
+MAX_LISTED = 8
 
 
-def some(texts: Sequence[str]) -> str:
+def list_some(texts: Sequence[str]) -> str:
     """Returns the first ones of many texts, and how many more there are."""
-    return ", ".join(texts[:FEW]) + (f" and {len(texts) - FEW} more" if len(texts) > FEW else "")
+    return ", ".join(texts[:MAX_LISTED]) + (f" and {len(texts) - MAX_LISTED} more" if len(texts) > MAX_LISTED else "")
 
 
-def joined(names: Sequence[str]) -> str:
+def join_names(names: Sequence[str]) -> str:
     """Joins names for a sentence."""
     return " and ".join([", ".join(names[:-1]), names[-1]] if len(names) > 1 else names)
 
 
-def counted(count: int, noun: str) -> str:
+def pluralize(count: int, noun: str) -> str:
     """Returns a number with its noun, as in `1 loss` and `2 losses`."""
     return f"{count} {noun}" + ("" if count == 1 else "es" if noun.endswith("s") else "s")
 
@@ -47,7 +47,7 @@ class BattleFormatter:
         return f"{address} ({label})" if label else str(address)
 
     def places(self, addresses: Iterable[int]) -> str:
-        return some([self.where(int(address)) for address in addresses])
+        return list_some([self.where(int(address)) for address in addresses])
 
     def head(self, turn: int) -> str:
         """Describes what a turn executed, who, and what it read."""
@@ -80,7 +80,7 @@ class BattleFormatter:
             f"{self.where(at)}: {self.cell(block.cell(at, turn))}, as before" for at in block.rewritten(turn)
         ]
 
-    def went(self, turn: int) -> str:
+    def processes_after(self, turn: int) -> str:
         """Describes where the process of a turn went."""
         record = self.history.record(turn)
         queued = record["process"][: record["queued"]]
@@ -91,19 +91,19 @@ class BattleFormatter:
 
     def turn(self, turn: int) -> str:
         """Describes a turn in one line: what was executed, which cells changed, and where the process went."""
-        return "; ".join([self.head(turn), *self.changes(turn), self.went(turn)])
+        return "; ".join([self.head(turn), *self.changes(turn), self.processes_after(turn)])
 
     def lines(self, turn: int) -> list[str]:
         """Describes a turn, and each change in a line of its own."""
         return [self.head(turn), *(f"    {change}" for change in self.changes(turn))]
 
-    def following(self, turn: int) -> str:
+    def next_turn(self, turn: int) -> str:
         """Describes what the next turn will execute, or how the battle ended."""
         history, address = self.history, self.history.head(turn)
         if address is None:
             return self.ending()
         block = history.block(turn)
-        warrior, cell = block.following(turn), block.cell(address, turn)
+        warrior, cell = block.next_warrior(turn), block.cell(address, turn)
         text = f"next: {self.names[warrior]} at {self.where(address)}: {self.cell(cell)}"
         return f"{text}    {self.sources.describe_line(history, address, turn, warrior)}".rstrip()
 
@@ -112,16 +112,16 @@ class BattleFormatter:
         dead = self.history.ending.deaths["warrior"]
         living = [name for number, name in enumerate(self.names) if number not in dead]
         verb = "lives" if len(living) == 1 else "live"
-        return f"the battle is over: {joined(living)} {verb}" if living else "the battle is over: no survivors"
+        return f"the battle is over: {join_names(living)} {verb}" if living else "the battle is over: no survivors"
 
-    def standing(self, turn: int) -> Iterator[str]:
+    def warrior_states(self, turn: int) -> Iterator[str]:
         """Describes the state of each warrior."""
         for number, name in enumerate(self.names):
             death = self.history.death(number)
             if death is not None and death <= turn:
                 yield f"{name}: died in turn {death}"
             else:
-                yield f"{name}: {counted(len(self.history.block(turn).queue(number, turn)), 'process')}"
+                yield f"{name}: {pluralize(len(self.history.block(turn).queue(number, turn)), 'process')}"
 
     def cells(self, turn: int, first: int, count: int) -> Iterator[str]:
         """Describes cells from an address on: `>` before the next one to execute, labels, processes, and lines of
@@ -134,12 +134,12 @@ class BattleFormatter:
             mark, label = ">" if address == head else " ", self.sources.labels.get(address, "")
             source = self.sources.describe_line(history, address, turn)
             times = [(number, here[address, number]) for number in range(len(self.names)) if here[address, number]]
-            plain, painted = self._standing(history.names, times), self._standing(self.names, times)
+            plain, painted = self._processes_at(history.names, times), self._processes_at(self.names, times)
             processes = painted + " " * max(0, 16 - len(plain))
             text = f"{mark} {address:6} {label:10} {self.cell(cells[address]):24} {processes} {source}"
             yield text.rstrip()
 
     @staticmethod
-    def _standing(names: Sequence[str], times: Sequence[tuple[int, int]]) -> str:
+    def _processes_at(names: Sequence[str], times: Sequence[tuple[int, int]]) -> str:
         """Returns the warriors with processes at a cell, and how many."""
         return ", ".join(names[number] + (f" x {count}" if count > 1 else "") for number, count in times)

@@ -8,14 +8,14 @@ from ..model.errors import CorewarError, FileError, MarsError
 from ..model.printing import printable
 
 
-def tell(text: str) -> None:
+def report(text: str) -> None:
     """Writes lines to standard error, after the name of the command."""
     click.echo("\n".join(f"corewar: {printable(line)}" for line in text.split("\n")), err=True)
 
 
-def tell_fault(refused: CorewarError) -> None:
+def report_error(refused: CorewarError) -> None:
     """Reports an error, and what it means if it is one of the library."""
-    tell(str(refused))
+    report(str(refused))
     fault, source = (refused.fault, refused.text) if isinstance(refused, FileError) else (refused, b"")
     if isinstance(fault, MarsError):
         click.echo(
