@@ -12,8 +12,7 @@ from conftest import EXAMPLES, TOP
 from costly import slow
 from counting import PROGRAM, skip
 
-OPCODES = "DAT MOV ADD SUB MUL DIV MOD JMP JMZ JMN DJN SEQ SNE SLT SPL NOP".split()
-MODIFIERS, MODES = "A B AB BA F X I".split(), "#$*@{<}>"
+from corewar.model.cells import MODES, MODIFIERS, OPCODES
 
 
 @pytest.fixture(scope="module")

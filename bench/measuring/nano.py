@@ -14,12 +14,12 @@ import tempfile
 from collections.abc import Iterator
 from itertools import islice
 
+from corewar.model.cells import MODIFIERS, OPCODES
 from program import find_program
 
 from .tools import instructions, run_well
 
-OPCODES = "DAT MOV ADD SUB MUL DIV MOD JMP JMZ JMN DJN SEQ SNE SLT SPL NOP".split()
-MODIFIERS = "A B AB BA F X I".split()
+# In this order the warriors are always the same.
 MODES = "#$*@{}<>"
 CORE, CYCLES, ROUNDS, MAX_LENGTH = 80, 800, 20, 5
 

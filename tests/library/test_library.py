@@ -12,6 +12,7 @@ import random
 import re
 import shutil
 import subprocess
+import sys
 from collections.abc import Callable, Iterator, Sequence
 from concurrent.futures import ThreadPoolExecutor
 from pathlib import Path
@@ -27,13 +28,12 @@ from corewar.engine.binding import library
 from corewar.engine.warriors import read_load
 from corewar.model import cells, errors
 from corewar.model.header import names, numbers
-from corewar.model.settings import MAX_LEAGUE, MAX_WARRIORS, NUMBERS
+from corewar.model.settings import NUMBERS
 
 ARCHIVE = os.environ.get("MARS_ARCHIVE") or f"{TOP}/crates/mars_c/out/libmars_c.a"
 HEADER = Path(TOP, "include", "mars.h").read_text()
 EXAMPLES = sorted(map(str, Path(TOP, "examples").glob("*.red")))
-OPCODES = "DAT MOV ADD SUB MUL DIV MOD JMP JMZ JMN DJN SEQ SNE SLT SPL NOP CMP FOO".split()
-MODES = ["", "#", "$", "*", "@", "{", "<", "}", ">", "?"]
+OPCODES, MODES = [*cells.OPCODES, "CMP", "FOO"], ["", *cells.MODES, "?"]
 LINES = ["", "x EQU 3", "i FOR 2", "ROF", "END 1", "ORG 5", ";assert 0", "MOV 1/0, 2", "lab ADD lab, x", "MOV é"]
 # A source for each error of the assembler.
 FAULTY = [
@@ -147,12 +147,12 @@ def loads() -> Iterator[bytes]:
     """Some random warriors, as load files of version 1; now and then a faulty one."""
 
     def cell() -> str:
-        modifier, modes = dice.choice("A B AB BA F X I".split()), MODES[1:-1]
+        modifier, modes = dice.choice(cells.MODIFIERS), MODES[1:-1]
         return f"{dice.choice(OPCODES[:-2])}.{modifier} {operand(modes)}, {operand(modes)}\n"
 
     for _ in range(dice.choice([1, 2, 2, 2, 2, 3, 5])):
-        cells = "".join(cell() for _ in range(dice.randrange(1, 6)))
-        yield f"ORG 0\n{cells}{'' if dice.randrange(60) else 'X'}\n".encode()
+        body = "".join(cell() for _ in range(dice.randrange(1, 6)))
+        yield f"ORG 0\n{body}{'' if dice.randrange(60) else 'X'}\n".encode()
 
 
 def settings() -> corewar.Settings:
@@ -352,17 +352,17 @@ def test_rust(tmp_path: Path, built: str) -> None:
 
 
 def test_header() -> None:
-    """The numbers of the header are those that a compiler gives them, and those of the package."""
+    """The numbers of the header are those that a compiler gives them, and each kind of error has its names."""
     compiled = {name: getattr(library()[1], f"MARS_{name}") for name in numbers()}
     assert compiled == numbers() and len(compiled) > 100
-    for code, (kind, enumeration) in errors.KINDS.items():
-        name = "EDIT" if kind == "refused" else kind.upper().replace(" ", "_")
-        assert numbers()[name] == code and bool(names(enumeration)) == bool(enumeration)
-        assert getattr(errors, {"OUT_OF_MEMORY": "MEMORY"}.get(name, name), code) == code
-    assert [*map(numbers().get, [*cells.OPCODES, *cells.MODIFIERS])] == [*range(16), *range(7)]
-    maxima = {"PROCESSES": "processes", "CORE": "core", "CYCLES": "cycles", "ROUNDS": "rounds", "SEED": "seed"}
-    assert all(numbers()[f"MAX_{name}"] == NUMBERS[number].maximum for name, number in maxima.items())
-    assert (numbers()["MAX_WARRIORS"], numbers()["MAX_LEAGUE"]) == (MAX_WARRIORS, MAX_LEAGUE)
+    nameless = {kind for kind, enumeration in errors.KINDS.values() if not names(enumeration)}
+    assert nameless == {"done", "out of memory", "room"}
+    assert (len(cells.OPCODES), len(cells.MODIFIERS), cells.MODES) == (16, 7, "#$*@{<}>")
+    words = [sys.executable, f"{TOP}/python/corewar/__main__.py", "--help"]
+    environment = {**os.environ, "PYTHONPATH": f"{TOP}/python", "MARS_HEADER": "none.h"}
+    done = subprocess.run(words, capture_output=True, text=True, env=environment)
+    lost = "corewar: cannot find none.h; install it with `make install` or set MARS_HEADER\n"
+    assert (done.returncode, done.stdout, done.stderr) == (1, "", lost)
 
 
 def test_script() -> None:

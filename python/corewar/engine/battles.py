@@ -10,6 +10,7 @@ from numpy.typing import NDArray
 from ..model.cells import Cells, Records
 from ..model.edits import SET, Edit
 from ..model.errors import EDIT, MarsError
+from ..model.header import numbers
 from .binding import MAX_UINT32, array, call, check_size, clamp, dtype_of, library, read_text, settings_struct, slice_of
 from .calls import Match, check_count, warrior_arrays
 from .warriors import clamp_fields
@@ -20,7 +21,7 @@ HEADER = 64
 # The size of the debugger's history in places, if none is given.
 HISTORY = 200_000
 # The number of an edit's error if an address is outside the core or the first one is above the last.
-ADDRESS = 2
+ADDRESS = numbers()["EDIT_ADDRESS"]
 
 
 class Battle:

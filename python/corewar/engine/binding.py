@@ -10,7 +10,6 @@ import os
 from collections.abc import Callable
 from functools import lru_cache
 from importlib import import_module
-from pathlib import Path
 from threading import Lock
 from typing import Any
 
@@ -19,11 +18,11 @@ import numpy as np
 from numpy.typing import NDArray
 
 from ..model.errors import CorewarError, MarsError
-from ..model.header import CHECKOUT, ENGINE, INSTALLED, declarations, header
+from ..model.header import CHECKOUT, ENGINE, INSTALLED, content, declarations, header, numbers
 from ..model.settings import Settings
 
 # The result of a call whose buffer is too short, which is not an error.
-ROOM = 10
+ROOM = numbers()["ROOM"]
 # The greatest number of 32 bits. No argument of the library has it in its range, except for a number of turns.
 MAX_UINT32 = (1 << 32) - 1
 # The numbers that are None if they are not given.
@@ -34,7 +33,7 @@ COMPILED_TYPES = ENGINE / "declared.py"
 
 
 class NoLibrary(CorewarError):
-    """The library or its header is missing, or their versions differ."""
+    """The library is missing, or its version is not that of the header."""
 
 
 def library() -> tuple[Any, Any]:
@@ -70,12 +69,9 @@ def types() -> tuple[Any, str]:
     """
     if COMPILED_TYPES.is_file() and "MARS_HEADER" not in os.environ:
         return import_module(f".{COMPILED_TYPES.stem}", __package__).ffi, str(COMPILED_TYPES)
-    path = header()
-    if path is None:
-        raise NoLibrary("cannot find mars.h; install it with `make install` or set MARS_HEADER")
     ffi = cffi.FFI()
-    ffi.cdef(declarations(Path(path).read_text()))
-    return ffi, path
+    ffi.cdef(declarations(content()))
+    return ffi, str(header())
 
 
 @lru_cache(maxsize=None)

@@ -1,1 +1,1 @@
-"""Plain values: settings, warriors, cells and errors. Nothing here reads a file or calls the library."""
+"""Plain values: settings, warriors, cells and errors. Nothing here calls the library; only its header is read."""

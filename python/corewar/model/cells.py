@@ -8,10 +8,9 @@ import numpy as np
 from numpy.typing import NDArray
 
 from .errors import CorewarError
+from .header import characters, enumeration
 
-OPCODES = "DAT MOV ADD SUB MUL DIV MOD JMP JMZ JMN DJN SEQ SNE SLT SPL NOP".split()
-MODIFIERS = "A B AB BA F X I".split()
-MODES = "#$*@{<}>"
+OPCODES, MODIFIERS, MODES = [*enumeration("DAT")], [*enumeration("A")], characters()
 TEXT = re.compile(
     rf"({'|'.join(OPCODES)})\.({'|'.join(MODIFIERS)}) ([{re.escape(MODES)}])(-?\d+), ([{re.escape(MODES)}])(-?\d+)",
     re.ASCII,

@@ -6,9 +6,10 @@ from dataclasses import dataclass
 import numpy as np
 
 from .cells import Cell, cell_text
+from .header import enumeration
 
-# The kinds of an edit, with the numbers of the library's header.
-SET, MOVE, KILL, ADD = range(1, 5)
+# The kinds of an edit.
+SET, MOVE, KILL, ADD = enumeration("SET_CELL").values()
 
 
 @dataclass(frozen=True)

@@ -3,37 +3,17 @@ from __future__ import annotations
 
 from typing import Any
 
-from .header import names
+from .header import enumeration, names
 
-# The kind of each result of the library except 0 and ROOM, and the enumeration of the header that names its numbers.
-KINDS: dict[int, tuple[str, str]] = {
-    1: ("out of memory", ""),
-    2: ("settings", "SETTINGS"),
-    3: ("parameters", "PARAMETERS"),
-    4: ("formula", "EXPRESSION"),
-    5: ("assembly", "ASSEMBLY"),
-    6: ("load", "LOAD"),
-    7: ("placement", "PLACEMENT"),
-    8: ("battle", "BATTLE"),
-    9: ("score", "EXPRESSION"),
-    11: ("block", "BLOCK"),
-    12: ("refused", "EDIT"),
-    13: ("warrior", "WARRIOR"),
-    14: ("lineup", "LINEUP"),
-}
-MEMORY, SETTINGS, PARAMETERS, FORMULA, ASSEMBLY, LOAD, SCORE, BLOCK, EDIT, WARRIOR, LINEUP = (
-    1,
-    2,
-    3,
-    4,
-    5,
-    6,
-    9,
-    11,
-    12,
-    13,
-    14,
-)
+RESULTS = enumeration("DONE")
+MEMORY, SETTINGS, PARAMETERS = RESULTS["OUT_OF_MEMORY"], RESULTS["SETTINGS"], RESULTS["PARAMETERS"]
+FORMULA, ASSEMBLY, LOAD, SCORE = (RESULTS[name] for name in ("FORMULA", "ASSEMBLY", "LOAD", "SCORE"))
+BLOCK, EDIT, WARRIOR, LINEUP = (RESULTS[name] for name in ("BLOCK", "EDIT", "WARRIOR", "LINEUP"))
+# Results whose kind is not their name, and those whose numbers are not of the enumeration with their name.
+WORDS = {MEMORY: "out of memory", EDIT: "refused"}
+ENUMERATIONS = {FORMULA: "EXPRESSION", SCORE: "EXPRESSION"}
+# The kind of each result, and the enumeration of the header that names its numbers.
+KINDS = {code: (WORDS.get(code, name.lower()), ENUMERATIONS.get(code, name)) for name, code in RESULTS.items()}
 
 
 class CorewarError(Exception):

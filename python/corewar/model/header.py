@@ -1,5 +1,5 @@
-"""The header of the library: where it is, its declarations for cffi, and its numbers by name. This module imports no
-other of the package, since setup.py runs it.
+"""The header of the library: where it is, its declarations for cffi, and its names and numbers, from which the package
+has opcodes, errors and ranges. This module imports no other of the package, since setup.py runs it.
 
 The header is the file that MARS_HEADER names; otherwise mars.h beside the binding (in a wheel), or include/mars.h of
 the checkout that contains this file, of the prefix in which the package is installed, or of the system.
@@ -17,6 +17,8 @@ CHECKOUT = PACKAGE.parents[1]
 # The possible prefixes of `make install`, first the one in which this package is installed.
 INSTALLED = [*PACKAGE.parents[3:4], Path("/usr/local"), Path("/usr")]
 ENUMERATION = re.compile(r"enum \{([^}]*)\}")
+# The comment of a mode is its character.
+CHARACTER = re.compile(r"MARS_\w+,? +/\* (\S) \*/")
 
 
 def header() -> str | None:
@@ -34,17 +36,42 @@ def declarations(text: str) -> str:
 
 
 @lru_cache(maxsize=None)
-def numbers() -> dict[str, int]:
-    """Returns the enumerators of the header, without `MARS_`; none if there is no header."""
-    path, found = header(), dict[str, int]()
-    text = re.sub(r"/\*.*?\*/", "", Path(path).read_text() if path else "", flags=re.S)
-    for enumeration in ENUMERATION.findall(text):
-        number = 0
-        for name, given in re.findall(r"MARS_(\w+)(?: = (\d+))?", enumeration):
+def content() -> str:
+    """Returns the text of the header. Raises ImportError if there is no header."""
+    path = header()
+    if path is None or not os.path.isfile(path):
+        raise ImportError(f"cannot find {path or 'mars.h'}; install it with `make install` or set MARS_HEADER")
+    return Path(path).read_text()
+
+
+@lru_cache(maxsize=None)
+def enumerations() -> list[dict[str, int]]:
+    """Returns the enumerations of the header: the numbers of their names, without `MARS_`."""
+    found = []
+    for listed in ENUMERATION.findall(re.sub(r"/\*.*?\*/", "", content(), flags=re.S)):
+        number, named = 0, {}
+        for name, given in re.findall(r"MARS_(\w+)(?: = (\d+))?", listed):
             number = int(given or number)
-            found[name] = number
+            named[name] = number
             number += 1
+        found.append(named)
     return found
+
+
+def enumeration(first: str) -> dict[str, int]:
+    """Returns the enumeration that begins with this name."""
+    return next(one for one in enumerations() if next(iter(one)) == first)
+
+
+@lru_cache(maxsize=None)
+def numbers() -> dict[str, int]:
+    """Returns the numbers of all names, without `MARS_`."""
+    return {name: number for one in enumerations() for name, number in one.items()}
+
+
+def characters() -> str:
+    """Returns the characters of the modes, in the order of their numbers."""
+    return "".join(CHARACTER.findall(content()))
 
 
 @lru_cache(maxsize=None)

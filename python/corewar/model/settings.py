@@ -3,11 +3,16 @@ from __future__ import annotations
 
 from dataclasses import dataclass
 
+from .header import enumeration
+
 FORMULA = "(W*W-1)/S"
 # No number of an option or a command has more digits.
 MAX_DIGITS = 18
+# The limits of the header.
+LIMITS = enumeration("MAX_CORE")
+MAX_CORE = LIMITS["MAX_CORE"]
 # The maximum number of warriors of a match, and of a league.
-MAX_WARRIORS, MAX_LEAGUE = 16, 65_536
+MAX_WARRIORS, MAX_LEAGUE = LIMITS["MAX_WARRIORS"], LIMITS["MAX_LEAGUE"]
 # The maximum size of a source or load file, in bytes.
 MAX_FILE_SIZE = 1_048_576
 
@@ -77,17 +82,17 @@ class Number:
 
 UP_TO_CORE = "1 to the core size"
 NUMBERS = {
-    "core": Number("-s", "core size", 1, 1_048_576),
-    "cycles": Number("-c", "cycle limit", 1, 10_000_000),
-    "processes": Number("-p", "process limit", 1, 65_536),
-    "longest": Number("-l", "maximum length of a warrior", 1, 1_048_576, UP_TO_CORE),
-    "distance": Number("-d", "minimum distance", 1, 1_048_576, "from the maximum length to the core size"),
-    "read_limit": Number("--read-limit", "read limit", 1, 1_048_576, UP_TO_CORE),
-    "write_limit": Number("--write-limit", "write limit", 1, 1_048_576, UP_TO_CORE),
-    "rounds": Number("-r", "number of rounds", 1, 100_000),
-    "seed": Number("--seed", "seed for the starting positions", 1, 2_147_483_646),
+    "core": Number("-s", "core size", 1, MAX_CORE),
+    "cycles": Number("-c", "cycle limit", 1, LIMITS["MAX_CYCLES"]),
+    "processes": Number("-p", "process limit", 1, LIMITS["MAX_PROCESSES"]),
+    "longest": Number("-l", "maximum length of a warrior", 1, MAX_CORE, UP_TO_CORE),
+    "distance": Number("-d", "minimum distance", 1, MAX_CORE, "from the maximum length to the core size"),
+    "read_limit": Number("--read-limit", "read limit", 1, MAX_CORE, UP_TO_CORE),
+    "write_limit": Number("--write-limit", "write limit", 1, MAX_CORE, UP_TO_CORE),
+    "rounds": Number("-r", "number of rounds", 1, LIMITS["MAX_ROUNDS"]),
+    "seed": Number("--seed", "seed for the starting positions", 1, LIMITS["MAX_SEED"]),
     "position": Number(
-        "-F", "position of warrior 2", 1, 1_048_576, "from the minimum distance to the core size minus it"
+        "-F", "position of warrior 2", 1, MAX_CORE, "from the minimum distance to the core size minus it"
     ),
 }
 # What a number is called where results are shown, if not by its own name.
