@@ -9,7 +9,7 @@ import path from "node:path";
 import { after, test } from "node:test";
 
 import { Battle } from "../src/engine/battle.js";
-import { ASSEMBLY, BLOCK, EDIT, LOAD, OUT_OF_MEMORY, WARRIOR } from "../src/engine/layout.js";
+import { ASSEMBLY, BLOCK, EDIT, LOAD, OUT_OF_MEMORY, WARRIOR } from "../src/model/layout.js";
 import { Mars, MarsError } from "../src/engine/mars.js";
 import { MODES, MODIFIERS, OPCODES, cellText } from "../src/model/cells.js";
 import { DEFAULTS, HILLS } from "../src/model/settings.js";

@@ -1,18 +1,21 @@
-// Writes site/src/engine/layout.js from include/mars.h: the position of each field of each struct in
-// memory, the numbers of results, limits and edits, and the names of errors.
+// Writes site/src/model/layout.js from include/mars.h: the position of each field of each struct in
+// memory, the numbers of results, limits and edits, and the names of cells and errors.
 //
 //     node site/tools/layout.mjs include/mars.h            prints it
 //     node site/tools/layout.mjs include/mars.h --check    fails if layout.js is not what is printed
 //     node site/tools/layout.mjs include/mars.h --assert   prints a C file that compiles if a compiler agrees
 import fs from "node:fs";
 
-const LAYOUT = new URL("../src/engine/layout.js", import.meta.url);
+const LAYOUT = new URL("../src/model/layout.js", import.meta.url);
 // The module has the types of a 64-bit C compiler.
 const SIZES = { uint8_t: 1, uint32_t: 4, int64_t: 8, uint64_t: 8, size_t: 8 };
 
 // Enumerations of errors, by what all their names begin with.
 const ERRORS = ["SETTINGS", "PARAMETERS", "EXPRESSION", "ASSEMBLY", "TEXT", "LOAD", "PLACEMENT", "BATTLE", "BLOCK"];
 ERRORS.push("EDIT", "WARRIOR", "LINEUP");
+// Enumerations of names of cells, by their first names. The comment of a mode is its character.
+const CELLS = { DAT: "OPCODES", A: "MODIFIERS" };
+const MODE = /MARS_\w+,? +\/\* (\S) \*\//g;
 
 const aligned = (offset, alignment) => Math.ceil(offset / alignment) * alignment;
 
@@ -55,25 +58,30 @@ function enumerationsOf(text) {
 /** Returns the name of an error as messages spell it, such as DivideByZero. */
 const spelled = (name) => name.replace(/([A-Z])([A-Z]*)(_|$)/g, (_, first, rest) => first + rest.toLowerCase());
 
-/** Returns the lines of layout.js about numbers. Those of opcodes, modifiers and modes are in model/cells.js. */
+/** Returns the lines of layout.js about names and numbers. */
 function numbersOf(text) {
-  const constants = [];
+  const lines = [];
   const names = ["", "/** The names of errors by their numbers. */", "export const ERROR_NAMES = {"];
   for (const enumeration of enumerationsOf(text)) {
+    const [[first]] = enumeration;
     const kind = ERRORS.find((error) => enumeration.every(([name]) => name.startsWith(`${error}_`)));
     const entries = enumeration.map(([name, number]) => `${number}: "${spelled(name.slice(kind?.length + 1))}"`);
     if (kind) names.push(`  ${kind}: { ${entries.join(", ")} },`);
-    else if (!enumeration.some(([name]) => name === "DAT" || name === "A" || name === "DIRECT")) {
-      constants.push(...enumeration.map(([name, number]) => `export const ${name} = ${number};`));
+    else if (CELLS[first]) {
+      const listed = enumeration.map(([name]) => `"${name}"`).join(", ");
+      lines.push(`export const ${CELLS[first]} = [${listed}];`);
+    } else if (first !== "IMMEDIATE") {
+      lines.push(...enumeration.map(([name, number]) => `export const ${name} = ${number};`));
     }
   }
-  return [...constants, ...names, "};"];
+  return [...lines, ...names, "};"];
 }
 
-/** Returns the text of layout.js. */
-function moduleOf(text) {
+/** Returns the text of layout.js for a header without comments, and for the characters of modes. */
+function moduleOf(text, modes) {
   const lines = ["// Written by site/tools/layout.mjs from include/mars.h; do not edit."];
   lines.push(`export const VERSION = ${/#define MARS_VERSION (\d+)/.exec(text)[1]};`);
+  lines.push(`export const MODES = "${modes}";`);
   lines.push(...numbersOf(text));
   for (const [name, { size, fields }] of Object.entries(structsOf(text))) {
     lines.push("", `export const ${name} = {`, `  size: ${size},`);
@@ -96,12 +104,14 @@ function assertionsOf(text) {
 }
 
 const [header, mode] = process.argv.slice(2);
-const text = fs.readFileSync(header, "utf8").replace(/\/\*[\s\S]*?\*\//g, "");
+const whole = fs.readFileSync(header, "utf8");
+const text = whole.replace(/\/\*[\s\S]*?\*\//g, "");
+const made = moduleOf(text, Array.from(whole.matchAll(MODE), ([, character]) => character).join(""));
 if (mode === "--assert") {
   process.stdout.write(assertionsOf(text));
 } else if (mode !== "--check") {
-  process.stdout.write(moduleOf(text));
-} else if (fs.readFileSync(LAYOUT, "utf8") !== moduleOf(text)) {
-  console.error("site/src/engine/layout.js is out of date: run site/tools/layout.mjs");
+  process.stdout.write(made);
+} else if (fs.readFileSync(LAYOUT, "utf8") !== made) {
+  console.error("site/src/model/layout.js is out of date: run site/tools/layout.mjs");
   process.exit(1);
 }

@@ -1,18 +1,7 @@
 /** A fight as a text, for addresses and pages: sources, settings, edits, the turn, and the cell in view. */
 import { editText, parseEdit } from "../model/fight.js";
-import {
-  DEFAULTS,
-  FORMULA,
-  HILLS,
-  MAX_ROUNDS,
-  MAX_SEED,
-  MAX_SOURCE_SIZE,
-  MAX_TURNS,
-  MAX_WARRIORS,
-  RANGES,
-  SETTINGS,
-  hillOf,
-} from "../model/settings.js";
+import { MAX_FORMULA, MAX_ROUNDS, MAX_SEED, MAX_WARRIORS } from "../model/layout.js";
+import { DEFAULTS, FORMULA, HILLS, MAX_SOURCE_SIZE, MAX_TURNS, RANGES, SETTINGS, hillOf } from "../model/settings.js";
 
 /** @typedef {import("../model/fight.js").Fight} Fight */
 /** @typedef {import("../model/settings.js").Settings} Settings */
@@ -23,9 +12,8 @@ import {
  */
 
 const VERSION = 1;
-/** The maximum number of characters of a name and of a formula, and of edits. */
+/** The maximum number of characters of a name, and of edits. */
 const MAX_NAME_LENGTH = 100;
-const MAX_FORMULA_LENGTH = 256;
 const MAX_EDITS = 1000;
 const LAST_TURN = 1e9;
 
@@ -139,7 +127,7 @@ export async function unpack(text, selection = {}) {
   if (settings.cycles * warriors.length > MAX_TURNS) throw new Error("its battle is too long for this page");
   const rounds = whole(short.n, 1, MAX_ROUNDS, 100);
   const round = Math.min(selection.round ?? whole(short.r, 0, rounds - 1, 0), rounds - 1);
-  const formula = typeof short.f === "string" ? short.f.slice(0, MAX_FORMULA_LENGTH) : FORMULA;
+  const formula = typeof short.f === "string" ? short.f.slice(0, MAX_FORMULA) : FORMULA;
   const position = whole(short.p, 0, settings.core, 0);
   const seed = whole(short.s, 1, MAX_SEED, 1);
   const edits = readEdits(short.e, settings.core);

@@ -1,5 +1,6 @@
 /** The page: what it begins with, and what its parts have to do with each other. */
-import { DEFAULTS, FORMULA, MAX_WARRIORS } from "../model/settings.js";
+import { MAX_WARRIORS } from "../model/layout.js";
+import { DEFAULTS, FORMULA } from "../model/settings.js";
 import { Bench } from "../view/bench.js";
 import { Cells } from "../view/cells.js";
 import { Console } from "../view/console.js";

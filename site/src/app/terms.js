@@ -1,5 +1,6 @@
 /** The terms of matches: a hill or own settings, seed, rounds, position and score formula. */
-import { DEFAULTS, FORMULA, HILLS, MAX_ROUNDS, MAX_SEED, RANGES, SETTINGS, hillOf } from "../model/settings.js";
+import { MAX_ROUNDS, MAX_SEED } from "../model/layout.js";
+import { DEFAULTS, FORMULA, HILLS, RANGES, SETTINGS, hillOf } from "../model/settings.js";
 import { clamp, element, make, onClick, typed } from "../view/dom.js";
 
 /** @typedef {import("../model/settings.js").Settings} Settings */
@@ -20,6 +21,8 @@ export class Terms {
     this.hill = typed("hill", HTMLSelectElement);
     this.seed = typed("seed", HTMLInputElement);
     this.rounds = typed("rounds", HTMLInputElement);
+    this.seed.max = String(MAX_SEED);
+    this.rounds.max = String(MAX_ROUNDS);
     this.changed = changed;
     this.hill.append(...Object.keys(HILLS).map((name) => make("option", { value: name }, name)));
     this.hill.append(make("option", { value: OWN }, "own …"));

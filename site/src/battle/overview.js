@@ -1,5 +1,5 @@
 /** A battle at a glance: at some moments how much each warrior has, and what happened first. */
-import { MAX_WARRIORS } from "../model/settings.js";
+import { MAX_WARRIORS } from "../model/layout.js";
 import { ADDRESS, DIED, QUEUED, WARRIOR } from "./place.js";
 
 /** @typedef {import("./place.js").Place} Place */

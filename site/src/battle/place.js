@@ -1,5 +1,5 @@
 /** A battle at a turn, with who wrote each cell when, and from which loaded cell it was copied. */
-import { MarsRecord, MarsTouched } from "../engine/layout.js";
+import { MarsRecord, MarsTouched } from "../model/layout.js";
 import { BY_HAND, CELL_WORDS, NOBODY } from "../model/cells.js";
 
 /** @typedef {import("../engine/battle.js").Battle} Battle */

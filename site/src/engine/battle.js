@@ -1,5 +1,5 @@
 /** A battle as a value: a block of 32-bit words, read in place. */
-import { MARK, MarsBattle } from "./layout.js";
+import { MARK, MarsBattle } from "../model/layout.js";
 import { CELL_WORDS, readCell } from "../model/cells.js";
 
 const WORD = 4;

@@ -21,7 +21,7 @@ import {
   MarsSettings,
   MarsTouched,
   MarsWarrior,
-} from "./layout.js";
+} from "../model/layout.js";
 import { Battle } from "./battle.js";
 import { DEFAULTS, FORMULA } from "../model/settings.js";
 import { CELL_WORDS, writeCell } from "../model/cells.js";

@@ -1,8 +1,7 @@
-/** Cells as numbers and as text. The numbers of opcodes, modifiers and modes are those of include/mars.h. */
+/** Cells as numbers and as text. */
+import { MODES, MODIFIERS, OPCODES } from "./layout.js";
 
-export const OPCODES = "DAT MOV ADD SUB MUL DIV MOD JMP JMZ JMN DJN SEQ SNE SLT SPL NOP".split(" ");
-export const MODIFIERS = "A B AB BA F X I".split(" ");
-export const MODES = "#$*@{<}>";
+export { MODES, MODIFIERS, OPCODES };
 
 /**
  * A cell; its numbers are addresses relative to it, 0 to the core size less 1.

@@ -1,4 +1,5 @@
 /** The settings of a match, with the defaults of `mars`, and those of known hills. */
+import { MAX_CORE, MAX_CYCLES, MAX_PROCESSES } from "./layout.js";
 
 /**
  * Settings: sizes in cells, limits in numbers. A read or write limit of 0 is the core size.
@@ -14,14 +15,10 @@
 
 /** The score of each survivor, in W warriors and S survivors. */
 export const FORMULA = "(W*W-1)/S";
-/** The maximum number of warriors of a match. */
-export const MAX_WARRIORS = 16;
 /** The maximum number of bytes of a source. */
 export const MAX_SOURCE_SIZE = 1_048_576;
 /** The maximum number of turns of a battle that is shown: it takes a few seconds to open. */
 export const MAX_TURNS = 16_000_000;
-export const MAX_ROUNDS = 100_000;
-export const MAX_SEED = 2_147_483_646;
 
 /** @type {Settings} */
 export const DEFAULTS = {
@@ -47,13 +44,13 @@ export const HILLS = {
  * @type {Record<keyof Settings, {name: string, minimum: number, maximum: number}>}
  */
 export const RANGES = {
-  core: { name: "Core size", minimum: 1, maximum: 1_048_576 },
-  cycles: { name: "Cycles", minimum: 1, maximum: 10_000_000 },
-  processes: { name: "Processes", minimum: 1, maximum: 65_536 },
-  longest: { name: "Maximum length", minimum: 1, maximum: 1_048_576 },
-  distance: { name: "Minimum distance", minimum: 1, maximum: 1_048_576 },
-  readLimit: { name: "Read limit", minimum: 0, maximum: 1_048_576 },
-  writeLimit: { name: "Write limit", minimum: 0, maximum: 1_048_576 },
+  core: { name: "Core size", minimum: 1, maximum: MAX_CORE },
+  cycles: { name: "Cycles", minimum: 1, maximum: MAX_CYCLES },
+  processes: { name: "Processes", minimum: 1, maximum: MAX_PROCESSES },
+  longest: { name: "Maximum length", minimum: 1, maximum: MAX_CORE },
+  distance: { name: "Minimum distance", minimum: 1, maximum: MAX_CORE },
+  readLimit: { name: "Read limit", minimum: 0, maximum: MAX_CORE },
+  writeLimit: { name: "Write limit", minimum: 0, maximum: MAX_CORE },
 };
 
 export const SETTINGS = /** @type {(keyof Settings)[]} */ (Object.keys(RANGES));

@@ -1,6 +1,7 @@
 /** The editor: Redcode in colours, errors at their words, each line in words under the pointer. */
 import CodeMirror from "codemirror";
 import { instructionWords } from "../words/instruction.js";
+import { DIRECTIVES, OPCODES } from "../words/source.js";
 import { element, make, placeTip, refill } from "./dom.js";
 
 /** @typedef {import("codemirror").Document} Document */
@@ -16,8 +17,8 @@ import { element, make, placeTip, refill } from "./dom.js";
 const TOKENS = [
   [/^;\s*(name|author|strategy|assert|redcode\S*|version|date)\b.*/i, "meta"],
   [/^;.*/, "comment"],
-  [/^(dat|mov|add|sub|mul|div|mod|jmp|jmz|jmn|djn|seq|sne|slt|spl|nop|cmp)\b(\.\w+)?/i, "keyword"],
-  [/^(org|end|equ|for|rof)\b/i, "builtin"],
+  [new RegExp(`^(${OPCODES.join("|")})\\b(\\.\\w+)?`, "i"), "keyword"],
+  [new RegExp(`^(${DIRECTIVES.join("|")})\\b`, "i"), "builtin"],
   [/^\d+/, "number"],
   [/^[A-Za-z_][\w&]*/, "def"],
   [/^[#$@*<>{}]/, "operator"],

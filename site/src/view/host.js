@@ -1,5 +1,6 @@
 /** What the sheets of the page ask of it, and what they share. */
 import { MarsError } from "../engine/mars.js";
+import * as results from "../model/layout.js";
 import { explain } from "../words/errors.js";
 
 /** @typedef {import("../engine/mars.js").Row} Row */
@@ -15,12 +16,20 @@ import { explain } from "../words/errors.js";
  * @property {Record<string, string>} meanings
  */
 
-/** Results of include/mars.h that are not about a source. */
-const REASONS = ["", "out of memory", "these settings are impossible", "these parameters are impossible"];
-REASONS.push("the score formula is wrong", "", "this load file is wrong");
-REASONS.push("the core has no room for these warriors at this distance", "the warriors cannot be loaded");
-REASONS.push("the score formula has no value in some round");
-const ASSEMBLY = 5;
+/**
+ * Results of include/mars.h that are not about a source.
+ * @type {Record<number, string>}
+ */
+const REASONS = {
+  [results.OUT_OF_MEMORY]: "out of memory",
+  [results.SETTINGS]: "these settings are impossible",
+  [results.PARAMETERS]: "these parameters are impossible",
+  [results.FORMULA]: "the score formula is wrong",
+  [results.LOAD]: "this load file is wrong",
+  [results.PLACEMENT]: "the core has no room for these warriors at this distance",
+  [results.BATTLE]: "the warriors cannot be loaded",
+  [results.SCORE]: "the score formula has no value in some round",
+};
 
 /**
  * Returns why a call failed, in a sentence.
@@ -31,7 +40,9 @@ const ASSEMBLY = 5;
 export function errorWords(error, sources, meanings) {
   if (!(error instanceof MarsError)) return String(/** @type {Error} */ (error).message ?? error);
   const source = sources[error.warrior] ?? sources[0];
-  if (error.code !== ASSEMBLY || !source) return REASONS[error.code] || `error ${error.code}, number ${error.number}`;
+  if (error.code !== results.ASSEMBLY || !source) {
+    return REASONS[error.code] ?? `error ${error.code}, number ${error.number}`;
+  }
   const { line, text } = explain(error, source.text, meanings);
   return `${source.name}, line ${line}: ${text}`;
 }

@@ -1,5 +1,5 @@
 /** What an error of a source means, where it is, and what to do: the sentences of `corewar explain`. */
-import { ASSEMBLY, ERROR_NAMES, OUT_OF_MEMORY } from "../engine/layout.js";
+import { ASSEMBLY, ERROR_NAMES, OUT_OF_MEMORY } from "../model/layout.js";
 import { CAUSES } from "./causes.js";
 import { NAME, codeOf, labelsOf, readSource, wordOf } from "./source.js";
 

@@ -14,7 +14,8 @@ import { OPCODES as KNOWN } from "../model/cells.js";
 /** @typedef {{lines: Line[], equates: Map<string, Line>, loops: Loop[]}} Source */
 
 export const OPCODES = [...KNOWN, "CMP"];
-export const OPERATIONS = [...OPCODES, "FOR", "ROF", "EQU", "ORG", "END"];
+export const DIRECTIVES = ["FOR", "ROF", "EQU", "ORG", "END"];
+export const OPERATIONS = [...OPCODES, ...DIRECTIVES];
 /** A name with its joins, a number, or punctuation, also such as the language does not have. */
 const TOKEN = /(?:\w|&(?=[A-Za-z_]))+|==|!=|<=|>=|&&|\|\||[^\0- ]/gu;
 export const NAME = /^[A-Za-z_][\w&]*$/;

@@ -1,5 +1,6 @@
 // Written by site/tools/layout.mjs from include/mars.h; do not edit.
 export const VERSION = 2000;
+export const MODES = "#$*@{<}>";
 export const MAX_CORE = 1048576;
 export const MAX_PROCESSES = 65536;
 export const MAX_CYCLES = 10000000;
@@ -9,6 +10,8 @@ export const MAX_ROUNDS = 100000;
 export const MAX_SEED = 2147483646;
 export const MAX_HISTORY = 1000000;
 export const MAX_FORMULA = 256;
+export const OPCODES = ["DAT", "MOV", "ADD", "SUB", "MUL", "DIV", "MOD", "JMP", "JMZ", "JMN", "DJN", "SEQ", "SNE", "SLT", "SPL", "NOP"];
+export const MODIFIERS = ["A", "B", "AB", "BA", "F", "X", "I"];
 export const DONE = 0;
 export const OUT_OF_MEMORY = 1;
 export const SETTINGS = 2;
