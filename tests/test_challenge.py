@@ -92,6 +92,30 @@ def test_versions_score_as_in_their_matches(run: Run) -> None:
         assert [float(line.split()[column]) for line in told[1:4]] == [scores[n] for n in ("Imp", "Lookout", "Dusk")]
 
 
+def test_versions_for_programs(run: Run) -> None:
+    """The rows of the table, with the names of the versions, and with exact errors."""
+    words = ["challenge", "--old", "dead.red", "-r", 4, "stay.red", "stay.red", "dead.red"]
+    heads = "file,name,author,old,new,change,error\n"
+    rows = "stay.red,Stay,Anonymous,0.0,100.0,100.0,0.0\ndead.red,Dead,Anonymous,150.0,300.0,150.0,86.6025\n"
+    mean = "stay.red,Stay,Anonymous,75.0,200.0,125.0,43.3013\n"
+    assert run(*words, "--format", "csv").stdout == heads + rows
+    assert run(*words, "--format", "csv", "--sum").stdout == heads + mean
+    told = json.loads(run(*words, "--format", "json").stdout)
+    found = [",".join(map(str, one.values())) + "\n" for one in (*told["matches"], told["warrior"])]
+    assert "".join(found) == rows + mean and told["rounds"] == 4
+    assert told["before"] == {"file": "dead.red", "name": "Dead", "author": "Anonymous"}
+    assert "matches" not in json.loads(run(*words, "--format", "json", "--sum").stdout)
+    unknown = run("challenge", "--old", "dead.red", "--format", "csv", "stay.red", "stay.red").stdout
+    assert unknown == heads + "stay.red,Stay,Anonymous,0.0,100.0,100.0,\n"
+
+
+def test_the_same_change_in_every_round(run: Run) -> None:
+    """Its error is 0, also if the mean of the opponents is no whole number."""
+    files = ["stay.red", *["late.red"] * 4]
+    told = run("challenge", "--old", "dead.red", "--sum", "-r", 7, "--score", "S-1", "stay.red", *files).stdout
+    assert told.endswith("+20.0     0.0  mean of 5\nThe change is the same in every round.\n")
+
+
 def test_versions_that_cannot_be_compared(run: Run) -> None:
     for words, status, error in (
         ("--old broken.red stay.red dead.red", 1, "broken.red: line 1: 2 Operation"),
@@ -99,8 +123,7 @@ def test_versions_that_cannot_be_compared(run: Run) -> None:
         ("--old dead.red broken.red dead.red", 1, "broken.red: line 1: 2 Operation"),
         ("--old dead.red stay.red broken.red", 1, "broken.red: line 1: 2 Operation"),
         ("--old dead.red stay.red", 2, "expected at least two files"),
-        ("--old dead.red --format csv stay.red dead.red", 2, "--old cannot be used with --format"),
-        ("--old dead.red --results a.sqlite stay.red dead.red", 2, "--old cannot be used with --format"),
+        ("--old dead.red --results a.sqlite stay.red dead.red", 2, "--old cannot be used with --results"),
     ):
         done = run("challenge", *words.split())
         assert (done.returncode, done.stdout) == (status, "") and error in done.stderr, words

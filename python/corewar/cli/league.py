@@ -17,6 +17,7 @@ from ..engine.warriors import Warrior
 from ..contests.contest import Contest, Matches, Rows, all_pairs, read_entrants
 from ..contests.challenge import FORMATS as CHALLENGE_FORMATS
 from ..contests.challenge import Challenge
+from ..contests.comparison import FORMATS as CHANGE_FORMATS
 from ..contests.comparison import Comparison, compare
 from ..contests.places import cluster, threads
 from ..contests.results import Results
@@ -24,7 +25,7 @@ from ..contests.table import FORMATS, League
 from ..model.errors import FileError
 from ..model.printing import printable
 from .layout import EXECUTION, STATUSES, Command, Number, Option
-from .options import BattleOptions, Decorator, Output, Picture, battle_options, is_given, with_options
+from .options import BattleOptions, Decorator, Output, Picture, battle_options, with_options
 from .reporting import report, report_error
 from .waiting import progress
 
@@ -234,7 +235,7 @@ def challenge(options: BattleOptions, runner: MatchRunner, only_sum: bool, old: 
     nothing is run.
     """
     if old is not None:
-        return print_change(options, runner, only_sum, old)
+        return print_change(options, runner, only_sum, old, form)
     contest, warriors, faults = entrants_of(options)
     if not warriors or any(fault.file == options.files[0] for fault in faults):
         return 1
@@ -245,10 +246,10 @@ def challenge(options: BattleOptions, runner: MatchRunner, only_sum: bool, old: 
     return 1 if faults else 0
 
 
-def print_change(options: BattleOptions, runner: MatchRunner, only_sum: bool, old: str) -> int:
+def print_change(options: BattleOptions, runner: MatchRunner, only_sum: bool, old: str, form: str) -> int:
     """Prints the scores of two versions of a warrior, and what the change shows."""
-    if any(map(is_given, ("form", "results", "scheduler"))):
-        raise click.UsageError("--old cannot be used with --format, --results or --scheduler")
+    if runner.results or runner.scheduler:
+        raise click.UsageError("--old cannot be used with --results or --scheduler")
     both = [old, options.files[0]]
     contest, warriors, faults = entrants_of(replace(options, files=(*both, *options.files[1:])))
     if len(warriors) < 3 or any(fault.file in both for fault in faults):
@@ -258,6 +259,6 @@ def print_change(options: BattleOptions, runner: MatchRunner, only_sum: bool, ol
         for part in compare(contest, warriors[0], warriors[1], opponents, runner.jobs):
             parts.append(part)
             advance(part.shape[1])
-    is_drawn = contest.rounds > 1 and contest.position is None
-    write_results("\n".join(Comparison(opponents, np.concatenate(parts, axis=1), is_drawn).describe(only_sum)), "table")
+    comparison = Comparison(contest, warriors[:2], opponents, np.concatenate(parts, axis=1), only_sum)
+    write_results(CHANGE_FORMATS[form](comparison), form)
     return 1 if faults else 0
