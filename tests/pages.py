@@ -8,7 +8,7 @@ from pathlib import Path
 
 import pytest
 from browsers import Browser, served
-from conftest import EXAMPLES, TOP
+from conftest import COMMAND, ENVIRONMENT, EXAMPLES, TOP
 from costly import slow
 from counting import PROGRAM, skip
 
@@ -358,6 +358,38 @@ def test_the_bench_is_the_program(page: Browser) -> None:
     )
     for name, *counts in rows[::4]:
         assert table("-r", 100, EXAMPLES / "dwarf.red", EXAMPLES / name)[0] == counts, name
+
+
+def change(seed: int, files: list[object]) -> tuple[list[float], str]:
+    """The change, its error, and what it shows, of the second file since the first one, against the others."""
+    words = ["challenge", "--old", files[0], "--sum", "-r", 40, "--seed", seed, *files[1:]]
+    done = subprocess.run([*COMMAND, *map(str, words)], env=ENVIRONMENT, capture_output=True, text=True, check=True)
+    _, row, verdict = done.stdout.splitlines()
+    return [float(number) / 100 for number in row.split()[2:4]], verdict
+
+
+def test_versions_on_the_bench(page: Browser, tmp_path: Path) -> None:
+    """They are compared as by `corewar challenge --old`, and again after the terms have changed."""
+    names = sorted(path for path in EXAMPLES.glob("*.red") if path.stem != "dwarf")
+    page.run("rounds.value = '40'; rounds.dispatchEvent(new Event('change'))")
+    page.click("[data-view=bench]")
+    done = "document.getElementById('bench-note').textContent.endsWith(' ms')"
+    page.until(f"{done} && corewar.bench.rows.size === {len(names)}")
+    assert page.text("bench-change") == ""
+    page.click("#bench-base")
+    page.until("document.getElementById('bench-change').textContent.includes('score the same in every round')")
+    for seed in (1, 9):
+        text = f";name Stride {seed}\nloop ADD #2364, bomb\nMOV bomb, @bomb\nJMP loop\nbomb DAT #0, #0\n"
+        (tmp_path / "stride.red").write_text(text)
+        code = f"seed.value = '{seed}'; seed.dispatchEvent(new Event('change'));"
+        page.run(f"{code} corewar.shelf.editor.mirror.setValue(given[0])", text)
+        page.until(f"document.getElementById('bench-title').textContent === 'Stride {seed}' && {done}")
+        numbers, verdict = change(seed, [EXAMPLES / "dwarf.red", tmp_path / "stride.red", *names])
+        told = page.text("bench-change")
+        found = re.match(r"([+−]\d+\.\d\d), error (\d+\.\d\d) since “Compare with this”\. (.*)", told)
+        assert found and found[3] == verdict, (told, verdict)
+        shown = [float(found[1].replace("−", "-")), float(found[2])]
+        assert shown == pytest.approx(numbers, abs=0.006)
 
 
 def test_the_league_is_the_program(page: Browser) -> None:

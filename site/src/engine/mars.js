@@ -15,6 +15,8 @@ import {
   MarsCell,
   MarsEdit,
   MarsFault,
+  MarsLineup,
+  MarsOutcome,
   MarsProgram,
   MarsRecord,
   MarsRow,
@@ -181,6 +183,25 @@ export class Mars {
    */
   population(candidates, opponents, terms = {}) {
     return this.#rows("mars_population", [...candidates, ...opponents], candidates.length, terms);
+  }
+
+  /**
+   * Runs a match and returns for each round and each warrior 1 if it survived, otherwise 0, round by round.
+   * @param {Warrior[]} warriors
+   * @param {Terms} terms
+   */
+  survivors(warriors, { settings = DEFAULTS, rounds = 1, seed = 1, position = 0 } = {}) {
+    return this.#within(() => {
+      const [lineup, count] = [this.#take(MarsLineup.size), rounds * warriors.length];
+      // The seed is that of the settings.
+      this.#words(lineup, MarsLineup.size / 4).set([0, warriors.length, ...warriors.keys()]);
+      const outcomes = this.#take(MarsOutcome.size * count);
+      const given = [this.#settings(settings, { rounds, seed, position }), ...this.#fighters(warriors), lineup, 1n];
+      this.#call("mars_outcomes", [...given, outcomes, BigInt(count)]);
+      const words = this.#words(outcomes, (MarsOutcome.size / 4) * count);
+      const survived = (/** @type {number} */ index) => words[(MarsOutcome.size * index + MarsOutcome.survived) / 4];
+      return Uint8Array.from({ length: count }, (_, index) => survived(index));
+    });
   }
 
   /**

@@ -1,6 +1,7 @@
 /** The bench: the source in the editor against each opponent, fought again whenever it changes. */
 import { MarsError } from "../engine/mars.js";
 import { number, pluralize } from "../words/battle.js";
+import { changeOf, isSure, verdict } from "../words/comparison.js";
 import { debounce, element, make, onClick, refill, typed } from "./dom.js";
 import { errorWords, mean } from "./host.js";
 
@@ -9,6 +10,9 @@ import { errorWords, mean } from "./host.js";
 /** @typedef {import("./host.js").Row} Row */
 /** @typedef {import("./host.js").Source} Source */
 /** @typedef {import("../engine/warrior.js").Warrior} Warrior */
+/** @typedef {import("../words/comparison.js").Change} Change */
+/** @typedef {import("../worker/jobs.js").Scored} Scored */
+/** @typedef {{source: Source, rows: Map<string, Scored>}} Base a version, and its rows by opponents and terms */
 
 /** What a win is worth against one opponent, the right end of the scale. */
 const WIN = 3;
@@ -24,13 +28,15 @@ export class Bench {
   #fault = "";
   /** @type {Source[]} */
   #opponents = [];
-  /** @type {Map<string, Row>} */
+  /** @type {Map<string, Scored>} */
   rows = new Map();
+  /** @type {MatchTerms | null} */
+  #terms = null;
   /**
-   * The rows that they are compared with.
-   * @type {Map<string, Row>}
+   * The version with which the source is compared.
+   * @type {Base | null}
    */
-  #base = new Map();
+  #base = null;
   /** @type {Map<string, string>} */
   #names = new Map();
   /** @type {Map<string, string>} */
@@ -47,10 +53,7 @@ export class Bench {
   /** @param {Host} host */
   constructor(host) {
     this.host = host;
-    onClick("bench-base", () => {
-      this.#base = new Map(this.rows);
-      this.#draw();
-    });
+    onClick("bench-base", () => this.#compare());
     element("bench-against").addEventListener("change", () => this.fight());
   }
 
@@ -75,14 +78,15 @@ export class Bench {
     const key = JSON.stringify([own, terms, opponents]);
     if (key === this.#fought) return;
     pool.drop("bench");
-    this.#begin(own, opponents, key);
+    this.#begin(own, opponents, terms, key);
     const run = ++this.#run;
     const then = performance.now();
     try {
       const [{ warrior, name }] = await pool.ask("warriors", [[own], terms], "bench", 2);
+      const before = await this.#before(terms);
       this.#title = name || own.name;
       const fights = opponents.map(async (opponent) => {
-        await this.#meet(warrior, opponent, terms, run);
+        await this.#meet(warrior, before, opponent, run);
         this.#took = performance.now() - then;
       });
       await Promise.allSettled(fights);
@@ -92,14 +96,49 @@ export class Bench {
     if (run === this.#run) this.#draw();
   }
 
+  #compare() {
+    if (!this.#own) return;
+    this.#base = { source: this.#own, rows: new Map() };
+    for (const opponent of this.#opponents) {
+      const row = this.rows.get(opponent.name);
+      if (row) this.#base.rows.set(this.#key(opponent), row);
+    }
+    this.#draw();
+  }
+
+  /**
+   * Returns what a row of the base is found by: a match is fought again if the opponent or the terms change.
+   * @param {Source} opponent
+   */
+  #key(opponent) {
+    return JSON.stringify([opponent, this.#terms]);
+  }
+
+  /**
+   * Returns the version with which the source is compared, or null if there is none for these terms.
+   * @param {MatchTerms} terms
+   */
+  async #before(terms) {
+    if (!this.#base) return null;
+    try {
+      const [{ warrior }] = await this.host.pool.ask("warriors", [[this.#base.source], terms], "bench", 2);
+      return warrior;
+    } catch (error) {
+      if (error instanceof MarsError) return null;
+      throw error;
+    }
+  }
+
   /**
    * @param {Source} own
    * @param {Source[]} opponents
+   * @param {MatchTerms} terms
    * @param {string} key what is fought
    */
-  #begin(own, opponents, key) {
-    if (own.name !== this.#own?.name) this.#base.clear();
+  #begin(own, opponents, terms, key) {
+    if (own.name !== this.#own?.name) this.#base = null;
     this.#own = own;
+    this.#terms = terms;
     this.#title = own.name;
     this.#opponents = opponents;
     this.#fought = key;
@@ -110,17 +149,21 @@ export class Bench {
   }
 
   /**
-   * Fights a match with an opponent, if no other run has begun.
+   * Fights a match with an opponent, if no other run has begun, and one of the version before if it has none.
    * @param {Warrior} own
+   * @param {Warrior | null} before
    * @param {Source} opponent
-   * @param {MatchTerms} terms
    * @param {number} run
    */
-  async #meet(own, opponent, terms, run) {
-    const { pool, meanings } = this.host;
+  async #meet(own, before, opponent, run) {
+    const [{ pool, meanings }, terms, base, key] = [this.host, this.#terms, this.#base, this.#key(opponent)];
+    if (!terms) return;
     try {
       const [{ warrior, name }] = await pool.ask("warriors", [[opponent], terms], "bench", 2);
-      const [row] = await pool.ask("match", [[own, warrior], terms], "bench", 2);
+      const row = await pool.ask("scores", [[own, warrior], terms], "bench", 2);
+      if (before && base && !base.rows.has(key)) {
+        base.rows.set(key, await pool.ask("scores", [[before, warrior], terms], "bench", 2));
+      }
       if (run !== this.#run) return;
       this.#names.set(opponent.name, name || opponent.name);
       this.rows.set(opponent.name, row);
@@ -141,11 +184,13 @@ export class Bench {
     const note = done < this.#opponents.length ? `${done} of ${against} …` : whole;
     element("bench-note").textContent = this.#fault || note;
     refill(element("bench-total"), ...this.#total());
+    refill(element("bench-change"), ...this.#change());
     refill(element("bench-rows"), ...this.#opponents.map((opponent) => this.#line(opponent)));
   }
 
-  /** Returns the mean over all opponents, and how it has changed. */
+  /** Returns the mean over all opponents. */
   #total() {
+    /** @type {Row[]} */
     const rows = [...this.rows.values()];
     if (!rows.length) return [];
     const sum = rows.reduce((one, other) => ({
@@ -155,13 +200,26 @@ export class Bench {
       losses: one.losses + other.losses,
     }));
     const { points, far } = mean(sum);
-    const error = make("span", { className: "soft" }, ` ± ${fixed(far)} points a round`);
-    const shared = [...this.rows].filter(([name]) => this.#base.has(name));
-    const changes = shared.map(([name, row]) => mean(row).points - mean(this.#base.get(name) ?? row).points);
-    const change = changes.reduce((total, one) => total + one, 0) / changes.length;
-    const className = change >= 0 ? "better" : "worse";
-    const compared = make("span", { className }, ` ${signed(change)} since “Compare with this”`);
-    return [make("strong", {}, fixed(points)), error, shared.length ? compared : null];
+    return [make("strong", {}, fixed(points)), make("span", { className: "soft" }, ` ± ${fixed(far)} points a round`)];
+  }
+
+  /** Returns how the mean has changed, and what that shows. */
+  #change() {
+    const found = this.#changeOf(this.#opponents);
+    return found ? [...told(found), ` since “Compare with this”. ${verdict(found)}`] : [];
+  }
+
+  /**
+   * Returns the change against the opponents that both versions have fought, or null if there are none.
+   * @param {Source[]} opponents
+   */
+  #changeOf(opponents) {
+    const pairs = opponents.flatMap((opponent) => {
+      const [old, now] = [this.#base?.rows.get(this.#key(opponent)), this.rows.get(opponent.name)];
+      return old && now ? [[old.scores, now.scores]] : [];
+    });
+    const [old, now] = [0, 1].map((version) => pairs.map((pair) => pair[version]));
+    return pairs.length ? changeOf(old, now, !this.#terms?.position) : null;
   }
 
   /** @param {Source} opponent */
@@ -173,27 +231,33 @@ export class Bench {
       return make("tr", {}, make("td", {}, opponent.name), make("td", { className: "soft", colSpan: 5 }, why));
     }
     const { points, far } = mean(row);
-    const base = this.#base.get(opponent.name);
-    const change = base ? points - mean(base).points : 0;
+    const change = this.#changeOf([opponent]);
     const rounds = row.wins + row.ties + row.losses;
     const shares = [row.wins, row.ties, row.losses].map((count) => Math.round((100 * count) / rounds)).join(" · ");
     const show = () => this.#own && this.host.fight([this.#own, opponent]);
-    const isClear = Math.abs(change) > far;
     return make(
       "tr",
       {},
       make("td", {}, make("button", { className: "link", title: "Show the first round", onclick: show }, title)),
       make("td", { className: "shares" }, stack(row)),
-      make("td", { className: "mean" }, scale(points, far, base && mean(base).points)),
+      make("td", { className: "mean" }, scale(points, far, change ? points - change.change : undefined)),
       make("td", {}, `${fixed(points)} ± ${fixed(far)}`),
-      make("td", { className: isClear ? (change > 0 ? "better" : "worse") : "soft" }, base ? signed(change) : ""),
+      make("td", {}, ...(change ? told(change) : [])),
       make("td", { className: "soft counts" }, shares),
     );
   }
 }
 
-/** @param {number} change */
-const signed = (change) => `${change >= 0 ? "+" : "−"}${fixed(Math.abs(change))}`;
+/**
+ * Returns a change with its standard error, if that is known.
+ * @param {Change} change
+ */
+function told({ change, error }) {
+  const className = !isSure({ change, error }) ? "soft" : change > 0 ? "better" : "worse";
+  const signed = `${change >= 0 ? "+" : "−"}${fixed(Math.abs(change))}`;
+  const chance = make("span", { className: "soft chance" }, error === null ? "" : `, error ${fixed(error)}`);
+  return [make("span", { className }, signed), chance];
+}
 
 /**
  * Returns a bar with the shares of wins, ties and losses.

@@ -2,8 +2,11 @@
 import { History } from "../battle/history.js";
 import { ADDRESS } from "../battle/place.js";
 import { assembleAll, describe } from "../engine/warrior.js";
+import { HILLS } from "../model/settings.js";
 
 /** @typedef {import("../engine/mars.js").Mars} Mars */
+/** @typedef {import("../engine/mars.js").Row} Row */
+/** @typedef {Row & {scores: Float64Array}} Scored a row with the score of each round */
 /** @typedef {import("../engine/warrior.js").Warrior} Warrior */
 /** @typedef {import("../model/fight.js").Fight} Fight */
 /** @typedef {import("../model/settings.js").Settings} Settings */
@@ -55,6 +58,37 @@ export class Jobs {
    */
   match(warriors, terms) {
     return this.mars.match(warriors, terms);
+  }
+
+  /**
+   * Fights a match of two, and returns the row of the first warrior with its scores.
+   * @param {Warrior[]} warriors
+   * @param {import("../engine/mars.js").Terms & {formula?: string}} terms
+   * @returns {Scored}
+   */
+  scores(warriors, terms) {
+    const survived = this.mars.survivors(warriors, terms);
+    const ends = Array.from({ length: survived.length / 2 }, (_, round) => {
+      const [own, other] = survived.subarray(2 * round);
+      return own ? own + other : 0;
+    });
+    const [losses, wins, ties] = [0, 1, 2].map((left) => ends.filter((end) => end === left).length);
+    // A formula needs no value for rounds that do not occur; if it is wrong, each of these matches says so.
+    const values = [losses, wins, ties].map((count, left) => (count ? this.#scoreOf(left, terms.formula) : 0));
+    const scores = Float64Array.from(ends, (end) => values[end]);
+    return { points: wins * values[1] + ties * values[2], wins, ties, losses, scores };
+  }
+
+  /**
+   * Returns the score of the first warrior of a match of two with this number of survivors, 0 if it dies.
+   * @param {number} survivors
+   * @param {string | undefined} formula
+   */
+  #scoreOf(survivors, formula) {
+    const terms = { settings: HILLS.nano, formula };
+    const [lives, dies] = ["JMP 0", "DAT 0"].map((text) => this.mars.assemble(text, terms));
+    const fighters = survivors ? [lives, survivors === 2 ? lives : dies] : [dies];
+    return this.mars.match(fighters, terms)[0].points;
   }
 
   /**

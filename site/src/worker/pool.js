@@ -8,7 +8,7 @@ import { MarsError } from "../engine/mars.js";
  * @template T
  * @typedef {{[K in keyof T]: T[K] extends (...given: infer A) => infer R ? (...given: A) => Promise<R> : never}} Later
  */
-/** @typedef {Pick<Jobs, "assemble" | "warriors" | "match" | "round">} Work */
+/** @typedef {Pick<Jobs, "assemble" | "warriors" | "match" | "scores" | "round">} Work */
 /**
  * Where the script of a worker is, and the machine.
  * @typedef {{script: string, module: Promise<WebAssembly.Module>}} Parts

@@ -7,7 +7,7 @@ import { Jobs } from "./jobs.js";
 /** @typedef {Record<string, (...given: unknown[]) => unknown>} Calls */
 
 export const DESK_CALLS = "open show edit turn origins move overview search until cell cellOf memory".split(" ");
-export const JOB_CALLS = "assemble warriors match round".split(" ");
+export const JOB_CALLS = "assemble warriors match scores round".split(" ");
 
 /**
  * What can be called, once the machine has started.
