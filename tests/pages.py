@@ -443,6 +443,8 @@ def test_a_lesson_is_judged(page: Browser) -> None:
     page.until(verdict % (1, "That is the turn."))
     page.run("document.querySelectorAll('#lessons .lesson')[3].querySelector('button').click()")
     page.until("corewar.shelf.shown.name.startsWith('a-tie')")
+    page.run(judge, 3)
+    page.until(verdict % (3, "1 cell; 0 won, 0 tied, 100 lost of 100. Not yet: survive 100 of 100 rounds."))
     page.run(
         "corewar.shelf.editor.mirror.setValue('MOV 0, 1\\n');"
         "document.querySelectorAll('#lessons .lesson')[3].querySelector('.main').click()"

@@ -181,6 +181,7 @@ export class Lessons {
     const result = `${pluralize(code.length, "cell")}; ${won} won, ${ties} tied, ${losses} lost of ${ROUNDS}.`;
     if (code.length > cells) return { isDone: false, text: `${result} Use at most ${cells} cells.` };
     const isDone = won >= wins && won + ties >= survives;
-    return { isDone, text: `${result} ${isDone ? "Well done." : "Not yet."}` };
+    const missing = won < wins ? `win ${wins}` : `survive ${survives}`;
+    return { isDone, text: `${result} ${isDone ? "Well done." : `Not yet: ${missing} of ${ROUNDS} rounds.`}` };
   }
 }

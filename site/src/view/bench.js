@@ -206,7 +206,7 @@ export class Bench {
   /** Returns how the mean has changed, and what that shows. */
   #change() {
     const found = this.#changeOf(this.#opponents);
-    return found ? [...told(found), ` since “Compare with this”. ${verdict(found)}`] : [];
+    return found ? [...described(found), ` since “Compare with this”. ${verdict(found)}`] : [];
   }
 
   /**
@@ -242,7 +242,7 @@ export class Bench {
       make("td", { className: "shares" }, stack(row)),
       make("td", { className: "mean" }, scale(points, far, change ? points - change.change : undefined)),
       make("td", {}, `${fixed(points)} ± ${fixed(far)}`),
-      make("td", {}, ...(change ? told(change) : [])),
+      make("td", {}, ...(change ? described(change) : [])),
       make("td", { className: "soft counts" }, shares),
     );
   }
@@ -252,7 +252,7 @@ export class Bench {
  * Returns a change with its standard error, if that is known.
  * @param {Change} change
  */
-function told({ change, error }) {
+function described({ change, error }) {
   const className = !isSure({ change, error }) ? "soft" : change > 0 ? "better" : "worse";
   const signed = `${change >= 0 ? "+" : "−"}${fixed(Math.abs(change))}`;
   const chance = make("span", { className: "soft chance" }, error === null ? "" : `, error ${fixed(error)}`);
