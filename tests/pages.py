@@ -463,6 +463,30 @@ def test_no_window_scrolls_sideways(page: Browser, view: str) -> None:
         page.resize(1280, 800)
 
 
+def test_a_narrow_page_shows_what_comes_next(page: Browser) -> None:
+    """The text of the next lesson, which is below the battle, and the change of a version on the bench."""
+    try:
+        page.resize(390, 844)
+        page.run("document.querySelector('#lessons .lesson button').click()")
+        page.until("corewar.session.fight.warriors.length === 1 && corewar.session.isSettled")
+        page.run("corewar.session.jump(corewar.session.end)")
+        page.until("corewar.session.turn === corewar.session.end && corewar.session.isSettled")
+        page.run("document.querySelector('#lesson-box .main').click()")
+        page.until("document.querySelector('#lesson-box .row').childElementCount === 3")
+        page.run("document.querySelector('#lesson-box .row').lastChild.click()")
+        place = "document.getElementById('lesson-box').getBoundingClientRect()"
+        page.until(f"document.querySelector('#lesson-box h2').textContent.startsWith('2') && {place}.top >= 0")
+        page.until(f"{place}.bottom <= innerHeight + 1")
+        page.run("corewar.show('bench')")
+        page.until("document.getElementById('bench-note').textContent.endsWith(' ms')")
+        page.click("#bench-base")
+        page.until("document.getElementById('bench-change').textContent")
+        table = "document.querySelector('table.bench').parentElement"
+        assert page.value(f"{table}.scrollWidth - {table}.clientWidth") <= 1
+    finally:
+        page.resize(1280, 800)
+
+
 CONTRAST = """
 const parse = colour => (colour.match(/[\\d.]+/g) ?? [0, 0, 0, 0]).map(Number);
 const light = ([r, g, b]) => [r, g, b].map(v => v / 255).map(v => v <= .03928 ? v / 12.92 : ((v + .055) / 1.055) ** 2.4)

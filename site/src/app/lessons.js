@@ -95,7 +95,12 @@ export class Lessons {
     const next = this.lessons[this.lessons.indexOf(lesson) + 1];
     const row = card.querySelector(".row");
     if (!next || !row || row.childElementCount > 2) return;
-    row.append(make("button", { onclick: () => this.begin(next) }, "Next lesson"));
+    const begin = async () => {
+      await this.begin(next);
+      // On a narrow page it is below the battle.
+      element("lesson-box").scrollIntoView({ block: "nearest" });
+    };
+    row.append(make("button", { onclick: begin }, "Next lesson"));
   }
 
   /** @param {Lesson} lesson */
