@@ -41,9 +41,9 @@ def main(generations: int) -> None:
     lineups = [[place, SIZE, SIZE + 1, SIZE + 2] for place in range(SIZE)]
     for _ in range(generations):
         seed = dice.randrange(1, 1 << 30)
-        given = {"settings": NANO, "seeds": seed}
-        outcomes = corewar.outcomes([*warriors, *OPPONENTS], lineups, rounds=ROUNDS, **given)
-        counted = corewar.outcomes([*warriors, *OPPONENTS], lineups, counts=True, **given)[:, 0, 0]
+        entrants = [*warriors, *OPPONENTS]
+        outcomes = corewar.outcomes(entrants, lineups, settings=NANO, rounds=ROUNDS, seeds=seed)
+        counted = corewar.outcomes(entrants, lineups, settings=NANO, seeds=seed, counts=True)[:, 0, 0]
         rewards = corewar.shares(outcomes, NANO.cycles)[:, :, 0].mean(axis=1)
         for one, reward, counts in zip(warriors, rewards, counted):
             place = int(counts["spawned"]).bit_length(), int(counts["touched"]) // 10

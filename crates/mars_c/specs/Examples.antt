@@ -353,6 +353,6 @@ pub fates_are_numbers : (plain_fate (record { survived = true; turns = 5; start 
     × ((plain_fate (record { survived = false; turns = 5; start = 9; counts = deeds })).survived ≡ 0)
 fates_are_numbers = (refl, refl)
 
--- Any number but 0 asks for what the warriors do.
+-- Any number but 0 requests what the warriors do.
 pub lineup_is_counted : (is_counting of_two ≡ false) × (is_counting (record { seed = 0; count = 2; counting = 7; warrior = [] }) ≡ true)
 lineup_is_counted = (refl, refl)

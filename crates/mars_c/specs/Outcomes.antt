@@ -50,7 +50,7 @@ seeded s seed = record {
   position = s.position;
 }
 
--- The lineup asks for what each warrior does.
+-- The lineup requests what each warrior does.
 abbrev pub is_counting : MarsLineup → Bool
 is_counting lineup = not (lineup.counting == 0)
 

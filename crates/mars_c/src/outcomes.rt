@@ -41,7 +41,7 @@ pub struct MarsOutcome {
     pub turns: u32,
     /// Address of its first cell.
     pub start: u32,
-    /// Number of its own turns. This and the following numbers are 0 if the lineup doesn't ask for them.
+    /// Number of its own turns. This and the following numbers are 0 if the lineup doesn't request them.
     pub own_turns: u32,
     /// Number of its turns that queued two processes.
     pub spawned: u32,
