@@ -193,8 +193,11 @@ export class Mars {
   survivors(warriors, { settings = DEFAULTS, rounds = 1, seed = 1, position = 0 } = {}) {
     return this.#within(() => {
       const [lineup, count] = [this.#allocate(MarsLineup.size), rounds * warriors.length];
-      // The seed is that of the settings.
-      this.#words(lineup, MarsLineup.size / 4).set([0, warriors.length, ...warriors.keys()]);
+      // The seed is that of the settings, and nothing is counted.
+      const numbers = [0, warriors.length, ...warriors.keys()];
+      this.#words(lineup, MarsLineup.size / 4)
+        .fill(0)
+        .set(numbers);
       const outcomes = this.#allocate(MarsOutcome.size * count);
       const given = [this.#settings(settings, { rounds, seed, position }), ...this.#fighters(warriors), lineup, 1n];
       this.#call("mars_outcomes", [...given, outcomes, BigInt(count)]);
