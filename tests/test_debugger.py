@@ -292,3 +292,7 @@ def test_labels_of_several_warriors() -> None:
     session = session_of("dwarf", "bomber")
     assert refused(session, "list bomb") == "`bomb` is a label of several warriors; use 0.bomb or 1.bomb"
     assert execute(session, "list 1.bomb 1")[0].split()[1] == "1.bomb"
+    assert refused(session, "edit 0 jmp bomb") == "`bomb` is a label of several warriors; use 0.bomb or 1.bomb"
+    there = session.sources.addresses["1.bomb"]
+    assert execute(session, "edit 2 mov 0.bomb, @1.bomb+1")[0].endswith(f"-> MOV.I $1, @{there - 1}")
+    assert "incomplete" in refused(session, "edit 2 jmp 2.bomb")

@@ -18,7 +18,8 @@ from ..model.settings import whole
 
 # The most cells that one edit fills, as the debugger of the program has it.
 MAX_FILLED_CELLS = 1_000_000
-WORD = re.compile(r"[A-Za-z_]\w*")
+# A label in a line of source, as `bomb` or as `1.bomb`.
+LABEL = re.compile(r"(?<![\w.])(?:\d+\.)?[A-Za-z_]\w*")
 CONDITION = "expected a condition: at, changes or reads A[..B] [by W], or splits, ends or dies W"
 
 
@@ -102,15 +103,20 @@ class Session:
         at = self.history.head(self.turn) if base == "." else self.sources.addresses.get(base, whole(base))
         if base == "." and at is None:
             raise CorewarError("`.` is the cell to execute next, but the battle is over; use a number or a label")
-        several = [name for name in self.sources.addresses if base and name.partition(".")[2] == base]
-        if at is None and several:
-            raise CorewarError(f"`{base}` is a label of several warriors; use {' or '.join(several)}")
+        if at is None:
+            self._check_label(base)
         if found is None or at is None or at >= self.history.core:
             raise CorewarError(
                 f"`{text}` is not an address: a number below {self.history.core}, a label or `.`, "
                 "with or without +N or -N"
             )
         return (at + sum(map(int, re.findall(r"[+-]\d+", found[2])))) % self.history.core
+
+    def _check_label(self, name: str) -> None:
+        """Raises CorewarError for a label of several warriors."""
+        several = [label for label in self.sources.addresses if name and label.partition(".")[2] == name]
+        if len(several) > 1:
+            raise CorewarError(f"`{name}` is a label of several warriors; use {' or '.join(several)}")
 
     def warrior(self, text: str) -> int:
         """A warrior by its number, its name or its file."""
@@ -140,12 +146,21 @@ class Session:
         """Returns the cell that a line of source makes at an address, as the debugger reads it. Labels refer to the
         core.
         """
-        labels = [name for name in self.sources.addresses if name in WORD.findall(line)]
-        given = [f"{name} EQU ({self.sources.addresses[name] - address})" for name in labels]
-        fight, source = self.history.fight, "\n".join([*given, line, ""])
+        addresses, words = self.sources.addresses, LABEL.findall(line)
+
+        def distance(found: re.Match[str]) -> str:
+            """`1.bomb` as its distance, because no name of a source has a point."""
+            is_label = "." in found[0] and found[0] in addresses
+            return f"({addresses[found[0]] - address})" if is_label else found[0]
+
+        given = [f"{name} EQU ({at - address})" for name, at in addresses.items() if "." not in name and name in words]
+        fight, source = self.history.fight, "\n".join([*given, LABEL.sub(distance, line), ""])
         try:
             warrior = assemble(source, settings=fight.settings, rounds=fight.rounds, warriors=len(self.names))
         except MarsError as fault:
+            for word in words:
+                if word not in addresses:
+                    self._check_label(word)
             kind, cause = str(fault).partition(": ")[2], explain_error(fault, source.encode())[0]
             raise CorewarError(f"`{line}` is not an instruction: {kind}: {cause}") from None
         cell: Cell = warrior.cells[-1].tolist()
