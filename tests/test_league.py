@@ -321,8 +321,10 @@ def test_it_goes_on_where_it_was_ended(folder: Path) -> None:
 def test_ctrl_c_without_results(folder: Path) -> None:
     """What is under way isn't waited for."""
     os.mkfifo(folder / "pipe")
-    for words in ("pipe", "-c 10000000 -r 100000 same.red"):
-        process = begin("league", "stay.red", *words.split(), cwd=folder)
+    long = "-c 10000000 -r 100000 same.red"
+    for words in ("league pipe", f"league {long}", f"challenge --old same.red {long}"):
+        command, *rest = words.split()
+        process = begin(command, "stay.red", *rest, cwd=folder)
         children, end = Path(f"/proc/{process.pid}/task/{process.pid}/children"), time.monotonic() + 60
         # Its assembler has begun, so it isn't being loaded any more.
         while not children.read_text() and time.monotonic() < end:

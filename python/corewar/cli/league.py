@@ -11,6 +11,7 @@ from typing import Any
 
 import click
 import numpy as np
+from numpy.typing import NDArray
 
 from ..engine.files import replace_file
 from ..engine.warriors import Warrior
@@ -27,7 +28,7 @@ from ..model.printing import printable
 from .layout import EXECUTION, STATUSES, Command, Number, Option
 from .options import BattleOptions, Decorator, Output, Picture, battle_options, with_options
 from .reporting import report, report_error
-from .waiting import progress
+from .waiting import progress, run_in_thread
 
 ADDRESS = re.compile(r"(tcp://)?(\[[0-9a-fA-F:]+\]|[^\s/:\[\]]+):\d+")
 REVERSED_ORDER = "{} of {} matches are stored only with the warriors in the other order; those are different matches"
@@ -254,11 +255,22 @@ def print_change(options: BattleOptions, runner: MatchRunner, only_sum: bool, ol
     contest, warriors, faults = entrants_of(replace(options, files=(*both, *options.files[1:])))
     if len(warriors) < 3 or any(fault.file in both for fault in faults):
         return 1
-    opponents, parts = warriors[2:], []
-    with progress(len(opponents), "opponents") as advance:
+    opponents = warriors[2:]
+
+    def run(advance: Callable[[int], None]) -> list[NDArray[np.float64]]:
+        parts = []
         for part in compare(contest, warriors[0], warriors[1], opponents, runner.jobs):
             parts.append(part)
             advance(part.shape[1])
+        return parts
+
+    try:
+        with progress(len(opponents), "opponents") as advance:
+            parts = run_in_thread(lambda: run(advance))
+    except KeyboardInterrupt:
+        report("stopped")
+        # Matches that are under way aren't waited for.
+        os._exit(130)
     comparison = Comparison(contest, warriors[:2], opponents, np.concatenate(parts, axis=1), only_sum)
     write_results(CHANGE_FORMATS[form](comparison), form)
     return 1 if faults else 0
