@@ -9,3 +9,4 @@ pub mod Near
 pub mod ReferenceCode
 pub mod Relative
 pub mod Touched
+pub mod Written

@@ -4,6 +4,7 @@ pub mod Apart
 pub mod Reach
 pub mod Touched
 pub mod Ends
+pub mod Validity
 pub mod Starts
 pub mod Turns
 pub mod ReferenceCode
