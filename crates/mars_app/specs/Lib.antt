@@ -1,4 +1,5 @@
--- The definitions that a reader of the contracts must trust, in this order. `Examples` has examples of them.
+-- The definitions that a reader of the contracts must trust, in this order. `Laws` follows from them, and `Examples` has examples
+-- of them.
 pub mod Limits
 pub mod CommandLine
 pub mod Options
@@ -10,5 +11,6 @@ pub mod Debugging
 pub mod Runs
 pub mod Faults
 pub mod Status
+pub mod Laws
 pub mod Examples
 pub mod Code

@@ -8,6 +8,7 @@
 //! - `debug` is the debugger on its own (`specs/Debugger/Transcript`), over any reader, writer and tape: it reads lines up to
 //!   `quit` or the end of its input, and writes the reply to each before it executes the next. `debug_within` does this in a
 //!   limited number of reads.
+//! - The laws in [`laws`] hold for these definitions: what a run writes depends only on its arguments, files and input.
 //!
 //! All of this is proved, except for the line that is printed for an error.
 #![tactic(auto)]
@@ -17,6 +18,7 @@ mod contest;
 mod debugger;
 mod fault;
 mod files;
+pub mod laws;
 mod loading;
 mod options;
 mod runs;

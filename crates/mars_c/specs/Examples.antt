@@ -1,5 +1,6 @@
 -- Examples, as theorems: errors, cells, programs and records as numbers, warriors in an array, the positions of a later round,
 -- values out of range, and populations.
+pub mod Wrong
 use Rattle.std.specs.Prelude.{◌≡◌, ℕ, zero, suc, pos, refl, true, false, All, List, [], ◌∷◌, None, Some, Ok, Err, codes, replicate, slice_index_or}
 use Rattle.std.proofs.Common.{ap, arith, subst}
 use Rattle.std.proofs.lemmas.List.Elements.{All-cons, All-nil}
@@ -212,7 +213,7 @@ unfolding starts_of next_seed drawn start_state overlap the_machine
 second_round_begins_with_the_second = refl
 
 -- The settings of the nano hill, with this number of rounds, this seed and this position.
-abbrev nano : ℕ → ℕ → ℕ → MarsSettings
+abbrev pub nano : ℕ → ℕ → ℕ → MarsSettings
 nano rounds seed position = record {
   core = 80;
   processes = 80;

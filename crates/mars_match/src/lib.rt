@@ -7,12 +7,13 @@
 //!   position for the second of two warriors.
 //! - `fight` returns the survivors of a round (`specs/Battles`), `rounds` the table of a match (`specs/Rounds`), `league`
 //!   that of a league (`specs/Leagues`), `population` the sums of candidates (`specs/Populations`), and `fight_rounds`
-//!   the fate of each warrior in each round (`specs/Fates`). Each of them may return its first error, or run out of
-//!   memory (`specs/CallResults`).
+//!   the fate of each warrior in each round (`specs/Fates`) and, on request, counts of what it did (`specs/Counts`). Each
+//!   of them may return its first error, or run out of memory (`specs/CallResults`).
 //! - `write_results` writes the defined text of a table (`specs/Results`), or a prefix of it if the writer fails. It
 //!   doesn't allocate.
 //!
-//! The module `laws` says what an ascending order and a ranking are.
+//! The laws in [`laws`] follow from these definitions: wins, ties and losses add up to the rounds, a league is its pairs,
+//! and a ranking is in order.
 #![tactic(auto)]
 
 mod counts;

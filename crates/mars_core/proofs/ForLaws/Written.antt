@@ -43,7 +43,7 @@ pub cells_are_the_last_written : CellsAreTheLastWritten
 cells_are_the_last_written s zero address v inside = refl
 cells_are_the_last_written s (suc n) address v inside =
     elim (is_over_of s) as (λ b. is_over_of s ≡ b → cell_at (if b then s else after_turns n (turn_of s)).core address
-        ≡ last_written address (if b then [] else (turn_record s).cells.items ++ writes_in n (turn_of s)) (cell_at s.core address)) [
+    ≡ last_written address (if b then [] else (turn_record s).cells.items ++ writes_in n (turn_of s)) (cell_at s.core address)) [
       | true ↦ λ e. refl
       | false ↦ λ e.
           let t = turn_of s in

@@ -1,0 +1,45 @@
+-- The laws of the program: theorems about the definitions. They say what a run has written and read, whatever the machine, its memory,
+-- and the division of the input into reads.
+use Rattle.std.specs.Prelude.{◌≡◌, ℕ, false, List, [], ◌++◌, All, Option, Some, IsSome}
+use Rattle.std.specs.Io.KnownBytes.{Keeps}
+use Rattle.mars_app.specs.Faults.{RunFails}
+use Rattle.mars_app.specs.Options.{AskForHelp, said_by}
+use Rattle.mars_app.specs.Runs.{RunSucceeds}
+use Rattle.mars_app.specs.Streams.{StreamsValue}
+use Rattle.mars_app.specs.declared.fault.RunFault.{RunFault}
+
+-- The streams of a program that starts: an input of which nothing was read, and an output to which nothing was written.
+abbrev pub started_with : List ℕ → StreamsValue
+started_with input = record { unread = Some input; written = Some [] }
+
+-- The contents of all files are known, and the arguments do not request the help, of which no definition has the text.
+abbrev pub AreGiven : List (List ℕ) → (List ℕ → Option (List ℕ)) → Type 0
+AreGiven words known = (AskForHelp words → ⊥) × All (λ name. IsSome (known name)) (said_by words).files
+
+-- Two runs without an error have written the same bytes, if they were given the same arguments, files and input.
+abbrev pub EqualRunsWriteTheSame : Type 0
+EqualRunsWriteTheSame = (words : List (List ℕ)) (known : List ℕ → Option (List ℕ)) (input : List ℕ) (one other : StreamsValue)
+    → AreGiven words known
+    → RunSucceeds words known (started_with input) one → RunSucceeds words known (started_with input) other
+    → one.written ≡ other.written
+
+-- One output has bytes that are a beginning of those of the other, or all of them.
+pub record IsBeginning (one other : Option (List ℕ)) : Type 0 where
+  pub text : List ℕ
+  pub rest : List ℕ
+  pub begun : one ≡ Some text
+  pub whole : other ≡ Some (text ++ rest)
+
+-- If a run that does not debug ends with an error, it has written a beginning of what a run without an error writes that was given
+-- the same arguments, files and input.
+abbrev pub FailedRunsWriteABeginning : Type 0
+FailedRunsWriteABeginning = (words : List (List ℕ)) (known : List ℕ → Option (List ℕ)) (input : List ℕ) (one other : StreamsValue) (f : RunFault)
+    → AreGiven words known → (said_by words).debugger ≡ false
+    → RunFails words known (started_with input) one f → RunSucceeds words known (started_with input) other
+    → IsBeginning one.written other.written
+
+-- A run that does not debug reads nothing of its input, with or without an error.
+abbrev pub OnlyTheDebuggerReads : Type 0
+OnlyTheDebuggerReads = (words : List (List ℕ)) (known : List ℕ → Option (List ℕ)) (old new : StreamsValue) → (said_by words).debugger ≡ false
+    → (RunSucceeds words known old new → Keeps old.unread new.unread)
+    × ((f : RunFault) → RunFails words known old new f → Keeps old.unread new.unread)

@@ -1,0 +1,71 @@
+-- What does not hold, a condition at a time: settings, histories, rounds and buffers.
+use Rattle.std.specs.Prelude.{◌≡◌, ◌<◌, ◌≤◌, ℕ, Some, List, [], ◌∷◌, refl, slice_index_or}
+use Rattle.std.proofs.Common.{ap, arith, sym, ◌∙◌}
+use Rattle.std.specs.Option.{unwrap_or}
+use Rattle.mars_cell.specs.Parameters.{Parameters}
+use Rattle.mars_core.specs.State.{State}
+use Rattle.mars_match.specs.declared.setup.Setup.{Setup}
+use Rattle.mars_c.specs.Battles.{IsHistory, IsStart}
+use Rattle.mars_c.specs.Programs.{BeginsWith}
+use Rattle.mars_c.specs.Settings.{IsSetup, parameters_in}
+use Rattle.mars_c.specs.Examples.{nano}
+use Rattle.mars_c.specs.declared.cells.MarsCell.{MarsCell}
+use Rattle.mars_c.specs.declared.warriors.MarsWarrior.{MarsWarrior}
+
+-- ---- Setups
+
+-- The same setup does not have two numbers of rounds, two seeds, or two positions.
+pub one_number_of_rounds : (text : List ℕ) (setup : Setup) → IsSetup (nano 2 7 0) text setup → IsSetup (nano 3 7 0) text setup → ⊥
+one_number_of_rounds text setup one other = let e : 2 ≡ 3 = sym one.rounds ∙ other.rounds in omega (arith, e)
+
+pub one_seed : (text : List ℕ) (setup : Setup) → IsSetup (nano 2 7 0) text setup → IsSetup (nano 2 8 0) text setup → ⊥
+one_seed text setup one other = let e : 7 ≡ 8 = sym one.seed ∙ other.seed in omega (arith, e)
+
+pub one_position : (text : List ℕ) (setup : Setup) → IsSetup (nano 2 7 5) text setup → IsSetup (nano 2 7 6) text setup → ⊥
+one_position text setup one other =
+    let same : Some 5 ≡ Some 6 = sym one.fixed ∙ other.fixed in
+    let e : 5 ≡ 6 = ap (λ o. unwrap_or o 0) same in
+    omega (arith, e)
+
+-- The parameters of the setup are those of the settings.
+pub a_core_of_another_size : (text : List ℕ) (setup : Setup) → IsSetup (nano 2 7 0) text setup → setup.params.core_size ≡ 80
+a_core_of_another_size text setup one =
+    let same : parameters_in (nano 2 7 0) ≡ setup.params = cc in
+    sym (ap (λ (p : Parameters). p.core_size) same)
+
+pub rounds_out_of_range : (text : List ℕ) (setup : Setup) → (IsSetup (nano 0 7 0) text setup → ⊥) × (IsSetup (nano 100001 7 0) text setup → ⊥)
+rounds_out_of_range text setup = (λ s. omega (arith, s.rounds_allowed.0), λ s. omega (arith, s.rounds_allowed.1))
+
+pub seeds_out_of_range : (text : List ℕ) (setup : Setup) → (IsSetup (nano 1 0 0) text setup → ⊥) × (IsSetup (nano 1 2147483647 0) text setup → ⊥)
+seeds_out_of_range text setup = (λ s. omega (arith, s.seed_allowed.0), λ s. omega (arith, s.seed_allowed.1))
+
+-- ---- Battles
+
+-- A match of three rounds has no round 3: they are numbered from 0.
+pub no_round_3 : (cells : List MarsCell) (entrants : List MarsWarrior) (s : State) → IsStart (nano 3 7 0) cells entrants 3 s → ⊥
+no_round_3 cells entrants s start = let e : 3 < 3 = start.5 in omega (arith, e)
+
+-- No warrior may be placed nearer than the distance, which is 5.
+pub no_nearer_start : (cells : List MarsCell) (entrants : List MarsWarrior) (s : State) → IsStart (nano 3 7 4) cells entrants 0 s → ⊥
+no_nearer_start cells entrants s start =
+    let same : parameters_in (nano 3 7 4) ≡ start.0.params = cc in
+    let distance : 5 ≡ start.0.params.distance = ap (λ (p : Parameters). p.distance) same in
+    let fits = rw (start.2.fixed) at start.4 in
+    omega (arith, distance, fits.1)
+
+pub histories : (IsHistory 0 → ⊥) × IsHistory 1 × IsHistory 1000000 × (IsHistory 1000001 → ⊥)
+histories = (λ h. omega (arith, h.0), (omega arith, omega arith), (omega arith, omega arith), λ h. omega (arith, h.1))
+
+-- ---- Buffers
+
+-- A text of one byte in a buffer of two: another count, another byte of the text, and another byte after it.
+pub texts_in_buffers : BeginsWith (65 ∷ []) 1 (1 ∷ 2 ∷ []) (65 ∷ 2 ∷ [])
+    × (BeginsWith (65 ∷ []) 2 (1 ∷ 2 ∷ []) (65 ∷ []) → ⊥)
+    × (BeginsWith (65 ∷ []) 1 [] (65 ∷ []) → ⊥)
+    × (BeginsWith (65 ∷ []) 1 (1 ∷ 2 ∷ []) (65 ∷ 3 ∷ []) → ⊥)
+texts_in_buffers = (
+  (refl, omega arith, refl),
+  λ b. let e : 2 ≡ 1 = b.0 in omega (arith, e),
+  λ b. let e : 1 ≤ 0 = b.1 in omega (arith, e),
+  λ b. let e = ap (λ (bytes : List ℕ). slice_index_or bytes 1 0) b.2 in omega (arith, e),
+)
