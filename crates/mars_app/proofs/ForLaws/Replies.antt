@@ -1,5 +1,5 @@
--- What the debugger writes is determined by its lines, because the history of its session evicts places: then no command is
--- refused for want of memory.
+-- What the debugger writes is determined by its lines, because the history of its session evicts places: no command is refused
+-- then because memory ran out.
 use Rattle.std.proofs.Common.{◌≡◌, refl, ap, ◌∙◌, ℕ, Bool, true, false, List, [], ◌∷◌, ◌++◌, Option, None, Some, Result, Ok, Err}
 use Rattle.std.specs.Prelude.{is_some}
 use Rattle.mars_session.specs.declared.calls.Refusal.{Refusal}
