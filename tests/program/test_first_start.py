@@ -328,7 +328,7 @@ def test_terminal(place: Place) -> None:
     told = os.read(mine, 100_000).decode().split("\r\n")
     first, last = told[0], told[-2]
     assert (
-        "the program is proved before it is built: 8 crates, 10 to 13 minutes on four processors" in first
+        "the program is proved before it is built: 8 crates, 12 to 16 minutes on four processors" in first
     ), "what a start takes is told first"
     assert last.rpartition("\r\033[K")[2].startswith("mars: proved 8 crates in 0 min "), "what it took at the end"
     assert (len(told), told[-1]) == (3, ""), "nothing else has a line of its own"
