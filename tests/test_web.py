@@ -9,6 +9,7 @@ import socket
 import urllib.error
 import urllib.request
 from collections.abc import Iterator
+from concurrent.futures import ThreadPoolExecutor
 from dataclasses import dataclass
 from pathlib import Path
 from typing import Any
@@ -144,10 +145,12 @@ def test_requests_that_are_none(site: Site) -> None:
     ):
         assert site.ask(path, body, method) == (400, b'{"fault": "this message is not one of the page\'s"}'), path
     assert site.ask("api/sources/x.red", None, "PUT")[0] == 400
+    assert site.ask("api/league", {**fight("imp", "dwarf"), "rounds": float("inf")}, "POST")[0] == 400
     deep = urllib.request.Request(f"{site.address}api/league", b"[" * 100_000, method="POST")
     with pytest.raises(urllib.error.HTTPError, match="400"):
         urllib.request.urlopen(deep, timeout=WAIT)
-    assert site.ask("api/league", None, "POST", **{"Content-Length": str(1 << 40)})[0] == 413
+    for length in (str(1 << 40), "9" * 5000, "-1"):
+        assert site.ask("api/league", None, "POST", **{"Content-Length": length})[0] == 413
     assert site.ask("api/other", {}, "POST")[0] == site.ask("other", {}, "PUT")[0] == 404
 
 
@@ -176,8 +179,19 @@ def test_sources_are_saved_where_they_came_from(site: Site) -> None:
     for name in ("%2e%2e%2fout.red", "%2fetc%2fx.red", "x.txt", ".red", "", "a%00.red"):
         assert site.save(name, "", "")[0] == 400, name
     assert site.save("large.red", ";" * 1_048_577, "")[0] == 400
+    status, told = site.save("x" * 300 + ".red", "", "")
+    assert status == 400 and told["fault"].endswith(": File name too long")
     assert site.save("new.red", "DAT 0, 0\n", "")[0] == 200
     assert (site.folder / "new.red").read_text() == "DAT 0, 0\n"
+
+
+def test_of_two_saves_at_once_one_is_refused(site: Site) -> None:
+    seen = site.sources()["imp.red"]["seen"]
+    with ThreadPoolExecutor(2) as pool:
+        for number in range(20):
+            answers = [*pool.map(lambda who: site.save("imp.red", f"; {number} {who}", seen), range(2))]
+            assert sorted(status for status, _ in answers) == [200, 409]
+            seen = dict(answers)[200]["seen"]
 
 
 def test_links_and_closed_files_are_respected(site: Site) -> None:

@@ -2,13 +2,14 @@
 from __future__ import annotations
 
 import hashlib
+import threading
 from collections.abc import Iterable
-from dataclasses import dataclass
+from dataclasses import dataclass, field
 from pathlib import Path
 from typing import Any
 
 from ..engine.files import replace_file
-from ..model.errors import CorewarError
+from ..model.errors import CorewarError, FileError
 from ..model.settings import MAX_FILE_SIZE
 
 
@@ -53,6 +54,7 @@ class Folder:
 
     paths: list[Path]
     examples: dict[str, Path]
+    _lock: threading.Lock = field(default_factory=threading.Lock, repr=False, compare=False)
 
     @property
     def key(self) -> str:
@@ -76,6 +78,14 @@ class Folder:
         data = encode_source(text)
         if len(data) > MAX_FILE_SIZE:
             raise CorewarError(f"{name} has more than {MAX_FILE_SIZE} bytes; not saved")
+        # Of two windows that save at once, the second one finds the file changed.
+        with self._lock:
+            try:
+                return self._replace(name, data, seen)
+            except OSError as fault:
+                raise FileError(name, fault.strerror or "cannot read") from None
+
+    def _replace(self, name: str, data: bytes, seen: str) -> str:
         path = sources_of(self.paths).get(name) or self._new(name)
         # A pipe or a device could be read without end.
         if path.exists() and not path.is_file():

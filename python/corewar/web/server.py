@@ -119,7 +119,8 @@ class Handler(BaseHTTPRequestHandler):
     def _handle(self, act: Callable[[dict[str, Any]], None]) -> None:
         """Calls a function with the message of the request. Its errors are answers."""
         length = self.headers.get("Content-Length", "")
-        if not length.isdecimal() or int(length) > MAX_MESSAGE_SIZE:
+        # Python reads no number of thousands of digits.
+        if not length.isdecimal() or len(length) > 10 or int(length) > MAX_MESSAGE_SIZE:
             return self._refuse(413, f"expected a message of at most {MAX_MESSAGE_SIZE} bytes")
         try:
             act(json.loads(self.rfile.read(int(length))))
@@ -127,7 +128,7 @@ class Handler(BaseHTTPRequestHandler):
             self._send_json(409, {"fault": str(fault), "seen": fault.seen})
         except CorewarError as fault:
             self._send_json(400, {"fault": str(fault)})
-        except (KeyError, TypeError, ValueError, AttributeError, RecursionError):
+        except (KeyError, TypeError, ValueError, AttributeError, OverflowError, RecursionError):
             self._send_json(400, {"fault": "this message is not one of the page's"})
 
     def _save(self, name: str, given: dict[str, Any]) -> None:
