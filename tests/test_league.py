@@ -387,9 +387,11 @@ def test_a_corrected_name_runs_nothing_again(run: Run, folder: Path) -> None:
 
 
 WRONG_COUNTS = [
-    ("wins = 1000", "cannot have 1000 wins"),
-    ("wins = -5, losses = 9", "cannot have -5 wins"),
-    ("ties = 1", "cannot have 4 wins, 1 ties"),
+    ("wins = 1000", "a match of 4 rounds cannot have 1000 wins"),
+    ("wins = -5, losses = 9", "a match of 4 rounds cannot have -5 wins"),
+    ("ties = 1", "a match of 4 rounds cannot have 4 wins, 1 ties"),
+    ("points = 99", "99 and 0 are not the points of 4-0-0"),
+    ("theirs = -1", "12 and -1 are not the points of 4-0-0"),
 ]
 
 
@@ -400,8 +402,8 @@ def test_counts_of_a_results_file_are_checked(run: Run, folder: Path, change: st
     with sqlite3.connect(folder / "kept.sqlite") as file:
         file.execute(f"UPDATE fought SET {change}")
     done = run(*words)
-    assert (done.returncode, done.stdout) == (1, "") and expected in done.stderr
-    assert done.stderr.startswith("corewar: kept.sqlite: invalid result: a match of 4 rounds cannot have ")
+    assert (done.returncode, done.stdout) == (1, "")
+    assert done.stderr.startswith(f"corewar: kept.sqlite: invalid result: {expected}")
 
 
 def test_a_locked_results_file(run: Run, folder: Path) -> None:
@@ -435,7 +437,7 @@ def test_texts_in_a_results_file(run: Run, folder: Path) -> None:
     assert (done.returncode, done.stdout, done.stderr) == (1, "", expected)
 
 
-@pytest.mark.parametrize("sent", [None, "text", [[1, 2]], [[0, 2, 0, 0, 0]], [[0.5] * 5], [], [[99, 99, 99, 99, 0]]])
+@pytest.mark.parametrize("sent", [None, "text", [[1, 2]], [[0, 2, 0, 0, 0]], [[0.5] * 5], [], [[99, 99, 99, 99, 0]], [[3, 0, 1, 0, 1]]])
 def test_counts_of_a_worker_are_checked(sent: object) -> None:
     imp = assemble("MOV 0, 1")
     matches, answer = Matches(Contest(), [imp, imp], all_pairs(2)), Future[object]()

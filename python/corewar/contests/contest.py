@@ -55,12 +55,19 @@ def fight(contest: Contest, warriors: Mapping[int, Warrior], pairs: Pairs) -> Co
     wins = survived.sum(axis=1) - ties[:, None]
     # A formula is refused even if no warrior survives, but has a value only if one does.
     score_of(contest.formula, 2, 0)
-    values = [score_of(contest.formula, 2, left) if many.any() else 0 for left, many in ((1, wins), (2, ties))]
-    points = wins.astype(object) * values[0] + ties[:, None].astype(object) * values[1]
+    losses = contest.rounds - wins[:, 0] - ties
+    points = points_of(contest.formula, wins, ties)
     if any(not fits(one) for one in points.ravel()):
         raise MarsError(SCORE, 4)
-    losses = contest.rounds - wins[:, 0] - ties
     return np.column_stack([points[:, 0], wins[:, 0], ties, losses, points[:, 1]]).astype(np.int64)
+
+
+def points_of(formula: str, wins: NDArray[Any], ties: NDArray[Any]) -> NDArray[Any]:
+    """Returns the points of both warriors, which may have more than 64 bits, from their wins and ties. Raises
+    `MarsError`.
+    """
+    values = [score_of(formula, 2, left) if many.any() else 0 for left, many in ((1, wins), (2, ties))]
+    return np.asarray(wins.astype(object) * values[0] + ties[:, None].astype(object) * values[1])
 
 
 @lru_cache(maxsize=None)
@@ -75,9 +82,9 @@ def fits(points: int) -> bool:
     return -(2**63) <= points < 2**63
 
 
-def check_counts(counts: object, matches: int, rounds: int) -> Counts:
+def check_counts(counts: object, matches: int, contest: Contest) -> Counts:
     """Returns the counts of a number of matches, which come from a file or from another machine. Raises CorewarError if
-    they are not the counts of any matches of that many rounds.
+    they are not the counts of any matches of this contest.
     """
     try:
         table = np.array(counts)
@@ -85,11 +92,17 @@ def check_counts(counts: object, matches: int, rounds: int) -> Counts:
         table = np.empty(0)
     if table.shape != (matches, 5) or not (matches == 0 or table.dtype.kind == "i"):
         raise CorewarError(f"expected five whole numbers for each of {matches} matches")
-    outcomes = table[:, 1:4]
+    outcomes, rounds = table[:, 1:4], contest.rounds
     wrong = np.flatnonzero((outcomes < 0).any(axis=1) | (outcomes > rounds).any(axis=1) | (outcomes.sum(1) != rounds))
     if len(wrong):
         wins, ties, losses = outcomes[wrong[0]].tolist()
         raise CorewarError(f"a match of {rounds} rounds cannot have {wins} wins, {ties} ties and {losses} losses")
+    # The losses of the first warrior are the wins of the second one.
+    points = points_of(contest.formula, outcomes[:, ::2], outcomes[:, 1])
+    wrong = np.flatnonzero((table[:, ::4] != points).any(axis=1))
+    if len(wrong):
+        first, *outcome, second = table[wrong[0]].tolist()
+        raise CorewarError(f"{first} and {second} are not the points of {'-'.join(map(str, outcome))}")
     return table.astype(np.int64)
 
 
@@ -159,7 +172,7 @@ class Matches:
             for other in numbers.get(second, ())
         ]
         pairs = np.array([row[:2] for row in found], np.intp).reshape(-1, 2)
-        counts = check_counts([row[2:] for row in found] or np.empty((0, 5)), len(found), self.contest.rounds)
+        counts = check_counts([row[2:] for row in found] or np.empty((0, 5)), len(found), self.contest)
         rows, reversed_rows = self.rows_of(pairs), self.rows_of(pairs[:, ::-1])
         self.fill_in(rows[rows >= 0], counts[rows >= 0])
         reversed_rows = np.unique(reversed_rows[reversed_rows >= 0])

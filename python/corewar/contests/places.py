@@ -55,7 +55,7 @@ class Executor:
                 rows = out.pop(future)
                 counts = self.counts_of(future)
                 try:
-                    matches.fill_in(rows, check_counts(counts, len(rows), matches.contest.rounds))
+                    matches.fill_in(rows, check_counts(counts, len(rows), matches.contest))
                 except CorewarError as fault:
                     raise CorewarError(f"invalid result from a worker: {fault}") from None
                 yield rows
