@@ -89,6 +89,20 @@ def test_searches_go_both_ways() -> None:
     assert execute(session, "rc reads 3 by dwarf")[0] == "reads 3 (bomb) by Dwarf:" and session.turn == 3
 
 
+def test_edits_of_processes_show_a_part_of_a_long_queue() -> None:
+    session = session_of("dwarf", "imp")
+    for address in range(39):
+        told = execute(session, f"spawn imp {address}")
+    last = " ".join(map(str, range(19, 39)))
+    assert told == [f"Imp: {last} (processes 20 to 39; `queue` also lists the other 20)"]
+    first = " ".join(map(str, [1305, *range(4), *range(5, 20)]))
+    assert execute(session, "kill imp 5") == [f"Imp: {first} (processes 0 to 19; `queue` also lists the other 19)"]
+    middle = " ".join(map(str, [*range(9, 19), 500, *range(20, 29)]))
+    told = execute(session, "move imp 19 500")
+    assert told == [f"Imp: {middle} (processes 9 to 28; `queue` also lists the other 19)"]
+    assert execute(session, "queue imp")[0].endswith(" 36 37 38")
+
+
 def test_edits_make_futures() -> None:
     session = session_of("dwarf", "imp")
     execute(session, "goto 6")

@@ -10,8 +10,8 @@ from ..battle.history import History
 from ..battle.labels import Sources
 from ..model.cells import Cell, cell_text
 
-# How many of many texts are shown.
-MAX_LISTED = 8
+# How many of many texts are shown, and how many processes around one that was edited.
+MAX_LISTED, MAX_PROCESSES = 8, 20
 
 
 def list_some(texts: Sequence[str]) -> str:
@@ -122,6 +122,16 @@ class BattleFormatter:
                 yield f"{name}: died in turn {death}"
             else:
                 yield f"{name}: {pluralize(len(self.history.block(turn).queue(number, turn)), 'process')}"
+
+    def queue(self, turn: int, warrior: int, process: int | None = None) -> str:
+        """Describes the addresses of the processes of a warrior: all, or if there are many only those around one."""
+        found, rest = self.history.block(turn).queue(warrior, turn), ""
+        if process is not None and len(found) > MAX_PROCESSES:
+            others = len(found) - MAX_PROCESSES
+            first = min(max(0, process - MAX_PROCESSES // 2), others)
+            found = found[first : first + MAX_PROCESSES]
+            rest = f" (processes {first} to {first + MAX_PROCESSES - 1}; `queue` also lists the other {others})"
+        return f"{self.names[warrior]}: {' '.join(map(str, found))}".rstrip() + rest
 
     def cells(self, turn: int, first: int, count: int) -> Iterator[str]:
         """Describes cells from an address on: `>` before the next one to execute, labels, processes, and lines of

@@ -223,16 +223,18 @@ def move(session: Session, rest: str) -> Iterator[str]:
     if len(words) != 3:
         raise CorewarError("expected a warrior, the index of a process and an address")
     warrior = session.warrior(words[0])
-    session.edit(Edit.move(warrior, session.process(warrior, words[1]), session.address(words[2])))
-    yield from queue(session, words[0])
+    process = session.process(warrior, words[1])
+    session.edit(Edit.move(warrior, process, session.address(words[2])))
+    yield session.formatter.queue(session.turn, warrior, process)
 
 
 @command("kill W I", "remove process I of warrior W")
 def kill(session: Session, rest: str) -> Iterator[str]:
     name, _, index = rest.rpartition(" ")
     warrior = session.warrior(name)
-    session.edit(Edit.kill(warrior, session.process(warrior, index)))
-    yield from queue(session, name)
+    process = session.process(warrior, index)
+    session.edit(Edit.kill(warrior, process))
+    yield session.formatter.queue(session.turn, warrior, process)
 
 
 @command("spawn W A", "add a process of warrior W at A")
@@ -244,7 +246,7 @@ def spawn(session: Session, rest: str) -> Iterator[str]:
         why = f"has {pluralize(count, 'process')}, the maximum" if count else "is dead"
         raise CorewarError(f"cannot add a process: {session.names[warrior]} {why}")
     session.edit(Edit.add(warrior, address))
-    yield from queue(session, name)
+    yield session.formatter.queue(session.turn, warrior, count)
 
 
 @command("futures [N]", "list the futures that edits have made, or switch to number N; none is lost")
@@ -277,10 +279,8 @@ def list_cells(session: Session, rest: str) -> Iterator[str]:
 
 @command("queue [W]", "list the addresses of the processes of warrior W, the next one first", "p")
 def queue(session: Session, rest: str) -> Iterator[str]:
-    block = session.history.block(session.turn)
-    warrior = session.warrior(rest) if rest else block.next_warrior(session.turn)
-    addresses = " ".join(map(str, block.queue(warrior, session.turn)))
-    yield f"{session.formatter.names[warrior]}: {addresses}".rstrip()
+    next_warrior = session.history.block(session.turn).next_warrior(session.turn)
+    yield session.formatter.queue(session.turn, session.warrior(rest) if rest else next_warrior)
 
 
 @command("show", "show the turn, the cycle and the state of each warrior", "i")
