@@ -79,7 +79,7 @@ SOURCES = [
     # Not ASCII, and too long.
     ("mov 0, \u2018a\n", "line 1: 1 Text 1 NotAscii", "Column 8 has `\u2018`, left single quotation mark"),
     ("\ufeffmov 0, 1\n", "line 1: 1 Text 1 NotAscii", "The file begins with a byte order mark"),
-    ("dat 0\n" * 101, "line 101: 8 TooLong", "increase `-l`"),
+    ("dat 0\n" * 101, "line 101: 8 TooLong", "shorten the warrior, or leave the settings of the hill with a greater `-l`"),
     # Errors without a cause in the text: what they mean.
     ("mov 0, 1.5\n", "line 1: 4 Expression 1 Syntax", "The expression is incomplete"),
     ("i FOR 2\nx&j dat 0\nROF\n", "line 2: 1 Text 2 BadToken", "`x&j`: `j` is not the counter of a loop"),
@@ -258,7 +258,7 @@ def test_files(run: Run, tmp_path: Path) -> None:
     (tmp_path / "long.red").write_text("dat 0\n" * 101)
     (tmp_path / "bad.load").write_text("MOV 0\n")
     assert run("explain", "@dwarf", "@imp").stdout.count(": no error\n") == 2
-    assert "increase `-l`" in run("explain", "long.red").stdout
+    assert "shorten the warrior, or leave the settings of the hill" in run("explain", "long.red").stdout
     assert run("explain", "-l", 101, "-d", 101, "long.red").stdout == "long.red: no error\n"
     assert run("explain", "bad.load").stdout.startswith(
         "bad.load: line 1: load 1 Syntax\n>    1 | MOV 0\nThis line is not valid in a load file"
@@ -517,14 +517,28 @@ def test_an_instruction(run: Run, words: list[str], expected: str) -> None:
 
 
 def test_what_is_no_instruction(run: Run, tmp_path: Path) -> None:
-    """A file comes first; what no opcode begins is a file that is not there; errors are explained."""
+    """A file comes first; a word that is not an opcode is a file that is not there; errors are explained."""
     (tmp_path / "mov 0, 1").write_text("dat 0\n")
     assert run("explain", "mov 0, 1").stdout == "mov 0, 1: no error\n"
-    for name in ("move.red", "add.red", "bomb", "mvo 1, 2"):
+    for name in ("move.red", "add.red", "bomb", "mvo 1,2.red"):
         assert run("explain", name).stderr.startswith(f"corewar: {name}: ")
     wrong = run("explain", "ADD 1 2")
     assert wrong.returncode == 1 and wrong.stdout.startswith("ADD 1 2: 4 Expression 1 Syntax\nA comma may be missing")
+    for words, expected in (
+        (["mvo 0, 1"], "mvo 0, 1: 2 Operation\n`mvo` is read as a label; did you mean `MOV`?\n"),
+        (["mvo", "bomb,", ">ptr"], "mvo bomb, >ptr: 2 Operation\n`mvo` is read as a label; did you mean `MOV`?\n"),
+        (["mov.q 0, 1"], "mov.q 0, 1: 2 Operation\n`.q` is not a modifier; the modifiers are A, B, AB, BA, F, X, I.\n"),
+    ):
+        wrong = run("explain", *words)
+        assert (wrong.returncode, wrong.stdout, wrong.stderr) == (1, expected, "")
     assert run("explain", "--fix", "add 0, 1").returncode == 1
+
+
+def test_an_instruction_on_standard_input(run: Run) -> None:
+    done = run("explain", given="MOV 0, 1\n")
+    assert (done.stdout, done.returncode) == ("MOV.I $0, $1\nCopy this instruction to the next cell.\n", 0)
+    wrong = run("explain", given="mov 0 1\n")
+    assert wrong.returncode == 1 and wrong.stdout.endswith("A comma may be missing between `0` and `1`.\n")
 
 
 NEWCOMERS = [

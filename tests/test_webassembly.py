@@ -23,6 +23,7 @@ from corewar.battle.labels import Sources
 from corewar.engine.calls import Match, assemble
 from corewar.explain import errors_of
 from corewar.explain.instructions import describe_instruction
+from corewar.explain.meanings import GREATER
 from corewar.model.cells import MODES, MODIFIERS, OPCODES
 from corewar.model.errors import MarsError
 from corewar.web.contests import settings_of
@@ -206,6 +207,6 @@ def test_its_errors_are_those_of_explain() -> None:
     for text, answer in zip(texts, json.loads(done.stdout), strict=True):
         found = list(errors_of(text.encode(), assemble))
         # The site has no options.
-        options = "; increase `-l`, and `-d` with it, which must be at least as large"
+        options = f"; {GREATER}"
         expected = [[line_to_correct(*error), " ".join(error[1]).replace(options, "")] for error in found]
         assert answer == expected, text

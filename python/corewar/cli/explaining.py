@@ -2,8 +2,9 @@
 from __future__ import annotations
 
 import os
+import re
 import sys
-from collections.abc import Callable, Iterator
+from collections.abc import Callable, Iterator, Sequence
 
 import click
 
@@ -12,7 +13,7 @@ from ..engine.warriors import Warrior
 from ..explain import CHECKED_ROWS, errors_of, excerpt, explain_error, explain_kind, fix, pmars_differences, read_faults
 from ..explain.errors import kind_of
 from ..explain.instructions import describe_line, find_instruction
-from ..explain.source import Line
+from ..explain.source import Line, parse_line
 from ..model.errors import ASSEMBLY, CorewarError, FileError, MarsError
 from ..model.printing import printable
 from .layout import Command
@@ -47,7 +48,8 @@ class Explain(Command):
 def explain(options: BattleOptions, pmars: bool, is_fixed: bool) -> int:
     """Explain the errors in files, or those read from standard input, or an instruction.
 
-    An argument that is no file but an instruction, such as 'MOV }bomb, >ptr', is put in plain words.
+    An argument that is no file but an instruction, such as 'MOV }bomb, >ptr', is put in plain words, or its error is
+    explained.
 
     Without files, error messages of any program of this kit are read from standard input, such as `mars: first.red:
     line 7: 2 Operation`. If the first argument is `mars`, the others are checked as the arguments of that program, and
@@ -62,14 +64,25 @@ def explain(options: BattleOptions, pmars: bool, is_fixed: bool) -> int:
     if pmars:
         for path in options.files:
             compare_file(options, path)
-    elif line := find_instruction(" ".join(options.files)) if not any(map(os.path.exists, options.files)) else None:
+    elif line := instruction_of(options.files):
         return explain_instruction(options, line)
     elif options.files:
         # Each file is looked at, also after one with an error.
         return max([explain_file(options, path) for path in options.files])
     else:
-        explain_lines()
+        return explain_input(options)
     return 0
+
+
+def instruction_of(words: Sequence[str]) -> Line | None:
+    """Returns the line of some arguments that are not files, if it looks like an instruction: it has an opcode or, also
+    if that is misspelt, a blank or a comma.
+    """
+    text, are_sources = " ".join(words), any(word.endswith((".red", ".load")) for word in words)
+    if any(map(os.path.exists, words)):
+        return None
+    is_line = re.search("[ ,]", "".join(words)) and "\n" not in text and not are_sources
+    return find_instruction(text) or (parse_line(1, text, {}) if is_line else None)
 
 
 def explain_instruction(options: BattleOptions, line: Line) -> int:
@@ -153,17 +166,23 @@ def errors_in(options: BattleOptions, path: str) -> Iterator[tuple[MarsError, by
             yield error, text, sentences
 
 
-def explain_lines() -> None:
-    """Explains the error messages of standard input. Raises CorewarError if there are none."""
+def explain_input(options: BattleOptions) -> int:
+    """Explains the error messages of standard input, or one instruction. Returns the exit status. Raises CorewarError if
+    there is neither.
+    """
     if sys.stdin.isatty():
         raise click.UsageError("expected at least one file, or error messages on standard input")
     text = read_file("-").decode("utf-8", "replace")
     found = [*read_faults(text.splitlines())]
+    line = None if found else find_instruction(text.strip())
+    if line:
+        return explain_instruction(options, line)
     if not found:
         raise CorewarError("no error message found in the input")
-    for line, path, number, kind in found:
+    for message, path, number, kind in found:
         source = read_file(path) if os.path.isfile(path) else b""
-        write([line, *excerpt(source, number), *explain_kind(kind, number, source)])
+        write([message, *excerpt(source, number), *explain_kind(kind, number, source)])
+    return 0
 
 
 def write(lines: list[str]) -> None:
