@@ -79,7 +79,11 @@ SOURCES = [
     # Not ASCII, and too long.
     ("mov 0, \u2018a\n", "line 1: 1 Text 1 NotAscii", "Column 8 has `\u2018`, left single quotation mark"),
     ("\ufeffmov 0, 1\n", "line 1: 1 Text 1 NotAscii", "The file begins with a byte order mark"),
-    ("dat 0\n" * 101, "line 101: 8 TooLong", "shorten the warrior, or leave the settings of the hill with a greater `-l`"),
+    (
+        "dat 0\n" * 101,
+        "line 101: 8 TooLong",
+        "shorten the warrior, or leave the settings of the hill with a greater `-l`",
+    ),
     # Errors without a cause in the text: what they mean.
     ("mov 0, 1.5\n", "line 1: 4 Expression 1 Syntax", "The expression is incomplete"),
     ("i FOR 2\nx&j dat 0\nROF\n", "line 2: 1 Text 2 BadToken", "`x&j`: `j` is not the counter of a loop"),

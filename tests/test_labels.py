@@ -91,7 +91,7 @@ def test_the_line_of_nearly_each_turn_is_known() -> None:
         history = History(Match(tuple(read(str(EXAMPLES / f"{name}.red")) for name in names.split())))
         sources, origins, loaded = Sources(history), Origins(history), history.state(0).cells
         for block in history.blocks():
-            known += int(np.isin(origins.of(block).executed, [*sources.lines]).sum())
+            known += int(np.isin(origins.executed(block), [*sources.lines]).sum())
             turn = (block.first + block.last) // 2
             cells, found = block.cells(turn), origins.at(turn)
             assert all(np.array_equal(cells[name], loaded[name][found]) for name in KEPT)

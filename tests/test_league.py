@@ -437,7 +437,9 @@ def test_texts_in_a_results_file(run: Run, folder: Path) -> None:
     assert (done.returncode, done.stdout, done.stderr) == (1, "", expected)
 
 
-@pytest.mark.parametrize("sent", [None, "text", [[1, 2]], [[0, 2, 0, 0, 0]], [[0.5] * 5], [], [[99, 99, 99, 99, 0]], [[3, 0, 1, 0, 1]]])
+@pytest.mark.parametrize(
+    "sent", [None, "text", [[1, 2]], [[0, 2, 0, 0, 0]], [[0.5] * 5], [], [[99, 99, 99, 99, 0]], [[3, 0, 1, 0, 1]]]
+)
 def test_counts_of_a_worker_are_checked(sent: object) -> None:
     imp = assemble("MOV 0, 1")
     matches, answer = Matches(Contest(), [imp, imp], all_pairs(2)), Future[object]()

@@ -67,7 +67,7 @@ class Study:
 
     def _accesses(self, block: Block, touches: Touches) -> Accesses:
         rows = touches.turns - block.first - 1
-        places, origins = block.records["address"][rows].astype(np.int64), self.origins.of(block).executed[rows]
+        places, origins = block.records["address"][rows].astype(np.int64), self.origins.executed(block)[rows]
         return Accesses(touches.turns, places, origins, touches.addresses.astype(np.int64))
 
     def _scanned(self, block: Block) -> Accesses:

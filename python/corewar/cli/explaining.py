@@ -76,7 +76,7 @@ def explain(options: BattleOptions, pmars: bool, is_fixed: bool) -> int:
 
 def instruction_of(words: Sequence[str]) -> Line | None:
     """Returns the line of some arguments that are not files, if it looks like an instruction: it has an opcode or, also
-    if that is misspelt, a blank or a comma.
+    if that is misspelt, a space or a comma.
     """
     text, are_sources = " ".join(words), any(word.endswith((".red", ".load")) for word in words)
     if any(map(os.path.exists, words)):
@@ -167,7 +167,7 @@ def errors_in(options: BattleOptions, path: str) -> Iterator[tuple[MarsError, by
 
 
 def explain_input(options: BattleOptions) -> int:
-    """Explains the error messages of standard input, or one instruction. Returns the exit status. Raises CorewarError if
+    """Explains the error messages of standard input, or an instruction. Returns the exit status. Raises CorewarError if
     there is neither.
     """
     if sys.stdin.isatty():

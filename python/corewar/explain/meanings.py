@@ -12,7 +12,9 @@ from .source import read_source
 
 # The maximum number of causes that are reported for an error.
 MAX_CAUSES = 2
-GREATER = "shorten the warrior, or leave the settings of the hill with a greater `-l` and a `-d` that is at least as large"
+GREATER = (
+    "shorten the warrior, or leave the settings of the hill with a greater `-l` and a `-d` that is at least as large"
+)
 EXPRESSION = SENTENCES["expressions"]
 MEANINGS = {
     "bad words": "An argument of the program is wrong; `corewar explain mars ARGUMENTS` finds out which.",
