@@ -360,3 +360,19 @@ def test_study(run: Run, tmp_path: Path) -> None:
     # No more turns are run than those in which lines are known.
     assert "lives after 1000000 turns." in run("study", "-c", 5_000_000, "@gate").stdout
     assert all(len(run("study", file).stdout.splitlines()) < 24 for file in sorted(EXAMPLES.glob("*.red")))
+
+
+def test_a_terminal_breaks_lines_at_spaces(run: Run, tmp_path: Path) -> None:
+    """Elsewhere lines stay whole."""
+    pexpect = pytest.importorskip("pexpect", reason="package python3-pexpect")
+    environment = {**os.environ, "TERM": "xterm", "XDG_STATE_HOME": str(tmp_path)}
+    scanner = str(EXAMPLES / "scanner.red")
+    for words in (["study", scanner], ["explain", "ADD #step, {ptr"], ["why", scanner, str(EXAMPLES / "silk.red")]):
+        whole = run(*words).stdout
+        with pexpect.spawn(
+            str(EXAMPLES.parent / "corewar"), words, env=environment, timeout=20, dimensions=(40, 50), encoding="utf-8"
+        ) as child:
+            child.expect(pexpect.EOF)
+            told = child.before.splitlines()
+        assert max(map(len, whole.splitlines())) > 50 >= max(map(len, told)), words
+        assert " ".join(told).split() == whole.split()

@@ -18,7 +18,7 @@ from ..model.errors import ASSEMBLY, CorewarError, FileError, MarsError
 from ..model.printing import printable
 from .layout import Command
 from .options import BattleOptions, battle_options
-from .reporting import report, report_error
+from .reporting import report, report_error, report_sentences, show
 
 EXAMPLES = [
     "corewar explain dwarf.red",
@@ -133,7 +133,7 @@ def fix_file(options: BattleOptions, path: str) -> int:
     click.echo(fixed, nl=False)
     for fault, sentences in errors:
         report(f"{path}: not fixed: {fault}")
-        click.echo("".join(f"  {printable(sentence)}\n" for sentence in sentences), err=True, nl=False)
+        report_sentences(sentences)
     return int(bool(errors))
 
 
@@ -186,4 +186,4 @@ def explain_input(options: BattleOptions) -> int:
 
 
 def write(lines: list[str]) -> None:
-    click.echo("\n".join(map(printable, lines)))
+    show(map(printable, lines))

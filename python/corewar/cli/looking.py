@@ -20,6 +20,7 @@ from ..model.printing import printable
 from ..model.settings import Settings, whole
 from .layout import Command, Number
 from .options import LIMIT, BattleOptions, battle_options, core_options, is_given
+from .reporting import show
 from .waiting import progress
 
 
@@ -67,13 +68,13 @@ def why(options: BattleOptions, named: str | None, turns: int) -> None:
     formatter = formatter_of(options)
     died = [int(number) for number in formatter.history.ending.deaths["warrior"]]
     for number in died if named is None else [warrior_of(formatter.history, named)]:
-        click.echo("\n".join(describe_death(formatter, number, turns)))
+        show(describe_death(formatter, number, turns))
     living = [number for number in range(len(formatter.names)) if number not in died]
     if named is None and not died:
         click.echo(f"No warrior died; {formatter.ending()}.")
     if named is None and (len(living) > 1 or not died):
         for number in living:
-            click.echo("\n".join(describe_survivor(formatter, number)))
+            show(describe_survivor(formatter, number))
 
 
 def print_losses(options: BattleOptions, named: str | None) -> None:
@@ -92,9 +93,10 @@ def print_losses(options: BattleOptions, named: str | None) -> None:
         own, name = [fate for fate in fates if fate.warrior == number], first.names[number]
         deaths = [fate for fate in own if isinstance(fate, Death)]
         if deaths or named is not None:
-            click.echo("\n".join(describe_losses(name, options.rounds, deaths)))
-        for line in describe_ties(name, options.rounds, [fate for fate in own if isinstance(fate, Tie)]):
-            click.echo(line)
+            show(describe_losses(name, options.rounds, deaths))
+        ties = [fate for fate in own if isinstance(fate, Tie)]
+        if ties:
+            show(describe_ties(name, options.rounds, ties))
 
 
 @click.command(
@@ -113,7 +115,7 @@ def trace(options: BattleOptions, first: int | None, turns: int) -> None:
     if first > end:
         raise click.BadParameter(f"the battle has turns 1 to {end}", param_hint="--from")
     for turn in range(first, min(end, first + turns - 1) + 1):
-        click.echo("\n".join(formatter.lines(turn)))
+        show(formatter.lines(turn))
 
 
 @click.command(
@@ -135,7 +137,7 @@ def changed(options: BattleOptions, named: str, before: int | None) -> None:
             f"`{named}` is neither a label nor an address below {formatter.history.core}", param_hint="--cell"
         )
     turn = min(formatter.history.end, (before or formatter.history.end + 1) - 1)
-    click.echo("\n".join(describe_change(formatter, address, turn)))
+    show(describe_change(formatter, address, turn))
 
 
 @click.command(cls=Command, examples=["corewar study dwarf.red"])
@@ -151,4 +153,4 @@ def study(file: str, settings: Settings, limit: Limit) -> None:
     warriors = read_warriors([file], settings, limit=limit, warriors=2)
     # Lines are known up to this turn.
     settings = replace(settings, cycles=min(settings.cycles, MAX_TRACED_TURNS))
-    click.echo("\n".join(map(printable, Study(History(Match(warriors, settings=settings))).describe())))
+    show(map(printable, Study(History(Match(warriors, settings=settings))).describe()))

@@ -1,16 +1,24 @@
 """Reports errors on standard error."""
 from __future__ import annotations
 
+import sys
+from collections.abc import Iterable, Sequence
+
 import click
 
 from ..explain import explain_error
 from ..model.errors import CorewarError, FileError, MarsError
-from ..model.printing import printable
+from ..model.printing import lines_for, printable
+
+
+def show(lines: Iterable[str]) -> None:
+    """Writes lines to standard output."""
+    click.echo(lines_for(sys.stdout, lines))
 
 
 def report(text: str) -> None:
     """Writes lines to standard error, after the name of the command."""
-    click.echo("\n".join(f"corewar: {printable(line)}" for line in text.split("\n")), err=True)
+    click.echo(lines_for(sys.stderr, (f"corewar: {printable(line)}" for line in text.split("\n"))), err=True)
 
 
 def report_error(refused: CorewarError) -> None:
@@ -18,6 +26,10 @@ def report_error(refused: CorewarError) -> None:
     report(str(refused))
     fault, source = (refused.fault, refused.text) if isinstance(refused, FileError) else (refused, b"")
     if isinstance(fault, MarsError):
-        click.echo(
-            "".join(f"  {printable(sentence)}\n" for sentence in explain_error(fault, source)), err=True, nl=False
-        )
+        report_sentences(explain_error(fault, source))
+
+
+def report_sentences(sentences: Sequence[str]) -> None:
+    """Writes sentences on an error to standard error."""
+    if sentences:
+        click.echo(lines_for(sys.stderr, (f"  {printable(sentence)}" for sentence in sentences)), err=True)

@@ -21,7 +21,7 @@ from pygments.lexers.esoteric import RedcodeLexer
 from ..battle.conditions import CELL_CONDITIONS, WARRIOR_CONDITIONS
 from ..engine.sources import read_file
 from ..model.errors import CorewarError
-from ..model.printing import printable
+from ..model.printing import lines_for, printable
 from .commands import COMMANDS, Command, QuitDebugger, execute, find_command
 from .session import Session
 
@@ -178,7 +178,7 @@ def run_prompt(session: Session, coloured: bool) -> None:
         auto_suggest=AutoSuggestFromHistory(),
         bottom_toolbar=lambda: ANSI(status_bar(session)),
     )
-    runner, last = Runner(session, lambda text: print(text, flush=True)), ""
+    runner, last = Runner(session, lambda text: print(lines_for(sys.stdout, text.split("\n")), flush=True)), ""
     while True:
         try:
             line = as_utf8(prompt.prompt(f"turn {session.turn}> ")).strip() or last

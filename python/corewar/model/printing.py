@@ -1,7 +1,30 @@
 """Text that is safe to print."""
 from __future__ import annotations
 
+import re
+from collections.abc import Iterable
+from shutil import get_terminal_size
+from textwrap import wrap
+from typing import TextIO
+
+# What colours a text on a terminal.
+COLOUR = re.compile(r"\033\[[\d;]*m")
+INDENT = 4
+
 
 def printable(text: str) -> str:
     """Returns the text with `?` for each character that is not printable or controls a terminal."""
     return "".join(letter if letter.isprintable() else "?" for letter in text)
+
+
+def lines_for(stream: TextIO, lines: Iterable[str]) -> str:
+    """Returns lines as one text. If the stream is a terminal, those that are too long for it are broken at spaces."""
+    width = get_terminal_size().columns if stream.isatty() else 0
+    return "\n".join(broken(line, width) if width and len(COLOUR.sub("", line)) > width else line for line in lines)
+
+
+def broken(line: str, width: int) -> str:
+    """Returns a line with ends of lines in place of spaces, such that its parts have the width if words allow it."""
+    start = " " * min(len(line) - len(line.lstrip(" ")) + INDENT, width // 2)
+    parts = wrap(line, width, subsequent_indent=start, break_long_words=False, break_on_hyphens=False)
+    return "\n".join(parts)
