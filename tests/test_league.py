@@ -25,6 +25,7 @@ from corewar.engine.calls import assemble
 from corewar.contests.contest import Contest, Matches, all_pairs, digests_of
 from corewar.contests.places import Executor, threads
 from corewar.contests.results import Results
+from corewar.contests.scores import error_of
 from corewar.contests.table import League
 from corewar.model.errors import CorewarError
 from corewar.model.settings import HILLS, Settings
@@ -177,6 +178,14 @@ def test_the_error_is_how_seeds_differ() -> None:
         errors.append([one["error"] for one in records])
     ratio = np.std(scores, axis=0, ddof=1) / np.mean(errors, axis=0)
     assert (abs(ratio - 1) < 0.3).all()
+
+
+def test_the_error_takes_matches_as_independent() -> None:
+    """Even those of equal opponents, whose rounds are all the same: LEAGUES.md warns of it."""
+    contest, row = Contest(rounds=30), [40, 10, 10, 10]
+    one, four = (error_of(contest, np.array([row] * count)) for count in (1, 4))
+    assert one and four and abs(one / four - 2) < 1e-9
+    assert "square root of N" in (TOP / "docs" / "user" / "LEAGUES.md").read_text()
 
 
 def test_matrix(run: Run, folder: Path) -> None:

@@ -35,8 +35,12 @@ def rates_of(counts: Sequence[int], error: float | None) -> dict[str, Any]:
 
 
 def error_of(contest: Contest, counts: NDArray[np.int64]) -> float | None:
-    """Returns the standard error of a score: how far the scores of other seeds lie from their mean. It is None for
-    matches of one round, in which nothing can be compared, and if the position is given, so that nothing is drawn.
+    """Returns the standard error of a score: how far the scores of other seeds lie from their mean, if the matches are
+    independent. It is None for matches of one round, in which nothing can be compared, and if the position is given, so
+    that nothing is drawn.
+
+    Matches of one seed have the same positions in each round. So the error of a sum over similar opponents is greater,
+    at most by the square root of their number; the counts of matches do not show by how much.
 
     `counts` are the points, wins, ties and losses of matches of two, in rows.
     """
