@@ -89,6 +89,18 @@ def test_searches_go_both_ways() -> None:
     assert execute(session, "rc reads 3 by dwarf")[0] == "reads 3 (bomb) by Dwarf:" and session.turn == 3
 
 
+def test_a_list_is_as_wide_as_its_names() -> None:
+    session = session_of("dwarf", "imp")
+    assert execute(session, "list 2 2") == [
+        "       2            JMP.B $-2, $0             ; 11: JMP loop",
+        "       3 bomb       DAT.F #0, #0              ; 12: bomb DAT #0, #0",
+    ]
+    assert execute(session, "list 0 2") == [
+        ">      0 loop       ADD.AB #4, $3            Dwarf ; 9: loop ADD #step, bomb",
+        "       1            MOV.I $2, @2                   ; 10: MOV bomb, @bomb",
+    ]
+
+
 def test_edits_of_processes_show_a_part_of_a_long_queue() -> None:
     session = session_of("dwarf", "imp")
     for address in range(39):

@@ -18,6 +18,7 @@ from corewar.battle.history import History
 from corewar.battle.labels import Sources
 from corewar.engine.calls import Match, match
 from corewar.engine.sources import read
+from corewar.model.printing import broken
 
 DEATH = """Imp died in turn 7798:
 turn 7798: Imp at 5203: DAT.F #0, #-2800
@@ -376,3 +377,5 @@ def test_a_terminal_breaks_lines_at_spaces(run: Run, tmp_path: Path) -> None:
             told = child.before.splitlines()
         assert max(map(len, whole.splitlines())) > 50 >= max(map(len, told)), words
         assert " ".join(told).split() == whole.split()
+    assert broken("help  list all commands", 16) == "help  list all\n      commands"
+    assert broken("  a sentence of words", 16) == "  a sentence of\n      words"

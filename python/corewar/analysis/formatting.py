@@ -140,12 +140,18 @@ class BattleFormatter:
         history, cells, head = self.history, self.history.block(turn).cells(turn), self.history.head(turn)
         queues = [history.block(turn).queue(number, turn) for number in range(len(self.names))]
         here = Counter((int(at), number) for number, queue in enumerate(queues) for at in queue)
-        for address in ((first + offset) % history.core for offset in range(count)):
+        shown = [(first + offset) % history.core for offset in range(count)]
+        times = {
+            address: [(number, here[address, number]) for number in range(len(self.names)) if here[address, number]]
+            for address in shown
+        }
+        # A painted name has more letters than it shows.
+        lengths = {address: len(self._processes_at(history.names, found)) for address, found in times.items()}
+        for address in shown:
             mark, label = ">" if address == head else " ", self.sources.labels.get(address, "")
             source = self.sources.describe_line(history, address, turn)
-            times = [(number, here[address, number]) for number in range(len(self.names)) if here[address, number]]
-            plain, painted = self._processes_at(history.names, times), self._processes_at(self.names, times)
-            processes = painted + " " * max(0, 16 - len(plain))
+            space = " " * (max(lengths.values()) - lengths[address])
+            processes = self._processes_at(self.names, times[address]) + space
             text = f"{mark} {address:6} {label:10} {self.cell(cells[address]):24} {processes} {source}"
             yield text.rstrip()
 

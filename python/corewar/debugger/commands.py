@@ -330,10 +330,11 @@ CONDITIONS = """A CONDITION, for continue, reverse-continue and break:
   splits W        warrior W gained a process
   ends W          warrior W lost a process
   dies W          warrior W died
-An address A is a number, a label, `.` (the cell to execute next), or one of these with +N or -N. If B is below A, the
-range from A to B goes past the end of the core.
-A warrior W is a number or a name. Commands can be abbreviated. An empty line repeats the last command that
-moves or lists."""
+An address A is a number, a label, `.` (the cell to execute next), or one of
+these with +N or -N. If B is below A, the range from A to B goes past the end
+of the core.
+A warrior W is a number or a name. Commands can be abbreviated. An empty line
+repeats the last command that moves or lists."""
 
 
 @command("help [COMMAND]", "list all commands, or explain one", "h", "?")

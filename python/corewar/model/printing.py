@@ -9,7 +9,8 @@ from typing import TextIO
 
 # What colours a text on a terminal.
 COLOUR = re.compile(r"\033\[[\d;]*m")
-INDENT = 4
+# What comes before a column of a table, and how much further right than a line its continuation begins.
+COLUMN, INDENT = re.compile(r"(?<=\S)  +"), 4
 
 
 def printable(text: str) -> str:
@@ -24,7 +25,10 @@ def lines_for(stream: TextIO, lines: Iterable[str]) -> str:
 
 
 def broken(line: str, width: int) -> str:
-    """Returns a line with ends of lines in place of spaces, such that its parts have the width if words allow it."""
-    start = " " * min(len(line) - len(line.lstrip(" ")) + INDENT, width // 2)
-    parts = wrap(line, width, subsequent_indent=start, break_long_words=False, break_on_hyphens=False)
+    """Returns a line with ends of lines in place of spaces, such that its parts have the width if words allow it. They
+    begin in a column of the line, or further right than its start.
+    """
+    start = min(len(line) - len(line.lstrip(" ")) + INDENT, width // 2)
+    start = max([start, *(found.end() for found in COLUMN.finditer(line) if found.end() <= width // 2)])
+    parts = wrap(line, width, subsequent_indent=" " * start, break_long_words=False, break_on_hyphens=False)
     return "\n".join(parts)
