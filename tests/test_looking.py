@@ -16,6 +16,7 @@ from conftest import ENVIRONMENT, EXAMPLES, Run, begin
 from corewar.analysis.endings import last_turns, summarize_last_turns
 from corewar.battle.history import History
 from corewar.battle.labels import Sources
+from corewar.cli.main import COMMANDS
 from corewar.engine.calls import Match, match
 from corewar.engine.sources import read
 from corewar.model.printing import broken
@@ -93,7 +94,8 @@ def test_bad_words_and_faults(run: Run) -> None:
     for words, told in (
         (["why", "-r", "0", "@imp"], "expected a number from 1 to 100000, not `0`"),
         (["why", "--hil", "nano", "@imp"], "No such option: --hil"),
-        (["frobnicate"], "No such command 'frobnicate'"),
+        (["frobnicate"], "unknown command `frobnicate`; `corewar --help` lists all commands"),
+        (["fght", "@imp"], "unknown command `fght`; did you mean `fight`?"),
         (["why"], "Missing argument 'FILE...'"),
         (["why", "--source-limit", "0", "@imp"], "expected S or S,MB with numbers from 1 to 1000000, not `0`"),
     ):
@@ -103,6 +105,14 @@ def test_bad_words_and_faults(run: Run) -> None:
     assert (done.returncode, done.stderr) == (1, "corewar: nowhere.red: No such file or directory\n")
     seventeen = run("why", *["@imp"] * 17)
     assert seventeen.returncode == 2 and "a match has at most 16 warriors, not 17" in seventeen.stderr
+
+
+def test_the_help_has_a_whole_sentence_for_each_command(run: Run) -> None:
+    """At 80 columns, none is cut."""
+    told = run("--help").stdout
+    for name in COMMANDS:
+        first = next(filter(None, run(name, "-h").stdout.split("\n\n")[1:]))
+        assert re.search(rf"^  {name} +{re.escape(' '.join(first.split()).rstrip('.'))}$", told, re.M), name
 
 
 def test_streams(run: Run) -> None:

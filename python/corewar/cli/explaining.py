@@ -46,7 +46,7 @@ class Explain(Command):
 @click.option("--pmars", is_flag=True, help="Report what pMARS reads differently")
 @click.option("--fix", "is_fixed", is_flag=True, help="Print the source, with known differences from pMARS replaced")
 def explain(options: BattleOptions, pmars: bool, is_fixed: bool) -> int:
-    """Explain the errors in files, or those read from standard input, or an instruction.
+    """Explain the errors of files, or what an instruction does.
 
     An argument that is no file but an instruction, such as 'MOV }bomb, >ptr', is put in plain words, or its error is
     explained.

@@ -27,7 +27,7 @@ from ..model.errors import FileError
 from ..model.printing import printable
 from .layout import EXECUTION, STATUSES, Command, Number, Option
 from .options import BattleOptions, Decorator, Output, Picture, battle_options, with_options
-from .reporting import report, report_error
+from .reporting import report, report_error, show
 from .waiting import progress, run_in_thread
 
 ADDRESS = re.compile(r"(tcp://)?(\[[0-9a-fA-F:]+\]|[^\s/:\[\]]+):\d+")
@@ -150,12 +150,15 @@ def write_results(text: str, form: str, output: str | None = None) -> None:
     """Writes results with their end of line to a file, or to standard output. Names of files are as they were given in
     formats for programs, and printable in the others.
     """
-    shown = text if form in ("csv", "json") else "\n".join(map(printable, text.split("\n")))
+    is_for_programs = form in ("csv", "json")
+    shown = text if is_for_programs else "\n".join(map(printable, text.split("\n")))
     data = f"{shown}\n".encode("utf-8", "surrogateescape")
     if output:
         replace_file(output, data)
-    else:
+    elif is_for_programs:
         click.echo(data, nl=False)
+    else:
+        show(shown.split("\n"))
 
 
 @click.command(

@@ -145,7 +145,7 @@ def changed(options: BattleOptions, named: str, before: int | None) -> None:
 @LIMIT
 @click.argument("file")
 def study(file: str, settings: Settings, limit: Limit) -> None:
-    """Run a warrior without an opponent, and show where it writes and scans.
+    """Show where a warrior writes and scans without an opponent.
 
     For each line that writes or compares cells, prints how often it does so, how many cells it reaches and by which
     turn, and the stride from one to the next. It also finds the first turn in which the warrior hits its own code.

@@ -4,6 +4,7 @@ from __future__ import annotations
 import os
 import signal
 import sys
+from difflib import get_close_matches
 from importlib import import_module
 
 import click
@@ -46,6 +47,15 @@ class Commands(Command, click.Group):
             return None
         found: click.Command = getattr(import_module(f".{COMMANDS[name]}", __package__), name)
         return found
+
+    def resolve_command(
+        self, context: click.Context, words: list[str]
+    ) -> tuple[str | None, click.Command | None, list[str]]:
+        if not words[0].startswith("-") and words[0] not in COMMANDS:
+            near = get_close_matches(words[0], COMMANDS, 1)
+            advice = f"did you mean `{near[0]}`?" if near else "`corewar --help` lists all commands"
+            context.fail(f"unknown command `{words[0]}`; {advice}")
+        return super().resolve_command(context, words)
 
     def format_options(self, context: click.Context, formatter: click.HelpFormatter) -> None:
         super().format_options(context, formatter)

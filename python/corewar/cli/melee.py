@@ -36,7 +36,7 @@ from .waiting import progress, run_in_thread
 @format_option(("table", "csv", "json"))
 @JOBS
 def melee(options: BattleOptions, size: int, lineups: int, form: str, jobs: int) -> int:
-    """Run matches of several warriors in random lineups, and rank all warriors.
+    """Run matches in random lineups, and rank all warriors.
 
     All warriors are in the same number of matches, or in one more. The score is the points for 100 rounds; equal scores
     share a rank. A file with an error is reported and left out.
