@@ -10,13 +10,14 @@ import time
 from collections import Counter
 from pathlib import Path
 
+import click
 import pytest
 from conftest import ENVIRONMENT, EXAMPLES, Run, begin
 
 from corewar.analysis.endings import last_turns, summarize_last_turns
 from corewar.battle.history import History
 from corewar.battle.labels import Sources
-from corewar.cli.main import COMMANDS
+from corewar.cli.main import COMMANDS, commands
 from corewar.engine.calls import Match, match
 from corewar.engine.sources import read
 from corewar.model.printing import broken
@@ -107,12 +108,13 @@ def test_bad_words_and_faults(run: Run) -> None:
     assert seventeen.returncode == 2 and "a match has at most 16 warriors, not 17" in seventeen.stderr
 
 
-def test_the_help_has_a_whole_sentence_for_each_command(run: Run) -> None:
+def test_the_help_has_a_whole_sentence_for_each_command() -> None:
     """At 80 columns, none is cut."""
-    told = run("--help").stdout
+    context = click.Context(commands)
+    width = 80 - 2 - 6 - max(map(len, COMMANDS))
     for name in COMMANDS:
-        first = next(filter(None, run(name, "-h").stdout.split("\n\n")[1:]))
-        assert re.search(rf"^  {name} +{re.escape(' '.join(first.split()).rstrip('.'))}$", told, re.M), name
+        command = commands.get_command(context, name)
+        assert command and not command.get_short_help_str(width).endswith("..."), name
 
 
 def test_streams(run: Run) -> None:
