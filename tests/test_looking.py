@@ -17,7 +17,7 @@ from conftest import ENVIRONMENT, EXAMPLES, Run, begin
 from corewar.analysis.endings import last_turns, summarize_last_turns
 from corewar.battle.history import History
 from corewar.battle.labels import Sources
-from corewar.cli.main import COMMANDS, commands
+from corewar.cli.main import COMMANDS, Commands, commands
 from corewar.engine.calls import Match, match
 from corewar.engine.sources import read
 from corewar.model.printing import broken
@@ -110,6 +110,7 @@ def test_bad_words_and_faults(run: Run) -> None:
 
 def test_the_help_has_a_whole_sentence_for_each_command() -> None:
     """At 80 columns, none is cut."""
+    assert isinstance(commands, Commands)
     context = click.Context(commands)
     width = 80 - 2 - 6 - max(map(len, COMMANDS))
     for name in COMMANDS:
