@@ -369,6 +369,8 @@ def test_study(run: Run, tmp_path: Path) -> None:
         "dat.red without an opponent: 1 cell, at most 1 process; dies after 1 turn.\n"
         "It never writes another opcode over its own code.\nIt writes nothing.\nIt scans nothing outside its code.\n"
     )
+    (tmp_path / "dat.red").write_text("dat <2, <3\n")
+    assert "It writes to 2 of 8000 cells:" in run("study", "dat.red").stdout
     none = run("study", "none.red")
     assert (none.returncode, none.stderr) == (1, "corewar: none.red: No such file or directory\n")
     # No more turns are run than those in which lines are known.

@@ -51,6 +51,8 @@ class Study:
         self.executed = np.full(history.core, history.end + 1, np.int64)
         self.hit: tuple[int, int] | None = None
         self.processes = count = 1
+        # The cells that it writes in any way, also by the modes of operands.
+        self.is_written = np.zeros(history.core, bool)
         writes, scans = list[Accesses](), list[Accesses]()
         for block in history.blocks():
             queued = count + np.cumsum(block.records["queued"].astype(np.int64) - 1)
@@ -58,6 +60,7 @@ class Study:
             turns = np.arange(block.first + 1, block.last + 1)
             np.minimum.at(self.executed, block.records["address"], turns)
             self.hit = self.hit or self._first_hit(block)
+            self.is_written[block.written] = True
             writes.append(self._accesses(block, block.last_writes))
             scans.append(self._scanned(block))
         self.writes, self.scans = joined(writes), joined(scans)
@@ -92,7 +95,7 @@ class Study:
         size, processes = pluralize(len(history.warriors[0]), "cell"), pluralize(self.processes, "process")
         yield f"{name} without an opponent: {size}, at most {processes}; {fate}."
         yield self._describe_hit()
-        written = len(np.unique(self.writes.addresses))
+        written = np.count_nonzero(self.is_written)
         yield f"It writes to {written} of {history.core} cells:" if written else "It writes nothing."
         yield from self._table("writes", self.writes)
         scanned = len(np.unique(self.scans.addresses))

@@ -94,6 +94,12 @@ class Block:
         return Touches(self.first + 1 + rows, address[used], self.records["warrior"][rows])
 
     @property
+    def written(self) -> NDArray[np.uint32]:
+        """The address of each write of the turns, also of those that changed nothing."""
+        found: NDArray[np.uint32] = self._writes[np.arange(3) < self.records["changes"][:, None]]
+        return found
+
+    @property
     def last_writes(self) -> Touches:
         """The cell that each turn wrote last, also if that changed nothing: the one that its instruction writes, after
         those that the modes of its operands change.
