@@ -77,7 +77,7 @@ def test_searches_go_both_ways() -> None:
     assert execute(session, "c")[0] == "changes 3 (bomb):"
     assert refused(session, "delete") == "no breakpoint ``; expected a number or `all`"
     assert execute(session, "d 0") == ["breakpoint 0: dies Imp"]
-    assert execute(session, "d all") == []
+    assert execute(session, "d all") == execute(session, "break") == ["no breakpoint is set"]
     assert refused(session, "rc dies imp") == "not found before turn 1"
     assert refused(session, "c dies nobody") == "no warrior `nobody`; the warriors are 0 Dwarf, 1 Imp"
     assert refused(session, "break sees 3").startswith("expected a condition: at, changes or reads A")
@@ -139,6 +139,8 @@ def test_edits_make_futures() -> None:
     assert refused(session, "edit 0 mvo 1") == (
         "`mvo 1` is not an instruction: 2 Operation: `mvo` is read as a label; did you mean `MOV`?"
     )
+    assert refused(session, "kill imp") == "expected a warrior and the index of a process"
+    assert refused(session, "spawn imp") == "expected a warrior and an address"
     assert refused(session, "kill imp 3") == "Imp has no process 3; its number of processes is 1"
     assert refused(session, "futures 9") == "no future 9; there are futures 0 to 5"
     execute(session, "goto end")

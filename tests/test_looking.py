@@ -84,6 +84,8 @@ def test_changed(run: Run) -> None:
     assert run("changed", "--cell", 5203, "--before", 7797, "@dwarf", "@imp").stdout.startswith(
         "Cell 5203 was last changed in turn 7796:\n"
     )
+    both = run("changed", "--cell", "bomb", "@dwarf", "@dwarf")
+    assert both.returncode == 2 and "`bomb` is a label of several warriors; use 0.bomb or 1.bomb" in both.stderr
     assert run("changed", "--cell", 4, "@dwarf", "@imp").stdout == "Cell 4 has not changed since the start.\n"
     assert (
         "`8000` is neither a label nor an address below 8000" in run("changed", "--cell", 8000, "@dwarf", "@imp").stderr

@@ -117,7 +117,7 @@ def test_the_command(run: Run, tmp_path: Path) -> None:
     assert (few.returncode, few.stdout) == (1, "") and "3 warriors are left, but a match has 4" in few.stderr
     refusals: list[tuple[list[str | int], str]] = [
         (["--size", 17, *files], "expected a number from 2 to 16, not `17`"),
-        (["--size", 8, *files], "expected at least 8 files for matches of 8, not 6"),
+        (["--size", 8, *files], "expected at least 8 files for matches of 8, not 6; see --size"),
         (["--score", "W+", *files], "formula 1 Expression 1 Syntax"),
         (["-F", 400, *files], "settings 3 Position"),
         (["--size", 6, "-d", 2000, *files], "placement 1 NoRoom"),

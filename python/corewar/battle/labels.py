@@ -9,7 +9,7 @@ from weakref import WeakKeyDictionary
 
 from ..engine.battles import Battle
 from ..engine.calls import source_lines
-from ..model.errors import MarsError
+from ..model.errors import CorewarError, MarsError
 from ..model.printing import printable
 from .history import BY_HAND, History
 from .origins import Origins
@@ -86,6 +86,12 @@ class Sources:
         owners = Counter(label for _, label in {(number, label) for number, label, _ in self._labels})
         alone = {label: address for _, label, address in self._labels if owners[label] == 1}
         return {**alone, **{f"{number}.{label}": address for number, label, address in self._labels}}
+
+    def check(self, name: str) -> None:
+        """Raises CorewarError for a label of several warriors."""
+        several = [label for label in self.addresses if name and label.partition(".")[2] == name]
+        if len(several) > 1:
+            raise CorewarError(f"`{name}` is a label of several warriors; use {' or '.join(several)}")
 
     @cached_property
     def labels(self) -> dict[int, str]:

@@ -131,11 +131,15 @@ def trace(options: BattleOptions, first: int | None, turns: int) -> None:
 def changed(options: BattleOptions, named: str, before: int | None) -> None:
     """Find the last turn that changed a cell."""
     formatter = formatter_of(options)
-    address = formatter.sources.addresses.get(named, whole(named))
-    if address is None or address >= formatter.history.core:
-        raise click.BadParameter(
-            f"`{named}` is neither a label nor an address below {formatter.history.core}", param_hint="--cell"
-        )
+    sources, core = formatter.sources, formatter.history.core
+    address = sources.addresses.get(named, whole(named))
+    try:
+        if address is None:
+            sources.check(named)
+        if address is None or address >= core:
+            raise CorewarError(f"`{named}` is neither a label nor an address below {core}")
+    except CorewarError as fault:
+        raise click.BadParameter(str(fault), param_hint="--cell") from None
     turn = min(formatter.history.end, (before or formatter.history.end + 1) - 1)
     show(describe_change(formatter, address, turn))
 

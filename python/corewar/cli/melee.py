@@ -42,7 +42,8 @@ def melee(options: BattleOptions, size: int, lineups: int, form: str, jobs: int)
     share a rank. A file with an error is reported and left out.
     """
     if len(options.files) < size:
-        raise click.UsageError(f"expected at least {size} files for matches of {size}, not {len(options.files)}")
+        wanted = f"expected at least {size} files for matches of {size}"
+        raise click.UsageError(f"{wanted}, not {len(options.files)}; see --size")
     contest = contest_of(options)
     warriors, faults = read_entrants(contest, options.files, options.limit, size)
     for fault in faults:

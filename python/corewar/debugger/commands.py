@@ -156,6 +156,8 @@ def search_from_here(session: Session, rest: str, forward: bool) -> Iterator[str
 def set_break(session: Session, rest: str) -> Iterator[str]:
     if rest:
         session.breakpoints.append(session.condition(rest.split()))
+    if not session.breakpoints:
+        yield "no breakpoint is set"
     for number, condition in enumerate(session.breakpoints):
         yield f"breakpoint {number}: {session.describe_condition(condition)}"
 
@@ -231,6 +233,8 @@ def move(session: Session, rest: str) -> Iterator[str]:
 @command("kill W I", "remove process I of warrior W")
 def kill(session: Session, rest: str) -> Iterator[str]:
     name, _, index = rest.rpartition(" ")
+    if not name:
+        raise CorewarError("expected a warrior and the index of a process")
     warrior = session.warrior(name)
     process = session.process(warrior, index)
     session.edit(Edit.kill(warrior, process))
@@ -240,6 +244,8 @@ def kill(session: Session, rest: str) -> Iterator[str]:
 @command("spawn W A", "add a process of warrior W at A")
 def spawn(session: Session, rest: str) -> Iterator[str]:
     name, _, where = rest.rpartition(" ")
+    if not name:
+        raise CorewarError("expected a warrior and an address")
     warrior, address = session.warrior(name), session.address(where)
     count = len(session.history.block(session.turn).queue(warrior, session.turn))
     if not 0 < count < session.history.fight.settings.processes:

@@ -104,19 +104,13 @@ class Session:
         if base == "." and at is None:
             raise CorewarError("`.` is the cell to execute next, but the battle is over; use a number or a label")
         if at is None:
-            self._check_label(base)
+            self.sources.check(base)
         if found is None or at is None or at >= self.history.core:
             raise CorewarError(
                 f"`{text}` is not an address: a number below {self.history.core}, a label or `.`, "
                 "with or without +N or -N"
             )
         return (at + sum(map(int, re.findall(r"[+-]\d+", found[2])))) % self.history.core
-
-    def _check_label(self, name: str) -> None:
-        """Raises CorewarError for a label of several warriors."""
-        several = [label for label in self.sources.addresses if name and label.partition(".")[2] == name]
-        if len(several) > 1:
-            raise CorewarError(f"`{name}` is a label of several warriors; use {' or '.join(several)}")
 
     def warrior(self, text: str) -> int:
         """A warrior by its number, its name or its file."""
@@ -160,7 +154,7 @@ class Session:
         except MarsError as fault:
             for word in words:
                 if word not in addresses:
-                    self._check_label(word)
+                    self.sources.check(word)
             kind, cause = str(fault).partition(": ")[2], explain_error(fault, source.encode())[0]
             raise CorewarError(f"`{line}` is not an instruction: {kind}: {cause}") from None
         cell: Cell = warrior.cells[-1].tolist()
