@@ -1,6 +1,7 @@
 """Tests of the site in a browser, which each browser's module imports."""
 from __future__ import annotations
 
+import functools
 import re
 import subprocess
 from collections.abc import Iterator
@@ -57,6 +58,13 @@ def go_to_turn(page: Browser, turn: int) -> None:
     page.run("corewar.session.jump(given[0])", turn)
     page.until("corewar.session.isSettled")
     page.run("await new Promise(done => setTimeout(done, 150))")
+
+
+def answer(page: Browser, line: str) -> str:
+    """Returns the last line that a command of the debugger answers."""
+    code = "await corewar.console.run(given[0]); return document.querySelector('#answers').lastChild.textContent"
+    found: str = page.run(code, line)
+    return found
 
 
 def test_a_newcomer_sees_a_fight(page: Browser) -> None:
@@ -197,12 +205,7 @@ def test_an_edit_while_it_plays(page: Browser) -> None:
 
 def test_the_debugger_has_a_line(page: Browser) -> None:
     page.run("corewar.session.stop()")
-
-    def ask(line: str) -> str:
-        code = "await corewar.console.run(given[0]); return document.querySelector('#answers').lastChild.textContent"
-        answer: str = page.run(code, line)
-        return answer
-
+    ask = functools.partial(answer, page)
     assert ask("c dies imp") == "the battle is over" and page.value("corewar.session.turn") == 7798
     ask("rc changes 5203")
     assert page.value("corewar.session.turn") == 7797
@@ -225,6 +228,26 @@ def test_the_debugger_has_a_line(page: Browser) -> None:
     assert ask("explain 4") == "End the process that executes this."
     ask("goto end")
     assert ask("explain") == ". is the cell to execute next, but the battle is over"
+    fight(page, "silk", "imp")
+    go_to_turn(page, 1000)
+    assert re.fullmatch(r"Silk:( \d+){20} and \d+ more", ask("queue silk"))
+
+
+def test_labels_of_several_warriors(page: Browser) -> None:
+    """They are named with their warrior, as in `corewar debug`; without it they are refused, also beside the core."""
+    fight(page, "dwarf", "scanner")
+    ask = functools.partial(answer, page)
+    shared = "bomb is a label of several warriors; use 0.bomb or 1.bomb"
+    assert ask("list bomb") == shared and ask("edit 0 jmp bomb") == shared
+    there = page.value("corewar.session.known.addresses.get('1.bomb')")
+    assert ask("list 1.bomb 1").split()[:2] == [str(there), "1.bomb"]
+    assert ask("edit 2 mov 0.bomb, @1.bomb+1").endswith(f"edit 2 MOV.I $1, @{there - 1}")
+    assert ask("explain 0") == "Add 4 to the B-number of 0.bomb."
+    page.run("corewar.session.pin(2); await new Promise(done => setTimeout(done, 200))")
+    page.click("#listing .focus .text")
+    page.type("jmp bomb")
+    page.press("Enter")
+    page.until(f"document.getElementById('cell-words').textContent === '{shared}'")
 
 
 def test_the_line_is_completed(page: Browser) -> None:

@@ -79,7 +79,7 @@ test("history can be changed so that no warrior dies", () => {
   const desk = new Desk(mars);
   const fight = { settings: DEFAULTS, seed: 1, rounds: 100, round: 0, position: 0, formula: "", warriors, edits: [] };
   assert.equal(desk.open(fight).deaths.length, 1);
-  const cell = desk.cellOf("jmp 0", 0, []);
+  const cell = desk.cellOf("jmp 0");
   assert.equal(desk.edit(0, 6000, { kind: "cell", address: 0, last: 0, cell }).deaths.length, 0);
 });
 

@@ -2,7 +2,7 @@
 import { cellText, readCell } from "../model/cells.js";
 import { number, ownerName } from "../words/battle.js";
 import { instructionWords } from "../words/instruction.js";
-import { buttons, debounce, element, make, onClick, refill } from "./dom.js";
+import { buttons, debounce, element, make, onClick, refill, withCode } from "./dom.js";
 import { swatch } from "./palette.js";
 
 /** @typedef {import("../battle/conditions.js").Word} Word */
@@ -212,9 +212,9 @@ export class Cells {
       input.onblur = null;
       await this.session.edit({ kind: "cell", address, last: address, cell });
       return true;
-    } catch {
+    } catch (error) {
       input.setAttribute("aria-invalid", "true");
-      input.title = NOT_A_LINE;
+      refill(element("cell-words"), withCode(/** @type {Error} */ (error).message || NOT_A_LINE));
       return false;
     }
   }

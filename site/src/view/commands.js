@@ -1,7 +1,7 @@
 /** The debugger's line: commands over the battle that is shown, as `corewar debug` has them. */
 import { cellText, readCell } from "../model/cells.js";
 import { editText } from "../model/fight.js";
-import { eventWords, moveWords, number, place, standingWords } from "../words/battle.js";
+import { eventWords, moveWords, number, place, sharedWords, standingWords } from "../words/battle.js";
 import { instructionWords } from "../words/instruction.js";
 
 /** @typedef {import("../battle/conditions.js").Condition} Condition */
@@ -12,6 +12,8 @@ import { instructionWords } from "../words/instruction.js";
 
 /** The number of cells that `list` shows. */
 const CELLS = 11;
+/** The number of processes that `queue` lists at most. */
+const LISTED = 20;
 const WORDS = ["at", "changes", "reads", "splits", "ends", "dies"];
 const CONDITIONS = "expected a condition: at, changes or reads A[..B] [by W], or splits, ends or dies W";
 
@@ -46,27 +48,19 @@ function readWarrior({ known: { names } }, text) {
  * @param {Session} session
  * @param {string} text
  */
-function readAddress({ known: { core }, view, opened }, text) {
+function readAddress({ known, view }, text) {
+  const { core, addresses } = known;
   const found = /^(\.|[\w.]+?)((?:[+-]\d{1,9})*)$/.exec(text);
   const base = found?.[1] ?? "";
   const isOver = base === "." && view?.head === null;
   if (isOver) throw new CommandError("`.` is the cell to execute next, but the battle is over");
-  const label = labels(opened?.labels ?? []).get(base);
+  const label = addresses.get(base);
   const at = base === "." ? (view?.head ?? 0) : (label ?? (/^\d{1,9}$/.test(base) ? Number(base) : core));
   const wanted = `a number below ${core}, a label or \`.\``;
-  if (!found || at >= core) throw new CommandError(`\`${text}\` is not an address: ${wanted}`);
+  const why = sharedWords(base, known) || `\`${text}\` is not an address: ${wanted}`;
+  if (!found || at >= core) throw new CommandError(why);
   const added = (found[2].match(/[+-]\d+/g) ?? []).reduce((sum, part) => sum + Number(part), 0);
   return (((at + added) % core) + core) % core;
-}
-
-/**
- * Returns the addresses of labels. A label of several warriors is that of the first one; `1.bomb` is that of warrior 1.
- * @param {{address: number, name: string, warrior: number}[]} all
- */
-function labels(all) {
-  const found = new Map([...all].reverse().map(({ name, address }) => [name, address]));
-  for (const { name, address, warrior } of all) found.set(`${warrior}.${name}`, address);
-  return found;
 }
 
 /**
@@ -194,8 +188,8 @@ async function readCellLine(session, line, address) {
   await session.jump(session.turn);
   try {
     return await session.cellOf(line, address);
-  } catch {
-    throw new CommandError(`\`${line}\` is not an instruction`);
+  } catch (error) {
+    throw new CommandError(/** @type {Error} */ (error).message || `\`${line}\` is not an instruction`);
   }
 }
 
@@ -298,7 +292,9 @@ function queue(session, rest) {
   if (!view) return [];
   const warrior = rest ? readWarrior(session, rest) : view.next;
   const first = view.processes.slice(0, warrior).reduce((sum, count) => sum + count, 0);
-  return [`${known.names[warrior]}: ${[...view.queues.subarray(first, first + view.processes[warrior])].join(" ")}`];
+  const count = view.processes[warrior];
+  const more = count > LISTED ? ` and ${number(count - LISTED)} more` : "";
+  return [`${known.names[warrior]}: ${view.queues.slice(first, first + Math.min(count, LISTED)).join(" ")}${more}`];
 }
 
 /** @type {Act} */
@@ -429,11 +425,11 @@ export async function execute(session, line) {
  * @param {Session} session
  * @param {string} line
  */
-export function completions({ known, opened }, line) {
+export function completions({ known }, line) {
   const [command, ...rest] = line.trimStart().split(/\s+/);
   const last = (rest.at(-1) ?? command).toLowerCase();
   const takesCondition = rest.length === 1 && commandsOf(command).some(({ usage }) => usage.includes("CONDITION"));
-  const words = [...(takesCondition ? WORDS : []), ...labels(opened?.labels ?? []).keys(), ...known.names];
+  const words = [...(takesCondition ? WORDS : []), ...known.addresses.keys(), ...known.names];
   const all = rest.length ? words : COMMANDS.map(nameOf);
   return [...new Set(all)].filter((one) => one.toLowerCase().startsWith(last));
 }

@@ -1,5 +1,5 @@
 /** The battle that is shown, in time: its turn, how it is played, its futures, and the cell that is kept in view. */
-import { distinct } from "../words/battle.js";
+import { addressesOf, distinct, sharedWords } from "../words/battle.js";
 import { clamp } from "./dom.js";
 
 /** @typedef {import("../battle/conditions.js").Condition} Condition */
@@ -24,6 +24,8 @@ import { clamp } from "./dom.js";
 const LENGTH = 24;
 const SLOWEST = 1;
 const FASTEST = 2_000_000;
+/** A label in a line of source, as `bomb` or as `1.bomb`. */
+const LABEL = /(?<![\w.])(?:\d+\.)?[A-Za-z_]\w*/g;
 
 export class Session {
   /** @type {Fight | null} */
@@ -31,7 +33,7 @@ export class Session {
   /** @type {Opened | null} */
   opened = null;
   /** @type {Known} */
-  known = { names: [], core: 1, end: 0, deaths: [], labels: new Map() };
+  known = { names: [], core: 1, end: 0, deaths: [], addresses: new Map(), labels: new Map() };
   /** @type {View | null} */
   view = null;
   /**
@@ -159,8 +161,9 @@ export class Session {
     this.view = this.move = this.origins = null;
     this.hasEnded = false;
     this.wanted = clamp(this.wanted, 0, end);
-    const named = new Map([...labels].reverse().map(({ address, name }) => [address, name]));
-    this.known = { names: distinct(names), core, end, deaths, labels: named };
+    const addresses = addressesOf(labels);
+    const named = new Map([...addresses].reverse().map(([name, address]) => [address, name]));
+    this.known = { names: distinct(names), core, end, deaths, addresses, labels: named };
     this.#notify("battle");
   }
 
@@ -315,12 +318,24 @@ export class Session {
   }
 
   /**
-   * Returns the cell of a line of Redcode for an address. Throws what the assembler says.
+   * Returns the cell of a line of Redcode for an address. Throws an Error without a message if it is not one, or with
+   * one about a label that several warriors have.
    * @param {string} text
    * @param {number} address
    */
-  cellOf(text, address) {
-    return this.desk.cellOf(text, address, this.opened?.labels ?? []);
+  async cellOf(text, address) {
+    const { known } = this;
+    const { addresses } = known;
+    const line = text.replace(LABEL, (name) => {
+      const at = addresses.get(name);
+      return at === undefined ? name : `(${at - address})`;
+    });
+    try {
+      return await this.desk.cellOf(line);
+    } catch {
+      const shared = (text.match(LABEL) ?? []).map((name) => sharedWords(name, known));
+      throw new Error(shared.find(Boolean));
+    }
   }
 
   /**

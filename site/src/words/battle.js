@@ -3,9 +3,11 @@ import { BY_HAND, cellText, readCell } from "../model/cells.js";
 
 /** @typedef {import("../battle/overview.js").Event} Event */
 /**
- * What a battle is called by: names in the order of turns, and labels of addresses.
- * @typedef {{names: string[], core: number, end: number, deaths: Event[], labels: Map<number, string>}} Known
+ * What a battle is called by: names in the order of turns, addresses of labels, and labels of addresses.
+ * @typedef {{names: string[], core: number, end: number, deaths: Event[], addresses: Map<string, number>,
+ *   labels: Map<number, string>}} Known
  */
+/** @typedef {{address: number, name: string, warrior: number}} Label */
 /**
  * What a turn did. Cells are three words; `owner` is the owner of the cell before; `left` is the number of processes
  * that the warrior has left.
@@ -51,6 +53,29 @@ export function distinct(names) {
     result.push(found);
   }
   return result;
+}
+
+/**
+ * Returns the addresses of labels: of `1.bomb` that of warrior 1, and of `bomb` if only one warrior has it.
+ * @param {Label[]} labels
+ */
+export function addressesOf(labels) {
+  /** @type {Map<string, number>} */
+  const owners = new Map();
+  for (const { name, warrior } of labels) owners.set(name, (owners.get(name) ?? warrior) === warrior ? warrior : -1);
+  const own = labels.filter(({ name }) => owners.get(name) !== -1);
+  const all = labels.map(({ warrior, name, address }) => ({ name: `${warrior}.${name}`, address }));
+  return new Map([...own, ...all].map(({ name, address }) => [name, address]));
+}
+
+/**
+ * Returns why a name is not an address if several warriors have it as a label, otherwise "".
+ * @param {string} name
+ * @param {Known} known
+ */
+export function sharedWords(name, { addresses }) {
+  const labels = [...addresses.keys()].filter((label) => label.split(".")[1] === name);
+  return labels.length > 1 ? `\`${name}\` is a label of several warriors; use ${labels.join(" or ")}` : "";
 }
 
 /**

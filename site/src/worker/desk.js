@@ -28,7 +28,7 @@ import { CELL_WORDS } from "../model/cells.js";
  * @property {Event[]} deaths
  * @property {Event[]} events
  * @property {Overview} overview
- * @property {{address: number, name: string, warrior: number}[]} labels
+ * @property {import("../words/battle.js").Label[]} labels
  * @property {{warrior: number, line: number}[]} lines
  * @property {Made[]} edits
  */
@@ -296,18 +296,12 @@ export class Desk {
   }
 
   /**
-   * Assembles a line of source as a cell for an address. Labels of the battle can be used. Throws a MarsError.
-   * @param {string} text
-   * @param {number} address
-   * @param {{address: number, name: string}[]} labels
+   * Assembles a line of source as a cell. Throws a MarsError.
+   * @param {string} line
    * @returns {Cell}
    */
-  cellOf(text, address, labels) {
-    const { settings } = this.fight;
-    const words = new Set(text.match(/[A-Za-z_]\w*/g));
-    const used = new Map(labels.filter(({ name }) => words.has(name)).map((label) => [label.name, label.address]));
-    const lines = [...used].map(([name, at]) => `${name} EQU (${at - address})`);
-    const { cells } = describe(this.mars.assemble([...lines, text, ""].join("\n"), { settings }));
+  cellOf(line) {
+    const { cells } = describe(this.mars.assemble(`${line}\n`, { settings: this.fight.settings }));
     if (cells.length !== 1) throw new Error("expected one instruction");
     return cells[0];
   }
