@@ -487,19 +487,26 @@ def test_no_window_scrolls_sideways(page: Browser, view: str) -> None:
 
 
 def test_a_narrow_page_shows_what_comes_next(page: Browser) -> None:
-    """The text of the next lesson, which is below the battle, and the change of a version on the bench."""
+    """Help from its first line, the text of the next lesson below the battle and before the editor, and the change of
+    a version on the bench.
+    """
     try:
         page.resize(390, 844)
+        page.press("?")
+        assert page.value("helping.open && helping.scrollHeight > helping.clientHeight && !helping.scrollTop")
+        page.press("Escape")
         page.run("document.querySelector('#lessons .lesson button').click()")
         page.until("corewar.session.fight.warriors.length === 1 && corewar.session.isSettled")
         page.run("corewar.session.jump(corewar.session.end)")
         page.until("corewar.session.turn === corewar.session.end && corewar.session.isSettled")
         page.run("document.querySelector('#lesson-box .main').click()")
-        page.until("document.querySelector('#lesson-box .row').childElementCount === 3")
-        page.run("document.querySelector('#lesson-box .row').lastChild.click()")
+        page.until("document.querySelector('#lesson-box .main').textContent === 'Next lesson'")
+        page.run("document.querySelector('#lesson-box .main').click()")
         place = "document.getElementById('lesson-box').getBoundingClientRect()"
         page.until(f"document.querySelector('#lesson-box h2').textContent.startsWith('2') && {place}.top >= 0")
         page.until(f"{place}.bottom <= innerHeight + 1")
+        page.run("document.querySelectorAll('#lessons .lesson')[3].querySelector('button').click()")
+        page.until(f"{place}.top > -1 && {place}.bottom <= desk.getBoundingClientRect().top")
         page.run("corewar.show('bench')")
         page.until("document.getElementById('bench-note').textContent.endsWith(' ms')")
         page.click("#bench-base")

@@ -68,11 +68,12 @@ export class Lessons {
     const verdict = make("p", { className: "verdict", role: "status" }, isDone ? "Done." : "");
     const card = make("article", { className: `lesson${isDone ? " done" : ""}` });
     const begin = make("button", { onclick: () => this.begin(lesson) }, lesson.start ? "Begin" : "Watch");
-    const judge = make("button", { className: "main" }, "Check");
+    const judge = make("button", { className: isDone ? "" : "main" }, "Check");
     judge.onclick = async () => {
       const { isDone: isPassed, text } = await this.judge(lesson);
       refill(verdict, withCode(text));
       card.classList.toggle("done", isPassed);
+      judge.className = isPassed ? "" : "main";
       if (isPassed) this.#pass(lesson, card);
     };
     const hint = make("details", {}, make("summary", {}, "Hint"), make("p", {}, withCode(lesson.hint)));
@@ -95,12 +96,7 @@ export class Lessons {
     const next = this.lessons[this.lessons.indexOf(lesson) + 1];
     const row = card.querySelector(".row");
     if (!next || !row || row.childElementCount > 2) return;
-    const begin = async () => {
-      await this.begin(next);
-      // On a narrow page it is below the battle.
-      element("lesson-box").scrollIntoView({ block: "nearest" });
-    };
-    row.append(make("button", { onclick: begin }, "Next lesson"));
+    row.append(make("button", { className: "main", onclick: () => this.begin(next) }, "Next lesson"));
   }
 
   /** @param {Lesson} lesson */
@@ -128,6 +124,8 @@ export class Lessons {
     const fought = this.host.fight(sources);
     element("lesson-box").focus({ preventScroll: true });
     element("side").scrollTo(0, 0);
+    // On a narrow page it is below the battle.
+    element("lesson-box").scrollIntoView({ block: "nearest" });
     return fought;
   }
 
