@@ -413,6 +413,11 @@ def test_versions_on_the_bench(page: Browser, tmp_path: Path) -> None:
         assert found and found[3] == verdict, (told, verdict)
         shown = [float(found[1].replace("−", "-")), float(found[2])]
         assert shown == pytest.approx(numbers, abs=0.006)
+    # Results of an earlier text say so.
+    page.run("corewar.shelf.editor.mirror.setValue('x')")
+    page.until("document.getElementById('bench-note').textContent.startsWith('The source has an error')")
+    page.run("corewar.shelf.editor.mirror.setValue(given[0])", text)
+    page.until(done)
 
 
 def test_the_league_is_the_program(page: Browser) -> None:
@@ -508,6 +513,7 @@ def test_a_narrow_page_shows_what_comes_next(page: Browser) -> None:
         page.run("document.querySelectorAll('#lessons .lesson')[3].querySelector('button').click()")
         page.until(f"{place}.top > -1 && {place}.bottom <= desk.getBoundingClientRect().top")
         page.run("corewar.show('bench')")
+        assert page.value("document.getElementById('bench-title').getBoundingClientRect().bottom <= innerHeight")
         page.until("document.getElementById('bench-note').textContent.endsWith(' ms')")
         page.click("#bench-base")
         page.until("document.getElementById('bench-change').textContent")

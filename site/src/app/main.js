@@ -4,7 +4,7 @@ import { DEFAULTS, FORMULA } from "../model/settings.js";
 import { Bench } from "../view/bench.js";
 import { Cells } from "../view/cells.js";
 import { Console } from "../view/console.js";
-import { buttons, clamp, element, isNarrow, onClick, typed } from "../view/dom.js";
+import { buttons, clamp, element, isNarrow, onClick, refill, typed, withCode } from "../view/dom.js";
 import { errorWords } from "../view/host.js";
 import { League } from "../view/league.js";
 import { Rounds } from "../view/rounds.js";
@@ -145,7 +145,7 @@ class Page {
 
   /** @param {string} text */
   complain(text) {
-    element("complaint").textContent = text;
+    refill(element("complaint"), withCode(text));
     element("complaint").hidden = !text;
   }
 
@@ -210,9 +210,12 @@ class Page {
       if (button.dataset.view === view) button.setAttribute("aria-current", "page");
       else button.removeAttribute("aria-current");
     }
-    if (view === "bench") this.showDesk(true);
-    if (view === "bench") this.bench.open();
-    else this.bench.close();
+    if (view === "bench") {
+      this.showDesk(true);
+      this.bench.open();
+      // The editor is below the bench if the page is narrow.
+      scrollTo(0, 0);
+    } else this.bench.close();
     if (view === "league") this.league.draw();
     if (view === "battle") this.theatre.fit();
     else this.session.stop();

@@ -2,7 +2,7 @@
 import { MarsError } from "../engine/mars.js";
 import { number, pluralize } from "../words/battle.js";
 import { changeOf, isSure, verdict } from "../words/comparison.js";
-import { debounce, element, make, onClick, refill, typed } from "./dom.js";
+import { debounce, element, make, onClick, refill, typed, withCode } from "./dom.js";
 import { errorWords, mean } from "./host.js";
 
 /** @typedef {import("./host.js").Host} Host */
@@ -16,6 +16,7 @@ import { errorWords, mean } from "./host.js";
 
 /** What a win is worth against one opponent, the right end of the scale. */
 const WIN = 3;
+const STALE = "The source has an error; below are the results before it.";
 
 /** @param {number} value */
 const fixed = (value) => value.toFixed(2);
@@ -47,7 +48,8 @@ export class Bench {
   #later = debounce(() => this.#draw(), 40);
   /** The source in the editor has changed. */
   checked = debounce(() => {
-    if (this.isOpen && !this.host.shelf.isBroken) this.fight();
+    if (this.isOpen && this.host.shelf.isBroken) element("bench-note").textContent = STALE;
+    else if (this.isOpen) this.fight();
   }, 350);
 
   /** @param {Host} host */
@@ -76,7 +78,7 @@ export class Bench {
     const isAll = typed("bench-against", HTMLSelectElement).value === "all";
     const opponents = (isAll ? shelf.all : shelf.fighters).filter(({ name }) => name !== own.name);
     const key = JSON.stringify([own, terms, opponents]);
-    if (key === this.#fought) return;
+    if (key === this.#fought) return this.#draw();
     pool.drop("bench");
     this.#begin(own, opponents, terms, key);
     const run = ++this.#run;
@@ -182,7 +184,7 @@ export class Bench {
     const rounds = pluralize(this.host.terms().rounds, "round");
     const whole = `${against}, ${rounds} each, in ${number(Math.round(this.#took))} ms`;
     const note = done < this.#opponents.length ? `${done} of ${against} …` : whole;
-    element("bench-note").textContent = this.#fault || note;
+    refill(element("bench-note"), withCode(this.#fault || note));
     refill(element("bench-total"), ...this.#total());
     refill(element("bench-change"), ...this.#change());
     refill(element("bench-rows"), ...this.#opponents.map((opponent) => this.#line(opponent)));
@@ -228,7 +230,8 @@ export class Bench {
     const title = this.#names.get(opponent.name) ?? opponent.name;
     if (!row) {
       const why = this.#faults.get(opponent.name) ?? (this.#fault ? "" : "…");
-      return make("tr", {}, make("td", {}, opponent.name), make("td", { className: "soft", colSpan: 5 }, why));
+      const cell = make("td", { className: "soft", colSpan: 5 }, withCode(why));
+      return make("tr", {}, make("td", {}, opponent.name), cell);
     }
     const { points, far } = mean(row);
     const change = this.#changeOf([opponent]);

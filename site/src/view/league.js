@@ -1,7 +1,7 @@
 /** The league: a match of every two sources. The table and the wins of each pair grow as matches end. */
 import { MarsError } from "../engine/mars.js";
 import { number, pluralize } from "../words/battle.js";
-import { debounce, element, make, onClick, refill, typed } from "./dom.js";
+import { debounce, element, make, onClick, refill, typed, withCode } from "./dom.js";
 import { errorWords } from "./host.js";
 
 /** @typedef {import("../engine/warrior.js").Warrior} Warrior */
@@ -177,7 +177,7 @@ export class League {
     const out = this.#faults.length ? `; left out: ${this.#faults.join(" ")}` : "";
     const time = (this.#took / 1000).toFixed(1);
     const summary = `${number(done)} of ${pluralize(total, "match")}, ${rounds} each, in ${time} s${out}`;
-    element("league-note").textContent = total ? summary : this.#faults.join(" ");
+    refill(element("league-note"), withCode(total ? summary : this.#faults.join(" ")));
     element("league-stop").hidden = !isRunning;
     const progress = typed("league-done", HTMLProgressElement);
     progress.max = Math.max(1, total);
