@@ -492,8 +492,8 @@ def test_no_window_scrolls_sideways(page: Browser, view: str) -> None:
 
 
 def test_a_narrow_page_shows_what_comes_next(page: Browser) -> None:
-    """Help from its first line, the text of the next lesson below the battle and before the editor, and the change of
-    a version on the bench.
+    """Help from its first line, the text of the next lesson below the battle and before the editor, both futures, and
+    the change of a version on the bench.
     """
     try:
         page.resize(390, 844)
@@ -512,6 +512,9 @@ def test_a_narrow_page_shows_what_comes_next(page: Browser) -> None:
         page.until(f"{place}.bottom <= innerHeight + 1")
         page.run("document.querySelectorAll('#lessons .lesson')[3].querySelector('button').click()")
         page.until(f"{place}.top > -1 && {place}.bottom <= desk.getBoundingClientRect().top")
+        page.run("await corewar.console.run('edit 3 jmp 0'); await corewar.session.compare(0)")
+        cores = "[...document.querySelectorAll('#stage canvas')].map(one => one.getBoundingClientRect())"
+        page.until(f"{cores}.every(one => one.left >= 0 && one.width > 300 && one.right <= innerWidth)")
         page.run("corewar.show('bench')")
         assert page.value("document.getElementById('bench-title').getBoundingClientRect().bottom <= innerHeight")
         page.until("document.getElementById('bench-note').textContent.endsWith(' ms')")

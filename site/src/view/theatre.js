@@ -150,7 +150,9 @@ export class Theatre {
     const isTwo = session.beside !== null;
     element("other").hidden = !isTwo;
     const width = isTwo && !isNarrow() ? stage.clientWidth / 2 : stage.clientWidth;
-    const height = isNarrow() ? Math.min(innerHeight * 0.5, stage.clientWidth * 1.05) : stage.clientHeight;
+    // On a narrow page one is below the other.
+    const most = Math.min(innerHeight * (isTwo ? 0.3 : 0.5), stage.clientWidth * 1.05);
+    const height = isNarrow() ? most : stage.clientHeight;
     for (const core of isTwo ? [this.core, this.other] : [this.core]) core.fit(session.opened.core, width, height);
     this.#recolour();
   }
