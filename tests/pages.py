@@ -561,6 +561,8 @@ def test_texts_have_contrast_and_controls_have_names(page: Browser, theme: str) 
         page.run("corewar.show(given[0]); await new Promise(done => setTimeout(done, 200))", view)
         assert page.run(CONTRAST) == [], view
     assert page.run(UNNAMED) == []
+    # Firefox without a desktop's theme draws white bars on dark pages.
+    assert page.value("getComputedStyle(names).scrollbarColor") != "auto"
 
 
 HEADINGS = """return [...document.querySelectorAll("h1, h2, h3")].filter(one => one.checkVisibility())
