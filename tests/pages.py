@@ -539,10 +539,12 @@ const ground = one => {
 };
 const poor = [];
 for (const one of document.querySelectorAll("body *")) {
-  const text = [...one.childNodes].filter(node => node.nodeType === 3).map(node => node.data.trim()).join("");
+  const written = [...one.childNodes].filter(node => node.nodeType === 3).map(node => node.data.trim()).join("");
+  const text = written || one.placeholder;
   if (!text || !one.checkVisibility()) continue;
   if (one.closest("[disabled], .CodeMirror-measure, noscript, script, .match")) continue;
-  const [a, b] = [light(parse(getComputedStyle(one).color)), light(ground(one))].sort((x, y) => y - x);
+  const {color} = getComputedStyle(one, written ? "" : "::placeholder");
+  const [a, b] = [light(parse(color)), light(ground(one))].sort((x, y) => y - x);
   if ((a + .05) / (b + .05) < 4.5) poor.push(`${one.tagName}#${one.id}.${one.className}: ${text.slice(0, 20)}`);
 }
 return poor;"""
