@@ -550,6 +550,25 @@ for (const one of document.querySelectorAll("body *")) {
 return poor;"""
 
 
+CELL_CONTRAST = """
+const {canvas} = corewar.theatre.core, {x, y} = corewar.theatre.core.pointOf(given[0]);
+const {left, top} = canvas.getBoundingClientRect(), half = corewar.theatre.core.cell / 2 - 8;
+const {data} = canvas.getContext("2d").getImageData(x - left - half, y - top - half, 2 * half, 2 * half);
+const light = i => [.2126, .7152, .0722].reduce((sum, part, k) => sum + part * (data[i + k] / 255) ** 2.2, .05);
+const all = Array.from({length: data.length / 4}, (_, i) => light(4 * i)).sort((a, b) => a - b);
+const ground = all[all.length >> 1];
+return Math.max(ground / all[0], all[all.length - 1] / ground);"""
+
+
+def test_texts_in_cells_have_contrast(page: Browser) -> None:
+    """Whether the cell was written recently or not."""
+    page.run("hill.value = 'nano'; hill.dispatchEvent(new Event('change'))")
+    fight(page, "gate", "imp")
+    go_to_turn(page, 20)
+    for address in (0, 56, 62, 79):
+        assert page.run(CELL_CONTRAST, address) >= 4.5, address
+
+
 UNNAMED = """
 const isNamed = one => (one.getAttribute("aria-label") ?? one.closest("label, button")?.textContent)?.trim();
 return [...document.querySelectorAll("button, input, select, canvas[tabindex]")]

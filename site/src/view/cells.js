@@ -117,6 +117,8 @@ export class Cells {
     const text = cellText(cell, known.core);
     const sentence = instructionWords(cell, { core: known.core });
     const line = side.lineOf(address);
+    // The colour of the line says whose label it is.
+    const label = known.labels.get(address)?.replace(/^\d+\./, "") ?? "";
     const origin = line ? `${line.name}, line ${line.line}: ${line.text}` : "";
     const button = make("button", { className: "bare text", title: `${sentence} A click edits it.` }, text);
     button.onclick = () => this.#edit(address, text, button);
@@ -130,7 +132,7 @@ export class Cells {
       "li",
       { className: address === this.focus ? "focus" : "", style: colour(view.owner[address]) },
       make("button", look, number(address)),
-      make("span", { className: "label", title: origin }, known.labels.get(address) ?? ""),
+      make("span", { className: "label", title: origin }, label),
       button,
       make("em", { title: names, "aria-label": names ? `Processes: ${names}` : null }, ...chips),
     );

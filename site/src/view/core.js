@@ -228,7 +228,7 @@ export class Core {
       const left = this.#margin + (address % columns) * cell + unit * 0.75;
       const top = this.#margin + Math.floor(address / columns) * cell;
       const isFree = owner[address] === NOBODY;
-      context.fillStyle = isFree ? "rgba(255,255,255,.45)" : "rgba(8,10,13,.92)";
+      context.fillStyle = isFree ? "rgba(255,255,255,.45)" : this.#isDark(address) ? "#fff" : "rgba(8,10,13,.92)";
       const { op, modifier, aMode, bMode, a, b } = readCell(cells, address);
       if (isFree && isEmpty(cells, address)) context.fillText("·", left, top + unit * 1.5);
       else {
@@ -238,6 +238,17 @@ export class Core {
       }
       context.fillText(String(address), left, top + cell - unit * 0.85);
     }
+  }
+
+  /**
+   * Returns whether a text on a cell has to be white.
+   * @param {number} address
+   */
+  #isDark(address) {
+    const { x, y } = this.#middle(address);
+    const at = Math.floor(y - this.#margin) * this.#image.width + Math.floor(x - this.#margin);
+    const [red, green, blue] = [0, 8, 16].map((place) => (this.#pixels[at] >> place) & 255);
+    return 3 * red + 6 * green + blue < 1200;
   }
 
   /**
