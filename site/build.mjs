@@ -28,9 +28,10 @@ function bundle(from, name, banner) {
   execFileSync("esbuild", words);
 }
 
-/** The style sheets in one. */
+/** The style sheets in one, without the editor's own colours: the site has others. */
 function style() {
-  const input = read(path.join(codemirror, "lib", "codemirror.css")) + read(inside("static", "site.css"));
+  const editor = read(path.join(codemirror, "lib", "codemirror.css")).replace(/^\.cm-s-default .*\n/gm, "");
+  const input = editor + read(inside("static", "site.css"));
   return execFileSync("esbuild", ["--loader=css", "--minify"], { input, encoding: "utf8" });
 }
 
@@ -62,7 +63,8 @@ bundle("worker/worker.js", "worker.js", "");
 fs.copyFileSync(wasm, output("mars.wasm"));
 
 const known = script(JSON.stringify(data()).replaceAll("<", "\\u003c"), ' id="data" type="application/json"');
-const page = read(inside("static", "index.html")).replace("<!--style-->", () => `<style>${style()}</style>`);
+const html = read(inside("static", "index.html")).replace(/\n\s+/g, "\n");
+const page = html.replace("<!--style-->", () => `<style>${style()}</style>`);
 const preload = (name, kind) => `<link rel="preload" href="${name}" as="${kind}">`;
 const loads = [preload("mars.wasm", "fetch").replace(">", " crossorigin>"), preload("app.js", "script")];
 // Only the page in one file has scripts inside.
