@@ -282,10 +282,11 @@ def test_a_link_carries_the_fight(page: Browser, site: str) -> None:
     page.open(f"{site}?linked#f={link}")
     page.until("window.corewar?.session.turn === 7795")
     assert page.value("[corewar.session.end, corewar.session.pinned, corewar.session.future]") == [end, 2, 1]
-    for broken in ("AAAA", "x", "%00", "q1YqU7JSMlSqBQA"):
+    damaged = "damaged or not whole"
+    for broken, why in (("AAAA", damaged), ("x", damaged), ("%00", damaged), ("q1YqU7JSMlSqBQA", "not a fight")):
         page.open(f"{site}?{broken}#f={broken}")
         page.until("window.corewar?.session.view")
-        assert "cannot be shown" in page.text("complaint")
+        assert page.text("complaint") == f"This link cannot be shown: it is {why}"
 
 
 def test_strangers_names_are_no_html(page: Browser, site: str) -> None:
@@ -340,6 +341,12 @@ def test_a_source_that_takes_minutes(page: Browser) -> None:
     page.until("document.getElementById('complaint').textContent === 'it takes too long'")
     go_to_turn(page, 7798)
     assert "Imp is dead" in page.text("turn-words")
+
+
+def test_a_new_source_fights(page: Browser) -> None:
+    """It takes the mark of the source that was shown."""
+    page.run("document.getElementById('new').click(); document.getElementById('fight').click()")
+    page.until("document.title === 'Imp against My first warrior · Core War'")
 
 
 def test_files_are_opened(page: Browser) -> None:
@@ -512,6 +519,8 @@ def test_a_narrow_page_shows_what_comes_next(page: Browser) -> None:
         page.until(f"{place}.bottom <= innerHeight + 1")
         page.run("document.querySelectorAll('#lessons .lesson')[3].querySelector('button').click()")
         page.until(f"{place}.top > -1 && {place}.bottom <= desk.getBoundingClientRect().top")
+        page.run("corewar.complain('x')")
+        assert page.value("complaint.getBoundingClientRect().bottom <= stage.getBoundingClientRect().top")
         page.run("await corewar.console.run('edit 3 jmp 0'); await corewar.session.compare(0)")
         cores = "[...document.querySelectorAll('#stage canvas')].map(one => one.getBoundingClientRect())"
         page.until(f"{cores}.every(one => one.left >= 0 && one.width > 300 && one.right <= innerWidth)")

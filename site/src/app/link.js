@@ -110,15 +110,27 @@ function readEdits(given, core) {
 }
 
 /**
+ * Returns what a text carries. Throws if it is damaged.
+ * @param {string} text
+ */
+async function inflate(text) {
+  try {
+    const code = atob(text.replaceAll("-", "+").replaceAll("_", "/"));
+    const bytes = Uint8Array.from(code, (letter) => letter.charCodeAt(0));
+    return JSON.parse(new TextDecoder().decode(await through(bytes, new DecompressionStream("deflate-raw"))));
+  } catch {
+    throw new Error("it is damaged or not whole");
+  }
+}
+
+/**
  * Returns the fight of a text, of which `selection` selects a part. Throws if it is damaged, or too long for this page.
  * @param {string} text
  * @param {Selection} selection
  * @returns {Promise<Shared>}
  */
 export async function unpack(text, selection = {}) {
-  const bytes = Uint8Array.from(atob(text.replaceAll("-", "+").replaceAll("_", "/")), (letter) => letter.charCodeAt(0));
-  const json = new TextDecoder().decode(await through(bytes, new DecompressionStream("deflate-raw")));
-  const short = JSON.parse(json);
+  const short = await inflate(text);
   if (short?.v !== VERSION) throw new Error("it is not a fight");
   const settings = readSettings(short.h);
   const all = readSources(short.w);

@@ -161,8 +161,9 @@ export class Shelf {
   }
 
   #create() {
-    const entry = this.add({ name: "warrior.red", saved: "", text: NEW.join("\n") });
-    this.show(entry);
+    // It fights in the place of the source that was shown.
+    if (this.shown) this.shown.fights = false;
+    this.show(this.add({ name: "warrior.red", saved: "", text: NEW.join("\n"), fights: true }));
     this.host.changed();
     this.editor.mirror.focus();
     this.editor.mirror.setCursor(1, NEW[1].length);
