@@ -498,41 +498,52 @@ def test_no_window_scrolls_sideways(page: Browser, view: str) -> None:
         page.resize(1280, 800)
 
 
-def test_a_narrow_page_shows_what_comes_next(page: Browser) -> None:
-    """Help from its first line, the text of the next lesson below the battle and before the editor, both futures, and
-    the change of a version on the bench.
-    """
-    try:
-        page.resize(390, 844)
-        page.press("?")
-        assert page.value("helping.open && helping.scrollHeight > helping.clientHeight && !helping.scrollTop")
-        page.press("Escape")
-        page.run("document.querySelector('#lessons .lesson button').click()")
-        page.until("corewar.session.fight.warriors.length === 1 && corewar.session.isSettled")
-        page.run("corewar.session.jump(corewar.session.end)")
-        page.until("corewar.session.turn === corewar.session.end && corewar.session.isSettled")
-        page.run("document.querySelector('#lesson-box .main').click()")
-        page.until("document.querySelector('#lesson-box .main').textContent === 'Next lesson'")
-        page.run("document.querySelector('#lesson-box .main').click()")
-        place = "document.getElementById('lesson-box').getBoundingClientRect()"
-        page.until(f"document.querySelector('#lesson-box h2').textContent.startsWith('2') && {place}.top >= 0")
-        page.until(f"{place}.bottom <= innerHeight + 1")
-        page.run("document.querySelectorAll('#lessons .lesson')[3].querySelector('button').click()")
-        page.until(f"{place}.top > -1 && {place}.bottom <= desk.getBoundingClientRect().top")
-        page.run("corewar.complain('x')")
-        assert page.value("complaint.getBoundingClientRect().bottom <= stage.getBoundingClientRect().top")
-        page.run("await corewar.console.run('edit 3 jmp 0'); await corewar.session.compare(0)")
-        cores = "[...document.querySelectorAll('#stage canvas')].map(one => one.getBoundingClientRect())"
-        page.until(f"{cores}.every(one => one.left >= 0 && one.width > 300 && one.right <= innerWidth)")
-        page.run("corewar.show('bench')")
-        assert page.value("document.getElementById('bench-title').getBoundingClientRect().bottom <= innerHeight")
-        page.until("document.getElementById('bench-note').textContent.endsWith(' ms')")
-        page.click("#bench-base")
-        page.until("document.getElementById('bench-change').textContent")
-        table = "document.querySelector('table.bench').parentElement"
-        assert page.value(f"{table}.scrollWidth - {table}.clientWidth") <= 1
-    finally:
-        page.resize(1280, 800)
+@pytest.fixture
+def narrow(page: Browser) -> Iterator[Browser]:
+    """The page as wide as a telephone."""
+    page.resize(390, 844)
+    yield page
+    page.resize(1280, 800)
+
+
+def test_a_narrow_page_shows_lessons(narrow: Browser) -> None:
+    """The text of the next one, which is below the battle and before the editor; help from its first line."""
+    narrow.press("?")
+    assert narrow.value("helping.open && !helping.scrollTop")
+    narrow.press("Escape")
+    narrow.run("document.querySelector('#lessons .lesson button').click()")
+    narrow.until("corewar.session.fight.warriors.length === 1 && corewar.session.isSettled")
+    narrow.run("corewar.session.jump(corewar.session.end)")
+    narrow.until("corewar.session.turn === corewar.session.end && corewar.session.isSettled")
+    narrow.run("document.querySelector('#lesson-box .main').click()")
+    narrow.until("document.querySelector('#lesson-box .main').textContent === 'Next lesson'")
+    narrow.run("document.querySelector('#lesson-box .main').click()")
+    place = "document.getElementById('lesson-box').getBoundingClientRect()"
+    narrow.until(f"document.querySelector('#lesson-box h2').textContent.startsWith('2') && {place}.top >= 0")
+    narrow.until(f"{place}.bottom <= innerHeight + 1")
+    narrow.run("document.querySelectorAll('#lessons .lesson')[3].querySelector('button').click()")
+    narrow.until(f"{place}.top > -1 && {place}.bottom <= desk.getBoundingClientRect().top")
+
+
+def test_a_narrow_page_shows_answers(narrow: Browser) -> None:
+    """Why a warrior died, the round that was clicked, errors, both futures, and the change of a version."""
+    narrow.run("document.getElementById('why-now').click()")
+    words = "document.getElementById('turn-words').getBoundingClientRect()"
+    narrow.until(f"corewar.session.turn === 7798 && {words}.top >= 0 && {words}.bottom <= innerHeight + 1")
+    narrow.run("await corewar.rounds.fight(); document.querySelector('#strip button:nth-child(2)').click()")
+    narrow.until("scrollY === 0 && corewar.session.fight.round === 1")
+    narrow.run("corewar.complain('x')")
+    assert narrow.value("complaint.getBoundingClientRect().bottom <= stage.getBoundingClientRect().top")
+    narrow.run("await corewar.console.run('edit 3 jmp 0'); await corewar.session.compare(0)")
+    cores = "[...document.querySelectorAll('#stage canvas')].map(one => one.getBoundingClientRect())"
+    narrow.until(f"{cores}.every(one => one.left >= 0 && one.width > 300 && one.right <= innerWidth)")
+    narrow.run("corewar.show('bench')")
+    assert narrow.value("document.getElementById('bench-title').getBoundingClientRect().bottom <= innerHeight")
+    narrow.until("document.getElementById('bench-note').textContent.endsWith(' ms')")
+    narrow.click("#bench-base")
+    narrow.until("document.getElementById('bench-change').textContent")
+    table = "document.querySelector('table.bench').parentElement"
+    assert narrow.value(f"{table}.scrollWidth - {table}.clientWidth") <= 1
 
 
 CONTRAST = """

@@ -174,7 +174,7 @@ class Page {
   /** Fights the sources that are marked, or the one in the editor. */
   fightMarked() {
     this.show("battle");
-    if (isNarrow()) scrollTo(0, 0);
+    scrollTo(0, 0);
     const { fighters, current } = this.shelf;
     return this.fight(fighters.length || !current ? fighters : [current]);
   }

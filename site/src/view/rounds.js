@@ -102,7 +102,11 @@ export class Rounds {
       title,
       "aria-label": title,
       "aria-current": index === fight.round ? "true" : null,
-      onclick: () => session.open({ ...fight, rounds, round: index, edits: [] }),
+      onclick: () => {
+        // On a narrow page the core is far above.
+        scrollTo(0, 0);
+        return session.open({ ...fight, rounds, round: index, edits: [] });
+      },
     });
   }
 

@@ -85,11 +85,13 @@ export class Theatre {
     this.#announce(`There is no ${what} ${forward ? "after" : "before"} turn ${number(this.session.turn)}.`);
   }
 
-  #showDeath() {
+  async #showDeath() {
     const death = this.session.opened?.deaths.at(-1);
     if (!death) return;
     if (death.address >= 0) this.session.pin(death.address);
-    this.session.jump(death.turn);
+    await this.session.jump(death.turn);
+    // On a narrow page the reason is below the battle.
+    element("turn-words").scrollIntoView({ block: "nearest" });
   }
 
   #listenToTrack() {
