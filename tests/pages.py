@@ -217,6 +217,8 @@ def test_the_debugger_has_a_line(page: Browser) -> None:
     assert ask("move imp 0 3") == "after turn 200: move 1 0 3"
     ask("break at 3 by imp")
     assert ask("break at 2..4") == "breakpoint 1: at 2..4"
+    assert ask("kill imp 1") == "Imp has no process 1; its number of processes is 1"
+    assert ask("edit 3") == "expected an address and a line of source"
     ask("spawn 0 7")
     assert ask("queue dwarf").endswith(" 7")
     assert ask("futures").startswith("> 3: after turn 200")
@@ -439,6 +441,15 @@ def test_the_league_is_the_program(page: Browser) -> None:
     )
     points = sorted((row[0] for row in table("-r", 20, "--league", *files(*names))), reverse=True)
     assert [int(text.replace(",", "")) for text in told] == points
+
+
+def test_fields_show_what_is_used(page: Browser) -> None:
+    code = """const field = document.getElementById(given[0]);
+      field.value = given[1];
+      field.dispatchEvent(new Event('change'));
+      return [field.value, String(corewar.terms.value[given[0]])];"""
+    for name, given, used in (("seed", "0", "1"), ("rounds", "1000000", "100000"), ("rounds", "", "100")):
+        assert page.run(code, name, given) == [used, used], given
 
 
 def test_own_settings(page: Browser) -> None:

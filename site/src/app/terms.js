@@ -28,8 +28,13 @@ export class Terms {
     this.hill.append(make("option", { value: OWN }, "own …"));
     element("terms").addEventListener("submit", (event) => event.preventDefault());
     this.hill.onchange = () => this.#choose();
-    this.seed.onchange = () => changed(true);
-    this.rounds.onchange = () => changed(false);
+    const take = (/** @type {boolean} */ isShown) => {
+      // The fields show the numbers that are used.
+      this.value = { ...this.value };
+      changed(isShown);
+    };
+    this.seed.onchange = () => take(true);
+    this.rounds.onchange = () => take(false);
     this.#openDialog();
   }
 

@@ -212,6 +212,7 @@ async function make(session, edit) {
 /** @type {Act} */
 async function edit(session, rest) {
   const [where, ...line] = rest.split(/\s+/);
+  if (!line.length) throw new CommandError("expected an address and a line of source");
   const address = readAddress(session, where);
   const cell = await readCellLine(session, line.join(" "), address);
   return make(session, { kind: "cell", address, last: address, cell });
@@ -238,17 +239,30 @@ function split(session, rest, count) {
   return { warrior: readWarrior(session, words.slice(0, -count).join(" ")), words: words.slice(-count) };
 }
 
+/**
+ * Returns the index of a process of a warrior; the next one is 0.
+ * @param {Session} session
+ * @param {number} warrior
+ * @param {string} text
+ */
+function readProcess({ view, known }, warrior, text) {
+  const [index, count] = [readNumber(text, "the index of a process"), view?.processes[warrior] ?? 0];
+  const why = `${known.names[warrior]} has no process ${index}; its number of processes is ${count}`;
+  if (index >= count) throw new CommandError(why);
+  return index;
+}
+
 /** @type {Act} */
 async function move(session, rest) {
   const { warrior, words } = split(session, rest, 2);
-  const at = readNumber(words[0], "the index of a process");
-  return make(session, { kind: "move", warrior, place: at, address: readAddress(session, words[1]) });
+  const place = readProcess(session, warrior, words[0]);
+  return make(session, { kind: "move", warrior, place, address: readAddress(session, words[1]) });
 }
 
 /** @type {Act} */
 async function kill(session, rest) {
   const { warrior, words } = split(session, rest, 1);
-  return make(session, { kind: "kill", warrior, place: readNumber(words[0], "the index of a process") });
+  return make(session, { kind: "kill", warrior, place: readProcess(session, warrior, words[0]) });
 }
 
 /** @type {Act} */
