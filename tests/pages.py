@@ -345,6 +345,20 @@ def test_a_source_that_takes_minutes(page: Browser) -> None:
     assert "Imp is dead" in page.text("turn-words")
 
 
+def test_sources_are_checked_in_turn(page: Browser) -> None:
+    """A check that takes longer than that of the next source is not shown."""
+    code = """const {pool, shelf} = corewar, ask = pool.ask.bind(pool), wait = ms => new Promise(done => setTimeout(done, ms));
+      pool.ask = async (...given) => {
+        const made = await ask(...given);
+        if (given[1][0].includes?.("Tailor")) await wait(300);
+        return made;
+      };
+      for (const name of ["fitted.red", "dwarf.red"]) shelf.show(shelf.find(name));
+      await wait(900);"""
+    page.run(code)
+    assert page.text("fault") == "Dwarf: 4 of 100 cells"
+
+
 def test_a_new_source_fights(page: Browser) -> None:
     """It takes the mark of the source that was shown."""
     page.run("document.getElementById('new').click(); document.getElementById('fight').click()")

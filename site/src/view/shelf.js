@@ -331,7 +331,7 @@ export class Shelf {
       return await errorsOf(text, meanings, async (source) => {
         try {
           const made = await pool.ask("assemble", [source, terms], "lint", 3);
-          if (source === text) this.#showMade(made, terms.settings);
+          if (source === text && text === this.current?.text) this.#showMade(made, terms.settings);
           return null;
         } catch (error) {
           if (error instanceof MarsError) return error;
