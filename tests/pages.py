@@ -347,7 +347,8 @@ def test_a_source_that_takes_minutes(page: Browser) -> None:
 
 def test_sources_are_checked_in_turn(page: Browser) -> None:
     """A check that takes longer than that of the next source is not shown."""
-    code = """const {pool, shelf} = corewar, ask = pool.ask.bind(pool), wait = ms => new Promise(done => setTimeout(done, ms));
+    code = """const {pool, shelf} = corewar, ask = pool.ask.bind(pool);
+      const wait = ms => new Promise(done => setTimeout(done, ms));
       pool.ask = async (...given) => {
         const made = await ask(...given);
         if (given[1][0].includes?.("Tailor")) await wait(300);
