@@ -1,6 +1,7 @@
 """The debugger: a session does what the program's debugger does, and commands report it."""
 from __future__ import annotations
 
+import itertools
 import os
 import signal
 import time
@@ -9,6 +10,7 @@ from pathlib import Path
 import pytest
 from battles import MOVES, is_listed, matches
 from conftest import EXAMPLES, Run, begin
+from costly import slow
 from hypothesis import given, strategies as st
 
 from corewar.battle.history import History, make_distinct
@@ -274,10 +276,11 @@ def test_control_characters_of_sources_are_not_shown(run: Run, tmp_path: Path) -
 
 
 def test_a_killed_command_leaves_no_process(tmp_path: Path) -> None:
-    """The process that assembles ends with the one that started it."""
+    """The process that assembles ends with the one that started it, while it waits and while it assembles."""
     os.mkfifo(tmp_path / "pipe")
-    for how in (signal.SIGKILL, signal.SIGTERM):
-        process = begin("fight", EXAMPLES / "imp.red", tmp_path / "pipe")
+    (tmp_path / "slow.red").write_text(slow())
+    for other, how in itertools.product(("pipe", "slow.red"), (signal.SIGKILL, signal.SIGTERM)):
+        process = begin("fight", "--source-limit", "100", EXAMPLES / "imp.red", tmp_path / other)
         listed, children, end = Path(f"/proc/{process.pid}/task/{process.pid}/children"), "", time.monotonic() + 60
         while not children and time.monotonic() < end:
             children = listed.read_text()

@@ -111,6 +111,7 @@ def serve(pipe: Connection, limit: Limit, other: Connection | None) -> None:
         other.close()
     # Ctrl-C reaches all processes of a terminal; the one that asks decides, and closes the pipe.
     signal.signal(signal.SIGINT, signal.SIG_IGN)
+    threading.Thread(target=end_with_parent, daemon=True).start()
     # The limit is for what a source adds to the memory that the process has at its start.
     with open("/proc/self/statm") as file:
         taken = int(file.read().split()[0]) * resource.getpagesize()
@@ -128,6 +129,14 @@ def serve(pipe: Connection, limit: Limit, other: Connection | None) -> None:
             pipe.send(assemble_or_error(*given))
         except BrokenPipeError:
             return
+
+
+def end_with_parent() -> None:
+    """Ends this process once the one that started it has ended, also in the middle of a source."""
+    parent = multiprocessing.parent_process()
+    if parent is not None:
+        parent.join()
+        os._exit(1)
 
 
 def assemble_or_error(source: bytes, given: dict[str, Any]) -> Warrior | MarsError:
