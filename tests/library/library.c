@@ -114,6 +114,17 @@ static int holds(int which, long each) {
     }
 }
 
+/* A call that succeeds reports no error: each field is 0. */
+static int are_faults_cleared(void) {
+    static const MarsFault none;
+    Left got;
+    for (int which = 0; which < CALLS; which++) {
+        call(which, &got);
+        if (got.answer != MARS_DONE || memcmp(&got.fault, &none, sizeof none) != 0) return 0;
+    }
+    return 1;
+}
+
 /* Null pointers with the length 0. */
 static int are_nulls_taken(void) {
     Left got;
@@ -243,10 +254,10 @@ int main(void) {
             passed += is_so, failed += !is_so;
             if (!is_so) printf("call %d, %s refused\n", which, each ? "all from one on" : "one");
         }
-    int others[] = {mars_version() == MARS_VERSION, are_nulls_taken(), are_lines_reported(), are_loads_read(), are_outcomes_rows(), are_mistakes_reported_in_order(), are_battles_values()};
+    int others[] = {mars_version() == MARS_VERSION, are_faults_cleared(), are_nulls_taken(), are_lines_reported(), are_loads_read(), are_outcomes_rows(), are_mistakes_reported_in_order(), are_battles_values()};
     for (size_t i = 0; i < sizeof others / sizeof *others; i++) {
         passed += others[i], failed += !others[i];
-        if (!others[i]) printf("%s\n", (const char *[]){"the version", "null pointers", "the lines of a source", "load files", "outcomes", "the order of mistakes", "battles as values"}[i]);
+        if (!others[i]) printf("%s\n", (const char *[]){"the version", "errors of calls that succeed", "null pointers", "the lines of a source", "load files", "outcomes", "the order of mistakes", "battles as values"}[i]);
     }
     printf("%d passed, %d failed\n", passed, failed);
     return failed != 0;

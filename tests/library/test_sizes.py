@@ -1,10 +1,12 @@
 """The calls of the library for C at the greatest sizes that their ranges allow: none runs out of memory."""
 import corewar
+from corewar.engine.calls import source_lines
 from corewar.engine.warriors import read_load
 from corewar.model.settings import MAX_WARRIORS
 
 MAX_CORE = 1_048_576
 PROCESSES = 65_536
+MAX_LINES = 65_536
 IMP = [(1, 6, 1, 1, 0, 1)]
 # Splits each turn, so that a warrior has as many processes as it may.
 SPLITTER = [(14, 1, 1, 1, 0, 0), (7, 1, 1, 1, MAX_CORE - 1, 0)]
@@ -17,8 +19,15 @@ def test_longest_warrior() -> None:
     again = read_load(warrior.load, HUGE)
     assert again.cells.tolist() == warrior.cells.tolist()
     battle = corewar.Battle(corewar.Match((warrior,), settings=HUGE))
-    battle.play(10)
-    assert battle.turns == 10
+    records, touched = battle.play(10, records=10, touched=10)
+    assert (battle.turns, len(records), len(touched)) == (10, 10, 10)
+
+
+def test_longest_source() -> None:
+    """As many lines as a source may have: the cells that they become, and the line of each."""
+    source = b"nop\n" * MAX_LINES
+    assert len(corewar.assemble(source, settings=HUGE)) == MAX_LINES
+    assert source_lines(source, HUGE) == [(line, []) for line in range(1, MAX_LINES + 1)]
 
 
 def test_most_warriors() -> None:
@@ -28,6 +37,7 @@ def test_most_warriors() -> None:
     battle = corewar.Battle(corewar.Match((splitter,) * MAX_WARRIORS, settings=settings))
     battle.play(140_000 * MAX_WARRIORS - 1)
     assert [len(queue) for queue in battle.queues] == [PROCESSES] * MAX_WARRIORS
+    assert battle.copy() == battle == corewar.Battle.of_bytes(bytes(battle))
     rows = corewar.match([splitter] * MAX_WARRIORS, settings=settings)
     assert [row.ties for row in rows] == [1] * MAX_WARRIORS
 
@@ -41,8 +51,10 @@ def test_longest_history() -> None:
 
 
 def test_large_league() -> None:
-    """A league of 300 warriors, and as many rounds as a match may have."""
+    """A league and a population of 300 warriors, many lineups, and as many rounds as a match may have."""
     settings = corewar.Settings(core=80, processes=80, cycles=5, longest=5, distance=5)
     imp = corewar.Warrior.from_cells(IMP, settings=settings)
     assert [row.ties for row in corewar.league([imp] * 300, settings=settings)] == [299] * 300
+    assert [row.ties for row in corewar.population([imp] * 300, [imp] * 300, settings=settings)] == [300] * 300
+    assert corewar.outcomes([imp], [[0]] * 100_000, settings=settings)["survived"].all()
     assert corewar.match([imp] * 2, settings=settings, rounds=100_000)[0].ties == 100_000
