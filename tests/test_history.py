@@ -29,9 +29,11 @@ from corewar.battle.history import BY_HAND, NOBODY, History
 from corewar.engine.battles import Battle
 from corewar.engine.calls import Match, assemble
 from corewar.engine.sources import read
+from corewar.engine.warriors import Warrior
 from corewar.model.cells import Cells, cell_of, cell_text
 from corewar.model.edits import Edit
 from corewar.model.errors import CorewarError, MarsError
+from corewar.model.settings import Settings
 
 
 @pytest.fixture(autouse=True)
@@ -69,6 +71,16 @@ def block_state(history: History, turn: int) -> State:
     return State(
         *(block.cells(turn), queues, history.deaths(turn), turn, block.cycle(turn), block.next_warrior(turn), over)
     )
+
+
+def test_longest_queue() -> None:
+    """A warrior that splits in each turn, until it has the most processes."""
+    settings = Settings(core=2, processes=65_536, cycles=70_000, longest=2, distance=2)
+    splitter = Warrior.from_cells([cell_of("SPL.B $0, $0", 2)] * 2, settings=settings)
+    history = History(Match((splitter,), settings=settings))
+    for turn, count in ((20_000, 20_001), (65_535, 65_536), (70_000, 65_536)):
+        queue = history.block(turn).queue(0, turn)
+        assert len(queue) == count and np.array_equal(queue, history.state(turn).queues[0])
 
 
 def sorted_as_written(row: np.void, before: Cells, after: Cells) -> list[int]:
