@@ -6,8 +6,9 @@ usage: checks/calls.py [CRATE..]
 
 The first form prints a line for each call of the seven libraries and of the C library: the call, its file and line, the
 labels of its clauses (a contract with one clause may have none), and the definitions of specs/ that they cite, as
-FILE.NAME. The second form prints the whole contracts, which docs/dev/CONTRACTS.txt records; `checks/rules` compares the
-two, so that a change of a contract is a change of that file.
+FILE.NAME. The second form prints the whole contracts, and the values that the public types have in them.
+docs/dev/CONTRACTS.txt records this; `checks/rules` compares the two, so that a change of a contract is a change of that
+file.
 """
 from __future__ import annotations
 
@@ -23,6 +24,8 @@ TOP = os.path.dirname(os.path.dirname(os.path.abspath(__file__)))
 CRATES = ["mars_cell", "redcode_text", "redcode_asm", "mars_core", "mars_session", "mars_match", "mars_app", "mars_c"]
 BLOCK = re.compile(r"^(?:impl(?:<[^>]*>)?|pub trait) (\w+)(?:<[^>]*>)? \{\n(.*?)^\}", re.M | re.S)
 HEAD = re.compile(r'^( *)(?:pub )?(?:const )?(?:extern "C" )?fn (\w+)[<(].*?(?:^\1\{|;$)', re.M | re.S)
+IMPL = re.compile(r"^(impl(?:<[^>]*>)? \w+ for (\w+)(?:<[^>]*>)?) \{\n(.*?)^\}", re.M | re.S)
+GHOST = re.compile(r"^    ghost \w+ = \{.*(?:\};|(?:\n     .*)*\n    \}.*)\n", re.M)
 CLAUSE = re.compile(r"^ +ensures(?: (\w+))? \{", re.M)
 CITED = re.compile(r"ghost use Rattle\.(\w+)\.specs\.([\w.]+)\.\{(.*?)\};", re.S)
 
@@ -111,10 +114,21 @@ def public_calls(crate: str) -> Iterator[Call]:
                         yield call
 
 
+def values(crate: str) -> Iterator[str]:
+    """The value that contracts see in each public type, and its invariant."""
+    names = exported(crate)
+    for path, text in sources(crate):
+        for impl, name, body in IMPL.findall(text):
+            values = "".join(GHOST.findall(body))
+            if name in names and values:
+                yield f"-- {name} ({crate}/{path})\n{impl}\n{values}"
+
+
 def contracts() -> str:
-    """The whole contract of each public call, crate by crate."""
-    parts = []
+    """The values of the public types and the whole contract of each public call, crate by crate."""
+    parts: list[str] = []
     for crate in CRATES:
+        parts += values(crate)
         for call in public_calls(crate):
             file = call.place.split(":")[0]
             contract = textwrap.dedent(call.head).removesuffix("{").rstrip().removesuffix(";")
