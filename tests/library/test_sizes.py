@@ -14,13 +14,15 @@ HUGE = corewar.Settings(core=MAX_CORE, processes=PROCESSES, cycles=10, longest=M
 
 
 def test_longest_warrior() -> None:
-    """A warrior as long as the largest core, through its load file and in a battle."""
+    """A warrior as long as the largest core, through its load file, in a battle and in a match."""
     warrior = corewar.Warrior.from_cells(IMP * MAX_CORE, settings=HUGE)
     again = read_load(warrior.load, HUGE)
     assert again.cells.tolist() == warrior.cells.tolist()
     battle = corewar.Battle(corewar.Match((warrior,), settings=HUGE))
     records, touched = battle.play(10, records=10, touched=10)
     assert (battle.turns, len(records), len(touched)) == (10, 10, 10)
+    assert corewar.match([warrior], settings=HUGE)[0].wins == 1
+    assert corewar.outcomes([warrior], settings=HUGE)["survived"].all()
 
 
 def test_longest_source() -> None:
