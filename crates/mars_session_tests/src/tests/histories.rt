@@ -3,8 +3,8 @@ ghost use Rattle.std.specs.Prelude.{◌≡◌, false};
 
 use super::poor_tape::PoorTape;
 use super::{
-    BLANK, Check, IDLE, Start, check_call, check_script, check_standing, gives, imp, imp_gives,
-    limited_imp_gives, lone_tape, poor_imp, stayers_give,
+    BLANK, Check, IDLE, Start, battle_in, check_call, check_script, check_standing, gives, imp,
+    imp_gives, limited_imp_gives, lone_tape, one_cell, params_of, poor_imp, stayers_give,
 };
 use mars_cell::Cell;
 use mars_session::{Call, DeltaTape, Refusal, Reply, RingTape, Session, Standing, Tape, WholeTape};
@@ -214,4 +214,17 @@ fn goto_goes_over_the_places_on_the_way(rt: HostRuntime) -> Result<(), Fail> {
     let alloc = rt.alloc();
     check_way::<WholeTape>(&rt, alloc)?;
     check_way::<DeltaTape>(&rt, alloc)
+}
+
+/// A command that appends 600,000 places is not refused for lack of memory, and is undone as a whole.
+#[test]
+fn many_places(rt: HostRuntime) -> Result<(), Fail> {
+    let alloc = rt.alloc();
+    let warriors = vec![in alloc; one_cell(alloc, IDLE)?]?;
+    let battle = battle_in(alloc, &params_of(1_048_576, 8, 2)?, &warriors, &[0])?;
+    let mut session = Session::new(DeltaTape::start(alloc, battle)?, 1_000_000);
+    let filled = Call::Fill(0, 599_999, IDLE);
+    check_call(&rt, &mut session, filled, imp_at!(0, 600_000, 600_000));
+    check_call(&rt, &mut session, Call::Undo, imp_at!(0, 0, 600_000));
+    Ok(())
 }
