@@ -13,7 +13,7 @@ from .source import read_source
 # The maximum number of causes that are reported for an error.
 MAX_CAUSES = 2
 GREATER = (
-    "shorten the warrior, or leave the settings of the hill with a greater `-l` and a `-d` that is at least as large"
+    "shorten the warrior, or, unless it is for a hill, increase `-l`, and `-d` with it, which must be at least as large"
 )
 EXPRESSION = SENTENCES["expressions"]
 MEANINGS = {
