@@ -147,11 +147,11 @@ class BattleFormatter:
         }
         # A painted name has more letters than it shows.
         lengths = {address: len(self._processes_at(history.names, found)) for address, found in times.items()}
+        width = max(lengths.values(), default=0)
         for address in shown:
             mark, label = ">" if address == head else " ", self.sources.labels.get(address, "")
             source = self.sources.describe_line(history, address, turn)
-            space = " " * (max(lengths.values()) - lengths[address])
-            processes = self._processes_at(self.names, times[address]) + space
+            processes = self._processes_at(self.names, times[address]) + " " * (width - lengths[address])
             text = f"{mark} {address:6} {label:10} {self.cell(cells[address]):24} {processes} {source}"
             yield text.rstrip()
 
