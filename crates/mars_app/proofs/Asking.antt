@@ -26,10 +26,10 @@ use Rattle.mars_app.specs.declared.options.Options.{Options}
 use Rattle.mars_match.specs.declared.setup.Setup.{Setup}
 
 abbrev pub asked_for : (words : List (List ℕ)) (known : List ℕ → Option (List ℕ)) (o : Options) (setup : Setup) (ws : List WarriorValue) (files : List (String Global)) (count : ℕ)
-    → Ask words (value_of o) → IsSetupOf o setup → files ≡ o.files.items → count ≡ contest_size o
+    → Ask words (value_of o) → IsSetupOf (value_of o) setup → files ≡ o.files.items → count ≡ contest_size (value_of o)
     → AreLoaded known setup.params o.rounds count (map (λ s. string_bytes s) files) ws → Asked words known
 asked_for words known o setup ws files count said held files_are count_is loaded = record {
-  options = o;
+  options = value_of o;
   setup = setup;
   warriors = ws;
   said = said;
@@ -46,32 +46,32 @@ pub formula_fails : (f : FormulaFault) (e : ExprFault) (defined : Result Scanned
 formula_fails f e defined checks is = subst (λ (g : FormulaFault). Checks (Err g) defined) is checks
 
 module _ (words : List (List ℕ)) (known : List ℕ → Option (List ℕ)) (old : StreamsValue) where
-  pub options_refused : (o : Options) (f : RunFault) → IsRefused o f → Ask words (value_of o) → RunFails words known old old f
+  pub options_refused : (o : Options) (f : RunFault) → IsRefused (value_of o) f → Ask words (value_of o) → RunFails words known old old f
   options_refused o f (inl memory) said = starved memory (Keeps-refl old.unread, Keeps-refl old.written)
-  options_refused o f (inr (inl (e, is, told))) said = not_allowed o said e is told (Keeps-refl old.unread, Keeps-refl old.written)
-  options_refused o f (inr (inr (p, allowed, e, is, told))) said = not_scored o said p allowed e is told (Keeps-refl old.unread, Keeps-refl old.written)
+  options_refused o f (inr (inl (e, is, told))) said = not_allowed (value_of o) said e is told (Keeps-refl old.unread, Keeps-refl old.written)
+  options_refused o f (inr (inr (p, allowed, e, is, told))) said = not_scored (value_of o) said p allowed e is told (Keeps-refl old.unread, Keeps-refl old.written)
 
 -- ---- What is done with the options, whatever the arguments were that said so
 
 module _ (known : List ℕ → Option (List ℕ)) (o : Options) (setup : Setup) (ws : List WarriorValue) (files : List (String Global)) (count : ℕ)
-    (held : IsSetupOf o setup) (files_are : files ≡ o.files.items) (count_is : count ≡ contest_size o)
+    (held : IsSetupOf (value_of o) setup) (files_are : files ≡ o.files.items) (count_is : count ≡ contest_size (value_of o))
     (loaded : AreLoaded known setup.params o.rounds count (map (λ s. string_bytes s) files) ws) (load : o.load ≡ false)
     {T : Type 0} (r : Result T RunFault) (old new : StreamsValue) where
-  plays_well : PlaySucceeds o setup ws old new → (words : List (List ℕ)) → Ask words (value_of o) → RunSucceeds words known old new
+  plays_well : PlaySucceeds (value_of o) setup ws old new → (words : List (List ℕ)) → Ask words (value_of o) → RunSucceeds words known old new
   plays_well (inl (debugger, s, starts, well)) words said =
       debugged (asked_for words known o setup ws files count said held files_are count_is loaded) load debugger s starts well
   plays_well (inr (debugger, rows, answers, writes)) words said =
       contested (asked_for words known o setup ws files count said held files_are count_is loaded) load debugger rows answers writes
 
-  plays_in_part : (f : RunFault) → PlaysInPart o setup ws old new f → (words : List (List ℕ)) → Ask words (value_of o) → RunFails words known old new f
+  plays_in_part : (f : RunFault) → PlaysInPart (value_of o) setup ws old new f → (words : List (List ℕ)) → Ask words (value_of o) → RunFails words known old new f
   plays_in_part f (inl (debugger, part)) words said =
       not_debugged (asked_for words known o setup ws files count said held files_are count_is loaded) load debugger part
   plays_in_part f (inr (debugger, unread, part)) words said =
       not_contested (asked_for words known o setup ws files count said held files_are count_is loaded) load debugger unread part
 
-  pub all_play_well : OnOk r (PlaySucceeds o setup ws old new) → OnOk r ((words : List (List ℕ)) → Ask words (value_of o) → RunSucceeds words known old new)
+  pub all_play_well : OnOk r (PlaySucceeds (value_of o) setup ws old new) → OnOk r ((words : List (List ℕ)) → Ask words (value_of o) → RunSucceeds words known old new)
   all_play_well = on_ok_weaker r plays_well
 
-  pub all_play_in_part : IfErr r (PlaysInPart o setup ws old new)
+  pub all_play_in_part : IfErr r (PlaysInPart (value_of o) setup ws old new)
       → IfErr r (λ f. (words : List (List ℕ)) → Ask words (value_of o) → RunFails words known old new f)
   all_play_in_part = IfErr-weaker r _ _ plays_in_part

@@ -1,5 +1,5 @@
 -- What a match or a league writes.
-use Rattle.std.specs.Prelude.{◌≡◌, ◌≤◌, ◌⊎◌, ℕ, ◌+◌, Bool, if◌then◌else◌, List, [], ◌∷◌, ◌++◌, length, vec_len, decimal, codes, Option, Result, Ok, Err, string_bytes, take}
+use Rattle.std.specs.Prelude.{◌≡◌, ◌≤◌, ◌⊎◌, ℕ, ◌+◌, Bool, if◌then◌else◌, List, [], ◌∷◌, ◌++◌, length, decimal, codes, Option, Result, Ok, Err, take}
 use Rattle.std.specs.Io.KnownBytes.{Appends}
 use Rattle.mars_cell.specs.ParameterFaults.{checked_parameters}
 use Rattle.mars_cell.specs.Warriors.{WarriorValue}
@@ -15,10 +15,9 @@ use Rattle.mars_match.specs.declared.fault.MatchFault.TheVariants as match
 use Rattle.mars_match.specs.declared.placement.PlaceFault.TheVariants as place
 use Rattle.redcode_asm.specs.Formula.{formula_of}
 use Rattle.mars_match.specs.declared.setup.Setup.{Setup}
-use Rattle.mars_app.specs.Options.{parameters_of}
+use Rattle.mars_app.specs.Options.{OptionsValue, parameters_of}
 use Rattle.mars_app.specs.declared.fault.RunFault.{RunFault}
 use Rattle.mars_app.specs.declared.fault.RunFault.TheVariants.{Placement, Battle, Score, OutOfMemory, Output}
-use Rattle.mars_app.specs.declared.options.Options.{Options}
 
 -- The line of a warrior, such as `warrior 0: Imp by Dewdney, 1 instructions`.
 unfoldable pub listing_head : ℕ → WarriorValue → List ℕ
@@ -39,13 +38,13 @@ abbrev pub listing : ℕ → Bool → List WarriorValue → List ℕ
 listing core_size brief warriors = if brief then [] else listing_from core_size 0 warriors
 
 -- The number of warriors in a battle: two in a league, all otherwise.
-abbrev pub contest_size : Options → ℕ
-contest_size o = if o.league then 2 else vec_len o.files
+abbrev pub contest_size : OptionsValue → ℕ
+contest_size o = if o.league then 2 else length o.files
 
 -- `setup` is the setup of the match, league or debugged battle that the options describe.
-pub record IsSetupOf (o : Options) (setup : Setup) : Type 0 where
+pub record IsSetupOf (o : OptionsValue) (setup : Setup) : Type 0 where
   pub allowed : checked_parameters (parameters_of o) ≡ Ok setup.params
-  pub scored : formula_of (string_bytes o.score) ≡ Ok setup.plan.formula
+  pub scored : formula_of o.score ≡ Ok setup.plan.formula
   pub rounds : setup.plan.rounds ≡ o.rounds
   pub seed : setup.plan.seed ≡ o.seed
   pub fixed : setup.plan.fixed ≡ o.fixed

@@ -4,3 +4,4 @@ pub mod Requests
 pub mod Replies
 pub mod Transcripts
 pub mod Contests
+pub mod Failures

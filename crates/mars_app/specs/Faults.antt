@@ -1,5 +1,5 @@
 -- The error that ends a run, and what was written before it.
-use Rattle.std.specs.Prelude.{◌≡◌, ⊤, ◌⊎◌, ℕ, false, true, List, ◌∷◌, ◌++◌, map, Option, Ok, Err, string_bytes}
+use Rattle.std.specs.Prelude.{◌≡◌, ⊤, ◌⊎◌, ℕ, false, true, List, ◌∷◌, ◌++◌, Option, Ok, Err, string_bytes}
 use Rattle.std.specs.Io.KnownBytes.{Keeps}
 use Rattle.std.specs.List.{flat_map}
 use Rattle.mars_cell.specs.Load.{load}
@@ -19,13 +19,12 @@ use Rattle.redcode_text.specs.declared.fault.ExprFault.{ExprFault}
 use Rattle.mars_app.specs.Contests.{ContestFails, contest, contest_size, listing}
 use Rattle.mars_app.specs.Debugging.{DebugsInPart, StartsNothing, first_round, session_at}
 use Rattle.mars_app.specs.Loading.{AreLoaded, IsRead, IsReadFault, is_load_file, max_file_len, shown_name}
-use Rattle.mars_app.specs.Options.{AreBad, Ask, AskForHelp, parameters_of, value_of}
+use Rattle.mars_app.specs.Options.{AreBad, Ask, AskForHelp, OptionsValue, parameters_of}
 use Rattle.mars_app.specs.Runs.{Asked}
 use Rattle.mars_app.specs.Streams.{StreamsValue, Untouched, WritesInPart}
 use Rattle.mars_app.specs.declared.fault.RunFault.{RunFault}
 use Rattle.mars_app.specs.declared.fault.RunFault.TheVariants as fault
 use Rattle.mars_app.specs.declared.files.FileFault.TheVariants as file
-use Rattle.mars_app.specs.declared.options.Options.{Options}
 
 -- The line of an error in a load file, or 0.
 abbrev pub line_of : LoadFault → ℕ
@@ -70,13 +69,13 @@ pub data RunFails (words : List (List ℕ)) (known : List ℕ → Option (List �
   bad : f ≡ fault.Words → AreBad words → Untouched old new → RunFails words known old new f
   starved : f ≡ fault.OutOfMemory → Untouched old new → RunFails words known old new f
   unhelped : f ≡ fault.Output → AskForHelp words → (text : List ℕ) → WritesInPart old new text → RunFails words known old new f
-  not_allowed : (o : Options) → Ask words (value_of o) → (e : ParamFault) → checked_parameters (parameters_of o) ≡ Err e
+  not_allowed : (o : OptionsValue) → Ask words o → (e : ParamFault) → checked_parameters (parameters_of o) ≡ Err e
       → f ≡ fault.Parameters e → Untouched old new → RunFails words known old new f
-  not_scored : (o : Options) → Ask words (value_of o) → (p : Parameters) → checked_parameters (parameters_of o) ≡ Ok p
-      → (e : ExprFault) → formula_of (string_bytes o.score) ≡ Err e → f ≡ fault.Formula (Expression e) → Untouched old new → RunFails words known old new f
-  not_loaded : (o : Options) → Ask words (value_of o) → (p : Parameters) → checked_parameters (parameters_of o) ≡ Ok p
-      → (s : Scanned) → formula_of (string_bytes o.score) ≡ Ok s
-      → FirstFails known p o.rounds (contest_size o) (map (λ name. string_bytes name) o.files.items) f → Untouched old new → RunFails words known old new f
+  not_scored : (o : OptionsValue) → Ask words o → (p : Parameters) → checked_parameters (parameters_of o) ≡ Ok p
+      → (e : ExprFault) → formula_of o.score ≡ Err e → f ≡ fault.Formula (Expression e) → Untouched old new → RunFails words known old new f
+  not_loaded : (o : OptionsValue) → Ask words o → (p : Parameters) → checked_parameters (parameters_of o) ≡ Ok p
+      → (s : Scanned) → formula_of o.score ≡ Ok s
+      → FirstFails known p o.rounds (contest_size o) o.files f → Untouched old new → RunFails words known old new f
   not_written : (asked : Asked words known) → asked.options.load ≡ true → f ≡ fault.Output
       → WritesInPart old new (flat_map (load_text asked.setup.params.core_size) asked.warriors) → RunFails words known old new f
   not_debugged : (asked : Asked words known) → asked.options.load ≡ false → asked.options.debugger ≡ true

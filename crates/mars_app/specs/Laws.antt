@@ -1,12 +1,13 @@
 -- The laws of the program: theorems about the definitions. They say what a run has written and read, whatever the machine, its memory,
 -- and the division of the input into reads.
-use Rattle.std.specs.Prelude.{◌≡◌, ℕ, false, List, [], ◌++◌, All, Option, Some, IsSome}
+use Rattle.std.specs.Prelude.{◌≡◌, ℕ, Bool, false, true, List, [], ◌++◌, All, Option, Some, IsSome}
 use Rattle.std.specs.Io.KnownBytes.{Keeps}
 use Rattle.mars_app.specs.Faults.{RunFails}
 use Rattle.mars_app.specs.Options.{AskForHelp, said_by}
 use Rattle.mars_app.specs.Runs.{RunSucceeds}
 use Rattle.mars_app.specs.Streams.{StreamsValue}
 use Rattle.mars_app.specs.declared.fault.RunFault.{RunFault}
+use Rattle.mars_app.specs.declared.fault.RunFault.TheVariants.{Commands, OutOfMemory, Output}
 
 -- The streams of a program that starts: an input of which nothing was read, and an output to which nothing was written.
 abbrev pub started_with : List ℕ → StreamsValue
@@ -30,13 +31,27 @@ pub record IsBeginning (one other : Option (List ℕ)) : Type 0 where
   pub begun : one ≡ Some text
   pub whole : other ≡ Some (text ++ rest)
 
--- If a run that does not debug ends with an error, it has written a beginning of what a run without an error writes that was given
--- the same arguments, files and input.
+-- If a run ends with an error, it has written a beginning of what a run without an error writes that was given the same
+-- arguments, files and input.
 abbrev pub FailedRunsWriteABeginning : Type 0
 FailedRunsWriteABeginning = (words : List (List ℕ)) (known : List ℕ → Option (List ℕ)) (input : List ℕ) (one other : StreamsValue) (f : RunFault)
-    → AreGiven words known → (said_by words).debugger ≡ false
+    → AreGiven words known
     → RunFails words known (started_with input) one f → RunSucceeds words known (started_with input) other
     → IsBeginning one.written other.written
+
+-- Whether an error comes from the system: no memory, or a read or a write that failed. All others come from the arguments and the
+-- files.
+abbrev pub is_of_system : RunFault → Bool
+is_of_system OutOfMemory = true
+is_of_system Output = true
+is_of_system Commands = true
+is_of_system _ = false
+
+-- An error of the arguments or the files recurs: no run with the same arguments and files succeeds, whatever its input.
+abbrev pub ErrorsRecur : Type 0
+ErrorsRecur = (words : List (List ℕ)) (known : List ℕ → Option (List ℕ)) (old new before after : StreamsValue) (f : RunFault)
+    → AreGiven words known → is_of_system f ≡ false
+    → RunFails words known old new f → RunSucceeds words known before after → ⊥
 
 -- A run that does not debug reads nothing of its input, with or without an error.
 abbrev pub OnlyTheDebuggerReads : Type 0

@@ -172,7 +172,7 @@ Reads words (Err fault.BadWords) = AreBad words
 Reads words (Err fault.OutOfMemory) = ⊤
 
 -- The parameters that the options say. A limit that isn't given is the core size.
-abbrev pub parameters_of : Options → Parameters
+abbrev pub parameters_of : OptionsValue → Parameters
 parameters_of o = record {
   core_size = o.core;
   processes = o.processes;

@@ -1,5 +1,5 @@
 -- What a run that ends without an error has done.
-use Rattle.std.specs.Prelude.{◌≡◌, ℕ, false, true, List, ◌++◌, map, Option, Ok, string_bytes}
+use Rattle.std.specs.Prelude.{◌≡◌, ℕ, false, true, List, ◌++◌, Option, Ok}
 use Rattle.std.specs.List.{flat_map}
 use Rattle.mars_cell.specs.Warriors.{WarriorValue}
 use Rattle.mars_cell.specs.Written.{load_text}
@@ -11,17 +11,16 @@ use Rattle.mars_app.specs.Contests.{IsSetupOf, contest, contest_size, listing}
 use Rattle.mars_app.specs.Debugging.{DebugSucceeds, first_round, session_at}
 use Rattle.mars_app.specs.Loading.{AreLoaded}
 use Rattle.mars_app.specs.Streams.{StreamsValue, Writes}
-use Rattle.mars_app.specs.Options.{Ask, AskForHelp, value_of}
-use Rattle.mars_app.specs.declared.options.Options.{Options}
+use Rattle.mars_app.specs.Options.{Ask, AskForHelp, OptionsValue}
 
 -- What the arguments request: options, the setup that they describe, and the warriors of their files.
 pub record Asked (words : List (List ℕ)) (known : List ℕ → Option (List ℕ)) : Type 0 where
-  pub options : Options
+  pub options : OptionsValue
   pub setup : Setup
   pub warriors : List WarriorValue
-  pub said : Ask words (value_of options)
+  pub said : Ask words options
   pub held : IsSetupOf options setup
-  pub loaded : AreLoaded known setup.params options.rounds (contest_size options) (map (λ name. string_bytes name) options.files.items) warriors
+  pub loaded : AreLoaded known setup.params options.rounds (contest_size options) options.files warriors
 
 -- The run has written the help; or the load file of the warrior; or has debugged the battle of the first round; or has written
 -- the listing and the results of a match or a league. Only the debugger reads the input.

@@ -1,15 +1,23 @@
 //! Laws of the program. The functions do nothing; their contracts are the laws.
-ghost use Rattle.mars_app.specs.Laws.{EqualRunsWriteTheSame, FailedRunsWriteABeginning, OnlyTheDebuggerReads};
+//!
+//! They are about runs whose files and streams have known contents, as those in memory have; about the files and streams of the
+//! system no contract says what they contain. A run that requests the help is left out, since no definition has its text.
+ghost use Rattle.mars_app.specs.Laws.{EqualRunsWriteTheSame, ErrorsRecur, FailedRunsWriteABeginning, OnlyTheDebuggerReads};
 
-/// Two runs without an error have written the same bytes, if they were given the same arguments, files and input, unless
-/// they request the help.
+/// Two runs without an error have written the same bytes, if they were given the same arguments, files and input.
 pub fn equal_runs_write_the_same()
     ensures { EqualRunsWriteTheSame }
 {}
 
-/// A match, a league or a load file that ends with an error has written a beginning of what it writes without one.
+/// A run that ends with an error has written a beginning of what it writes without one.
 pub fn failed_runs_write_a_beginning()
     ensures { FailedRunsWriteABeginning }
+{}
+
+/// An error of the arguments or the files recurs: no run with the same arguments and files succeeds. Other errors come from the
+/// system: no memory, or a read or a write that failed.
+pub fn errors_recur()
+    ensures { ErrorsRecur }
 {}
 
 /// A run that does not debug reads nothing of its input, with or without an error.

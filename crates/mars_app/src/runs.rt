@@ -108,8 +108,8 @@ fn run_options<F: WarriorFiles, R: Read, W: Write>(
 
 /// Returns the setup of a match from the options, before any file is read. Checks the parameters first, and then the formula.
 fn setup_of(alloc: Global, options: &Options) -> Result<Setup, RunFault>
-    ensures ok { IfOk result (IsSetupOf options.now) }
-    ensures err { IfErr result (IsRefused options.now) }
+    ensures ok { IfOk result (IsSetupOf (value_of options.now)) }
+    ensures err { IfErr result (IsRefused (value_of options.now)) }
 {
     let params = match parameters(options) {
         Ok(params) => params,
@@ -142,7 +142,7 @@ fn carry_out<F: WarriorFiles, R: Read, W: Write>(
     streams: &mut Streams<R, W>,
 ) -> Result<(), RunFault>
     requires range { AreInRange options.now }
-    requires setup { IsSetupOf options.now setup.now }
+    requires setup { IsSetupOf (value_of options.now) setup.now }
     ensures ok { OnOk result ((words : List (List ℕ)) → Ask words (value_of options.now)
         → RunSucceeds words (F.known files.now) streams.old streams.new) }
     ensures err { IfErr result (λ fault. (words : List (List ℕ)) → Ask words (value_of options.now)
@@ -171,7 +171,7 @@ fn play<R: Read, W: Write>(
     warriors: &[Warrior],
     streams: &mut Streams<R, W>,
 ) -> Result<(), RunFault>
-    requires setup { IsSetupOf options.now setup.now }
+    requires setup { IsSetupOf (value_of options.now) setup.now }
     requires fit { AllFit setup.now.params.core_size warriors.now }
     requires some { 1 ≤ length warriors.now }
     requires few { length warriors.now ≤ max_warriors }
@@ -179,8 +179,8 @@ fn play<R: Read, W: Write>(
     requires history { IsBetween 1 max_history options.now.history }
 
     // If it succeeds, what the options request was written; on an error, a beginning of it.
-    ensures ok { OnOk result (PlaySucceeds options.now setup.now warriors.now streams.old streams.new) }
-    ensures err { IfErr result (PlaysInPart options.now setup.now warriors.now streams.old streams.new) }
+    ensures ok { OnOk result (PlaySucceeds (value_of options.now) setup.now warriors.now streams.old streams.new) }
+    ensures err { IfErr result (PlaysInPart (value_of options.now) setup.now warriors.now streams.old streams.new) }
 {
     if options.debugger {
         return debug_round(alloc, setup, options.history, warriors, streams);
@@ -190,7 +190,7 @@ fn play<R: Read, W: Write>(
 
 /// Returns the parameters of the options. A limit that isn't given is the core size.
 fn parameters(options: &Options) -> Result<Params, ParamFault>
-    ensures value { result ≡ checked_parameters (parameters_of options.now) }
+    ensures value { result ≡ checked_parameters (parameters_of (value_of options.now)) }
     ensures core { IfOk result (λ p. p.core_size ≡ options.now.core) }
     ensures distance { IfOk result (λ p. p.distance ≡ options.now.distance) }
 {
@@ -208,7 +208,7 @@ fn parameters(options: &Options) -> Result<Params, ParamFault>
 /// Returns the number of warriors of a battle: two in a league, all otherwise.
 fn contest_size(options: &Options) -> u32
     requires { vec_len options.now.files ≤ max_warriors }
-    ensures { result ≡ contest_size options.now }
+    ensures { result ≡ contest_size (value_of options.now) }
 {
     if options.league {
         2

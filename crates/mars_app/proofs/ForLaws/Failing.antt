@@ -1,11 +1,13 @@
--- What a run that does not debug has written if it ends with an error, and that it reads nothing.
-use Rattle.std.proofs.Common.{◌≡◌, ap, sym, ◌∙◌, ℕ, Bool, true, false, List, [], ◌++◌, Option, None, Some, Ok, Err, inl, inr, take, drop, take-append-drop, append_assoc, append-nil}
+-- What a run has written if it ends with an error, and that only the debugger reads.
+use Rattle.std.proofs.Common.{◌≡◌, refl, ap, sym, ◌∙◌, ℕ, true, false, List, [], ◌++◌, Option, None, Some, Ok, Err, inl, inr, take, drop, take-append-drop, append_assoc, append-nil}
 use Rattle.std.specs.Io.KnownBytes.{Appends, Keeps}
 use Rattle.std.specs.List.{flat_map}
 use Rattle.mars_cell.specs.Written.{load_text}
 use Rattle.mars_match.specs.Results.{results_text}
 use Rattle.mars_match.specs.Tables.{RowValue}
+use Rattle.mars_core.specs.State.{State}
 use Rattle.mars_app.specs.Contests.{ContestFails, contest, listing}
+use Rattle.mars_app.specs.Debugging.{DebugsInPart, DebugSucceeds, first_round, session_at}
 use Rattle.mars_app.specs.Faults.{RunFails}
 use Rattle.mars_app.specs.Faults.RunFails.{bad, starved, unhelped, not_allowed, not_scored, not_loaded, not_written, not_debugged, not_contested}
 use Rattle.mars_app.specs.Laws.{AreGiven, FailedRunsWriteABeginning, IsBeginning, OnlyTheDebuggerReads, started_with}
@@ -14,10 +16,8 @@ use Rattle.mars_app.specs.Runs.{Asked, RunSucceeds}
 use Rattle.mars_app.specs.Runs.RunSucceeds.{helped, written, debugged, contested}
 use Rattle.mars_app.specs.Streams.{StreamsValue}
 use Rattle.mars_app.specs.declared.fault.RunFault.{RunFault}
-use Rattle.mars_app.proofs.ForLaws.Given.{appended, clash, debugger_wrote, fought, listings, load, load_files, results}
-
-not_both : (x y : Bool) → x ≡ y → x ≡ false → y ≡ true → ⊥
-not_both x y same is_false is_true = clash y x (sym same) is_true is_false
+use Rattle.mars_app.proofs.ForLaws.Broken.{read_fails, write_fails}
+use Rattle.mars_app.proofs.ForLaws.Given.{appended, clash, debugger_wrote, fought, listings, load_files, replies_to, results, same_debugger, same_load, sessions}
 
 -- ---- Only the debugger reads
 
@@ -25,7 +25,7 @@ pub only_the_debugger_reads : OnlyTheDebuggerReads
 only_the_debugger_reads words known old new quiet = (succeeded, λ f. failed f)
   where
     no_debugger : (a : Asked words known) → a.options.debugger ≡ true → ⊥
-    no_debugger a is_debugger = not_both (said_by words).debugger a.options.debugger (ap (λ (v : OptionsValue). v.debugger) a.said.said) quiet is_debugger
+    no_debugger a is_debugger = clash a.options.debugger (said_by words).debugger (ap (λ (o : OptionsValue). o.debugger) (sym a.said.said)) is_debugger quiet
 
     succeeded : RunSucceeds words known old new → Keeps old.unread new.unread
     succeeded (helped h text w) = w.0
@@ -93,12 +93,18 @@ module _ (words : List (List ℕ)) (known : List ℕ → Option (List ℕ)) (inp
       cut_begins one.written other.written cut.3.0 text [] cut.3.2
       (whole_is other.written text (whole ∙ ap Some (sym (results words known given.1 a b cut.0 rows cut.1 fits))))
 
-pub failed_runs_write_a_beginning : FailedRunsWriteABeginning
-failed_runs_write_a_beginning words known input one other f given quiet first second = both first second
-  where
-    no_debugger : (a : Asked words known) → a.options.debugger ≡ true → ⊥
-    no_debugger a is_debugger = not_both (said_by words).debugger a.options.debugger (ap (λ (v : OptionsValue). v.debugger) a.said.said) quiet is_debugger
+  in_debugger : (f : RunFault) (s t : State) (most later : ℕ) → session_at most s ≡ session_at later t → DebugsInPart f (session_at most s) (started_with input) one
+      → DebugSucceeds (session_at later t) (started_with input) other → IsBeginning one.written other.written
+  in_debugger f s t most later same how w =
+      let wrote = debugger_wrote later t input other w ∙ ap (λ start. Some (replies_to input start)) (sym same) in
+      elim how [
+        | inl failed ↦ read_fails input (session_at most s) refl one.written other.written one.unread failed.1 failed.2 wrote
+        | inr failed ↦ write_fails input (session_at most s) refl one.written other.written one.unread failed.1 failed.2 wrote
+      ]
 
+pub failed_runs_write_a_beginning : FailedRunsWriteABeginning
+failed_runs_write_a_beginning words known input one other f given first second = both first second
+  where
     nothing : Keeps (Some []) one.written → RunSucceeds words known (started_with input) other → IsBeginning one.written other.written
     nothing keeps q = untouched words known input one other given keeps q
 
@@ -109,16 +115,27 @@ failed_runs_write_a_beginning words known input one other f given quiet first se
         let text = flat_map (load_text a.setup.params.core_size) a.warriors in
         cut_begins one.written other.written n text [] cut
         (whole_is other.written text (appended other.written _ w.1 ∙ ap Some (sym (load_files words known given.1 a b))))
-    not_all a la n cut (debugged b lb d s fits w) = absurd (no_debugger b d)
-    not_all a la n cut (contested b lb d rows fits w) = absurd (clash a.options.load b.options.load (load words known given.1 a b) la lb)
+    not_all a la n cut (debugged b lb d s fits w) = absurd (clash a.options.load b.options.load (same_load words known given.1 a b) la lb)
+    not_all a la n cut (contested b lb d rows fits w) = absurd (clash a.options.load b.options.load (same_load words known given.1 a b) la lb)
 
-    in_contest : (a : Asked words known) → a.options.load ≡ false
+    debugged_in_part : (a : Asked words known) → a.options.load ≡ false → a.options.debugger ≡ true
+        → (s : State) → first_round a.setup a.warriors ≡ Ok s → DebugsInPart f (session_at a.options.history s) (started_with input) one
+        → RunSucceeds words known (started_with input) other → IsBeginning one.written other.written
+    debugged_in_part a la da s starts how (helped h text w) = absurd (given.0 h)
+    debugged_in_part a la da s starts how (written b lb w) = absurd (clash b.options.load a.options.load (same_load words known given.1 b a) lb la)
+    debugged_in_part a la da s starts how (debugged b lb db t fits w) =
+        in_debugger words known input one other given f s t a.options.history b.options.history (sessions words known given.1 a b s t starts fits) how w
+    debugged_in_part a la da s starts how (contested b lb db rows fits w) =
+        absurd (clash a.options.debugger b.options.debugger (same_debugger words known given.1 a b) da db)
+
+    in_contest : (a : Asked words known) → a.options.load ≡ false → a.options.debugger ≡ false
         → ContestFails f (contest a.options.league a.setup a.warriors) a.options.sorted (Some []) one.written (listing a.setup.params.core_size a.options.brief a.warriors)
         → RunSucceeds words known (started_with input) other → IsBeginning one.written other.written
-    in_contest a la how (helped h text w) = absurd (given.0 h)
-    in_contest a la how (written b lb w) = absurd (clash b.options.load a.options.load (load words known given.1 b a) lb la)
-    in_contest a la how (debugged b lb d s fits w) = absurd (no_debugger b d)
-    in_contest a la how (contested b lb d rows fits w) =
+    in_contest a la da how (helped h text w) = absurd (given.0 h)
+    in_contest a la da how (written b lb w) = absurd (clash b.options.load a.options.load (same_load words known given.1 b a) lb la)
+    in_contest a la da how (debugged b lb db s fits w) =
+        absurd (clash b.options.debugger a.options.debugger (same_debugger words known given.1 b a) db da)
+    in_contest a la da how (contested b lb db rows fits w) =
         contest_begins words known input one other given f a b rows fits (appended other.written _ w.1) how
 
     both : RunFails words known (started_with input) one f → RunSucceeds words known (started_with input) other → IsBeginning one.written other.written
@@ -129,5 +146,6 @@ failed_runs_write_a_beginning words known input one other f given quiet first se
     both (not_scored o a p r e x is u) q = nothing u.1 q
     both (not_loaded o a p r s x first u) q = nothing u.1 q
     both (not_written a l is w) q = not_all a l w.1.0 w.1.2 q
-    both (not_debugged a l d how) q = absurd (no_debugger a d)
-    both (not_contested a l d keeps how) q = in_contest a l how q
+    both (not_debugged a l d (inl h)) q = nothing h.1.1 q
+    both (not_debugged a l d (inr h)) q = debugged_in_part a l d h.0 h.1 h.2 q
+    both (not_contested a l d keeps how) q = in_contest a l d how q

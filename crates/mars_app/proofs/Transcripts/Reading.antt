@@ -1,9 +1,9 @@
 -- The steps of the debugger, one after another.
-use Rattle.std.proofs.Common.{◌≡◌, ◌≢◌, refl, ℕ, ◌+◌, ◌<◌, Bool, true, false, nat_eq, List, [], ◌∷◌, ◌++◌, Option, None, Some, IfSome, length, take, drop, get_or, take-append-drop, sym, ap, subst, ◌∙◌, inl, inr, append_assoc, append-nil}
+use Rattle.std.proofs.Common.{◌≡◌, ◌≢◌, refl, ℕ, ◌+◌, ◌<◌, Bool, true, false, nat_eq, List, [], ◌∷◌, ◌++◌, Option, length, take, drop, get_or, take-append-drop, sym, ap, subst, ◌∙◌, inl, inr, append_assoc, append-nil}
 use Rattle.std.proofs.lemmas.Grind.{flat_map-append}
 use Rattle.std.proofs.lemmas.List.{take_more}
 use Rattle.std.proofs.Math.Dec.{eqb-suc-zero}
-use Rattle.std.proofs.KnownBytes.{Appends-trans, Appends-nil, Consumes-nil, Consumes-trans, Consumes-whole}
+use Rattle.std.proofs.KnownBytes.{Appends-trans, Appends-nil, Consumes-nil, Consumes-trans}
 use Rattle.std.specs.List.{flat_map, AllByRecursion}
 use Rattle.std.specs.Io.KnownBytes.{Appends, Consumes, IsAtEnd}
 use Rattle.mars_session.specs.Script.{SessionState}
@@ -19,7 +19,7 @@ use Rattle.mars_app.specs.Debugger.Transcript.{Transcript, GoesOn, Completes, Wr
 use Rattle.mars_app.specs.Debugger.Transcript.EndsIn.{at_newline, at_end}
 use Rattle.mars_app.specs.Debugger.Transcript.Transcript.{none, line}
 use Rattle.mars_app.specs.Code.Steps.{GoesThrough, Quits, WriteFailsWithin, ReadsOn, Quitting, Finishes, WriteFailsAtEnd}
-use Rattle.mars_app.proofs.Transcripts.LinesOf.{executed_lines, last_of, lines_of-line, lines_of-lines, until_quit-lines, until_quit-one, until_quit-quit}
+use Rattle.mars_app.proofs.Transcripts.LinesOf.{executed_lines, last_of, more_bytes, quit_before, until_quit-is, until_quit-one, until_quit-quit}
 
 -- ---- The core size under another name
 
@@ -35,10 +35,6 @@ module _ {input left : Option (List ℕ)} {s : SessionState} {v : Option (List �
 pub every_push : {X : Type 0} (P : X → Type 0) (xs : List X) (x : X) → AllByRecursion P xs → P x → AllByRecursion P (xs ++ x ∷ [])
 every_push P [] x h p = (p, tt)
 every_push P (y ∷ xs) x h p = (h.0, every_push P xs x h.1 p)
-
-pub every_split : {X : Type 0} (P : X → Type 0) (xs : List X) (x : X) → AllByRecursion P (xs ++ x ∷ []) → AllByRecursion P xs × P x
-every_split P [] x h = (tt, h.0)
-every_split P (y ∷ xs) x h = let r = every_split P xs x h.1 in ((h.0, r.0), r.1)
 
 module _ (core : ℕ) where
   -- ---- Lines and their replies
@@ -104,13 +100,15 @@ module _ (core : ℕ) where
     [],
     Appends-nil v,
     record {
-      lines = r.lines;
-      last = r.rest;
-      more = [];
-      whole = rw (r.splits.whole, append_assoc) refl;
-      each = every_push IsLine r.lines r.rest r.splits.each r.splits.unfinished;
-      goes_on = r.goes_on;
-      quits = sym (asks r.rest r.holds) ∙ quit;
+      quit = record {
+        lines = r.lines;
+        last = r.rest;
+        more = [];
+        whole = rw (r.splits.whole, append_assoc) refl;
+        each = every_push IsLine r.lines r.rest r.splits.each r.splits.unfinished;
+        goes_on = r.goes_on;
+        quits = sym (asks r.rest r.holds) ∙ quit;
+      };
       answers = subst (Transcript core s r.lines t) (sym (append-nil text)) r.answers;
     },
   )
@@ -166,26 +164,10 @@ module _ (core : ℕ) where
       let q = second s (bytes ++ x) (text ++ p.0) p.2 in
       (p.0 ++ q.0, Appends-trans v w z p.0 q.0 p.1 q.1, rw (← append_assoc bytes x y, ← append_assoc text p.0 q.0) q.2)
 
-  -- Bytes after the line do not matter.
-  more_bytes : (bytes front last more others : List ℕ) → bytes ≡ front ++ (last ++ 10 ∷ more) → bytes ++ others ≡ front ++ (last ++ 10 ∷ (more ++ others))
-  more_bytes bytes front last more others e = ap (λ l. l ++ others) e ∙ append_assoc front (last ++ 10 ∷ more) others ∙ ap (λ l. front ++ l) (append_assoc last (10 ∷ more) others)
-
   pub quits_early : (x y : List ℕ) (a : LineBuffer) (t u : SessionState) (v w : Option (List ℕ)) → Quits core x a t v u w → Quits core (x ++ y) a t v u w
   quits_early x y a t u v w h s bytes text r =
-      let p = h s bytes text r in (
-        p.0,
-        p.1,
-        record {
-          lines = p.2.lines;
-          last = p.2.last;
-          more = p.2.more ++ y;
-          whole = sym (append_assoc bytes x y) ∙ more_bytes (bytes ++ x) _ _ _ y p.2.whole;
-          each = p.2.each;
-          goes_on = p.2.goes_on;
-          quits = p.2.quits;
-          answers = p.2.answers;
-        },
-      )
+      let p = h s bytes text r in
+      (p.0, p.1, rw (← append_assoc bytes x y) (record { quit = quit_before core (bytes ++ x) y p.2.quit; answers = p.2.answers }))
 
   pub breaks_early : (x y : List ℕ) (a : LineBuffer) (t u : SessionState) (v w : Option (List ℕ)) → WriteFailsWithin core x a t v u w → WriteFailsWithin core (x ++ y) a t v u w
   breaks_early x y a t u v w h s bytes text r =
@@ -286,28 +268,7 @@ module _ (core : ℕ) where
         },
       )
 
-  -- A `quit` ends the lines that are executed, whatever follows it.
-  pub quits_all : (s : SessionState) (bytes : List ℕ) (u : SessionState) (text more : List ℕ) → Quitting core s bytes u text → Transcript core s (until_quit core (lines_of (bytes ++ more))) u text
-  quits_all s bytes u text more q =
-      let split = every_split IsLine q.lines q.last q.each in
-      rw (
-        more_bytes bytes (flat_map with_newline q.lines) q.last q.more more q.whole,
-        lines_of-lines q.lines (q.last ++ 10 ∷ (q.more ++ more)) split.0,
-        lines_of-line q.last (q.more ++ more) split.1,
-        until_quit-lines core q.lines (q.last ∷ lines_of (q.more ++ more)) q.goes_on,
-        until_quit-quit core q.last (lines_of (q.more ++ more)) q.quits,
-        append-nil,
-      ) q.answers
-
-  pub quits_there : (s : SessionState) (bytes : List ℕ) (u : SessionState) (text : List ℕ) → Quitting core s bytes u text → Transcript core s (until_quit core (lines_of bytes)) u text
-  quits_there s bytes u text q = let all = quits_all s bytes u text [] q in rw append-nil at all
-
   -- ---- One read after another
-
-  Consumes-front : (a b : Option (List ℕ)) (bs : List ℕ) (P : List ℕ → Type 0) → Consumes a b bs → ((more : List ℕ) → P (bs ++ more)) → IfSome a P
-  Consumes-front None b bs P p h = tt
-  Consumes-front (Some x) None bs P p h = absurd p
-  Consumes-front (Some x) (Some y) bs P p h = subst P (sym p) (h y)
 
   -- The bytes of the reads so far were processed: `input` and `left` are what the reader had and has left, `v` and `w` what the
   -- writer had and has.
@@ -347,19 +308,9 @@ module _ (core : ℕ) where
           bytes = so_far.0 ++ chunk;
           text = so_far.1 ++ p.0;
           consumed = consumed;
-          answers = quits_there t (so_far.0 ++ chunk) m (so_far.1 ++ p.0) p.2;
+          answers = rw (until_quit-is core (so_far.0 ++ chunk) p.2.quit) p.2.answers;
           written = Appends-trans v w z so_far.1 p.0 so_far.3 p.1;
-          ends = inl (record {
-            lines = p.2.lines;
-            last = p.2.last;
-            more = p.2.more;
-            whole = p.2.whole;
-            each = p.2.each;
-            goes_on = p.2.goes_on;
-            quits = p.2.quits;
-          });
-          all = Consumes-front input then (so_far.0 ++ chunk) (λ xs. Transcript core t (until_quit core (lines_of xs)) m (so_far.1 ++ p.0)) consumed
-              (λ more. quits_all t (so_far.0 ++ chunk) m (so_far.1 ++ p.0) more p.2);
+          ends = inl p.2.quit;
         }
 
     pub reads_break : WriteFailsWithin core chunk a u w m z → WriteFails core input then t v m z
@@ -393,7 +344,6 @@ module _ (core : ℕ) where
           answers = p.2;
           written = Appends-trans v w z so_far.1 p.0 so_far.3 p.1;
           ends = inr end;
-          all = Consumes-whole input then so_far.0 (λ xs. Transcript core t (until_quit core (lines_of xs)) m (so_far.1 ++ p.0)) all_consumed end p.2;
         }
 
     pub reads_break_at_end : WriteFailsAtEnd core a u w m z → WriteFails core input then t v m z

@@ -1,5 +1,5 @@
 -- Why options are rejected, and what is done with the warriors of their files.
-use Rattle.std.specs.Prelude.{◌≡◌, ◌⊎◌, false, true, List, ◌++◌, Ok, Err, string_bytes}
+use Rattle.std.specs.Prelude.{◌≡◌, ◌⊎◌, false, true, List, ◌++◌, Ok, Err}
 use Rattle.std.specs.Io.KnownBytes.{Keeps}
 use Rattle.mars_cell.specs.ParameterFaults.{checked_parameters}
 use Rattle.mars_cell.specs.Parameters.{Parameters}
@@ -14,29 +14,28 @@ use Rattle.redcode_asm.specs.declared.fault.FormulaFault.TheVariants.{Expression
 use Rattle.redcode_text.specs.declared.fault.ExprFault.{ExprFault}
 use Rattle.mars_app.specs.Contests.{ContestFails, contest, listing}
 use Rattle.mars_app.specs.Debugging.{DebugsInPart, DebugSucceeds, StartsNothing, first_round, session_at}
-use Rattle.mars_app.specs.Options.{parameters_of}
+use Rattle.mars_app.specs.Options.{OptionsValue, parameters_of}
 use Rattle.mars_app.specs.Streams.{StreamsValue, Writes}
 use Rattle.mars_app.specs.declared.fault.RunFault.{RunFault}
 use Rattle.mars_app.specs.declared.fault.RunFault.TheVariants as fault
-use Rattle.mars_app.specs.declared.options.Options.{Options}
 
 -- `f` is a reason for which the options are rejected: an allocation fails, the parameters are out of range, or the formula has
 -- an error.
-abbrev pub IsRefused : Options → RunFault → Type 0
+abbrev pub IsRefused : OptionsValue → RunFault → Type 0
 IsRefused o f = (f ≡ fault.OutOfMemory)
     ⊎ (((e : ParamFault) × (checked_parameters (parameters_of o) ≡ Err e) × (f ≡ fault.Parameters e))
     ⊎ ((p : Parameters) × (checked_parameters (parameters_of o) ≡ Ok p)
-    × (e : ExprFault) × (formula_of (string_bytes o.score) ≡ Err e) × (f ≡ fault.Formula (Expression e))))
+    × (e : ExprFault) × (formula_of o.score ≡ Err e) × (f ≡ fault.Formula (Expression e))))
 
 -- The battle of the first round was debugged, or the match or league was run, without an error.
-abbrev pub PlaySucceeds : Options → Setup → List WarriorValue → StreamsValue → StreamsValue → Type 0
+abbrev pub PlaySucceeds : OptionsValue → Setup → List WarriorValue → StreamsValue → StreamsValue → Type 0
 PlaySucceeds o setup ws old new =
     ((o.debugger ≡ true) × (s : State) × (first_round setup ws ≡ Ok s) × DebugSucceeds (session_at o.history s) old new)
     ⊎ ((o.debugger ≡ false) × (rows : List RowValue) × (contest o.league setup ws ≡ Ok rows)
     × Writes old new (listing setup.params.core_size o.brief ws ++ results_text rows o.sorted))
 
 -- Debugging, or the match or league, ended with the error `f`.
-abbrev pub PlaysInPart : Options → Setup → List WarriorValue → StreamsValue → StreamsValue → RunFault → Type 0
+abbrev pub PlaysInPart : OptionsValue → Setup → List WarriorValue → StreamsValue → StreamsValue → RunFault → Type 0
 PlaysInPart o setup ws old new f =
     ((o.debugger ≡ true) × (StartsNothing f (first_round setup ws) old new
     ⊎ ((s : State) × (first_round setup ws ≡ Ok s) × DebugsInPart f (session_at o.history s) old new)))

@@ -5,11 +5,10 @@ use Rattle.std.specs.Io.KnownBytes.{Appends}
 use Rattle.mars_session.specs.Script.{SessionState}
 use Rattle.mars_app.specs.declared.debugger.line_buffer.LineBuffer.{LineBuffer}
 use Rattle.mars_app.specs.Code.LineBuffer.{Holds}
-use Rattle.mars_app.specs.declared.debugger.request.Request.TheVariants.{Quit}
 use Rattle.mars_cell.specs.Load.{lines_of}
 use Rattle.mars_cell.specs.Written.{with_newline}
-use Rattle.mars_app.specs.Debugger.Lines.{line_asks, Splits, IsLine}
-use Rattle.mars_app.specs.Debugger.Transcript.{Transcript, BrokenAt, GoesOn, until_quit}
+use Rattle.mars_app.specs.Debugger.Lines.{Splits, IsLine}
+use Rattle.mars_app.specs.Debugger.Transcript.{Transcript, BrokenAt, GoesOn, HasQuit, until_quit}
 
 -- `bytes` were read, starting with the session `s`. The complete lines among them were executed, which led to the session `t`
 -- and replied `text`; none of them is `quit`. `buffer` has the unfinished line.
@@ -24,14 +23,8 @@ pub record ReadsOn (core_size : ℕ) (s : SessionState) (bytes : List ℕ) (buff
 -- `bytes` were read, starting with the session `s`, and contain a complete line that is `quit`. The lines before it were
 -- executed, which led to the session `t` and replied `text`. Bytes may follow the `quit`.
 pub record Quitting (core_size : ℕ) (s : SessionState) (bytes : List ℕ) (t : SessionState) (text : List ℕ) : Type 0 where
-  pub lines : List (List ℕ)
-  pub last : List ℕ
-  pub more : List ℕ
-  pub whole : bytes ≡ flat_map with_newline lines ++ (last ++ 10 ∷ more)
-  pub each : AllByRecursion IsLine (lines ++ last ∷ [])
-  pub goes_on : AllByRecursion (GoesOn core_size) lines
-  pub quits : line_asks core_size last ≡ Quit
-  pub answers : Transcript core_size s lines t text
+  pub quit : HasQuit core_size bytes
+  pub answers : Transcript core_size s quit.lines t text
 
 -- `bytes` were read, starting with the session `s`. The complete lines up to the line `last` were executed, which led to the
 -- session `t`; writing failed in the reply to `last`, of which only a beginning, not all, is in `text`.

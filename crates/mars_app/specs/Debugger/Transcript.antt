@@ -1,5 +1,5 @@
 -- What the debugger writes in reply to its lines.
-use Rattle.std.specs.Prelude.{◌≡◌, ◌≢◌, if◌then◌else◌, ℕ, Bool, false, true, ◌<◌, ◌≤◌, List, [], ◌∷◌, ◌++◌, length, take, codes, Option, ◌⊎◌, IfSome}
+use Rattle.std.specs.Prelude.{◌≡◌, ◌≢◌, if◌then◌else◌, ℕ, Bool, false, true, ◌<◌, ◌≤◌, List, [], ◌∷◌, ◌++◌, length, take, codes, Option, ◌⊎◌}
 use Rattle.std.specs.List.{flat_map, AllByRecursion}
 use Rattle.std.specs.Io.KnownBytes.{Appends, Consumes, IsAtEnd, Keeps}
 use Rattle.mars_session.specs.Script.{SessionState, standing_of, outcome}
@@ -67,7 +67,7 @@ pub record HasQuit (core_size : ℕ) (bytes : List ℕ) : Type 0 where
 
 -- The debugger ended at a `quit` or at the end of its input. `bytes` were read. Their lines before the first `quit` were
 -- executed, which led from the session `s` to `t`, and all replies were written. Either one of the lines is `quit`, or the
--- reader has no more bytes.
+-- reader has no more bytes. So the lines are those of the whole input up to `quit`, however it was split into reads.
 pub record Completes (core_size : ℕ) (input left : Option (List ℕ)) (s : SessionState) (v : Option (List ℕ)) (t : SessionState) (w : Option (List ℕ)) : Type 0 where
   pub bytes : List ℕ
   pub text : List ℕ
@@ -75,8 +75,6 @@ pub record Completes (core_size : ℕ) (input left : Option (List ℕ)) (s : Ses
   pub answers : Transcript core_size s (until_quit core_size (lines_of bytes)) t text
   pub written : Appends v w text
   pub ends : HasQuit core_size bytes ⊎ IsAtEnd left
-  -- The lines are those of the whole input, however it was split into reads.
-  pub all : IfSome input (λ xs. Transcript core_size s (until_quit core_size (lines_of xs)) t text)
 
 -- At most `n` bytes of the input were read.
 abbrev pub TakesAtMost : ℕ → Option (List ℕ) → Option (List ℕ) → Type 0

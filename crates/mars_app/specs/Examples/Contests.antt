@@ -13,10 +13,9 @@ use Rattle.mars_core.specs.declared.battle.start.BattleFault.TheVariants.{Overla
 use Rattle.mars_match.specs.declared.placement.PlaceFault.TheVariants.{BadSeed}
 use Rattle.redcode_text.specs.declared.fault.ExprFault.TheVariants.{Syntax, Range}
 use Rattle.redcode_asm.specs.declared.fault.FormulaFault.TheVariants.{Expression}
-use Rattle.mars_app.specs.declared.options.Options.{Options}
 use Rattle.mars_app.specs.declared.fault.RunFault.TheVariants as fault
 use Rattle.mars_app.specs.Contests.{contest, contest_size, listing, listing_head}
-use Rattle.mars_app.specs.Options.{parameters_of}
+use Rattle.mars_app.specs.Options.{OptionsValue, parameters_of}
 use Rattle.mars_app.specs.Status.{status_of}
 
 abbrev imp : WarriorValue
@@ -38,11 +37,11 @@ pub brief_contests_list_nothing : listing 8000 true (imp ∷ imp ∷ []) ≡ []
 brief_contests_list_nothing = refl
 
 -- A limit that isn't given is the core size.
-pub limits_are_the_core : (o : Options) → let p = parameters_of (record o { core = 8; longest = 3; read_limit = None; write_limit = None }) in (p.read_limit ≡ 8) × (p.write_limit ≡ 8) × (p.max_length ≡ 3)
+pub limits_are_the_core : (o : OptionsValue) → let p = parameters_of (record o { core = 8; longest = 3; read_limit = None; write_limit = None }) in (p.read_limit ≡ 8) × (p.write_limit ≡ 8) × (p.max_length ≡ 3)
 limits_are_the_core o = (refl, refl, refl)
 
 -- With `league` each two warriors run a match, otherwise all warriors run one match.
-pub a_league_or_a_match : (o : Options) (setup : Setup) (warriors : List WarriorValue) →
+pub a_league_or_a_match : (o : OptionsValue) (setup : Setup) (warriors : List WarriorValue) →
     let p = setup.params in
     let plan = setup.plan in
     (contest true setup warriors ≡ league_of p warriors plan.formula plan.fixed plan.rounds plan.seed)

@@ -1,11 +1,16 @@
--- What does not hold, a condition at a time: settings, histories, rounds and buffers.
-use Rattle.std.specs.Prelude.{◌≡◌, ◌<◌, ◌≤◌, ℕ, Some, List, [], ◌∷◌, refl, slice_index_or}
-use Rattle.std.proofs.Common.{ap, arith, sym, ◌∙◌}
+-- What does not hold, a condition at a time: settings, histories, rounds, blocks and buffers.
+use Rattle.std.specs.Prelude.{◌≡◌, ◌<◌, ◌≤◌, ◌+◌, ◌*◌, ℕ, Some, List, [], ◌∷◌, Result, Ok, Err, length, refl, slice_index_or}
+use Rattle.std.proofs.Common.{ap, arith, replicate, sym, ◌∙◌}
 use Rattle.std.specs.Option.{unwrap_or}
 use Rattle.mars_cell.specs.Parameters.{Parameters}
+use Rattle.mars_core.specs.Block.{block_mark, block_of, field_words, head_of, head_words}
 use Rattle.mars_core.specs.State.{State}
 use Rattle.mars_match.specs.declared.setup.Setup.{Setup}
+use Rattle.redcode_text.specs.Tokens.{Scanned}
+use Rattle.redcode_text.specs.declared.fault.ExprFault.{ExprFault}
+use Rattle.redcode_text.specs.declared.fault.ExprFault.TheVariants.{Syntax}
 use Rattle.mars_c.specs.Battles.{IsHistory, IsStart}
+use Rattle.mars_c.specs.Blocks.{IsPlayable}
 use Rattle.mars_c.specs.Programs.{BeginsWith}
 use Rattle.mars_c.specs.Settings.{IsSetup, parameters_in}
 use Rattle.mars_c.specs.Examples.{nano}
@@ -33,6 +38,10 @@ a_core_of_another_size text setup one =
     let same : parameters_in (nano 2 7 0) ≡ setup.params = cc in
     sym (ap (λ (p : Parameters). p.core_size) same)
 
+-- The setup has the formula of the text, so a text that is no formula has none.
+pub no_formula_of_257_bytes : (setup : Setup) → IsSetup (nano 2 7 0) (replicate 257 87) setup → ⊥
+no_formula_of_257_bytes setup s = let e : ◌≡◌ {A = Result Scanned ExprFault} (Err Syntax) (Ok setup.plan.formula) = s.formula in cc
+
 pub rounds_out_of_range : (text : List ℕ) (setup : Setup) → (IsSetup (nano 0 7 0) text setup → ⊥) × (IsSetup (nano 100001 7 0) text setup → ⊥)
 rounds_out_of_range text setup = (λ s. omega (arith, s.rounds_allowed.0), λ s. omega (arith, s.rounds_allowed.1))
 
@@ -55,6 +64,18 @@ no_nearer_start cells entrants s start =
 
 pub histories : (IsHistory 0 → ⊥) × IsHistory 1 × IsHistory 1000000 × (IsHistory 1000001 → ⊥)
 histories = (λ h. omega (arith, h.0), (omega arith, omega arith), (omega arith, omega arith), λ h. omega (arith, h.1))
+
+-- ---- Blocks
+
+-- Words without the mark of a block are no battle.
+pub no_mark : (s : State) (words : List ℕ) → IsPlayable s (0 ∷ words) → ⊥
+unfolding block_of head_of field_words
+no_mark s words h = let e : 0 ≡ block_mark = ap (λ words. slice_index_or words 0 0) h.spells.block in omega (arith, e)
+
+-- A battle needs room for all processes that it may ever have, not only for those that it has.
+pub no_room_for_processes : (s : State) (words : List ℕ) → 1 ≤ length s.queues * s.params.processes
+    → length words ≡ head_words + 3 * s.params.core_size → IsPlayable s words → ⊥
+no_room_for_processes s words some is h = omega (arith, some, is, h.capacity)
 
 -- ---- Buffers
 
