@@ -45,10 +45,9 @@ use Rattle.mars_c.specs.declared.warriors.MarsWarrior.{MarsWarrior}
 one_cell : (x y : Cell) → plain_cell x ≡ plain_cell y → x ≡ y
 one_cell x y e =
     let tags = ap (λ (c : MarsCell). c.op + c.modifier * 256 + c.a_mode * 65536 + c.b_mode * 16777216) e in
-    let a : x.a ≡ y.a = ap (λ (c : MarsCell). c.a) e in
-    let b : x.b ≡ y.b = ap (λ (c : MarsCell). c.b) e in
-    let alike = same_cell y x.op x.modifier x.a_mode x.b_mode (sym tags) in
-    rw (← a, ← b) at alike
+    let with_numbers : ℕ → ℕ → Cell = λ a b. record { op = x.op; modifier = x.modifier; a_mode = x.a_mode; b_mode = x.b_mode; a = a; b = b } in
+    ap (λ a. with_numbers a x.b) (ap (λ (c : MarsCell). c.a) e) ∙ ap (with_numbers y.a) (ap (λ (c : MarsCell). c.b) e)
+    ∙ same_cell y x.op x.modifier x.a_mode x.b_mode (sym tags)
 
 same_cells : (xs ys : List Cell) → map plain_cell xs ≡ map plain_cell ys → xs ≡ ys
 same_cells [] [] e = refl
@@ -164,9 +163,9 @@ module _ (s : MarsSettings) (ws : List WarriorValue) where
 
   same_fought : (lineups : List MarsLineup) (xs ys : List Fate) → AreFought s ws lineups xs → AreFought s ws lineups ys → xs ≡ ys
   same_fought [] xs ys first second = first ∙ sym second
-  same_fought (lineup ∷ lineups) xs ys (a, as, fought, more, is) (b, bs, too, others, too_is) =
+  same_fought (lineup ∷ lineups) xs ys (a, rest, fought, more, is) (b, tail, too, others, too_is) =
       let here = one_fought lineup a b fought too in
-      let there = same_fought lineups as bs more others in
+      let there = same_fought lineups rest tail more others in
       is ∙ rw (here, there) refl ∙ sym too_is
 
 pub equal_outcomes : EqualOutcomes
@@ -179,7 +178,7 @@ equal_outcomes s cells entrants lineups one other (p, vs, fates, allowed, are, f
 -- ---- Battles
 
 pub equal_starts : EqualStarts
-equal_starts s cells entrants round one other (a, vs, first, are, fits, inside, starts, placed, start) (b, ws, second, too, fitting, within, others, too_placed, too_start) =
+equal_starts s cells entrants round one other (a, vs, first, are, fits, inside, (starts, placed, start)) (b, ws, second, too, fitting, within, (others, too_placed, too_start)) =
     let text = codes "0" in
     let same = params s text a b first second in
     let all = warriors s text a b first second cells entrants vs ws are too in
