@@ -1,4 +1,4 @@
-"""Tests that the pages which scripts write are current: the tables of options in the reference, and the API pages."""
+"""Tests that the pages which scripts write are current: the options in the reference, and the API pages."""
 from __future__ import annotations
 
 import subprocess
@@ -10,7 +10,7 @@ from counting import PROGRAM
 SCRIPT = TOP / "scripts" / "reference"
 
 
-def test_tables_are_current() -> None:
+def test_options_are_current() -> None:
     done = subprocess.run([SCRIPT, "--check", PROGRAM], capture_output=True, text=True)
     assert (done.stdout, done.stderr, done.returncode) == ("", "", 0)
 
@@ -27,4 +27,4 @@ def test_a_difference_is_found(tmp_path: Path) -> None:
     program.chmod(0o755)
     done = subprocess.run([SCRIPT, "--check", program], capture_output=True, text=True)
     assert done.returncode == 1 and "+| `-r N` | Something else | 7 |\n" in done.stdout
-    assert done.stderr == "reference: the tables differ from the help; run scripts/reference\n"
+    assert done.stderr == "reference: the options differ from the help; run scripts/reference\n"
