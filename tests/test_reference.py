@@ -26,5 +26,5 @@ def test_a_difference_is_found(tmp_path: Path) -> None:
     program.write_text("#!/bin/sh\necho '  -r <N>  Something else [default: 7]'\n")
     program.chmod(0o755)
     done = subprocess.run([SCRIPT, "--check", program], capture_output=True, text=True)
-    assert done.returncode == 1 and "+| `-r N` | Something else | 7 |\n" in done.stdout
+    assert done.returncode == 1 and "+- `-r N`: Something else (default: 7)\n" in done.stdout
     assert done.stderr == "reference: the options differ from the help; run scripts/reference\n"
