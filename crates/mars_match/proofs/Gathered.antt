@@ -10,8 +10,8 @@ use Rattle.mars_core.specs.declared.battle.start.BattleFault.{BattleFault}
 use Rattle.redcode_text.specs.Results.{◌>>=◌}
 use Rattle.mars_match.specs.Battles.{count_fault, end_of, round_fault, round_start, started}
 use Rattle.mars_match.specs.Counts.{counts_of}
-use Rattle.mars_match.specs.Code.Deeds.{AreCounts, fate_in, fates_in}
-use Rattle.mars_match.specs.Fates.{ended, fate_of, fates, fates_from, fates_of, no_counts, place_of, round_fates}
+use Rattle.mars_match.specs.Code.Deeds.{AreCounts, listed_at}
+use Rattle.mars_match.specs.Fates.{deeds_of, ended, fate_of, fates, fates_from, fates_of, no_counts, place_of, round_fates}
 use Rattle.mars_match.specs.Rounds.{placed_for}
 use Rattle.mars_match.specs.declared.counts.Counts.{Counts}
 use Rattle.mars_match.specs.declared.fates.Fate.{Fate}
@@ -23,9 +23,9 @@ use Rattle.mars_match.proofs.Ends.{room_started, shape-end, unless_err, unless_o
 abbrev pub gathered : List Fate → Result (List Fate) MatchFault → Result (List Fate) MatchFault
 gathered done rest = rest >>= λ later. Ok (done ++ later)
 
-pub fate_more : (over : State) (counts : List Counts) (first i : ℕ) (starts : List ℕ) (d : ℕ) (done : List Fate) → i < length starts →
-    (done ++ fate_in over counts first i (get_or starts i d) ∷ []) ++ fates_in over counts first (i + 1) (drop (i + 1) starts) ≡ done ++ fates_in over counts first i (drop i starts)
-fate_more over counts first i starts d done inside = rw (drop_more starts i d inside, append_assoc) refl
+pub fate_more : (over : State) (deeds : ℕ → Counts) (first i : ℕ) (starts : List ℕ) (d : ℕ) (done : List Fate) → i < length starts →
+    (done ++ fate_of over deeds first i (get_or starts i d) ∷ []) ++ fates_from over deeds first (i + 1) (drop (i + 1) starts) ≡ done ++ fates_from over deeds first i (drop i starts)
+fate_more over deeds first i starts d done inside = rw (drop_more starts i d inside, append_assoc) refl
 
 none_gathered : (r : Result (List Fate) MatchFault) → gathered [] r ≡ r
 none_gathered (Ok all) = refl
@@ -75,24 +75,24 @@ place_inside w first i f h = elim (cases_lt i first) [
 ]
 
 counts_are : (counting : Bool) (s : State) (counts : List Counts) (place : ℕ) → AreCounts counting s counts → place < length s.queues →
-    slice_index_or counts place no_counts ≡ (if counting then counts_of s place else no_counts)
+    listed_at counts place ≡ deeds_of counting s place
 counts_are true s counts place h inside = h.1 place no_counts inside
 counts_are false s counts place h inside = rw h refl
 
 module _ (counting : Bool) (s : State) (counts : List Counts) (first : ℕ) (within : first < length s.queues) (h : AreCounts counting s counts) where
-  fate_same : (i start : ℕ) → i < length s.queues → fate_of counting s first i start ≡ fate_in (end_of s) counts first i start
+  fate_same : (i start : ℕ) → i < length s.queues → fate_of (end_of s) (deeds_of counting s) first i start ≡ fate_of (end_of s) (listed_at counts) first i start
   fate_same i start inside =
       let many = (shape-end s).warriors in
       let at : place_of (length (end_of s).queues) first i < length s.queues = rw many (place_inside (length s.queues) first i within inside) in
       rw (counts_are counting s counts (place_of (length (end_of s).queues) first i) h at) refl
 
-  pub fates_same : (i : ℕ) (starts : List ℕ) → i + length starts ≤ length s.queues → fates_from counting s first i starts ≡ fates_in (end_of s) counts first i starts
+  pub fates_same : (i : ℕ) (starts : List ℕ) → i + length starts ≤ length s.queues → fates_from (end_of s) (deeds_of counting s) first i starts ≡ fates_from (end_of s) (listed_at counts) first i starts
   fates_same i [] few = refl
   fates_same i (start ∷ starts) few = rw (fate_same i start (omega (arith, few)), fates_same (i + 1) starts (omega (arith, few))) refl
 
 pub round_is : (counting : Bool) (p : Parameters) (warriors : List WarriorValue) (starts : List ℕ) (k : ℕ) (over : State) (counts : List Counts) →
     length starts ≡ length warriors → 1 ≤ length warriors → ended p warriors starts k ≡ Ok over → AreCounts counting (round_start p warriors starts k) counts →
-    round_fates counting p warriors starts k ≡ Ok (fates_in over counts (k % length warriors) 0 starts)
+    round_fates counting p warriors starts k ≡ Ok (fates_from over (listed_at counts) (k % length warriors) 0 starts)
 round_is counting p warriors starts k over counts same some e h =
     let both = unless_ok (round_fault p warriors starts k) (end_of (round_start p warriors starts k)) over e in
     let s = round_start p warriors starts k in

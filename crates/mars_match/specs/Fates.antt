@@ -25,23 +25,26 @@ place_of w first i = if nat_le first i then i - first else w - (first - i)
 abbrev pub no_counts : Counts
 no_counts = record { turns = 0; spawned = 0; executed = 0; written = 0; touched = 0 }
 
--- The fate of warrior `i`, whose first cell is at `start`, in the battle that starts in the state `s` and in which warrior
--- `first` has the first turn; with what it did, if `counting`.
-abbrev pub fate_of : Bool → State → ℕ → ℕ → ℕ → Fate
-fate_of counting s first i start =
-    let over = end_of s in
+-- What the warrior at `place` in the order of turns did in the battle that starts in the state `s`; zeros unless `counting`.
+abbrev pub deeds_of : Bool → State → ℕ → Counts
+deeds_of counting s place = if counting then counts_of s place else no_counts
+
+-- The fate of warrior `i`, whose first cell is at `start`, in a battle that is over and in which warrior `first` had the first
+-- turn. `deeds` has what each warrior did, by its place in the order of turns.
+abbrev pub fate_of : State → (ℕ → Counts) → ℕ → ℕ → ℕ → Fate
+fate_of over deeds first i start =
     let place = place_of (length over.queues) first i in
     record {
       survived = slice_index_or (in_load_order first over) i false;
       turns = turns_until over.deaths place over.turns;
       start = start;
-      counts = if counting then counts_of s place else no_counts;
+      counts = deeds place;
     }
 
 -- The fates of the warriors from warrior `i` on, in load order, for the given starts.
-abbrev pub fates_from : Bool → State → ℕ → ℕ → List ℕ → List Fate
-fates_from counting s first i [] = []
-fates_from counting s first i (start ∷ starts) = fate_of counting s first i start ∷ fates_from counting s first (i + 1) starts
+abbrev pub fates_from : State → (ℕ → Counts) → ℕ → ℕ → List ℕ → List Fate
+fates_from over deeds first i [] = []
+fates_from over deeds first i (start ∷ starts) = fate_of over deeds first i start ∷ fates_from over deeds first (i + 1) starts
 
 -- The battle of round `k` when it is over, or the error of starting it.
 abbrev pub ended : Parameters → List WarriorValue → List ℕ → ℕ → Result State MatchFault
@@ -50,7 +53,7 @@ ended p warriors starts k = unless (round_fault p warriors starts k) (end_of (ro
 -- The fates of round `k`, in load order, or the error of starting it.
 abbrev pub round_fates : Bool → Parameters → List WarriorValue → List ℕ → ℕ → Result (List Fate) MatchFault
 round_fates counting p warriors starts k =
-    started p warriors starts k >>= λ s. Ok (fates_from counting s (k % length warriors) 0 starts)
+    started p warriors starts k >>= λ s. Ok (fates_from (end_of s) (deeds_of counting s) (k % length warriors) 0 starts)
 
 -- The fates of `n` rounds, one round after another, from round `k` and `seed` on; or the error of the first round that
 -- has one.

@@ -1,13 +1,13 @@
 //! The fate of each warrior in each round of a match.
-ghost use Rattle.std.specs.Prelude.{◌≡◌, ◌++◌, ◌+◌, ◌-◌, ◌*◌, ◌%◌, ◌<◌, ◌≤◌, ◌≢◌, Box, IfErr, IfOk, IfSome, MatchResult, Vec, length, slice_index_or, vec_len};
+ghost use Rattle.std.specs.Prelude.{◌≡◌, ◌++◌, ◌+◌, ◌-◌, ◌*◌, ◌%◌, ◌<◌, ◌≤◌, ◌≢◌, Box, IfErr, IfOk, IfSome, MatchResult, Vec, length, vec_len};
 ghost use Rattle.std.specs.Global.{Global};
 ghost use Rattle.mars_core.specs.Limits.{max_warriors};
 ghost use Rattle.mars_core.specs.State.{State};
 ghost use Rattle.mars_match.specs.Battles.{round_start};
 ghost use Rattle.mars_match.specs.CallResults.{IsResult};
-ghost use Rattle.mars_match.specs.Code.Deeds.{AreCounts, fate_in, fates_in};
+ghost use Rattle.mars_match.specs.Code.Deeds.{AreCounts, listed_at};
 ghost use Rattle.mars_match.specs.Code.Lineups.{HasRoom};
-ghost use Rattle.mars_match.specs.Fates.{ended, fates, fates_of, no_counts, place_of as spec_place_of, turns_until as spec_turns_until};
+ghost use Rattle.mars_match.specs.Fates.{ended, fate_of as spec_fate_of, fates, fates_from, fates_of, place_of as spec_place_of, turns_until as spec_turns_until};
 ghost use Rattle.mars_match.specs.Placement.{FitsTwo};
 ghost use Rattle.mars_match.specs.declared.fates.Fate.{Fate as FateValue};
 ghost use Rattle.mars_match.specs.declared.fates.Played.{Played as PlayedValue};
@@ -92,7 +92,7 @@ fn play_round(
 
 /// Returns what the warrior at a place in the order of turns did, or zeros if that was not counted.
 fn counts_at(counts: &[Counts], place: usize) -> Counts
-    ensures { result ≡ slice_index_or counts.now place no_counts }
+    ensures { result ≡ listed_at counts.now place }
 {
     if place < counts.len() {
         return counts[place];
@@ -104,7 +104,7 @@ fn counts_at(counts: &[Counts], place: usize) -> Counts
 fn fate_of(played: &Played, first: usize, warrior: usize, start: u32) -> Fate
     requires first { first < length played.now.battle.value.queues }
     requires warrior { warrior < length played.now.battle.value.queues }
-    ensures { result ≡ fate_in played.now.battle.value played.now.counts.items first warrior start }
+    ensures { result ≡ spec_fate_of played.now.battle.value (listed_at played.now.counts.items) first warrior start }
 {
     let battle = &played.battle;
     let place = place_of(battle.warriors(), first, warrior);
@@ -125,7 +125,7 @@ fn append_fates(
 ) -> Result<(), MatchFault>
     requires first { first < length played.now.battle.value.queues }
     requires many { length starts.now ≡ length played.now.battle.value.queues }
-    ensures { MatchResult result (λ _. fates.new.items ≡ fates.old.items ++ fates_in played.now.battle.value played.now.counts.items first 0 starts.now) (λ fault. fault ≡ MatchFault.OutOfMemory) }
+    ensures { MatchResult result (λ _. fates.new.items ≡ fates.old.items ++ fates_from played.now.battle.value (listed_at played.now.counts.items) first 0 starts.now) (λ fault. fault ≡ MatchFault.OutOfMemory) }
 {
     for warrior in 0..starts.len() {
         let fate = fate_of(played, first, warrior, starts[warrior]);

@@ -11,7 +11,7 @@ use Rattle.mars_core.specs.State.{State, is_empty}
 use Rattle.redcode_text.specs.Results.{◌>>=◌}
 use Rattle.redcode_text.specs.Tokens.{Scanned}
 use Rattle.mars_match.specs.Battles.{end_of, fought, in_load_order, lives, round_fault, round_start, survivors_of_round}
-use Rattle.mars_match.specs.Fates.{fates, fates_from, round_fates}
+use Rattle.mars_match.specs.Fates.{deeds_of, fates, fates_from, round_fates}
 use Rattle.mars_match.specs.Placement.{FitsTwo, ascending, drawn, draws, exchanged, inserted, place_fault, seed_after, spread, starts_in_order, starts_of}
 use Rattle.mars_match.specs.Rounds.{Outcome, outcome_of, outcomes, placed_for, placed_unless, round_outcome, round_score}
 use Rattle.mars_match.specs.declared.fates.Fate.{Fate}
@@ -66,7 +66,7 @@ placed_length p None w seed left starts some fits e = drawn_length (place_fault 
 -- ---- A round
 
 survived_from : (counting : Bool) (s : State) (first i : ℕ) (starts : List ℕ) → let order = in_load_order first (end_of s) in
-    i + length starts ≡ length order → map (λ (f : Fate). f.survived) (fates_from counting s first i starts) ≡ drop i order
+    i + length starts ≡ length order → map (λ (f : Fate). f.survived) (fates_from (end_of s) (deeds_of counting s) first i starts) ≡ drop i order
 survived_from counting s first i [] many = sym (drop_all i (in_load_order first (end_of s)) (omega (arith, many)))
 survived_from counting s first i (start ∷ starts) many =
     ap (λ l. get_or (in_load_order first (end_of s)) i false ∷ l) (survived_from counting s first (i + 1) starts (omega (arith, many)))
@@ -95,7 +95,7 @@ module _ (counting : Bool) (p : Parameters) (warriors : List WarriorValue) (f : 
       let both = unless_ok (round_fault p warriors starts k) (in_load_order first s) lived.0 lived.1 in
       let room = room_started p warriors starts k start many some (rw both.0 refl) in
       let count : length (in_load_order first s) ≡ length starts = length-order s first ∙ room.warriors ∙ sym many in
-      (fates_from counting start first 0 starts, rw both.0 refl, survived_from counting start first 0 starts (omega (arith, count)) ∙ both.1 ∙ same)
+      (fates_from s (deeds_of counting start) first 0 starts, rw both.0 refl, survived_from counting start first 0 starts (omega (arith, count)) ∙ both.1 ∙ same)
 
   fates_step : (fixed : Option ℕ) (n k seed left : ℕ) (starts : List ℕ) (now later : List Fate) → placed_for p (length warriors) fixed seed ≡ Ok (starts, left) →
       round_fates counting p warriors starts k ≡ Ok now → fates counting p warriors fixed n (k + 1) left ≡ Ok later → fates counting p warriors fixed (suc n) k seed ≡ Ok (now ++ later)

@@ -7,11 +7,9 @@ use Rattle.mars_core.specs.declared.machine.writes.CellChange.{CellChange}
 use Rattle.mars_core.specs.declared.record.Atom.{Atom}
 use Rattle.mars_core.specs.declared.record.Work.{Work}
 use Rattle.mars_core.specs.declared.record.Work.TheVariants.{Turn}
-use Rattle.mars_match.specs.Battles.{in_load_order}
 use Rattle.mars_match.specs.Counts.{counts_of, how_many_below}
-use Rattle.mars_match.specs.Fates.{no_counts, place_of, turns_until}
+use Rattle.mars_match.specs.Fates.{no_counts}
 use Rattle.mars_match.specs.declared.counts.Counts.{Counts}
-use Rattle.mars_match.specs.declared.fates.Fate.{Fate}
 
 pub record DeedsValue : Type 0 where
   pub turns : ℕ
@@ -86,18 +84,6 @@ abbrev pub AreCounts : Bool → State → List Counts → Type 0
 AreCounts false s counts = counts ≡ []
 AreCounts true s counts = (length counts ≡ length s.queues) × ((place : ℕ) (d : Counts) → place < length s.queues → slice_index_or counts place d ≡ counts_of s place)
 
--- The fate of warrior `i`, whose first cell is at `start`, from a battle that is over and what its warriors did.
-abbrev pub fate_in : State → List Counts → ℕ → ℕ → ℕ → Fate
-fate_in over counts first i start =
-    let place = place_of (length over.queues) first i in
-    record {
-      survived = slice_index_or (in_load_order first over) i false;
-      turns = turns_until over.deaths place over.turns;
-      start = start;
-      counts = slice_index_or counts place no_counts;
-    }
-
--- The fates of the warriors from warrior `i` on.
-abbrev pub fates_in : State → List Counts → ℕ → ℕ → List ℕ → List Fate
-fates_in over counts first i [] = []
-fates_in over counts first i (start ∷ starts) = fate_in over counts first i start ∷ fates_in over counts first (i + 1) starts
+-- What the warrior at `place` in the order of turns did, according to a list that is empty if that was not counted.
+abbrev pub listed_at : List Counts → ℕ → Counts
+listed_at counts place = slice_index_or counts place no_counts

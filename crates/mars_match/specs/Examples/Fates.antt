@@ -14,7 +14,7 @@ use Rattle.mars_core.specs.State.{advanced, ends}
 use Rattle.mars_core.specs.Start.{start_state}
 use Rattle.mars_match.specs.Battles.{end_of, round_start}
 use Rattle.mars_match.specs.Counts.{counts_of, turns_to_end}
-use Rattle.mars_match.specs.Fates.{fates_from, no_counts, place_of}
+use Rattle.mars_match.specs.Fates.{deeds_of, fates_from, no_counts, place_of}
 use Rattle.mars_match.specs.declared.fates.Fate.{Fate}
 use Rattle.mars_match.specs.Examples.Placements.{sizes}
 use Rattle.mars_match.specs.Examples.Rounds.{dead, one_cell, stay}
@@ -23,7 +23,9 @@ abbrev fate : Bool → ℕ → ℕ → Fate
 fate survived turns start = record { survived = survived; turns = turns; start = start; counts = no_counts }
 
 abbrev fates_in : ℕ → ℕ → List Fate
-fates_in round first = fates_from false (round_start (sizes 6 2) (stay ∷ dead ∷ stay ∷ []) (0 ∷ 2 ∷ 4 ∷ []) round) first 0 (0 ∷ 2 ∷ 4 ∷ [])
+fates_in round first =
+    let s = round_start (sizes 6 2) (stay ∷ dead ∷ stay ∷ []) (0 ∷ 2 ∷ 4 ∷ []) round in
+    fates_from (end_of s) (deeds_of false s) first 0 (0 ∷ 2 ∷ 4 ∷ [])
 
 -- The second of three warriors dies in its first turn, which is the second turn of round 0 and the first turn of round 1.
 pub the_second_dies : (fates_in 0 0 ≡ fate true 3 0 ∷ fate false 2 2 ∷ fate true 3 4 ∷ []) × (fates_in 1 1 ≡ fate true 3 0 ∷ fate false 1 2 ∷ fate true 3 4 ∷ [])
