@@ -1,4 +1,4 @@
-"""The conditions of definitions: fields of records, and factors of products. `bench/definitions --dropped` leaves out each."""
+"""The conditions of definitions: fields of records, and factors of products (`bench/definitions --dropped`)."""
 from __future__ import annotations
 
 import re

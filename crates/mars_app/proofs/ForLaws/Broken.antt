@@ -54,7 +54,7 @@ module _ (input : List ℕ) (s : SessionState) (evicts : is_some s.retention.mos
   left_of None bytes consumed = absurd consumed
   left_of (Some more) bytes consumed = (more, consumed, refl)
 
-  -- If lines stand before the other bytes of the input, they are executed first.
+  -- If the input begins with lines, they are executed first.
   executed : (front : List (List ℕ)) (more : List ℕ) → input ≡ flat_map with_newline front ++ more → AllByRecursion IsLine front → AllByRecursion (GoesOn core) front
       → until_quit core (lines_of input) ≡ front ++ until_quit core (lines_of more)
   executed front more is each goes_on = rw (is, lines_of-lines front more each, until_quit-lines core front (lines_of more) goes_on) refl
