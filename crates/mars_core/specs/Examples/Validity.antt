@@ -1,4 +1,4 @@
--- States that are not valid, each for one reason: it breaks one condition of validity.
+-- States that are not valid: each breaks the condition that its proof names.
 use Rattle.std.specs.Prelude.{◌≡◌, ◌<◌, ◌≤◌, ℕ, List, [], ◌∷◌, take, Some, refl}
 use Rattle.std.proofs.Common.{arith, replicate, ap}
 use Rattle.std.specs.Option.{unwrap_or}
