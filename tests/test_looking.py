@@ -92,7 +92,7 @@ def test_changed(run: Run) -> None:
     )
 
 
-def test_bad_words_and_faults(run: Run) -> None:
+def test_bad_words_and_faults(run: Run, tmp_path: Path) -> None:
     """The wrong argument and the file with an error are reported, without a traceback."""
     for words, told in (
         (["why", "-r", "0", "@imp"], "expected a number from 1 to 100000, not `0`"),
@@ -107,7 +107,14 @@ def test_bad_words_and_faults(run: Run) -> None:
     done = run("why", "nowhere.red")
     assert (done.returncode, done.stderr) == (1, "corewar: nowhere.red: No such file or directory\n")
     seventeen = run("why", *["@imp"] * 17)
-    assert seventeen.returncode == 2 and "a match has at most 16 warriors, not 17" in seventeen.stderr
+    assert seventeen.returncode == 2 and "a match has at most 16 warriors, not 17; `corewar league`" in seventeen.stderr
+    (tmp_path / "stone.red").write_text("DAT 0\n")
+    for command in ("fight", "why", "study", "explain", "web"):
+        meant = run(command, "stone")
+        told = "corewar: stone: No such file or directory; did you mean `stone.red`?\n"
+        assert (meant.returncode, meant.stderr) == (1, told), command
+    folder = run("study", ".")
+    assert (folder.returncode, folder.stderr) == (1, "corewar: .: Is a directory; expected a file\n")
 
 
 def test_the_help_has_a_whole_sentence_for_each_command() -> None:

@@ -38,7 +38,8 @@ class BattleOptions:
     def fight(self) -> Match:
         """The match of the files. Each file is read once. Raises FileError."""
         if len(self.files) > MAX_WARRIORS:
-            raise click.UsageError(f"a match has at most {MAX_WARRIORS} warriors, not {len(self.files)}")
+            advice = "`corewar league` and `corewar melee` take more"
+            raise click.UsageError(f"a match has at most {MAX_WARRIORS} warriors, not {len(self.files)}; {advice}")
         warriors = read_warriors(self.files, self.settings, self.rounds, self.limit)
         return Match(warriors, settings=self.settings, rounds=self.rounds, seed=self.seed, position=self.position)
 

@@ -6,6 +6,7 @@ from pathlib import Path
 
 import click
 
+from ..engine.sources import advice_on
 from ..model.header import CHECKOUT, INSTALLED
 from ..model.errors import FileError
 from .layout import Command, Number
@@ -47,7 +48,7 @@ def web(port: int, browser: bool, results: str | None, files: tuple[str, ...]) -
     signal.signal(signal.SIGTERM, signal.default_int_handler)
     for name in files:
         if not Path(name).exists():
-            raise FileError(name, "No such file or directory")
+            raise FileError(name, f"No such file or directory{advice_on(name)}")
     examples = sources_of([path for path in EXAMPLES if path.is_dir()][:1])
     folder = Folder([Path(name) for name in files or (".",)], examples)
     serve(ServedSite(site_folder(), folder, results), port, browser, click.echo)

@@ -161,10 +161,18 @@ def read_file(path: str) -> bytes:
         with open(0 if path == "-" else path, "rb", closefd=path != "-") as file:
             text = file.read(MAX_FILE_SIZE + 1)
     except (OSError, ValueError) as fault:
-        raise FileError(path, getattr(fault, "strerror", "") or "cannot read") from None
+        raise FileError(path, (getattr(fault, "strerror", "") or "cannot read") + advice_on(path)) from None
     if len(text) > MAX_FILE_SIZE:
         raise FileError(path, "too large")
     return text
+
+
+def advice_on(path: str) -> str:
+    """Returns what to give in place of a name that cannot be read, or "" if that is unknown."""
+    if os.path.isdir(path):
+        return "; expected a file"
+    meant = next((path + ending for ending in (".red", ".load") if os.path.isfile(path + ending)), "")
+    return f"; did you mean `{meant}`?" if meant else ""
 
 
 def read_warrior(
