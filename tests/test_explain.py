@@ -68,6 +68,7 @@ SOURCES = [
     ("mod MOV 0, 1\n", "line 1: 4 Expression 1 Syntax", "`mod` is an opcode and cannot be a label"),
     ("my-loop MOV 0, 1\n", "line 1: 2 Operation", "A name cannot contain `-`; write `my_loop`."),
     ("mov 0, \\\n1\n", "line 1: 1 Text 2 BadToken", "`corewar explain --fix` joins it"),
+    ("mov \\, 1\ndat 0\n", "line 1: 1 Text 2 BadToken", "`\\` is not a character of the language."),
     ("mov 0, [1]\n", "line 1: 1 Text 2 BadToken", "`[` is not a character of the language."),
     # Duplicates.
     ("a dat 0\na dat 0\n", "line 2: 1 Text 7 Duplicate", "`a` is already defined in line 1."),

@@ -48,7 +48,7 @@ def not_ascii(source: Source, line: Line) -> Iterator[str]:
 
 def bad_token(source: Source, line: Line) -> Iterator[str]:
     found = FOREIGN.search(line.code)
-    if found and found[0] == "\\":
+    if found and found[0] == "\\" and line.is_continued and line.number < len(source.lines):
         yield cause_sentence("backslash")
     elif found:
         yield cause_sentence("foreign", word=found[0])

@@ -201,7 +201,7 @@ def ends_of_lines(source: Source) -> Found:
         operands = line.operands if line.word in OPCODES else []
         if line.word == "ROF" and line.labels:
             yield line.number, "pMARS accepts a label before ROF; write it in a line of its own."
-        if line.text.rstrip().endswith("\\") and ";" not in line.text:
+        if line.is_continued:
             yield line.number, "pMARS joins a line that ends in `\\` with the next one; write one line."
         if any(one.isdecimal() and other.isdecimal() for one, other in zip(operands, operands[1:])):
             yield line.number, "pMARS joins numbers that are separated by spaces; here an operator is missing."

@@ -66,6 +66,11 @@ class Line:
         return self.text.partition(";")[0]
 
     @property
+    def is_continued(self) -> bool:
+        """Whether pMARS joins the next line to it."""
+        return self.text.rstrip().endswith("\\") and ";" not in self.text
+
+    @property
     def operands(self) -> list[str]:
         """The tokens of the operands, or of an assert."""
         if re.match(r"\s*;assert\b", self.text, re.I):

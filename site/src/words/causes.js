@@ -71,7 +71,8 @@ function notAscii(_, { number, text }) {
 /** @type {Find} */
 function badToken(source, line) {
   const [word] = FOREIGN.exec(codeOf(line.text)) ?? [];
-  if (word) return [word === "\\" ? { cause: "backslash", word } : { cause: "foreign", word }];
+  const isContinued = /^[^;]*\\\s*$/.test(line.text) && line.number < source.lines.length;
+  if (word) return [{ cause: word === "\\" && isContinued ? "backslash" : "foreign", word }];
   const counters = loopsAround(source, line.number).map(({ counter }) => counter);
   return tokensOf(codeOf(line.text)).flatMap((token) => wrongToken(source, line, token, counters) ?? []);
 }
