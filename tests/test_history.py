@@ -220,6 +220,8 @@ def test_an_impossible_edit_is_refused_by_name() -> None:
         with pytest.raises(MarsError) as fault:
             history.edited(turn, edit)
         assert (fault.value.kind, fault.value.name) == ("refused", name), edit
+    with pytest.raises(TypeError, match="expected an edit, as the methods of Edit return it, not 'edit 3 NOP'"):
+        history.edited(3, "edit 3 NOP")  # type: ignore[arg-type]
     full = History(Match((assemble("SPL 0\nJMP -1"),)))
     with pytest.raises(MarsError, match="^refused 7 QueueFull$"):
         full.edited(full.end, Edit.add(0, 0))
