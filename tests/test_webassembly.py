@@ -206,7 +206,9 @@ def test_its_errors_are_those_of_explain() -> None:
     assert done.returncode == 0, done.stderr
     for text, answer in zip(texts, json.loads(done.stdout), strict=True):
         found = list(errors_of(text.encode(), assemble))
-        # The site has no options.
-        options = f"; {GREATER}"
-        expected = [[line_to_correct(*error), " ".join(error[1]).replace(options, "")] for error in found]
+        expected = []
+        for error in found:
+            number, sentences = line_to_correct(*error), " ".join(error[1])
+            # The site has no options, and names the line before the sentences.
+            expected.append([number, sentences.replace(f"; {GREATER}", "").removeprefix(f"In line {number}, ")])
         assert answer == expected, text

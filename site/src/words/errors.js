@@ -71,14 +71,17 @@ export function explain(error, text, meanings) {
   const source = readSource(text);
   const [name, line] = [errorName(error), source.lines[error.line - 1]];
   const causes = line ? (CAUSES[name]?.(source, line) ?? []).slice(0, MAX_CAUSES) : [];
+  let number = error.line;
+  if (causes[0]?.inner && causes[0].cause === "earlier") {
+    // The word is in an earlier line, which is named before the explanation.
+    number = Number(causes[0].line);
+    causes[0] = causes[0].inner;
+  }
   const meaning = meanings[name] ?? meanings[name.split(" ").slice(-2).join(" ")] ?? name;
   const explanation = causes.map((cause) => sentence(cause, meanings)).join(" ") || meaning;
-  // The word may be in an earlier line.
-  const isEarlier = causes[0]?.cause === "earlier";
-  const first = isEarlier ? causes[0].inner : causes[0];
-  const number = isEarlier ? Number(causes[0].line) : error.line;
-  const misspelt = ["misspelt", "elsewhere"].includes(first?.cause ?? "") ? first : undefined;
-  return { line: number, ...columns(source.lines[number - 1]?.text ?? "", first?.word), text: explanation, misspelt };
+  const misspelt = ["misspelt", "elsewhere"].includes(causes[0]?.cause ?? "") ? causes[0] : undefined;
+  const place = columns(source.lines[number - 1]?.text ?? "", causes[0]?.word);
+  return { line: number, ...place, text: explanation, misspelt };
 }
 
 /**
