@@ -232,7 +232,10 @@ def test_the_debugger_has_a_line(page: Browser) -> None:
     assert ask("explain") == ". is the cell to execute next, but the battle is over"
     fight(page, "silk", "imp")
     go_to_turn(page, 1000)
-    assert re.fullmatch(r"Silk:( \d+){20} and \d+ more", ask("queue silk"))
+    addresses = [ask(f"queue silk {first}") for first in (0, 20)]
+    assert ask("queue Silk") == addresses[0] and len({*addresses}) == 2
+    for first, line in zip((20, 40), addresses):
+        assert re.fullmatch(rf"Silk:( \d+){{20}} and \d+ more: queue 0 {first}", line)
 
 
 def test_labels_of_several_warriors(page: Browser) -> None:

@@ -304,11 +304,16 @@ function list(session, rest) {
 function queue(session, rest) {
   const { view, known } = session;
   if (!view) return [];
-  const warrior = rest ? readWarrior(session, rest) : view.next;
-  const first = view.processes.slice(0, warrior).reduce((sum, count) => sum + count, 0);
-  const count = view.processes[warrior];
-  const more = count > LISTED ? ` and ${number(count - LISTED)} more` : "";
-  return [`${known.names[warrior]}: ${view.queues.slice(first, first + Math.min(count, LISTED)).join(" ")}${more}`];
+  // The name of a warrior may end in a number.
+  const isName = known.names.some((name) => name.toLowerCase() === rest.toLowerCase());
+  const [, named, index] = (!isName && /^(.+) (\d+)$/.exec(rest)) || ["", rest];
+  const warrior = named ? readWarrior(session, named) : view.next;
+  const start = index ? readProcess(session, warrior, index) : 0;
+  const before = view.processes.slice(0, warrior).reduce((sum, count) => sum + count, 0);
+  const [count, end] = [view.processes[warrior], start + LISTED];
+  const more = end < count ? ` and ${number(count - end)} more: \`queue ${warrior} ${end}\`` : "";
+  const listed = view.queues.slice(before + start, before + Math.min(count, end));
+  return [`${known.names[warrior]}: ${listed.join(" ")}${more}`];
 }
 
 /** @type {Act} */
@@ -401,7 +406,7 @@ export const COMMANDS = [
   command("redo", "redo the edit that was undone", redo),
   command("futures [N]", "list the futures that edits have made, or switch to number N", futures),
   command("list [A [N]]", "list N cells from A on", list, "l"),
-  command("queue [W]", "list the processes of warrior W, the next one first", queue, "p"),
+  command("queue [W [I]]", "list processes of warrior W from number I on; 0 is the next one", queue, "p"),
   command("show", "show the turn, the cycle and the state of each warrior", show, "i"),
   command("why [W]", "say why warrior W died, or what comes next", why),
   command("changed A", "find the last turn up to here that changed cell A", changed),
