@@ -508,7 +508,8 @@ def test_a_lesson_is_judged(page: Browser) -> None:
     page.run("document.querySelectorAll('#lessons .lesson')[3].querySelector('button').click()")
     page.until("corewar.shelf.shown.name.startsWith('a-tie')")
     page.run(judge, 3)
-    page.until(verdict % (3, "1 cell; 0 won, 0 tied, 100 lost of 100. Not yet: survive 100 of 100 rounds."))
+    lost = "1 cell; 0 won, 0 tied, 100 lost of 100. Not yet: survive 100 of 100 rounds. Watch a lost round"
+    page.until(verdict % (3, lost))
     page.run(
         "corewar.shelf.editor.mirror.setValue('MOV 0, 1\\n');"
         "document.querySelectorAll('#lessons .lesson')[3].querySelector('.main').click()"

@@ -24,7 +24,7 @@ import { number, pluralize } from "../words/battle.js";
  * @property {Source[]} sources the opponents that are in the lesson
  * @property {string} start the source that the learner begins with, or ""
  */
-/** @typedef {{isDone: boolean, text: string}} Verdict */
+/** @typedef {{isDone: boolean, text: string, watch?: HTMLElement}} Verdict `watch` shows a round that was not won */
 
 const ROUNDS = 100;
 const TERMS = { settings: HILLS["94nop"], seed: 1, rounds: ROUNDS, position: 0, formula: FORMULA };
@@ -70,8 +70,8 @@ export class Lessons {
     const begin = make("button", { onclick: () => this.begin(lesson) }, lesson.start ? "Begin" : "Watch");
     const judge = make("button", { className: isDone ? "" : "main" }, "Check");
     judge.onclick = async () => {
-      const { isDone: isPassed, text } = await this.judge(lesson);
-      refill(verdict, withCode(text));
+      const { isDone: isPassed, text, watch } = await this.judge(lesson);
+      refill(verdict, withCode(text), watch && " ", watch);
       card.classList.toggle("done", isPassed);
       judge.className = isPassed ? "" : "main";
       if (isPassed) this.#pass(lesson, card);
@@ -180,11 +180,13 @@ export class Lessons {
     const sources = [own, ...this.#opponents(lesson)];
     const entered = await pool.ask("warriors", [sources, TERMS], "lesson", 1);
     const fighters = entered.map(({ warrior }) => warrior);
-    const [{ wins: won, ties, losses }] = await pool.ask("match", [fighters, TERMS], "lesson", 1);
+    const { wins: won, ties, losses, scores } = await pool.ask("scores", [fighters, TERMS], "lesson", 1);
     const result = `${pluralize(code.length, "cell")}; ${won} won, ${ties} tied, ${losses} lost of ${ROUNDS}.`;
     if (code.length > cells) return { isDone: false, text: `${result} Use at most ${cells} cells.` };
-    const isDone = won >= wins && won + ties >= survives;
+    if (won >= wins && won + ties >= survives) return { isDone: true, text: `${result} Well done.` };
     const missing = won < wins ? `win ${wins}` : `survive ${survives}`;
-    return { isDone, text: `${result} ${isDone ? "Well done." : `Not yet: ${missing} of ${ROUNDS} rounds.`}` };
+    const show = () => this.host.fight(sources, { ...TERMS, round: scores.indexOf(Math.min(...scores)) });
+    const watch = make("button", { className: "link", onclick: show }, `Watch a ${losses ? "lost" : "tied"} round`);
+    return { isDone: false, text: `${result} Not yet: ${missing} of ${ROUNDS} rounds.`, watch };
   }
 }

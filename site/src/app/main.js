@@ -61,7 +61,8 @@ class Page {
       shelf: this.shelf,
       meanings,
       terms: () => this.terms.value,
-      fight: (/** @type {Source[]} */ sources) => this.show("battle").fight(sources),
+      /** @type {import("../view/host.js").Host["fight"]} */
+      fight: (sources, terms) => this.show("battle").fight(sources, true, terms),
     };
     this.bench = new Bench(host);
     this.league = new League(host, server && ((sources, terms) => server.league(sources, terms)));
@@ -150,17 +151,18 @@ class Page {
   }
 
   /**
-   * Fights the first round of a match, and shows it.
+   * Fights a round of a match, the first one unless the terms say otherwise, and shows it.
    * @param {Source[]} warriors
    * @param {boolean} plays
+   * @param {object} terms
    */
-  async fight(warriors, plays = true) {
+  async fight(warriors, plays = true, terms = {}) {
     this.complain("");
     document.body.classList.add("busy");
     try {
       const isMatch = warriors.length >= 1 && warriors.length <= MAX_WARRIORS;
       if (!isMatch) throw new Error(`A match has 1 to ${MAX_WARRIORS} warriors: mark them in the list of sources.`);
-      await this.session.open({ ...this.terms.value, round: 0, warriors, edits: [] }, { plays });
+      await this.session.open({ ...this.terms.value, round: 0, ...terms, warriors, edits: [] }, { plays });
       document.body.classList.add("running");
       if (location.hash) history.replaceState(null, "", location.pathname + location.search);
     } catch (error) {
@@ -174,7 +176,6 @@ class Page {
   /** Fights the sources that are marked, or the one in the editor. */
   fightMarked() {
     this.show("battle");
-    scrollTo(0, 0);
     const { fighters, current } = this.shelf;
     return this.fight(fighters.length || !current ? fighters : [current]);
   }
@@ -213,12 +214,12 @@ class Page {
     if (view === "bench") {
       this.showDesk(true);
       this.bench.open();
-      // The editor is below the bench if the page is narrow.
-      scrollTo(0, 0);
     } else this.bench.close();
     if (view === "league") this.league.draw();
     if (view === "battle") this.theatre.fit();
     else this.session.stop();
+    // On a narrow page it is above the editor, and may be far above.
+    scrollTo(0, 0);
     return this;
   }
 

@@ -12,7 +12,8 @@ import { explain } from "../words/errors.js";
  * @property {import("../worker/pool.js").Pool} pool
  * @property {import("./shelf.js").Shelf} shelf
  * @property {() => MatchTerms} terms
- * @property {(sources: Source[]) => Promise<void>} fight fights the first round of a match and shows it
+ * @property {(sources: Source[], terms?: Partial<MatchTerms> & {round?: number}) => Promise<void>} fight fights a round
+ *   of a match, the first one unless the terms say otherwise, and shows it
  * @property {Record<string, string>} meanings
  */
 
