@@ -3,6 +3,7 @@ from __future__ import annotations
 
 import pickle
 import random
+import re
 from pathlib import Path
 from typing import Any
 
@@ -13,7 +14,7 @@ from conftest import EXAMPLES
 from hypothesis import given
 
 import corewar
-from corewar import CorewarError, MarsError, Match, Settings, Warrior
+from corewar import CorewarError, Edit, MarsError, Match, Settings, Warrior
 from corewar.battle.history import History
 from corewar.engine.outcomes import COUNTED, COUNTS, OUTCOME
 from corewar.engine.warriors import read_load
@@ -108,8 +109,11 @@ def test_errors_of_warriors(given: dict[str, Any], name: str) -> None:
 
 @pytest.mark.parametrize("cell", [(1, 2, 3), (1, 6, 1, 1, 0, 1, 2), (1, 6, 1, 1, 0, 0.5), 5, "MOV 0, 1"], ids=str)
 def test_what_is_no_cell(cell: Any) -> None:
-    with pytest.raises(ValueError, match="expected the six numbers of each cell"):
+    told = re.escape(f"expected the six numbers of a cell, not {cell!r}")
+    with pytest.raises(ValueError, match=told):
         Warrior.from_cells([cell])
+    with pytest.raises(ValueError, match=told):
+        corewar.Battle(Match([Warrior.from_cells([CELL])])).edit(Edit.set(0, cell))
 
 
 SMALL = Settings(core=400, processes=20, cycles=150, longest=10, distance=10)

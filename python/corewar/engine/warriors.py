@@ -5,6 +5,7 @@ import struct
 from collections.abc import Sequence
 from dataclasses import dataclass, replace
 from functools import cached_property
+from operator import index
 from pathlib import Path
 
 import numpy as np
@@ -118,20 +119,20 @@ def pack_cells(cells: Sequence[Cell | np.void] | Cells) -> bytes:
     """Returns cells as bytes. Raises ValueError."""
     if isinstance(cells, np.ndarray) and cells.dtype == dtype_of("MarsCell"):
         return cells.tobytes()
+    rows = [cell.tolist() if isinstance(cell, np.void) else cell for cell in cells]
     try:
-        rows = [cell.tolist() if isinstance(cell, np.void) else cell for cell in cells]
-        try:
-            return b"".join([CELL.pack(*row) for row in rows])
-        except struct.error:
-            # Numbers that do not fit are looked for only then, since evolvers make many cells.
-            return b"".join([CELL.pack(*clamp_fields(row)) for row in rows])
-    except (struct.error, TypeError, ValueError) as fault:
-        raise ValueError(f"expected the six numbers of each cell: {fault}") from None
+        return b"".join([CELL.pack(*row) for row in rows])
+    except (struct.error, TypeError):
+        # What is no cell, and numbers that do not fit, are looked for only then, since evolvers make many cells.
+        return b"".join([CELL.pack(*clamp_fields(row)) for row in rows])
 
 
 def clamp_fields(cell: Cell) -> list[int]:
     """Returns the numbers of a cell as the library takes them; it refuses those that do not fit. Raises ValueError."""
-    return [clamp(one, maximum) for one, maximum in zip(cell, MAX_CELL, strict=True)]
+    try:
+        return [clamp(index(one), maximum) for one, maximum in zip(cell, MAX_CELL, strict=True)]
+    except (TypeError, ValueError):
+        raise ValueError(f"expected the six numbers of a cell, not {cell!r}") from None
 
 
 def read_load(load: bytes, settings: Settings | str = "94nop", file: str = "") -> Warrior:
