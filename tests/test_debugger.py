@@ -144,6 +144,7 @@ def test_edits_make_futures() -> None:
     assert refused(session, "edit 0 dat \\") == (
         "`dat \\` is not an instruction: 1 Text 2 BadToken: `\\` is not a character of the language."
     )
+    assert refused(session, "edit 0") == "expected an address and a line of source"
     assert refused(session, "kill imp") == "expected a warrior and the index of a process"
     assert refused(session, "spawn imp") == "expected a warrior and an address"
     assert refused(session, "kill imp 3") == "Imp has no process 3; its number of processes is 1"

@@ -197,6 +197,8 @@ def undo_or_redo(session: Session, act: Callable[[], None]) -> Iterator[str]:
 @command("edit A LINE", "set the cell at A to a line of source, as in `edit 3 jmp bomb`", "e")
 def edit(session: Session, rest: str) -> Iterator[str]:
     first, _, line = rest.partition(" ")
+    if not line.strip():
+        raise CorewarError("expected an address and a line of source")
     address = session.address(first)
     cell = session.cell(address, line.strip())
     old = session.formatter.cell(session.history.block(session.turn).cell(address, session.turn))
@@ -352,7 +354,7 @@ def show_help(session: Session, rest: str) -> Iterator[str]:
         yield CONDITIONS
 
 
-@command("quit", "quit the debugger", "q")
+@command("quit", "quit the debugger", "q", "exit")
 def quit_debugger(session: Session, _: str) -> NoReturn:
     raise QuitDebugger
 
