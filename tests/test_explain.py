@@ -513,6 +513,9 @@ def test_cells_in_words(cell: str, names: tuple[str, str], expected: str) -> Non
             ["dat <ptr"],
             "DAT.F $0, <ptr\nEnd the process that executes this (first the B-number of `ptr` is lowered by 1).\n",
         ),
+        (["Slt"], "Slt: skips the next instruction if A is less than B\n"),
+        (["jmp.b"], "jmp.b: jumps to A\n"),
+        (["equ"], "equ: names the text up to the comment\n"),
         (["cmp MAXCYCLES, 3"], "SEQ.I $0, $3\nSkip the next cell if this cell and the cell 3 ahead are equal.\n"),
     ],
 )

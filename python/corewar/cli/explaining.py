@@ -14,6 +14,7 @@ from ..explain import CHECKED_ROWS, errors_of, excerpt, explain_error, explain_k
 from ..explain.errors import kind_of
 from ..explain.instructions import describe_line, find_instruction
 from ..explain.source import Line, parse_line
+from ..explain.words import DIRECTIVES, OPCODES
 from ..model.errors import ASSEMBLY, CorewarError, FileError, MarsError
 from ..model.printing import printable
 from .layout import Command
@@ -27,6 +28,8 @@ EXAMPLES = [
     "corewar explain mars -r 0 dwarf.red",
     "corewar explain --pmars dwarf.red",
 ]
+# What an operation without operands is explained by.
+MEANINGS = {**OPCODES, **DIRECTIVES}
 
 
 class Explain(Command):
@@ -48,8 +51,8 @@ class Explain(Command):
 def explain(options: BattleOptions, pmars: bool, is_fixed: bool) -> int:
     """Explain the errors of files, or what an instruction does.
 
-    An argument that is no file but an instruction, such as 'MOV }bomb, >ptr', is put in plain words, or its error is
-    explained.
+    An argument that is no file but an instruction, such as 'MOV }bomb, >ptr', or an opcode or directive, is put in
+    plain words, or its error is explained.
 
     Without files, error messages of any program of this kit are read from standard input, such as `mars: first.red:
     line 7: 2 Operation`. If the first argument is `mars`, the others are checked as the arguments of that program, and
@@ -82,7 +85,7 @@ def instruction_of(words: Sequence[str]) -> Line | None:
     if any(map(os.path.exists, words)):
         return None
     is_line = re.search("[ ,]", "".join(words)) and "\n" not in text and not are_sources
-    return find_instruction(text) or (parse_line(1, text, {}) if is_line else None)
+    return find_instruction(text) or (parse_line(1, text, {}) if is_line or text.upper() in DIRECTIVES else None)
 
 
 def explain_instruction(options: BattleOptions, line: Line) -> int:
@@ -93,6 +96,9 @@ def explain_instruction(options: BattleOptions, line: Line) -> int:
         except MarsError as fault:
             if fault.code != ASSEMBLY:
                 raise
+            if line.word in MEANINGS and not line.labels + line.operands:
+                write([f"{line.text}: {MEANINGS[line.word]}"])
+                return 0
             write([f"{line.text}: {kind_of(fault)}", *explain_kind(kind_of(fault), 1, line.text.encode())])
             return 1
     return 0
