@@ -237,7 +237,8 @@ def page(browser: Browser, site: Site) -> Browser:
 
 
 def test_the_page_saves_to_the_folder(page: Browser, site: Site) -> None:
-    """Its first source fights an example; what something else changed is overwritten only if the user says so."""
+    """Its first source fights another; what something else changed is overwritten only if the user says so."""
+    assert page.value("document.title") == "Dwarf against Imp · Core War"
     (site.folder / "own.red").write_bytes(b";name Own\n; caf\xe9\nmov 0, 1\n")
     page.open(site.address + "?again")
     page.until("window.corewar?.session.view")

@@ -92,14 +92,15 @@ class Page {
     const { server, shelf } = this;
     const files = (server?.sources ?? []).filter(({ isExample }) => !isExample);
     const own = stored.sources ?? [];
-    // What was not saved is found again; files are as they are now, and the first of them fights an example.
+    // What was not saved is found again; files are as they are now, and the first of them fights Dwarf, or else Imp.
     const drafts = server ? own.filter(({ text, saved, isExample }) => text !== saved && !isExample) : own;
+    const other = FIRST.find((name) => name !== files[0]?.name);
     files.forEach(({ name, text }, index) => {
       const draft = drafts.find((one) => one.name === name);
-      shelf.add({ name, text: draft?.text ?? text, saved: text, fights: index === 0 });
+      shelf.add({ name, text: draft?.text ?? text, saved: text, fights: index === 0 || name === other });
     });
     for (const draft of drafts) if (!shelf.find(draft.name)) shelf.add({ ...draft, saved: server ? "" : draft.saved });
-    const first = files.length ? FIRST.slice(0, 1) : own.length ? [] : FIRST;
+    const first = files.length ? [other] : own.length ? [] : FIRST;
     const missing = server || !own.length ? this.examples : [];
     for (const example of missing) {
       if (!shelf.find(example.name)) shelf.add({ ...example, isExample: true, fights: first.includes(example.name) });
