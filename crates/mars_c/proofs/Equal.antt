@@ -16,7 +16,8 @@ use Rattle.mars_core.proofs.Tags.{same_cell}
 use Rattle.mars_match.specs.Fates.{fates_of}
 use Rattle.mars_match.specs.Leagues.{league_of}
 use Rattle.mars_match.specs.Rounds.{table_of}
-use Rattle.mars_match.specs.Battles.{started}
+use Rattle.mars_match.specs.Tables.{RowValue}
+use Rattle.mars_match.specs.declared.fault.MatchFault.{MatchFault}
 use Rattle.mars_match.specs.declared.fates.Fate.{Fate}
 use Rattle.mars_match.specs.declared.setup.Setup.{Setup}
 use Rattle.redcode_asm.specs.Formula.{formula_of}
@@ -26,7 +27,7 @@ use Rattle.mars_cell.specs.Load.{lines_of}
 use Rattle.mars_session.specs.Script.{SessionState}
 use Rattle.mars_app.proofs.ForLaws.Given.{lines_of_all, ok_injective}
 use Rattle.mars_app.proofs.ForLaws.Replies.{replies, transcript_is}
-use Rattle.mars_c.specs.Battles.{IsDebugged, placed_in}
+use Rattle.mars_c.specs.Battles.{IsDebugged, IsRound, round_start_state}
 use Rattle.mars_c.specs.Blocks.{Means}
 use Rattle.mars_c.specs.Cells.{plain_cell}
 use Rattle.mars_c.specs.Contests.{plain_row, plain_sum, population}
@@ -42,7 +43,7 @@ use Rattle.mars_c.specs.declared.warriors.MarsWarrior.{MarsWarrior}
 
 -- ---- Warriors
 
-one_cell : (x y : Cell) → plain_cell x ≡ plain_cell y → x ≡ y
+pub one_cell : (x y : Cell) → plain_cell x ≡ plain_cell y → x ≡ y
 one_cell x y e =
     let tags = ap (λ (c : MarsCell). c.op + c.modifier * 256 + c.a_mode * 65536 + c.b_mode * 16777216) e in
     let with_numbers : ℕ → ℕ → Cell = λ a b. record { op = x.op; modifier = x.modifier; a_mode = x.a_mode; b_mode = x.b_mode; a = a; b = b } in
@@ -92,6 +93,16 @@ module _ (p : Parameters) where
 
 -- ---- Setups
 
+-- The table of the match, and of the league, that a setup describes.
+abbrev pub match_of : Setup → List WarriorValue → Result (List RowValue) MatchFault
+match_of a ws = table_of a.params ws a.plan.formula a.plan.fixed a.plan.rounds a.plan.seed
+
+abbrev pub league_in : Setup → List WarriorValue → Result (List RowValue) MatchFault
+league_in a ws = league_of a.params ws a.plan.formula a.plan.fixed a.plan.rounds a.plan.seed
+
+pub round_starts : (a : Setup) (ws : List WarriorValue) (round : ℕ) (s : State) → IsRound a ws round s → round_start_state a ws round ≡ Ok s
+round_starts a ws round s (starts, placed, begins) = rw placed begins
+
 module _ (s : MarsSettings) (text : List ℕ) (a b : Setup) (first : IsSetup s text a) (second : IsSetup s text b) where
   pub params : a.params ≡ b.params
   params = ok_injective a.params b.params (sym first.params ∙ second.params)
@@ -110,31 +121,38 @@ module _ (s : MarsSettings) (text : List ℕ) (a b : Setup) (first : IsSetup s t
 
   module _ (cells : List MarsCell) (entrants : List MarsWarrior) (vs ws : List WarriorValue)
       (are : AreEntrants a.params cells entrants vs) (too : AreEntrants b.params cells entrants ws) where
-    pub warriors : vs ≡ ws
+    warriors : vs ≡ ws
     warriors = same_entrants b.params cells entrants vs ws [] (subst (λ p. AreEntrants p cells entrants vs) params are) too
+
+    pub same_match : match_of a vs ≡ match_of b ws
+    same_match = rw (params, warriors, formula, fixed, rounds, seed) refl
+
+    pub same_league : league_in a vs ≡ league_in b ws
+    same_league = rw (params, warriors, formula, fixed, rounds, seed) refl
+
+    pub same_population : (candidates : ℕ) → population a candidates vs ≡ population b candidates ws
+    same_population candidates = rw (params, warriors, formula, fixed, rounds, seed) refl
+
+    pub same_start : (round : ℕ) → round_start_state a vs round ≡ round_start_state b ws round
+    same_start round = rw (params, warriors, fixed, seed) refl
 
 -- ---- Contests
 
 pub equal_matches : EqualMatches
 equal_matches s text cells entrants one other (rows, (a, vs, first, are, fits, is), holds) (others, (b, ws, second, too, fitting, too_is), held) =
-    let same = params s text a b first second in
-    let table : table_of a.params vs a.plan.formula a.plan.fixed a.plan.rounds a.plan.seed ≡ table_of b.params ws b.plan.formula b.plan.fixed b.plan.rounds b.plan.seed =
-        rw (same, warriors s text a b first second cells entrants vs ws are too, formula s text a b first second, fixed s text a b first second,
-        rounds s text a b first second, seed s text a b first second) refl in
+    let table = same_match s text a b first second cells entrants vs ws are too in
     holds ∙ ap (map plain_row) (ok_injective rows others (sym is ∙ table ∙ too_is)) ∙ sym held
 
 pub equal_leagues : EqualLeagues
-equal_leagues s text cells entrants one other (rows, (a, vs, first, are, fits, is), holds) (others, (b, ws, second, too, fitting, too_is), held) =
-    let table : league_of a.params vs a.plan.formula None a.plan.rounds a.plan.seed ≡ league_of b.params ws b.plan.formula None b.plan.rounds b.plan.seed =
-        rw (params s text a b first second, warriors s text a b first second cells entrants vs ws are too, formula s text a b first second,
-        rounds s text a b first second, seed s text a b first second) refl in
-    holds ∙ ap (map plain_row) (ok_injective rows others (sym is ∙ table ∙ too_is)) ∙ sym held
+equal_leagues s text cells entrants one other (rows, (a, vs, first, are, free, is), holds) (others, (b, ws, second, too, unplaced, too_is), held) =
+    let table = same_league s text a b first second cells entrants vs ws are too in
+    let here : league_in a vs ≡ Ok rows = rw free is in
+    let there : league_in b ws ≡ Ok others = rw unplaced too_is in
+    holds ∙ ap (map plain_row) (ok_injective rows others (sym here ∙ table ∙ there)) ∙ sym held
 
 pub equal_populations : EqualPopulations
 equal_populations s text cells entrants one other long (a, vs, sums, first, are, fits, is, holds) (b, ws, others, second, too, fitting, too_is, held) =
-    let table : population a (length one) vs ≡ population b (length other) ws =
-        rw (long, params s text a b first second, warriors s text a b first second cells entrants vs ws are too, formula s text a b first second,
-        fixed s text a b first second, rounds s text a b first second, seed s text a b first second) refl in
+    let table = ap (λ n. population a n vs) long ∙ same_population s text a b first second cells entrants vs ws are too (length other) in
     holds ∙ ap (map plain_sum) (ok_injective sums others (sym is ∙ table ∙ too_is)) ∙ sym held
 
 -- ---- Outcomes
@@ -178,18 +196,12 @@ equal_outcomes s cells entrants lineups one other (p, vs, fates, allowed, are, f
 -- ---- Battles
 
 pub equal_starts : EqualStarts
-equal_starts s cells entrants round one other (a, vs, first, are, fits, inside, (starts, placed, start)) (b, ws, second, too, fitting, within, (others, too_placed, too_start)) =
-    let text = codes "0" in
-    let same = params s text a b first second in
-    let all = warriors s text a b first second cells entrants vs ws are too in
-    let places : placed_in a.params (length vs) a.plan.fixed round a.plan.seed ≡ placed_in b.params (length ws) b.plan.fixed round b.plan.seed =
-        rw (same, all, fixed s text a b first second, seed s text a b first second) refl in
-    let at : starts ≡ others = ok_injective starts others (sym placed ∙ places ∙ too_placed) in
-    let from : started a.params vs starts round ≡ started b.params ws others round = rw (same, all, at) refl in
-    ok_injective one other (sym start ∙ from ∙ too_start)
+equal_starts s cells entrants round one other (a, vs, first, are, fits, inside, begins) (b, ws, second, too, fitting, within, starts) =
+    let same = same_start s (codes "0") a b first second cells entrants vs ws are too round in
+    ok_injective one other (sym (round_starts a vs round one begins) ∙ same ∙ round_starts b ws round other starts)
 
 module _ (numbers : MarsEdit) where
-  one_edit : (d e : Edit) → Means numbers d → Means numbers e → d ≡ e
+  pub one_edit : (d e : Edit) → Means numbers d → Means numbers e → d ≡ e
   one_edit (edit.SetCell address cell) (edit.SetCell address' cell') first second =
       let where_is : address ≡ address' = first.1 ∙ sym second.1 in
       let what_is = one_cell cell cell' (first.2 ∙ sym second.2) in

@@ -13,6 +13,7 @@ use Rattle.mars_c.specs.Settings.{IsSetup}
 use Rattle.mars_c.specs.Battles.{placed_in}
 use Rattle.mars_c.specs.Entrants.{AreEntrants, IsNoEntrant, Reads}
 use Rattle.mars_c.specs.declared.warriors.EntrantFault.{EntrantFault}
+use Rattle.mars_c.specs.declared.warriors.EntrantFault.TheVariants as entrant
 use Rattle.mars_c.specs.declared.cells.MarsCell.{MarsCell}
 use Rattle.mars_c.specs.declared.warriors.MarsWarrior.{MarsWarrior}
 use Rattle.mars_c.specs.Refusals.{Fails, IsWrong, RefusesEntry, fight_refusal}
@@ -20,11 +21,11 @@ use Rattle.mars_c.specs.declared.faults.CallRefusal.{CallRefusal}
 use Rattle.mars_c.specs.declared.faults.CallRefusal.TheVariants.{OutOfMemory}
 use Rattle.mars_c.specs.declared.settings.MarsSettings.{MarsSettings}
 
-abbrev total : List MarsWarrior → ℕ
+abbrev pub total : List MarsWarrior → ℕ
 total ns = sum_by (λ (one : MarsWarrior). one.length) ns
 
 -- Warriors that are read have as many cells as their lengths add up to.
-read_cells : (p : Parameters) (cells : List MarsCell) (ns : List MarsWarrior) (ws : List WarriorValue) (rest : List MarsCell) → Reads p cells ns ws rest → length cells ≡ total ns + length rest
+pub read_cells : (p : Parameters) (cells : List MarsCell) (ns : List MarsWarrior) (ws : List WarriorValue) (rest : List MarsCell) → Reads p cells ns ws rest → length cells ≡ total ns + length rest
 read_cells p cells [] [] rest all = let same : length cells ≡ length rest = ap (λ (l : List MarsCell). length l) all in let none : total [] ≡ 0 = refl in omega (arith, same, none)
 read_cells p cells [] (w ∷ ws) rest all = absurd all
 read_cells p cells (n ∷ ns) [] rest all = absurd all
@@ -54,8 +55,8 @@ too_many p cells ns i ws rest all past left same =
 -- The first warrior whose numbers are wrong makes the array wrong at its index.
 pub wrong_at : (p : Parameters) (cells : List MarsCell) (ns : List MarsWarrior) (i : ℕ) (d : MarsWarrior) (ws : List WarriorValue) (rest : List MarsCell) (fault : EntrantFault)
     → i < length ns → Reads p cells (take i ns) ws rest → (get_or ns i d).length ≤ length rest
-    → IsNoEntrant p (take (get_or ns i d).length rest) (get_or ns i d).start fault → IsWrong p cells ns i fault
-wrong_at p cells ns i d ws rest fault inside all few wrong = (ws, rest, get_or ns i d, slice_get-get_or ns i d inside, all, few, wrong)
+    → fault ≢ entrant.OutOfMemory → IsNoEntrant p (take (get_or ns i d).length rest) (get_or ns i d).start fault → IsWrong p cells ns i fault
+wrong_at p cells ns i d ws rest fault inside all few other wrong = (ws, rest, get_or ns i d, slice_get-get_or ns i d inside, all, few, other, wrong)
 
 -- A failed allocation in a match is a refusal of every call.
 pub memory : (s : MarsSettings) (text : List ℕ) (count : ℕ) (cells : List MarsCell) (entrants : List MarsWarrior) (fault : MatchFault) (refusal : CallRefusal)

@@ -1,13 +1,19 @@
--- The laws of the library: calls with the same arguments have the same results.
-use Rattle.std.specs.Prelude.{◌≡◌, ℕ, List, length}
+-- The laws of the library: calls with the same arguments have the same results, and the same errors.
+use Rattle.std.specs.Prelude.{◌≡◌, ◌≤◌, ℕ, List, length}
 use Rattle.mars_core.specs.State.{State}
+use Rattle.mars_match.specs.Leagues.{max_league_warriors}
 use Rattle.mars_session.specs.Script.{SessionState}
 use Rattle.mars_c.specs.Battles.{IsDebugged, IsStart}
-use Rattle.mars_c.specs.Blocks.{HoldsEdited}
+use Rattle.mars_c.specs.Blocks.{HoldsEdited, RefusesEdit, RefusesStart}
 use Rattle.mars_c.specs.Contests.{HoldsLeague, HoldsMatch, HoldsSums}
 use Rattle.mars_c.specs.Outcomes.{HoldsOutcomes}
+use Rattle.mars_c.specs.Refusals.{AreWarriors, RefusesLeague, RefusesMatch, RefusesPopulation}
 use Rattle.mars_c.specs.declared.cells.MarsCell.{MarsCell}
 use Rattle.mars_c.specs.declared.edits.MarsEdit.{MarsEdit}
+use Rattle.mars_c.specs.declared.faults.BlockRefusal.{BlockRefusal}
+use Rattle.mars_c.specs.declared.faults.BlockRefusal.TheVariants as block
+use Rattle.mars_c.specs.declared.faults.CallRefusal.{CallRefusal}
+use Rattle.mars_c.specs.declared.faults.CallRefusal.TheVariants.{OutOfMemory}
 use Rattle.mars_c.specs.declared.outcomes.MarsLineup.{MarsLineup}
 use Rattle.mars_c.specs.declared.outcomes.MarsOutcome.{MarsOutcome}
 use Rattle.mars_c.specs.declared.rows.MarsRow.{MarsRow}
@@ -48,3 +54,33 @@ EqualEdits = (numbers : MarsEdit) (words one other : List ℕ) → HoldsEdited n
 abbrev pub EqualReplies : Type 0
 EqualReplies = (start : State) (history : ℕ) (lines : List ℕ) (first second : SessionState) (one other : List ℕ)
     → IsDebugged start history lines first one → IsDebugged start history lines second other → one ≡ other
+
+-- If a match has a table, a call with its arguments is refused only because memory ran out: errors of the settings, the formula, the
+-- warriors and the match recur.
+abbrev pub MatchErrorsRecur : Type 0
+MatchErrorsRecur = (settings : MarsSettings) (formula : List ℕ) (cells : List MarsCell) (entrants : List MarsWarrior) (rows : List MarsRow) (refusal : CallRefusal)
+    → AreWarriors (length entrants) → length rows ≡ length entrants
+    → HoldsMatch settings formula cells entrants rows → RefusesMatch settings formula cells entrants (length rows) refusal → refusal ≡ OutOfMemory
+
+-- The same of a league.
+abbrev pub LeagueErrorsRecur : Type 0
+LeagueErrorsRecur = (settings : MarsSettings) (formula : List ℕ) (cells : List MarsCell) (entrants : List MarsWarrior) (rows : List MarsRow) (refusal : CallRefusal)
+    → length entrants ≤ max_league_warriors → length rows ≡ length entrants
+    → HoldsLeague settings formula cells entrants rows → RefusesLeague settings formula cells entrants (length rows) refusal → refusal ≡ OutOfMemory
+
+-- The same of a population.
+abbrev pub PopulationErrorsRecur : Type 0
+PopulationErrorsRecur = (settings : MarsSettings) (formula : List ℕ) (cells : List MarsCell) (entrants : List MarsWarrior) (rows : List MarsRow) (refusal : CallRefusal)
+    → length rows ≤ length entrants
+    → HoldsSums settings formula cells entrants rows → RefusesPopulation settings formula cells entrants (length rows) refusal → refusal ≡ OutOfMemory
+
+-- The same of the start of a battle.
+abbrev pub StartErrorsRecur : Type 0
+StartErrorsRecur = (settings : MarsSettings) (cells : List MarsCell) (entrants : List MarsWarrior) (round : ℕ) (start : State) (refusal : CallRefusal)
+    → AreWarriors (length entrants)
+    → IsStart settings cells entrants round start → RefusesStart settings cells entrants round refusal → refusal ≡ OutOfMemory
+
+-- The same of an edit.
+abbrev pub EditErrorsRecur : Type 0
+EditErrorsRecur = (numbers : MarsEdit) (words after : List ℕ) (refusal : BlockRefusal)
+    → HoldsEdited numbers words after → RefusesEdit words numbers refusal → refusal ≡ block.OutOfMemory

@@ -66,17 +66,20 @@ abbrev pub RefusesWriting : MarsSettings → List MarsCell → MarsProgram → C
 RefusesWriting s cells program OutOfMemory = ⊤
 RefusesWriting s cells program (OfParameters fault) = checked_parameters (parameters_in s) ≡ Err fault
 RefusesWriting s cells program (Settings Lengths) = program.warrior.length ≢ length cells
-RefusesWriting s cells program (Warrior index fault) = (p : Parameters) × (checked_parameters (parameters_in s) ≡ Ok p) × (index ≡ 0) × IsNoProgram p cells program fault
+RefusesWriting s cells program (Warrior index fault) = (p : Parameters) × (checked_parameters (parameters_in s) ≡ Ok p) × (index ≡ 0)
+    × (fault ≢ entrant.OutOfMemory) × IsNoProgram p cells program fault
 RefusesWriting s cells program other = ⊥
 
 -- The error is that of a refusal for which `Refuses` holds.
 abbrev pub Tells : (CallRefusal → Type 0) → MarsFault → Type 0
 Tells Refuses fault = (refusal : CallRefusal) × (fault ≡ fault_of refusal) × Refuses refusal
 
--- The warrior at this index is the first wrong one, with this error: the cells of those before it are read.
+-- The warrior at this index is the first wrong one, with this error, which is not `OutOfMemory`: the cells of those before it are
+-- read.
 abbrev pub IsWrong : Parameters → List MarsCell → List MarsWarrior → ℕ → EntrantFault → Type 0
 IsWrong p cells entrants index fault = (ws : List WarriorValue) × (rest : List MarsCell) × (one : MarsWarrior) × (slice_get entrants index ≡ Some one)
-    × Reads p cells (take index entrants) ws rest × (one.length ≤ length rest) × IsNoEntrant p (take one.length rest) one.start fault
+    × Reads p cells (take index entrants) ws rest × (one.length ≤ length rest) × (fault ≢ entrant.OutOfMemory)
+    × IsNoEntrant p (take one.length rest) one.start fault
 
 -- A setting is out of its range, or the lengths of the warriors do not add up to the number of cells. The position must fit
 -- battles of `warriors` warriors.

@@ -1,6 +1,6 @@
-//! Laws of the library: calls with the same arguments that succeed have the same results. The functions do nothing; their contracts
-//! are the laws.
-ghost use Rattle.mars_c.specs.Laws.{EqualEdits, EqualLeagues, EqualMatches, EqualOutcomes, EqualPopulations, EqualReplies, EqualStarts};
+//! Laws of the library: calls with the same arguments have the same results, and the same errors. The functions do nothing; their
+//! contracts are the laws.
+ghost use Rattle.mars_c.specs.Laws.{EditErrorsRecur, EqualEdits, EqualLeagues, EqualMatches, EqualOutcomes, EqualPopulations, EqualReplies, EqualStarts, LeagueErrorsRecur, MatchErrorsRecur, PopulationErrorsRecur, StartErrorsRecur};
 
 /// There is only one table of a match.
 pub fn equal_matches()
@@ -35,4 +35,30 @@ pub fn equal_edits()
 /// The debugger has only one reply to some lines.
 pub fn equal_replies()
     ensures { EqualReplies }
+{}
+
+/// If a match has a table, a call with its arguments is refused only because memory ran out: errors of the settings, the formula,
+/// the warriors and the match recur.
+pub fn match_errors_recur()
+    ensures { MatchErrorsRecur }
+{}
+
+/// The same of a league.
+pub fn league_errors_recur()
+    ensures { LeagueErrorsRecur }
+{}
+
+/// The same of a population.
+pub fn population_errors_recur()
+    ensures { PopulationErrorsRecur }
+{}
+
+/// The same of the start of a battle.
+pub fn start_errors_recur()
+    ensures { StartErrorsRecur }
+{}
+
+/// The same of an edit.
+pub fn edit_errors_recur()
+    ensures { EditErrorsRecur }
 {}

@@ -37,7 +37,7 @@ returns-in-Err c =
         c.args.params.now,
         checked,
         wrong_at c.args.params.now c.args.entrants.cells.now c.args.entrants.warriors.now c.loop-i.i none
-            c.loop-i.warriors.items c.loop-i.rest.now _ c.loop-i-test.true c.loop-i.invariant.1 split.0 (rw split.1 at c.in-Err.ensures.refused),
+            c.loop-i.warriors.items c.loop-i.rest.now _ c.loop-i-test.true c.loop-i.invariant.1 split.0 (search rules) (rw split.1 at c.in-Err.ensures.refused),
       );
     }
 
