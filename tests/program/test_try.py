@@ -66,8 +66,10 @@ def test_words(tmp_path: Path) -> None:
 
 def test_run() -> None:
     """The match of the README, unproved and proved."""
+    # The other tests run at the same time, perhaps on two processors.
+    patient = {**os.environ, "RT_SECONDS": "600"}
     unproved, proved = (
-        subprocess.run([program, *WORDS], cwd=TOP, capture_output=True, text=True)
+        subprocess.run([program, *WORDS], cwd=TOP, capture_output=True, text=True, env=patient)
         for program in (os.path.join(SCRIPTS, "try"), PROGRAM)
     )
     assert (unproved.returncode, unproved.stdout) == (0, proved.stdout)
