@@ -144,7 +144,7 @@ def test_rounds(run: Run, tmp_path: Path) -> None:
     assert lines[3].startswith("    0 win  loss     7798  corewar debug -r 3 ")
     assert lines[4].startswith("    1 ") and "--round 1" in lines[4]
     table = run("fight", "-r", 3, "@dwarf", "@imp").stdout.splitlines()
-    assert table[1].split()[1:4] == ["2", "1", "0"] and "warrior 0: 2 wins, 1 tie, 0 losses" in lines
+    assert table[1].split()[1:4] == ["2", "1", "0"] and "Dwarf by A. K. Dewdney: 2 wins, 1 tie, 0 losses" in lines
     assert done.stdout.endswith("match: index.html and match.html\n")
     index = (tmp_path / "match" / "index.html").read_text()
     assert all(f'href="match.html#r={number}"' in index for number in range(3))

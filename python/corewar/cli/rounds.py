@@ -70,8 +70,9 @@ def rounds(options: BattleOptions, pages: str | None) -> None:
     """
     fought = options.fight()
     width = 5 * len(fought.warriors)
-    for number, warrior in enumerate(fought.warriors):
-        click.echo(f"warrior {number}: {printable(warrior.title)}")
+    titles = [printable(warrior.title) for warrior in fought.warriors]
+    for number, title in enumerate(titles):
+        click.echo(f"warrior {number}: {title}")
     click.echo(f"round {'outcome':{width}} {'turns':>7}  command to debug it")
     if pages:
         from ..pages.match import Pages
@@ -84,8 +85,8 @@ def rounds(options: BattleOptions, pages: str | None) -> None:
         outcomes.append(one.outcomes)
         if pages:
             written.add(one)
-    for number, (wins, ties, losses) in enumerate(count_outcomes(outcomes)):
-        click.echo(f"warrior {number}: {pluralize(wins, 'win')}, {pluralize(ties, 'tie')}, {pluralize(losses, 'loss')}")
+    for title, (wins, ties, losses) in zip(titles, count_outcomes(outcomes)):
+        click.echo(f"{title}: {pluralize(wins, 'win')}, {pluralize(ties, 'tie')}, {pluralize(losses, 'loss')}")
     if pages:
         written.write_index()
         click.echo(f"{printable(pages)}: index.html and match.html")
