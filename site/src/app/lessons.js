@@ -121,7 +121,7 @@ export class Lessons {
     if (entry) shelf.show(entry);
     if (entry) this.host.edit();
     this.#open(lesson);
-    const fought = this.host.fight(sources);
+    const fought = this.host.fight(sources, TERMS);
     element("lesson-box").focus({ preventScroll: true });
     element("side").scrollTo(0, 0);
     // On a narrow page it is below the battle.
