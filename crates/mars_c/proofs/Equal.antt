@@ -75,8 +75,8 @@ module _ (p : Parameters) where
       warrior_is : (v w : WarriorValue) → v.name ≡ w.name → v.author ≡ w.author → v.cells ≡ w.cells → v.start ≡ w.start → v ≡ w
       warrior_is v w names authors cells starts =
           let whole : ◌≡◌ {A = WarriorValue}
-              (record { name = v.name; author = v.author; cells = v.cells; start = v.start })
-              (record { name = w.name; author = w.author; cells = w.cells; start = w.start }) = rw (names, authors, cells, starts) refl in
+          (record { name = v.name; author = v.author; cells = v.cells; start = v.start })
+          (record { name = w.name; author = w.author; cells = w.cells; start = w.start }) = rw (names, authors, cells, starts) refl in
           whole
 
   pub same_entrants : (cells : List MarsCell) (entrants : List MarsWarrior) (vs ws : List WarriorValue) (rest : List MarsCell)
@@ -176,7 +176,7 @@ module _ (s : MarsSettings) (ws : List WarriorValue) where
       let text = codes "0" in
       let chosen = some_same us vs (sym are ∙ too) in
       let table : fates_of (is_counting lineup) a.params us a.plan.fixed a.plan.rounds a.plan.seed ≡ fates_of (is_counting lineup) b.params vs b.plan.fixed b.plan.rounds b.plan.seed =
-          rw (chosen, params t text a b first second, fixed t text a b first second, rounds t text a b first second, seed t text a b first second) refl in
+      rw (chosen, params t text a b first second, fixed t text a b first second, rounds t text a b first second, seed t text a b first second) refl in
       ok_injective xs ys (sym is ∙ table ∙ too_is)
 
   same_fought : (lineups : List MarsLineup) (xs ys : List Fate) → AreFought s ws lineups xs → AreFought s ws lineups ys → xs ≡ ys

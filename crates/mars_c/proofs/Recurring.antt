@@ -69,9 +69,11 @@ module _ (p : Parameters) where
   read_at cells [] ws us rest left i one all front at = absurd (let none : None ≡ Some one = at in cc)
   read_at cells (e ∷ others) [] us rest left i one all front at = absurd all
   read_at cells (e ∷ others) (w ∷ ws) [] rest left zero one all front at =
-      let same : e ≡ one = same_Some e one at in
-      (w, subst (λ (one : MarsWarrior). IsEntrant p (take one.length left) one.start [] [] w) same
-      (subst (λ cells. IsEntrant p (take e.length cells) e.start [] [] w) front all.1))
+      let same : e ≡ one = same_Some e one at in (
+        w,
+        subst (λ (one : MarsWarrior). IsEntrant p (take one.length left) one.start [] [] w) same
+            (subst (λ cells. IsEntrant p (take e.length cells) e.start [] [] w) front all.1),
+      )
   read_at cells (e ∷ others) (w ∷ ws) (u ∷ us) rest left zero one all front at = absurd front
   read_at cells (e ∷ others) (w ∷ ws) [] rest left (suc i) one all front at = absurd front
   read_at cells (e ∷ others) (w ∷ ws) (u ∷ us) rest left (suc i) one all front at =
