@@ -1,8 +1,7 @@
 -- Calls with the same arguments have the same results.
-use Rattle.std.proofs.Common.{◌≡◌, refl, ap, sym, subst, ◌∙◌, ℕ, ◌+◌, ◌*◌, List, [], ◌∷◌, ◌++◌, length, map, take, drop, Option, None, Some, Result, Ok, Err, arith}
-use Rattle.std.specs.Prelude.{codes, slice_get}
+use Rattle.std.proofs.Common.{◌≡◌, refl, ap, sym, subst, ◌∙◌, ℕ, ◌+◌, ◌*◌, List, [], ◌∷◌, ◌++◌, length, map, take, drop, Option, Some, Result, Ok, arith}
+use Rattle.std.specs.Prelude.{codes}
 use Rattle.std.proofs.lemmas.Option.{same_Some}
-use Rattle.mars_cell.specs.ParameterFaults.{checked_parameters}
 use Rattle.mars_cell.specs.Parameters.{Parameters}
 use Rattle.mars_cell.specs.Warriors.{WarriorValue}
 use Rattle.mars_cell.specs.declared.instruction.Cell.{Cell}
@@ -20,21 +19,20 @@ use Rattle.mars_match.specs.Tables.{RowValue}
 use Rattle.mars_match.specs.declared.fault.MatchFault.{MatchFault}
 use Rattle.mars_match.specs.declared.fates.Fate.{Fate}
 use Rattle.mars_match.specs.declared.setup.Setup.{Setup}
-use Rattle.redcode_asm.specs.Formula.{formula_of}
 use Rattle.mars_app.specs.Debugging.{session_at}
 use Rattle.mars_app.specs.Debugger.Transcript.{Completes, until_quit}
 use Rattle.mars_cell.specs.Load.{lines_of}
 use Rattle.mars_session.specs.Script.{SessionState}
 use Rattle.mars_app.proofs.ForLaws.Given.{lines_of_all, ok_injective}
 use Rattle.mars_app.proofs.ForLaws.Replies.{replies, transcript_is}
-use Rattle.mars_c.specs.Battles.{IsDebugged, IsRound, round_start_state}
+use Rattle.mars_c.specs.Battles.{IsRound, round_start_state}
 use Rattle.mars_c.specs.Blocks.{Means}
 use Rattle.mars_c.specs.Cells.{plain_cell}
 use Rattle.mars_c.specs.Contests.{plain_row, plain_sum, population}
 use Rattle.mars_c.specs.Entrants.{AreEntrants, IsEntrant, Reads}
 use Rattle.mars_c.specs.Laws.{EqualEdits, EqualLeagues, EqualMatches, EqualOutcomes, EqualPopulations, EqualReplies, EqualStarts}
-use Rattle.mars_c.specs.Outcomes.{AreChosen, AreFought, IsFought, indices_of, is_counting, plain_fate, seeded}
-use Rattle.mars_c.specs.Settings.{IsSetup, parameters_in}
+use Rattle.mars_c.specs.Outcomes.{AreFought, IsFought, is_counting, plain_fate, seeded}
+use Rattle.mars_c.specs.Settings.{IsSetup}
 use Rattle.mars_c.specs.declared.cells.MarsCell.{MarsCell}
 use Rattle.mars_c.specs.declared.edits.MarsEdit.{MarsEdit}
 use Rattle.mars_c.specs.declared.outcomes.MarsLineup.{MarsLineup}

@@ -1,6 +1,6 @@
 -- Errors of arguments recur: a call that can succeed is refused only because memory ran out.
-use Rattle.std.proofs.Common.{◌≡◌, ◌≢◌, refl, ap, sym, subst, ◌∙◌, arith, ℕ, zero, suc, ◌≤◌, List, [], ◌∷◌, length, map, take, drop, Option, None, Some, Result, Ok, Err, inl, inr}
-use Rattle.std.specs.Prelude.{All, codes, slice_get, sum_by}
+use Rattle.std.proofs.Common.{◌≡◌, ◌≢◌, refl, ap, sym, subst, ◌∙◌, arith, ℕ, zero, suc, List, [], ◌∷◌, length, map, take, drop, None, Some, Result, Ok, Err, inl, inr}
+use Rattle.std.specs.Prelude.{All, codes, slice_get}
 use Rattle.std.proofs.lemmas.List.Elements.{All-head, All-tail}
 use Rattle.std.proofs.lemmas.Option.{same_Some}
 use Rattle.mars_cell.specs.Cells.{FitsCore}
@@ -9,7 +9,6 @@ use Rattle.mars_cell.specs.Parameters.{Parameters}
 use Rattle.mars_cell.specs.Warriors.{WarriorValue}
 use Rattle.mars_cell.specs.declared.instruction.Cell.{Cell}
 use Rattle.mars_core.specs.Edit.{edit_fault}
-use Rattle.mars_core.specs.State.{State}
 use Rattle.mars_core.proofs.BlockReadBack.{one_spelled}
 use Rattle.mars_match.specs.Placement.{FitsTwo}
 use Rattle.mars_match.specs.declared.fault.MatchFault.{MatchFault}
@@ -34,7 +33,7 @@ use Rattle.mars_c.specs.declared.warriors.EntrantFault.{EntrantFault}
 use Rattle.mars_c.specs.declared.warriors.EntrantFault.TheVariants as entrant
 use Rattle.mars_c.specs.declared.warriors.MarsWarrior.{MarsWarrior}
 use Rattle.mars_c.proofs.Equal.{league_in, match_of, one_cell, one_edit, round_starts, same_league, same_match, same_population, same_start}
-use Rattle.mars_c.proofs.Refused.{read_cells, total}
+use Rattle.mars_c.proofs.Refused.{read_cells}
 
 not_both : {X F : Type 0} (r : Result X F) (x : X) (f : F) → r ≡ Ok x → r ≡ Err f → ⊥
 not_both {X} {F} r x f is fails = let same : ◌≡◌ {A = Result X F} (Ok x) (Err f) = sym is ∙ fails in cc

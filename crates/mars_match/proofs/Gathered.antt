@@ -1,6 +1,5 @@
 -- The fates of one more round.
 use Rattle.std.proofs.Common.{◌≡◌, refl, ap, ℕ, suc, ◌+◌, ◌-◌, ◌%◌, ◌<◌, ◌≤◌, List, [], ◌∷◌, ◌++◌, length, drop, get_or, Bool, true, false, nat_le, inl, inr, sym, ◌∙◌, Option, None, Some, Result, Ok, Err, append_assoc, arith}
-use Rattle.std.specs.Prelude.{slice_index_or, if◌then◌else◌}
 use Rattle.std.proofs.lemmas.Bool.{cases_lt}
 use Rattle.std.proofs.lemmas.List.{append-nil, drop_more}
 use Rattle.mars_cell.specs.Parameters.{Parameters}
@@ -9,7 +8,6 @@ use Rattle.mars_core.specs.State.{State}
 use Rattle.mars_core.specs.declared.battle.start.BattleFault.{BattleFault}
 use Rattle.redcode_text.specs.Results.{◌>>=◌}
 use Rattle.mars_match.specs.Battles.{count_fault, end_of, round_fault, round_start, started}
-use Rattle.mars_match.specs.Counts.{counts_of}
 use Rattle.mars_match.specs.Code.Deeds.{AreCounts, listed_at}
 use Rattle.mars_match.specs.Fates.{deeds_of, ended, fate_of, fates, fates_from, fates_of, no_counts, place_of, round_fates}
 use Rattle.mars_match.specs.Rounds.{placed_for}

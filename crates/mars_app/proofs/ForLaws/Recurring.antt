@@ -1,6 +1,6 @@
 -- An error of the arguments or the files recurs.
 use Rattle.std.proofs.Common.{◌≡◌, refl, ap, sym, subst, ◌∙◌, arith, ℕ, true, false, List, [], ◌∷◌, ◌++◌, Option, None, Some, Result, Ok, Err, inl, inr}
-use Rattle.std.specs.Prelude.{All, IsNone, IsSome, IfSome, ◌<◌, ◌≤◌, Bool, length}
+use Rattle.std.specs.Prelude.{All, IsNone, IsSome, IfSome, ◌<◌, length}
 use Rattle.std.proofs.lemmas.List.Elements.{All-head, All-tail}
 use Rattle.clap.specs.Kinds.{IsAmong}
 use Rattle.mars_cell.specs.Load.{load}
@@ -17,7 +17,7 @@ use Rattle.mars_app.specs.Debugging.{first_round}
 use Rattle.mars_app.specs.Faults.{FailsToLoad, FirstFails, IsFaultOfFile, IsReadFaultOfFile, RunFails}
 use Rattle.mars_app.specs.Faults.RunFails.{bad, starved, unhelped, not_allowed, not_scored, not_loaded, not_written, not_debugged, not_contested}
 use Rattle.mars_app.specs.Laws.{AreGiven, ErrorsRecur, is_of_system}
-use Rattle.mars_app.specs.Loading.{AreLoaded, IsLoaded, is_load_file, max_file_len, warrior_of_file}
+use Rattle.mars_app.specs.Loading.{AreLoaded, IsLoaded, is_load_file, max_file_len}
 use Rattle.mars_app.specs.Options.{AreBad, Ask, OptionsValue, are_allowed, parameters_of, said_by}
 use Rattle.mars_app.specs.Runs.{Asked, RunSucceeds}
 use Rattle.mars_app.specs.Runs.RunSucceeds.{helped, written, debugged, contested}

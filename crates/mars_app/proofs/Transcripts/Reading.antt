@@ -1,24 +1,23 @@
 -- The steps of the debugger, one after another.
-use Rattle.std.proofs.Common.{◌≡◌, ◌≢◌, refl, ℕ, ◌+◌, ◌<◌, Bool, true, false, nat_eq, List, [], ◌∷◌, ◌++◌, Option, length, take, drop, get_or, take-append-drop, sym, ap, subst, ◌∙◌, inl, inr, append_assoc, append-nil}
+use Rattle.std.proofs.Common.{◌≡◌, ◌≢◌, refl, ℕ, ◌+◌, ◌<◌, Bool, true, false, nat_eq, List, [], ◌∷◌, ◌++◌, Option, length, take, drop, get_or, take-append-drop, sym, subst, ◌∙◌, inl, inr, append_assoc, append-nil}
 use Rattle.std.proofs.lemmas.Grind.{flat_map-append}
 use Rattle.std.proofs.lemmas.List.{take_more}
 use Rattle.std.proofs.Math.Dec.{eqb-suc-zero}
 use Rattle.std.proofs.KnownBytes.{Appends-trans, Appends-nil, Consumes-nil, Consumes-trans}
-use Rattle.std.specs.List.{flat_map, AllByRecursion}
+use Rattle.std.specs.List.{AllByRecursion}
 use Rattle.std.specs.Io.KnownBytes.{Appends, Consumes, IsAtEnd}
 use Rattle.mars_session.specs.Script.{SessionState}
 use Rattle.mars_app.specs.declared.debugger.line_buffer.LineBuffer.{LineBuffer}
 use Rattle.mars_app.specs.declared.debugger.request.Request.{Request}
 use Rattle.mars_app.specs.declared.debugger.request.Request.TheVariants.{Quit}
 use Rattle.mars_app.specs.Code.LineBuffer.{Holds}
-use Rattle.mars_cell.specs.Load.{lines_of}
 use Rattle.mars_cell.specs.Written.{with_newline}
 use Rattle.mars_app.specs.Debugger.Lines.{IsLine, line_asks}
 use Rattle.mars_cell.specs.Output.{CutShort}
 use Rattle.mars_app.specs.Debugger.Transcript.{Transcript, GoesOn, Completes, WriteFails, answer, until_quit}
 use Rattle.mars_app.specs.Debugger.Transcript.EndsIn.{at_newline, at_end}
 use Rattle.mars_app.specs.Debugger.Transcript.Transcript.{none, line}
-use Rattle.mars_app.specs.Code.Steps.{GoesThrough, Quits, WriteFailsWithin, ReadsOn, Quitting, Finishes, WriteFailsAtEnd}
+use Rattle.mars_app.specs.Code.Steps.{GoesThrough, Quits, WriteFailsWithin, ReadsOn, Finishes, WriteFailsAtEnd}
 use Rattle.mars_app.proofs.Transcripts.LinesOf.{executed_lines, last_of, more_bytes, quit_before, until_quit-is, until_quit-one, until_quit-quit}
 
 -- ---- The core size under another name

@@ -1,11 +1,11 @@
 -- What does not hold, a condition at a time: files that fail, lines that are split, and debuggers that stop.
 use Rattle.std.specs.Prelude.{◌≡◌, ℕ, List, [], ◌∷◌, ◌++◌, Option, None, Some, codes, refl}
-use Rattle.std.proofs.Common.{ap, subst, sym, ◌∙◌}
+use Rattle.std.proofs.Common.{subst, sym, ◌∙◌}
 use Rattle.mars_cell.specs.Numbers.{parse_digits}
 use Rattle.mars_cell.specs.Parameters.{Parameters}
 use Rattle.mars_cell.specs.Warriors.{WarriorValue}
 use Rattle.mars_session.specs.Script.{SessionState}
-use Rattle.mars_app.specs.Debugger.Lines.{Splits, line_asks}
+use Rattle.mars_app.specs.Debugger.Lines.{Splits}
 use Rattle.mars_app.specs.Debugger.Requests.{alone, command_request, one_number, request_of, with_arguments}
 use Rattle.mars_app.specs.Debugger.Transcript.{BrokenAt, NothingDone, Transcript, answer}
 use Rattle.mars_app.specs.Debugger.Transcript.Transcript.{none, line}
