@@ -11,6 +11,5 @@ pub mod Blocks
 pub mod Debugging
 pub mod Refusals
 pub mod Outcomes
-pub mod Laws
 pub mod Codes
 pub mod Examples

@@ -16,7 +16,6 @@ mod edits;
 mod entrants;
 mod exports;
 mod faults;
-pub mod laws;
 mod numbers;
 mod outcomes;
 mod playing;

@@ -1,5 +1,0 @@
-use Rattle.mars_c.proofs.Equal.{equal_populations}
-use Rattle.mars_c.proofs.laws.equal_populations.Goals as goal
-
-pub returns : goal.returns
-returns c = equal_populations

@@ -1,5 +1,0 @@
-use Rattle.mars_c.proofs.Recurring.{match_errors_recur}
-use Rattle.mars_c.proofs.laws.match_errors_recur.Goals as goal
-
-pub returns : goal.returns
-returns c = match_errors_recur

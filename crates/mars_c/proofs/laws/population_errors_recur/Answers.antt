@@ -1,5 +1,0 @@
-use Rattle.mars_c.proofs.Recurring.{population_errors_recur}
-use Rattle.mars_c.proofs.laws.population_errors_recur.Goals as goal
-
-pub returns : goal.returns
-returns c = population_errors_recur
