@@ -11,5 +11,6 @@ pub mod Blocks
 pub mod Debugging
 pub mod Refusals
 pub mod Outcomes
+pub mod Laws
 pub mod Codes
 pub mod Examples

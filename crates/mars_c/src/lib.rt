@@ -16,6 +16,7 @@ mod edits;
 mod entrants;
 mod exports;
 mod faults;
+pub mod laws;
 mod numbers;
 mod outcomes;
 mod playing;

@@ -1,0 +1,3 @@
+-- Lemmas that the laws use, but no function of this crate.
+pub mod Equal
+pub mod Recurring

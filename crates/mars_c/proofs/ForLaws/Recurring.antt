@@ -1,0 +1,147 @@
+-- Errors of arguments recur: a call that can succeed is refused only because memory ran out.
+use Rattle.std.proofs.Common.{◌≡◌, ◌≢◌, ◌⊎◌, refl, ap, sym, subst, ◌∙◌, arith, ℕ, zero, suc, List, [], ◌∷◌, length, map, take, drop, None, Some, Result, Ok, Err, inl, inr}
+use Rattle.std.specs.Prelude.{All, codes, slice_get}
+use Rattle.std.proofs.lemmas.List.Elements.{All-head, All-tail}
+use Rattle.std.proofs.lemmas.Option.{same_Some}
+use Rattle.mars_cell.specs.Cells.{FitsCore}
+use Rattle.mars_cell.specs.ParameterFaults.{checked_parameters}
+use Rattle.mars_cell.specs.Parameters.{Parameters}
+use Rattle.mars_cell.specs.Warriors.{WarriorValue}
+use Rattle.mars_cell.specs.declared.instruction.Cell.{Cell}
+use Rattle.mars_match.specs.Placement.{FitsTwo}
+use Rattle.mars_match.specs.declared.fault.MatchFault.{MatchFault}
+use Rattle.mars_match.specs.declared.setup.Setup.{Setup}
+use Rattle.mars_c.specs.Battles.{round_start_state}
+use Rattle.mars_c.specs.Cells.{plain_cell}
+use Rattle.mars_c.specs.Contests.{population}
+use Rattle.mars_c.specs.Entrants.{AreEntrants, IsEntrant, IsNoEntrant, Reads}
+use Rattle.mars_c.specs.Laws.{LeagueErrorsRecur, MatchErrorsRecur, PopulationErrorsRecur, StartErrorsRecur}
+use Rattle.mars_c.specs.Refusals.{Fails, IsOutside, IsWrong, RefusesEntry}
+use Rattle.mars_c.specs.Settings.{IsSetup, parameters_in, position_of}
+use Rattle.mars_c.specs.declared.cells.MarsCell.{MarsCell}
+use Rattle.mars_c.specs.declared.faults.CallRefusal.{CallRefusal}
+use Rattle.mars_c.specs.declared.faults.CallRefusal.TheVariants as call
+use Rattle.mars_c.specs.declared.ranges.SettingsFault.{SettingsFault}
+use Rattle.mars_c.specs.declared.ranges.SettingsFault.TheVariants as settings
+use Rattle.mars_c.specs.declared.settings.MarsSettings.{MarsSettings}
+use Rattle.mars_c.specs.declared.warriors.EntrantFault.{EntrantFault}
+use Rattle.mars_c.specs.declared.warriors.EntrantFault.TheVariants as entrant
+use Rattle.mars_c.specs.declared.warriors.MarsWarrior.{MarsWarrior}
+use Rattle.mars_c.proofs.ForLaws.Equal.{league_in, match_of, ok_injective, one_cell, round_starts, same_given}
+use Rattle.mars_c.proofs.Refused.{read_cells}
+
+not_both : {X F : Type 0} (r : Result X F) (x : X) (f : F) → r ≡ Ok x → r ≡ Err f → ⊥
+not_both {X} {F} r x f is fails = let same : ◌≡◌ {A = Result X F} (Ok x) (Err f) = sym is ∙ fails in cc
+
+-- ---- Warriors
+
+-- The numbers at an index are those of a cell that fits the core.
+cell_at : (m : ℕ) (xs : List Cell) (i : ℕ) (y : MarsCell) → All (FitsCore m) xs → slice_get (map plain_cell xs) i ≡ Some y
+    → (x : Cell) × (plain_cell x ≡ y) × FitsCore m x
+cell_at m [] i y fits at = absurd (let none : None ≡ Some y = at in cc)
+cell_at m (x ∷ xs) zero y fits at = (x, same_Some (plain_cell x) y at, All-head (FitsCore m) x xs fits)
+cell_at m (x ∷ xs) (suc i) y fits at = cell_at m xs i y (All-tail (FitsCore m) x xs fits) at
+
+module _ (p : Parameters) where
+  is_entrant : (cells : List MarsCell) (start : ℕ) (w : WarriorValue) (f : EntrantFault) → IsEntrant p cells start [] [] w
+      → f ≢ entrant.OutOfMemory → IsNoEntrant p cells start f → ⊥
+  is_entrant cells start w entrant.Length e other broken = broken (omega (arith, e.inside)) e.short
+  is_entrant cells start w entrant.Start e other broken = omega (arith, e.inside, broken)
+  is_entrant cells start w (entrant.Cell i) e other (numbers, at, broken) =
+      let found = cell_at p.core_size w.cells i numbers e.fits (rw (← e.cells_same) at at) in
+      broken found.0 found.1
+  is_entrant cells start w (entrant.Field i) e other (cell, at, outside) =
+      let found = cell_at p.core_size w.cells i (plain_cell cell) e.fits (rw (← e.cells_same) at at) in
+      outside (subst (FitsCore p.core_size) (one_cell found.0 cell found.1) found.2)
+  is_entrant cells start w entrant.Name e other broken = broken
+  is_entrant cells start w entrant.OutOfMemory e other broken = other refl
+
+  -- A warrior is read from the same cells, however many others are read after it.
+  read_at : (cells : List MarsCell) (entrants : List MarsWarrior) (ws us : List WarriorValue) (rest left : List MarsCell) (i : ℕ) (one : MarsWarrior)
+      → Reads p cells entrants ws rest → Reads p cells (take i entrants) us left → slice_get entrants i ≡ Some one
+      → (w : WarriorValue) × IsEntrant p (take one.length left) one.start [] [] w
+  read_at cells [] ws us rest left i one all front at = absurd (let none : None ≡ Some one = at in cc)
+  read_at cells (e ∷ others) [] us rest left i one all front at = absurd all
+  read_at cells (e ∷ others) (w ∷ ws) [] rest left zero one all front at =
+      let same : e ≡ one = same_Some e one at in (
+        w,
+        subst (λ (one : MarsWarrior). IsEntrant p (take one.length left) one.start [] [] w) same
+            (subst (λ cells. IsEntrant p (take e.length cells) e.start [] [] w) front all.1),
+      )
+  read_at cells (e ∷ others) (w ∷ ws) (u ∷ us) rest left (suc i) one all front at =
+      read_at (drop e.length cells) others ws us rest left i one all.2 front.2 at
+  read_at cells (e ∷ others) (w ∷ ws) us rest left i one all front at = absurd front
+
+  -- As many warriors are read as there are entrants.
+  as_many : (cells : List MarsCell) (entrants : List MarsWarrior) (ws : List WarriorValue) (rest : List MarsCell)
+      → Reads p cells entrants ws rest → length ws ≡ length entrants
+  as_many cells [] [] rest all = refl
+  as_many cells (e ∷ others) (w ∷ ws) rest all = ap suc (as_many (drop e.length cells) others ws rest all.2)
+  as_many cells entrants ws rest all = absurd all
+
+-- ---- A call without an error
+
+module _ (s : MarsSettings) (text : List ℕ) (cells : List MarsCell) (entrants : List MarsWarrior) (a : Setup) (ws : List WarriorValue)
+    (made : IsSetup s text a) (are : AreEntrants a.params cells entrants ws) where
+  same_params : (p : Parameters) → checked_parameters (parameters_in s) ≡ Ok p → p ≡ a.params
+  same_params p allowed = ok_injective p a.params (sym allowed ∙ made.params)
+
+  not_wrong : (i : ℕ) (f : EntrantFault) → IsWrong a.params cells entrants i f → ⊥
+  not_wrong i f (us, left, one, at, front, few, other, broken) =
+      let read = read_at a.params cells entrants ws us [] left i one are front at in
+      is_entrant a.params (take one.length left) one.start read.0 f read.1 other broken
+
+  pub fits_all : FitsTwo a.params (length ws) a.plan.fixed → FitsTwo a.params (length entrants) a.plan.fixed
+  fits_all fits = subst (λ n. FitsTwo a.params n a.plan.fixed) (as_many a.params cells entrants ws [] are) fits
+
+  module _ (count : ℕ) (fits : FitsTwo a.params count a.plan.fixed) where
+    inside : (f : SettingsFault) → IsOutside s count cells entrants f → ⊥
+    inside settings.Rounds outside = outside made.rounds_allowed
+    inside settings.Seed outside = outside made.seed_allowed
+    inside settings.Position (p, allowed, outside) =
+        outside (subst (λ p. FitsTwo p count (position_of s.position)) (sym (same_params p allowed)) (subst (FitsTwo a.params count) made.fixed fits))
+    inside settings.Lengths outside = outside (omega (arith, read_cells a.params cells entrants ws [] are))
+    inside other outside = outside
+
+    entered : (refusal : CallRefusal) → RefusesEntry s text count cells entrants refusal → refusal ≡ call.OutOfMemory
+    entered call.OutOfMemory h = refl
+    entered (call.Settings f) h = absurd (inside f h)
+    entered (call.Parameters f) h = absurd (not_both (checked_parameters (parameters_in s)) a.params f made.params h)
+    entered (call.Formula f) h = absurd (not_both _ a.plan.formula f made.formula h)
+    entered (call.Warrior i f) (p, allowed, wrong) = absurd (not_wrong i f (subst (λ p. IsWrong p cells entrants i f) (same_params p allowed) wrong))
+    entered other h = absurd h
+
+    -- If what the warriors do has a result, the call is refused only because memory ran out.
+    pub only_memory : {X : Type 0} (fought : Setup → List WarriorValue → Result X MatchFault) (x : X) (refusal : CallRefusal) → fought a ws ≡ Ok x
+        → RefusesEntry s text count cells entrants refusal ⊎ Fails s text cells entrants fought refusal → refusal ≡ call.OutOfMemory
+    only_memory fought x refusal is (inl entry) = entered refusal entry
+    only_memory fought x refusal is (inr (b, us, fault, too, read, fails, refused)) =
+        absurd (not_both (fought b us) x fault (sym (same_given s text cells entrants a b ws us made too are read fought) ∙ is) fails)
+
+-- ---- The laws
+
+pub match_errors_recur : MatchErrorsRecur
+match_errors_recur s text cells entrants rows refusal few many held (inl counted) = absurd (counted.1 few)
+match_errors_recur s text cells entrants rows refusal few many held (inr (inl counted)) = absurd (counted.1 many)
+match_errors_recur s text cells entrants rows refusal few many (table, (a, ws, made, are, fits, is), holds) (inr (inr refused)) =
+    let fit = fits_all s text cells entrants a ws made are fits in
+    only_memory s text cells entrants a ws made are (length entrants) fit match_of table refusal is refused
+
+pub league_errors_recur : LeagueErrorsRecur
+league_errors_recur s text cells entrants rows refusal few many held (inl counted) = absurd (counted.1 few)
+league_errors_recur s text cells entrants rows refusal few many held (inr (inl counted)) = absurd (counted.1 many)
+league_errors_recur s text cells entrants rows refusal few many (table, (a, ws, made, are, free, is), holds) (inr (inr refused)) =
+    only_memory s text cells entrants a ws made are 0 (rw free tt) league_in table refusal (rw free is) refused
+
+pub population_errors_recur : PopulationErrorsRecur
+population_errors_recur s text cells entrants rows refusal few held (inl counted) = absurd (counted.1 few)
+population_errors_recur s text cells entrants rows refusal few (a, ws, sums, made, are, fits, is, holds) (inr refused) =
+    only_memory s text cells entrants a ws made are 2 fits (λ a ws. population a (length rows) ws) sums refusal is refused
+
+pub start_errors_recur : StartErrorsRecur
+start_errors_recur s cells entrants round start refusal few held (inl counted) = absurd (counted.1 few)
+start_errors_recur s cells entrants round start refusal few (a, ws, made, are, fits, within, begins) (inr (inl late)) = absurd (late.1 within)
+start_errors_recur s cells entrants round start refusal few (a, ws, made, are, fits, within, begins) (inr (inr refused)) =
+    let fit = fits_all s (codes "0") cells entrants a ws made are fits in
+    only_memory s (codes "0") cells entrants a ws made are (length entrants) fit (λ a ws. round_start_state a ws round) start refusal
+    (round_starts a ws round start begins) refused

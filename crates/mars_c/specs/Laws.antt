@@ -1,0 +1,68 @@
+-- The laws of the library: calls with the same arguments have the same results, and the same errors.
+use Rattle.std.specs.Prelude.{◌≡◌, ◌≤◌, ℕ, List, length}
+use Rattle.mars_core.specs.State.{State}
+use Rattle.mars_match.specs.Leagues.{max_league_warriors}
+use Rattle.mars_c.specs.Battles.{IsStart}
+use Rattle.mars_c.specs.Blocks.{RefusesStart}
+use Rattle.mars_c.specs.Contests.{HoldsLeague, HoldsMatch, HoldsSums}
+use Rattle.mars_c.specs.Outcomes.{HoldsOutcomes}
+use Rattle.mars_c.specs.Refusals.{AreWarriors, RefusesLeague, RefusesMatch, RefusesPopulation}
+use Rattle.mars_c.specs.declared.cells.MarsCell.{MarsCell}
+use Rattle.mars_c.specs.declared.faults.CallRefusal.{CallRefusal}
+use Rattle.mars_c.specs.declared.faults.CallRefusal.TheVariants.{OutOfMemory}
+use Rattle.mars_c.specs.declared.outcomes.MarsLineup.{MarsLineup}
+use Rattle.mars_c.specs.declared.outcomes.MarsOutcome.{MarsOutcome}
+use Rattle.mars_c.specs.declared.rows.MarsRow.{MarsRow}
+use Rattle.mars_c.specs.declared.settings.MarsSettings.{MarsSettings}
+use Rattle.mars_c.specs.declared.warriors.MarsWarrior.{MarsWarrior}
+
+-- There is only one table of a match.
+abbrev pub EqualMatches : Type 0
+EqualMatches = (settings : MarsSettings) (formula : List ℕ) (cells : List MarsCell) (entrants : List MarsWarrior) (one other : List MarsRow)
+    → HoldsMatch settings formula cells entrants one → HoldsMatch settings formula cells entrants other → one ≡ other
+
+-- There is only one table of a league.
+abbrev pub EqualLeagues : Type 0
+EqualLeagues = (settings : MarsSettings) (formula : List ℕ) (cells : List MarsCell) (entrants : List MarsWarrior) (one other : List MarsRow)
+    → HoldsLeague settings formula cells entrants one → HoldsLeague settings formula cells entrants other → one ≡ other
+
+-- There is only one list of sums of a population with as many candidates.
+abbrev pub EqualPopulations : Type 0
+EqualPopulations = (settings : MarsSettings) (formula : List ℕ) (cells : List MarsCell) (entrants : List MarsWarrior) (one other : List MarsRow)
+    → length one ≡ length other
+    → HoldsSums settings formula cells entrants one → HoldsSums settings formula cells entrants other → one ≡ other
+
+-- There is only one list of outcomes of some lineups.
+abbrev pub EqualOutcomes : Type 0
+EqualOutcomes = (settings : MarsSettings) (cells : List MarsCell) (entrants : List MarsWarrior) (lineups : List MarsLineup) (one other : List MarsOutcome)
+    → HoldsOutcomes settings cells entrants lineups one → HoldsOutcomes settings cells entrants lineups other → one ≡ other
+
+-- There is only one battle with which a round starts.
+abbrev pub EqualStarts : Type 0
+EqualStarts = (settings : MarsSettings) (cells : List MarsCell) (entrants : List MarsWarrior) (round : ℕ) (one other : State)
+    → IsStart settings cells entrants round one → IsStart settings cells entrants round other → one ≡ other
+
+-- If a match has a table, a call with its arguments is refused only because memory ran out: errors of the settings, the formula, the
+-- warriors and the match recur.
+abbrev pub MatchErrorsRecur : Type 0
+MatchErrorsRecur = (settings : MarsSettings) (formula : List ℕ) (cells : List MarsCell) (entrants : List MarsWarrior) (rows : List MarsRow) (refusal : CallRefusal)
+    → AreWarriors (length entrants) → length rows ≡ length entrants
+    → HoldsMatch settings formula cells entrants rows → RefusesMatch settings formula cells entrants (length rows) refusal → refusal ≡ OutOfMemory
+
+-- The same of a league.
+abbrev pub LeagueErrorsRecur : Type 0
+LeagueErrorsRecur = (settings : MarsSettings) (formula : List ℕ) (cells : List MarsCell) (entrants : List MarsWarrior) (rows : List MarsRow) (refusal : CallRefusal)
+    → length entrants ≤ max_league_warriors → length rows ≡ length entrants
+    → HoldsLeague settings formula cells entrants rows → RefusesLeague settings formula cells entrants (length rows) refusal → refusal ≡ OutOfMemory
+
+-- The same of a population.
+abbrev pub PopulationErrorsRecur : Type 0
+PopulationErrorsRecur = (settings : MarsSettings) (formula : List ℕ) (cells : List MarsCell) (entrants : List MarsWarrior) (rows : List MarsRow) (refusal : CallRefusal)
+    → length rows ≤ length entrants
+    → HoldsSums settings formula cells entrants rows → RefusesPopulation settings formula cells entrants (length rows) refusal → refusal ≡ OutOfMemory
+
+-- The same of the start of a battle.
+abbrev pub StartErrorsRecur : Type 0
+StartErrorsRecur = (settings : MarsSettings) (cells : List MarsCell) (entrants : List MarsWarrior) (round : ℕ) (start : State) (refusal : CallRefusal)
+    → AreWarriors (length entrants)
+    → IsStart settings cells entrants round start → RefusesStart settings cells entrants round refusal → refusal ≡ OutOfMemory

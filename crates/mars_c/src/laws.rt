@@ -1,0 +1,49 @@
+//! Laws of the library: calls with the same arguments have the same results, and the same errors. The functions do nothing; their
+//! contracts are the laws.
+ghost use Rattle.mars_c.specs.Laws.{EqualLeagues, EqualMatches, EqualOutcomes, EqualPopulations, EqualStarts, LeagueErrorsRecur, MatchErrorsRecur, PopulationErrorsRecur, StartErrorsRecur};
+
+/// There is only one table of a match.
+pub fn equal_matches()
+    ensures { EqualMatches }
+{}
+
+/// There is only one table of a league.
+pub fn equal_leagues()
+    ensures { EqualLeagues }
+{}
+
+/// There is only one list of sums of a population.
+pub fn equal_populations()
+    ensures { EqualPopulations }
+{}
+
+/// There is only one list of outcomes of some lineups.
+pub fn equal_outcomes()
+    ensures { EqualOutcomes }
+{}
+
+/// There is only one battle with which a round starts.
+pub fn equal_starts()
+    ensures { EqualStarts }
+{}
+
+/// If a match has a table, a call with its arguments is refused only because memory ran out: errors of the settings, the formula,
+/// the warriors and the match recur.
+pub fn match_errors_recur()
+    ensures { MatchErrorsRecur }
+{}
+
+/// The same of a league.
+pub fn league_errors_recur()
+    ensures { LeagueErrorsRecur }
+{}
+
+/// The same of a population.
+pub fn population_errors_recur()
+    ensures { PopulationErrorsRecur }
+{}
+
+/// The same of the start of a battle.
+pub fn start_errors_recur()
+    ensures { StartErrorsRecur }
+{}
