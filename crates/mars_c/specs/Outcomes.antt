@@ -1,5 +1,5 @@
 -- How each warrior fares in each round of many matches.
-use Rattle.std.specs.Prelude.{◌≡◌, ◌*◌, ◌++◌, ◌==◌, ◌<◌, ◌⊎◌, ℕ, All, Bool, List, [], ◌∷◌, Option, Some, Ok, Err, codes, if◌then◌else◌, length, map, not, slice_get, sum_by, take}
+use Rattle.std.specs.Prelude.{◌≡◌, ◌*◌, ◌++◌, ◌==◌, ◌<◌, ◌⊎◌, ℕ, All, Bool, List, [], ◌∷◌, Some, Ok, Err, codes, if◌then◌else◌, length, map, not, slice_get, sum_by, take}
 use Rattle.mars_cell.specs.Parameters.{Parameters}
 use Rattle.mars_cell.specs.ParameterFaults.{checked_parameters}
 use Rattle.mars_cell.specs.Warriors.{WarriorValue}
