@@ -49,19 +49,19 @@ MatchErrorsRecur = (settings : MarsSettings) (formula : List ℕ) (cells : List 
     → AreWarriors (length entrants) → length rows ≡ length entrants
     → HoldsMatch settings formula cells entrants rows → RefusesMatch settings formula cells entrants (length rows) refusal → refusal ≡ OutOfMemory
 
--- The same of a league.
+-- The same holds for a league.
 abbrev pub LeagueErrorsRecur : Type 0
 LeagueErrorsRecur = (settings : MarsSettings) (formula : List ℕ) (cells : List MarsCell) (entrants : List MarsWarrior) (rows : List MarsRow) (refusal : CallRefusal)
     → length entrants ≤ max_league_warriors → length rows ≡ length entrants
     → HoldsLeague settings formula cells entrants rows → RefusesLeague settings formula cells entrants (length rows) refusal → refusal ≡ OutOfMemory
 
--- The same of a population.
+-- The same holds for a population.
 abbrev pub PopulationErrorsRecur : Type 0
 PopulationErrorsRecur = (settings : MarsSettings) (formula : List ℕ) (cells : List MarsCell) (entrants : List MarsWarrior) (rows : List MarsRow) (refusal : CallRefusal)
     → length rows ≤ length entrants
     → HoldsSums settings formula cells entrants rows → RefusesPopulation settings formula cells entrants (length rows) refusal → refusal ≡ OutOfMemory
 
--- The same of the start of a battle.
+-- The same holds for the start of a battle.
 abbrev pub StartErrorsRecur : Type 0
 StartErrorsRecur = (settings : MarsSettings) (cells : List MarsCell) (entrants : List MarsWarrior) (round : ℕ) (start : State) (refusal : CallRefusal)
     → AreWarriors (length entrants)

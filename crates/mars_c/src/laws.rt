@@ -33,17 +33,17 @@ pub fn match_errors_recur()
     ensures { MatchErrorsRecur }
 {}
 
-/// The same of a league.
+/// The same holds for a league.
 pub fn league_errors_recur()
     ensures { LeagueErrorsRecur }
 {}
 
-/// The same of a population.
+/// The same holds for a population.
 pub fn population_errors_recur()
     ensures { PopulationErrorsRecur }
 {}
 
-/// The same of the start of a battle.
+/// The same holds for the start of a battle.
 pub fn start_errors_recur()
     ensures { StartErrorsRecur }
 {}

@@ -82,13 +82,13 @@ module _ (input : List ℕ) (s : SessionState) (evicts : is_some s.retention.mos
   unfolding until_quit
   last_line left bytes more front last poor t n is unread each goes_on short (at_newline after whole) =
       let lines = every_split IsLine front last each in
-      let behind = lines_of (after ++ more) in
+      let following = lines_of (after ++ more) in
       let are = is ∙ ap (λ bytes. bytes ++ more) whole ∙ append_assoc (flat_map with_newline front) (last ++ 10 ∷ after) more
       ∙ ap (λ rest. flat_map with_newline front ++ rest) (append_assoc last (10 ∷ after) more) in
       let rest = ap (until_quit core) (lines_of-line last (after ++ more) lines.1)
-      ∙ until_quit-lines core (last ∷ []) behind (quiet_quit poor t (line_asks core last) n short, tt) in (
-        until_quit core behind,
-        executed front (last ++ 10 ∷ (after ++ more)) are lines.0 goes_on ∙ ap (λ rest. front ++ rest) rest ∙ sym (append_assoc front (last ∷ []) (until_quit core behind)),
+      ∙ until_quit-lines core (last ∷ []) following (quiet_quit poor t (line_asks core last) n short, tt) in (
+        until_quit core following,
+        executed front (last ++ 10 ∷ (after ++ more)) are lines.0 goes_on ∙ ap (λ rest. front ++ rest) rest ∙ sym (append_assoc front (last ∷ []) (until_quit core following)),
       )
   last_line left bytes more front [] poor t n is unread each goes_on short (at_end whole end) = absurd (quiet_nothing core poor t n short)
   last_line left bytes more front (b ∷ bs) poor t n is unread each goes_on short (at_end whole end) =
