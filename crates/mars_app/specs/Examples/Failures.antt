@@ -1,10 +1,13 @@
 -- What does not hold, a condition at a time: files that fail, lines that are split, and debuggers that stop.
-use Rattle.std.specs.Prelude.{◌≡◌, ℕ, List, [], ◌∷◌, ◌++◌, Option, None, Some, codes, refl}
-use Rattle.std.proofs.Common.{subst, sym, ◌∙◌}
+use Rattle.std.specs.Prelude.{◌≡◌, ◌≢◌, ℕ, false, List, [], ◌∷◌, ◌++◌, Option, None, Some, Result, Ok, Err, codes, refl}
+use Rattle.std.proofs.Common.{inl, inr, subst, sym, ◌∙◌}
 use Rattle.mars_cell.specs.Numbers.{parse_digits}
 use Rattle.mars_cell.specs.Parameters.{Parameters}
 use Rattle.mars_cell.specs.Warriors.{WarriorValue}
+use Rattle.mars_match.specs.Tables.{RowValue}
+use Rattle.mars_match.specs.declared.fault.MatchFault.{MatchFault}
 use Rattle.mars_session.specs.Script.{SessionState}
+use Rattle.mars_app.specs.Contests.{ContestFails}
 use Rattle.mars_app.specs.Debugger.Lines.{Splits}
 use Rattle.mars_app.specs.Debugger.Requests.{alone, command_request, one_number, request_of, with_arguments}
 use Rattle.mars_app.specs.Debugger.Transcript.{BrokenAt, NothingDone, Transcript, answer}
@@ -13,6 +16,7 @@ use Rattle.mars_app.specs.Debugger.Words.{after_word, first_word, number_at as n
 use Rattle.mars_app.specs.Faults.{FailsToLoad, FirstFails}
 use Rattle.mars_app.specs.Loading.{AreLoaded, IsLoaded}
 use Rattle.mars_app.specs.declared.fault.RunFault.{RunFault}
+use Rattle.mars_app.specs.declared.fault.RunFault.TheVariants as fault
 
 -- If the first file has no warrior, the error is that of the first file.
 module _ (known : List ℕ → Option (List ℕ)) (p : Parameters) (rounds count : ℕ) (name : List ℕ) (names : List (List ℕ)) (f : RunFault)
@@ -30,6 +34,15 @@ module _ (known : List ℕ → Option (List ℕ)) (p : Parameters) (rounds count
 
   pub the_first_file_that_fails : FirstFails known p rounds count (name ∷ names) f → FailsToLoad known p rounds count name f
   the_first_file_that_fails first = first_or_later first.before first.name first.after first.warriors first.parts first.loaded first.fails
+
+-- A match without a result has written its listing, unless the write failed or memory ran out.
+pub a_match_without_a_result : (e : MatchFault) (f : RunFault) → f ≢ fault.Output → f ≢ fault.OutOfMemory
+    → ContestFails f (Err e) false (Some []) (Some []) (97 ∷ []) → ⊥
+a_match_without_a_result e f output memory (inl (inl cut)) = output cut.0
+a_match_without_a_result e f output memory (inl (inr starved)) = memory starved.0
+a_match_without_a_result e f output memory (inr (inl (other, same, is, listed))) = let none : ◌≡◌ {A = List ℕ} [] (97 ∷ []) = listed in cc
+a_match_without_a_result e f output memory (inr (inr (rows, same, told, cut))) =
+    let both : ◌≡◌ {A = Result (List RowValue) MatchFault} (Err e) (Ok rows) = same in cc
 
 -- What follows the last newline has none.
 pub an_unfinished_line : Splits (97 ∷ 10 ∷ 98 ∷ []) [] (97 ∷ 10 ∷ 98 ∷ []) → ⊥
