@@ -1,6 +1,7 @@
 -- Examples, as theorems: errors, cells, programs and records as numbers, warriors in an array, the positions of a later round,
 -- values out of range, and populations.
 pub mod Wrong
+pub mod Results
 use Rattle.std.specs.Prelude.{◌≡◌, ℕ, zero, suc, pos, refl, true, false, All, List, [], ◌∷◌, None, Some, Ok, Err, codes, replicate, slice_index_or}
 use Rattle.std.proofs.Common.{ap, arith, subst}
 use Rattle.std.proofs.lemmas.List.Elements.{All-cons, All-nil}
