@@ -101,7 +101,7 @@ of_length length = record { warrior = record { length = length; start = 0 }; nam
 abbrev no_core : MarsSettings
 no_core = record (nano 1 1 0) { core = 0 }
 
--- There is no load file of a program of two cells with one, of none, in no core, or without a byte.
+-- No load file has one cell for a program of two, no cell, no core, or no byte.
 pub no_load_file : (one : MarsCell) (text : List ℕ)
     → (IsLoadFile (nano 1 1 0) (one ∷ []) (of_length 2) text → ⊥)
     × (IsLoadFile (nano 1 1 0) [] (of_length 0) text → ⊥)
@@ -114,7 +114,7 @@ no_load_file one text = (
   λ f. let e = f.5 in cc,
 )
 
--- No error of a warrior is that of warrior 1, is out of memory, has no parameters, or is wrong.
+-- A program is warrior 0. Its error is not out of memory, it has none without a core, and its first cell may be its start.
 pub no_error_of_a_program : (one : MarsCell)
     → (RefusesWriting (nano 1 1 0) (one ∷ []) (of_length 1) (call.Warrior 1 entrant.Start) → ⊥)
     × (RefusesWriting (nano 1 1 0) (one ∷ []) (of_length 1) (call.Warrior 0 entrant.OutOfMemory) → ⊥)
@@ -173,7 +173,7 @@ unmarked : (s : State) (words : List ℕ) → Spells s (0 ∷ words) → ⊥
 unfolding block_of head_of field_words
 unmarked s words h = let e : 0 ≡ block_mark = ap (λ words. slice_index_or words 0 0) h.block in omega (arith, e)
 
--- Words without the mark are not played, edited or debugged, and no words have no mark.
+-- Words without the mark of a block are no battle to play, edit or debug.
 pub no_battle : (words after text : List ℕ) (n : MarsEdit) (history : ℕ)
     → (RefusesPlay (0 ∷ words) refused.Capacity → ⊥)
     × (HoldsEdited n (0 ∷ words) after → ⊥)
@@ -193,13 +193,13 @@ a_block s words other spells refuses = absurd refuses
 pub out_of_memory_is_told_as_such : (words : List ℕ) → RefusesWords words (refused.Block block.OutOfMemory) → ⊥
 out_of_memory_is_told_as_such words r = r.0 refl
 
--- A start or an edit writes a block, which is never empty.
+-- A start and an edit write a block, which is never empty.
 pub written : (s : MarsSettings) (cells : List MarsCell) (entrants : List MarsWarrior) (round : ℕ) (n : MarsEdit) (words : List ℕ)
     → (HoldsStart s cells entrants round words [] → ⊥) × (HoldsStart s cells entrants round [] words → ⊥) × (HoldsEdited n words [] → ⊥)
 unfolding block_of head_of field_words
 written s cells entrants round n words = (λ h. let e = h.3 in cc, λ h. omega (arith, h.2), λ h. let e = h.5 in cc)
 
--- Numbers that mean no edit make none, and a round that is not in the match does not start.
+-- Numbers that mean no edit are not made, and no battle starts with a round that the match does not have.
 pub nothing_written : (cells : List MarsCell) (entrants : List MarsWarrior) (cell : MarsCell) (words after : List ℕ)
     → (HoldsStart (nano 3 7 0) cells entrants 3 words after → ⊥)
     × (OverflowsStart (nano 3 7 0) cells entrants 3 words → ⊥)
