@@ -94,7 +94,7 @@ read s text w (call.Parameters f) (p, allowed, is) refuses = cc
 read s text w (call.Load f) (p, allowed, is) (q, too, refuses) = cc
 read s text w other is refuses = absurd refuses
 
--- A program without names, of so many cells.
+-- A program without names, of this number of cells.
 abbrev of_length : ℕ → MarsProgram
 of_length length = record { warrior = record { length = length; start = 0 }; name = []; author = [] }
 
