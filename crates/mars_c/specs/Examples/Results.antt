@@ -1,4 +1,4 @@
--- What does not hold of results and errors, a condition at a time: programs, texts, edits, blocks, lineups, and the errors that are told.
+-- What does not hold of results and errors, a condition at a time: programs, texts, edits, blocks, lineups, and the errors that are reported.
 use Rattle.std.specs.Prelude.{◌≡◌, ◌≢◌, ◌<◌, ◌≤◌, ⊤, ℕ, zero, suc, All, Option, None, Some, List, [], ◌∷◌, ◌++◌, Result, Ok, Err, drop, length, map, refl, slice_get, slice_index_or}
 use Rattle.std.proofs.Common.{ap, arith, inl, inr, rules, subst, sym, ◌∙◌}
 use Rattle.std.proofs.Math.Nat.{mul-le-mul_right}
@@ -55,7 +55,7 @@ use Rattle.mars_c.specs.declared.warriors.MarsWarrior.{MarsWarrior}
 
 -- ---- Errors
 
--- The error that is told is that of the refusal, and the refusal holds.
+-- The error that is reported is that of the refusal, and the refusal holds.
 pub what_is_told : (f : MarsFault)
     → (Tells (λ r. r ≡ call.OutOfMemory) f → f ≡ fault_of call.OutOfMemory)
     × (Reports (λ r. r ≡ refused.OutOfMemory) f → f ≡ block_fault_of refused.OutOfMemory)
