@@ -1,9 +1,9 @@
-"""Compares the library for C, through the package, with what the program gives.
+"""Compares the results of the library for C, through the package, with the output of the program.
 
 Assemblies, matches, leagues, transcripts and errors are those of the program; a population is the sum of its matches;
-two threads get what one does. (tests/test_blocks.py holds states, records and what turns touch against transcripts.) A
-C program calls each export with each request for memory refused in turn, as it is, under valgrind and under
-AddressSanitizer; the example in Rust is built.
+two threads get the same results as one. (tests/test_blocks.py compares states, records and touched cells with
+transcripts.) A C program calls each export with each allocation failing in turn, without tools, under valgrind and
+under AddressSanitizer; the example in Rust is built.
 """
 from __future__ import annotations
 
@@ -67,7 +67,7 @@ BAD_LOADS = [
     "ORG 5\nDAT.F #0, #0\n",
     ";load 3 8\nDAT.F #0, #0\n",
 ]
-# Settings that are bad words of the program, and the error of each.
+# Settings that the program rejects as arguments, and the error of each.
 OUT_OF_RANGE = [
     ({"core": 0}, "parameters 1 CoreSize"),
     ({"core": 1048577}, "parameters 1 CoreSize"),
@@ -84,7 +84,7 @@ dice = random.Random(1)
 
 @pytest.fixture(scope="module")
 def built(tmp_path_factory: pytest.TempPathFactory) -> str:
-    """The folder with the library as it is built."""
+    """The folder with a build of the library."""
     assert os.path.isfile(ARCHIVE), "no archive of the library; run scripts/library"
     folder = str(tmp_path_factory.mktemp("built"))
     done = subprocess.run([f"{SCRIPTS}/library", "--archive", ARCHIVE, "--out", folder], capture_output=True, text=True)
@@ -93,23 +93,23 @@ def built(tmp_path_factory: pytest.TempPathFactory) -> str:
 
 
 def words_of(settings: corewar.Settings) -> list[str]:
-    """The words of the program for settings."""
+    """Returns the arguments of the program for settings."""
     return [f"{NUMBERS[name].word}={value}" for name, value in vars(settings).items() if value]
 
 
-def started(*words: str, **given: Any) -> str | bytes:
+def run_program(*words: str, **options: Any) -> str | bytes:
     """Returns the output of the program, or its error without its own name and that of a file."""
-    done = subprocess.run([PROGRAM, *words], capture_output=True, **given)
-    told = done.stderr.decode().rstrip("\n")
-    return re.sub(r"^mars: (\S+/\S+: )?", "", told) if done.returncode else done.stdout
+    done = subprocess.run([PROGRAM, *words], capture_output=True, **options)
+    error = done.stderr.decode().rstrip("\n")
+    return re.sub(r"^mars: (\S+/\S+: )?", "", error) if done.returncode else done.stdout
 
 
-def called(call: Callable[..., Any], *given: Any, **named: Any) -> Any:
+def result_of(call: Callable[..., Any], *arguments: Any, **options: Any) -> Any:
     """Returns the result of a call, or the text of its error."""
     try:
-        return call(*given, **named)
-    except corewar.MarsError as fault:
-        return str(fault)
+        return call(*arguments, **options)
+    except corewar.MarsError as error:
+        return str(error)
 
 
 def file_of(folder: Path, name: str, data: bytes) -> str:
@@ -119,7 +119,7 @@ def file_of(folder: Path, name: str, data: bytes) -> str:
 
 
 def files_of(loads: list[bytes], folder: Path) -> list[str]:
-    """The load files in files."""
+    """Writes load files, and returns their paths."""
     return [file_of(folder, f"{number}.load", load) for number, load in enumerate(loads)]
 
 
@@ -169,30 +169,30 @@ def test_assemblies(tmp_path: Path) -> None:
     """Examples and random sources: the load file, or the error with its line."""
     count = 0
     for text in [*(Path(path).read_bytes() for path in EXAMPLES), *(source().encode() for _ in range(300))]:
-        held = settings() if len(text) < 200 else corewar.Settings()
-        expected = started("--load", *words_of(held), file_of(tmp_path, "source.red", text))
+        terms = settings() if len(text) < 200 else corewar.Settings()
+        expected = run_program("--load", *words_of(terms), file_of(tmp_path, "source.red", text))
         count += isinstance(expected, str)
-        made = called(corewar.assemble, text, settings=held, warriors=1)
-        assert getattr(made, "load", made) == expected, text
-    assert 50 < count < 250, "so many of the random sources are faulty"
+        result = result_of(corewar.assemble, text, settings=terms, warriors=1)
+        assert getattr(result, "load", result) == expected, text
+    assert 50 < count < 250, "50 to 250 of the random sources have an error"
 
 
-def test_faults_of_files(tmp_path: Path) -> None:
+def test_errors_of_files(tmp_path: Path) -> None:
     """Each error of a source and of a load file, by its numbers and its line."""
     for text in FAULTY:
         path = file_of(tmp_path, "faulty.red", text.encode())
-        assert called(corewar.assemble, text) == started("--load", path), text[:40]
+        assert result_of(corewar.assemble, text) == run_program("--load", path), text[:40]
     for text in BAD_LOADS:
         path = file_of(tmp_path, "faulty.load", text.encode())
         with pytest.raises(corewar.FileError) as found:
             corewar.read(path)
-        assert str(found.value.fault) == started("-b", path), text[:40]
+        assert str(found.value.fault) == run_program("-b", path), text[:40]
 
 
-def test_faults_of_settings() -> None:
+def test_errors_of_settings() -> None:
     imp = corewar.assemble("MOV 0, 1")
-    for words, fault in OUT_OF_RANGE:
-        assert called(corewar.match, [imp], settings=corewar.Settings(**words)) == fault
+    for words, error in OUT_OF_RANGE:
+        assert result_of(corewar.match, [imp], settings=corewar.Settings(**words)) == error
     for rounds, seed, number in (
         (1, 0, 2),
         (100001, 1, 1),
@@ -204,18 +204,18 @@ def test_faults_of_settings() -> None:
         contests: list[Any] = [corewar.match, corewar.league]
         for call in contests:
             expected = f"settings {number} {names('SETTINGS')[number]}"
-            assert called(call, [imp] * 2, rounds=rounds, seed=seed) == expected
+            assert result_of(call, [imp] * 2, rounds=rounds, seed=seed) == expected
     for count, position, number in ((3, 400, 3), (2, 99, 3), (2, 7901, 3), (2, 0, 3), (2, -1, 3), (0, None, 4)):
         expected = f"settings {number} {names('SETTINGS')[number]}"
-        assert called(corewar.match, [imp] * count, position=position) == expected
+        assert result_of(corewar.match, [imp] * count, position=position) == expected
     battles: list[Any] = [corewar.match, lambda warriors: corewar.Battle(corewar.Match(warriors))]
     for call in battles:
         with pytest.raises(corewar.CorewarError, match="a match has at most 16 warriors, not 17"):
             call([imp] * 17)
-    assert called(corewar.Battle, corewar.Match((imp,), rounds=100001), 100000) == "settings 1 Rounds"
+    assert result_of(corewar.Battle, corewar.Match((imp,), rounds=100001), 100000) == "settings 1 Rounds"
     battle = corewar.Battle(corewar.Match((imp,)))
     for history in (0, 1000001):
-        assert called(battle.debug, [], history) == "settings 6 History"
+        assert result_of(battle.debug, [], history) == "settings 6 History"
     for words in ({"turns": -1}, {"turns": 1 << 32}, {"turns": 1, "records": -1}, {"turns": 1, "touched": 1 << 32}):
         with pytest.raises(corewar.CorewarError, match="expected a number from 0 to 4294967295"):
             battle.play(**words)
@@ -225,21 +225,21 @@ def test_contests(tmp_path: Path) -> None:
     """Random matches and leagues: the rows, or the error."""
     fought = 0
     for index in range(1000):
-        files, held, rounds, seed = [*loads()], settings(), dice.randrange(1, 6), dice.randrange(1, 1 << 30)
+        files, terms, rounds, seed = [*loads()], settings(), dice.randrange(1, 6), dice.randrange(1, 1 << 30)
         formula = dice.choice(["(W*W-1)/S", "(W*W-1)/S", "5*W-S", "W/(S-1)", "W+"])
-        words = [f"-r={rounds}", f"--seed={seed}", f"--score={formula}", *words_of(held), *files_of(files, tmp_path)]
+        words = [f"-r={rounds}", f"--seed={seed}", f"--score={formula}", *words_of(terms), *files_of(files, tmp_path)]
         is_league = index % 4 == 0 and len(files) > 1
-        expected = plain(started("-b", *["--league"] * is_league, *words))
+        expected = plain(run_program("-b", *["--league"] * is_league, *words))
         fought += not isinstance(expected, str)
         call: Any = corewar.league if is_league else corewar.match
 
         def run() -> Any:
-            warriors = [read_load(load, held) for load in files]
-            return call(warriors, settings=held, rounds=rounds, seed=seed, formula=formula)
+            warriors = [read_load(load, terms) for load in files]
+            return call(warriors, settings=terms, rounds=rounds, seed=seed, formula=formula)
 
-        told = called(run)
+        result = result_of(run)
         # The program reads the formula before the files.
-        assert told == expected or "load" in told and isinstance(expected, str), words
+        assert result == expected or "load" in result and isinstance(expected, str), words
     assert 500 < fought < 990
 
 
@@ -263,16 +263,16 @@ MOVES = st.one_of(
 @how(suppress_health_check=[HealthCheck.function_scoped_fixture])
 @given(matches(), st.lists(MOVES, max_size=12))
 def test_transcripts(tmp_path: Path, fight: Any, lines: list[str]) -> None:
-    """What the debugger answers is what that of the program does."""
+    """The debugger of the library has the replies of the program's debugger."""
     words = [
         "-e",
         f"--seed={fight.seed}",
         *words_of(fight.settings),
         *files_of([one.load for one in fight.warriors], tmp_path),
     ]
-    answers = started(*words, input="".join(f"{line}\n" for line in lines).encode())
-    told = called(lambda: corewar.Battle(fight).debug(lines))
-    assert told == (answers if isinstance(answers, str) else answers.decode())
+    expected = run_program(*words, input="".join(f"{line}\n" for line in lines).encode())
+    transcript = result_of(lambda: corewar.Battle(fight).debug(lines))
+    assert transcript == (expected if isinstance(expected, str) else expected.decode())
 
 
 def test_longer_answers() -> None:
@@ -280,15 +280,15 @@ def test_longer_answers() -> None:
     imp, split = corewar.assemble("MOV 0, 1"), corewar.assemble("SPL 0\nJMP -1")
     assert len(corewar.Battle(corewar.Match((imp,))).debug(["list 0 8000"]).splitlines()) == 8000
     battle = corewar.Battle(corewar.Match((split,)))
-    told = battle.debug(["run 20000", "show"])
+    replies = battle.debug(["run 20000", "show"])
     battle.play(20000)
-    assert len(battle.queues[0]) == int(told.split("processes ")[1].split()[0])
+    assert len(battle.queues[0]) == int(replies.split("processes ")[1].split()[0])
     three = corewar.Match((imp,) * 3, seed=7, rounds=4)
     assert [corewar.Battle(three, number).queues[-number % 3].tolist() for number in range(4)] == [[0]] * 4
 
 
 def test_threads() -> None:
-    """Two threads that call at once get what one does."""
+    """Two threads that call at the same time get the results of one."""
     warriors = [corewar.read(path) for path in EXAMPLES[:3]]
 
     def work(seed: int) -> Any:
@@ -301,12 +301,12 @@ def test_threads() -> None:
 def test_shared(built: str) -> None:
     """The shared library is named by its major version, and exports only the calls of the header."""
 
-    def told(*words: str) -> str:
+    def output_of(*words: str) -> str:
         return subprocess.run([*words, f"{built}/libmars.so"], capture_output=True, text=True).stdout
 
     assert os.readlink(f"{built}/libmars.so") == "libmars.so.2"
-    assert "soname: [libmars.so.2]" in told("readelf", "--dynamic")
-    exported = {line.split()[-1] for line in told("nm", "--dynamic", "--defined-only").splitlines()}
+    assert "soname: [libmars.so.2]" in output_of("readelf", "--dynamic")
+    exported = {line.split()[-1] for line in output_of("nm", "--dynamic", "--defined-only").splitlines()}
     assert exported == {*re.findall(r"^(?:uint32_t|size_t) (mars_\w+)\(", HEADER, re.M)}
 
 
@@ -317,16 +317,16 @@ C_PROGRAMS = [
 ]
 
 
-@pytest.mark.parametrize("more, before", C_PROGRAMS, ids=["alone", "valgrind", "AddressSanitizer"])
+@pytest.mark.parametrize("more, before", C_PROGRAMS, ids=["plain", "valgrind", "AddressSanitizer"])
 def test_c(tmp_path: Path, built: str, more: list[str], before: list[str]) -> None:
-    """The C program: as it is, under valgrind, and under AddressSanitizer."""
-    text, made = str(Path(__file__).with_name("library.c")), str(tmp_path / "calls")
-    words = ["gcc", *more, "-Wall", "-Wextra", "-Werror", f"-I{TOP}/include", text, "-o", made]
+    """The C program without tools, under valgrind, and under AddressSanitizer."""
+    text, program = str(Path(__file__).with_name("library.c")), str(tmp_path / "calls")
+    words = ["gcc", *more, "-Wall", "-Wextra", "-Werror", f"-I{TOP}/include", text, "-o", program]
     words += ["-Wl,--wrap=malloc,--wrap=realloc,--wrap=free", f"{built}/libmars.a"]
     compiled = subprocess.run(words, capture_output=True, text=True)
     if before and not shutil.which(before[0]) or more and compiled.returncode:
-        skip("the C program", "it isn't here", before[0] if before else "gcc")
-    done = subprocess.run([*before, made], capture_output=True, text=True, timeout=300)
+        skip("the C program", "a tool is missing", before[0] if before else "gcc")
+    done = subprocess.run([*before, program], capture_output=True, text=True, timeout=300)
     assert (compiled.stderr, done.stderr, done.returncode) == ("", "", 0)
     assert re.fullmatch(r"[1-9]\d* passed, 0 failed\n", done.stdout)
 
@@ -335,15 +335,15 @@ def test_rust(tmp_path: Path, built: str) -> None:
     """The example in Rust: the rows of a match, and the error of a source."""
     if not shutil.which("cargo"):
         skip("the example in Rust", "there is no cargo", "cargo")
-    made = {**os.environ, "MARS_LIB": built, "CARGO_TARGET_DIR": str(tmp_path / "target")}
+    environment = {**os.environ, "MARS_LIB": built, "CARGO_TARGET_DIR": str(tmp_path / "target")}
 
     def fight(*words: str) -> subprocess.CompletedProcess[str]:
         command = ["cargo", "run", "--quiet", "--offline", "--", *words]
-        return subprocess.run(command, cwd=f"{TOP}/examples/rust", env=made, capture_output=True, text=True)
+        return subprocess.run(command, cwd=f"{TOP}/examples/rust", env=environment, capture_output=True, text=True)
 
     done = fight("20", *EXAMPLES[:3])
     assert (done.returncode, done.stderr) == (0, "")
-    assert plain(done.stdout.encode()) == plain(started("-b", "-r", "20", *EXAMPLES[:3]))
+    assert plain(done.stdout.encode()) == plain(run_program("-b", "-r", "20", *EXAMPLES[:3]))
     loads = files_of([corewar.read(path).load for path in EXAMPLES[:3]], tmp_path)
     assert plain(fight("20", *loads).stdout.encode()) == plain(done.stdout.encode())
     done = fight("20", file_of(tmp_path, "source.red", b"MOV 0, 1\nFOO 1\n"))
@@ -366,7 +366,7 @@ def test_header() -> None:
 
 
 def test_script() -> None:
-    """What `scripts/library` refuses."""
+    """Wrong arguments of `scripts/library`."""
     library = [f"{SCRIPTS}/library"]
     assert subprocess.run([*library, "--none"], capture_output=True).returncode == 2
     done = subprocess.run([*library, "--archive", "none", "--out", "none"], capture_output=True, text=True)

@@ -31,13 +31,13 @@ Mistake = tuple[str, Callable[[Any], object], tuple[int, int, int]]
 Run = Callable[[Any, Any], tuple[int, NDArray[Any]]]
 # JMP.B $0, $0, of which each warrior has two: all survive.
 CELL = (7, 1, 1, 1, 0, 0)
-# What output holds before a call, and after one that fails.
+# Each byte of the output before a call, and after a call that fails.
 UNTOUCHED = 0xA5
 
 
 @dataclass
 class Arguments:
-    """The arguments of a call with two warriors, before mistakes are made in them."""
+    """The arguments of a call with two warriors; a mistake changes one of them."""
 
     settings: dict[str, int] = field(default_factory=lambda: dict(SETTINGS))
     formula: str = "(W*W-1)/S"
@@ -48,8 +48,8 @@ class Arguments:
     output: int | None = None
     round: int = 0
 
-    def given(self) -> tuple[Any, list[Any]]:
-        """The settings, the cells and the warriors, as a call takes them."""
+    def converted(self) -> tuple[Any, list[Any]]:
+        """Returns the settings, the cells and the warriors as arguments of a call."""
         cells = [cell for warrior in self.cells for cell in warrior] + [CELL] * self.further_cells
         warriors = [(len(warrior), start) for warrior, start in zip(self.cells, self.starts)]
         settings = library()[0].new("MarsSettings *", self.settings)
@@ -57,9 +57,9 @@ class Arguments:
 
 
 def filled(name: str, values: Sequence[object]) -> tuple[Any, int]:
-    held = array(name, len(values))
-    held[:] = values
-    return slice_of(name, held)
+    rows = array(name, len(values))
+    rows[:] = values
+    return slice_of(name, rows)
 
 
 def text(formula: str) -> tuple[Any, int]:
@@ -68,32 +68,32 @@ def text(formula: str) -> tuple[Any, int]:
 
 def untouched(name: str, count: int) -> tuple[NDArray[Any], tuple[Any, int]]:
     """Returns an array for the output of a call, and the array as an argument."""
-    held = array(name, count)
-    held.view(np.uint8)[:] = UNTOUCHED
-    return held, slice_of(name, held)
+    output = array(name, count)
+    output.view(np.uint8)[:] = UNTOUCHED
+    return output, slice_of(name, output)
 
 
 def setting(name: str, value: int, code: int, number: int) -> Mistake:
-    return name, lambda given: given.settings.__setitem__(name, value), (code, number, 0)
+    return name, lambda arguments: arguments.settings.__setitem__(name, value), (code, number, 0)
 
 
 def other(name: str, value: object, code: int, number: int, warrior: int = 0) -> Mistake:
-    return name, lambda given: setattr(given, name, value), (code, number, warrior)
+    return name, lambda arguments: setattr(arguments, name, value), (code, number, warrior)
 
 
 def wrong_cell(warrior: int, part: int, value: int, number: int) -> Mistake:
-    def make(given: Arguments) -> None:
-        given.cells[warrior][0] = (*CELL[:part], value, *CELL[part + 1 :])
+    def make(arguments: Arguments) -> None:
+        arguments.cells[warrior][0] = (*CELL[:part], value, *CELL[part + 1 :])
 
     return f"cell {warrior}", make, (13, number, warrior)
 
 
 def wrong_length(warrior: int) -> Mistake:
-    return f"cell {warrior}", lambda given: given.cells[warrior].extend([CELL] * 19), (13, 1, warrior)
+    return f"cell {warrior}", lambda arguments: arguments.cells[warrior].extend([CELL] * 19), (13, 1, warrior)
 
 
 def wrong_start(warrior: int) -> Mistake:
-    return f"start {warrior}", lambda given: given.starts.__setitem__(warrior, 2), (13, 2, warrior)
+    return f"start {warrior}", lambda arguments: arguments.starts.__setitem__(warrior, 2), (13, 2, warrior)
 
 
 PARAMETERS = [
@@ -123,28 +123,30 @@ SCORE = [other("formula", "W/(S-2)", 9, 3)]
 
 
 def contest(name: str) -> Run:
-    def run(given: Arguments, fault: Any) -> tuple[int, NDArray[Any]]:
+    def run(arguments: Arguments, fault: Any) -> tuple[int, NDArray[Any]]:
         if name == "mars_league":
-            given.settings["position"] = 0
-        settings, warriors = given.given()
-        held, rows = untouched("MarsRow", 2 if given.output is None else given.output)
-        return getattr(library()[1], name)(settings, *text(given.formula), *warriors, *rows, fault), held
+            arguments.settings["position"] = 0
+        settings, warriors = arguments.converted()
+        output, rows = untouched("MarsRow", 2 if arguments.output is None else arguments.output)
+        return getattr(library()[1], name)(settings, *text(arguments.formula), *warriors, *rows, fault), output
 
     return run
 
 
-def outcomes(given: Arguments, fault: Any) -> tuple[int, NDArray[Any]]:
-    settings, warriors = given.given()
-    lineups = filled("MarsLineup", [(0, len(given.lineup), given.lineup + (0,) * (16 - len(given.lineup)), 1)])
-    count = given.settings["rounds"] * len(given.lineup)
-    held, rows = untouched("MarsOutcome", count if given.output is None else given.output)
-    return library()[1].mars_outcomes(settings, *warriors, *lineups, *rows, fault), held
+def outcomes(arguments: Arguments, fault: Any) -> tuple[int, NDArray[Any]]:
+    settings, warriors = arguments.converted()
+    lineups = filled(
+        "MarsLineup", [(0, len(arguments.lineup), arguments.lineup + (0,) * (16 - len(arguments.lineup)), 1)]
+    )
+    count = arguments.settings["rounds"] * len(arguments.lineup)
+    output, rows = untouched("MarsOutcome", count if arguments.output is None else arguments.output)
+    return library()[1].mars_outcomes(settings, *warriors, *lineups, *rows, fault), output
 
 
-def start(given: Arguments, fault: Any) -> tuple[int, NDArray[Any]]:
-    settings, warriors = given.given()
-    held, battle = untouched("uint32_t", 10000 if given.output is None else given.output)
-    return library()[1].mars_start(settings, *warriors, given.round, *battle, fault), held
+def start(arguments: Arguments, fault: Any) -> tuple[int, NDArray[Any]]:
+    settings, warriors = arguments.converted()
+    output, battle = untouched("uint32_t", 10000 if arguments.output is None else arguments.output)
+    return library()[1].mars_start(settings, *warriors, arguments.round, *battle, fault), output
 
 
 CALLS = {
@@ -164,15 +166,15 @@ CALLS = {
 
 
 def check(run: Run, mistakes: Sequence[Mistake], expected: tuple[int, int, int]) -> None:
-    given = Arguments()
+    arguments = Arguments()
     for _, make, _ in mistakes:
-        make(given)
+        make(arguments)
     fault = library()[0].new("MarsFault *")
-    code, held = run(given, fault)
+    code, output = run(arguments, fault)
     number, warrior = expected[1:]
     assert code == fault.code == expected[0]
     assert (fault.number, fault.problem, fault.expression, fault.line, fault.warrior) == (number, 0, 0, 0, warrior)
-    assert (held.view(np.uint8) == UNTOUCHED).all()
+    assert (output.view(np.uint8) == UNTOUCHED).all()
 
 
 @pytest.mark.parametrize("name", CALLS)
@@ -187,7 +189,7 @@ def test_contests(name: str) -> None:
 
 @dataclass
 class Battle:
-    """The arguments of a call on a battle, before mistakes are made in them."""
+    """The arguments of a call on a battle; a mistake changes one of them."""
 
     mark: int = 0
     words: int | None = None
@@ -197,33 +199,33 @@ class Battle:
     buffer: int = 1000
 
 
-def battle(given: Battle) -> tuple[NDArray[Any], tuple[Any, int]]:
+def battle(arguments: Battle) -> tuple[NDArray[Any], tuple[Any, int]]:
     """Returns a battle of two warriors, with room for its maximum length, and the battle as an argument."""
-    settings, warriors = Arguments().given()
+    settings, warriors = Arguments().converted()
     longest = library()[1].mars_words(settings, 2)
     words = array("uint32_t", longest)
-    held, _ = slice_of("uint32_t", words)
-    assert library()[1].mars_start(settings, *warriors, 0, held, longest, library()[0].new("MarsFault *")) == 0
-    words[0] ^= given.mark
-    return words, (held, longest if given.words is None else given.words)
+    pointer, _ = slice_of("uint32_t", words)
+    assert library()[1].mars_start(settings, *warriors, 0, pointer, longest, library()[0].new("MarsFault *")) == 0
+    words[0] ^= arguments.mark
+    return words, (pointer, longest if arguments.words is None else arguments.words)
 
 
-def play(given: Battle, fault: Any) -> tuple[int, NDArray[Any]]:
-    words, held = battle(given)
-    return library()[1].mars_play(*held, 1, *filled("MarsRecord", []), *filled("MarsTouched", []), fault), words
+def play(arguments: Battle, fault: Any) -> tuple[int, NDArray[Any]]:
+    words, block = battle(arguments)
+    return library()[1].mars_play(*block, 1, *filled("MarsRecord", []), *filled("MarsTouched", []), fault), words
 
 
-def edit(given: Battle, fault: Any) -> tuple[int, NDArray[Any]]:
-    words, held = battle(given)
-    made = library()[0].new("MarsEdit *", {"what": given.what, "address": given.address})
-    return library()[1].mars_edit(*held, made, fault), words
+def edit(arguments: Battle, fault: Any) -> tuple[int, NDArray[Any]]:
+    words, block = battle(arguments)
+    change = library()[0].new("MarsEdit *", {"what": arguments.what, "address": arguments.address})
+    return library()[1].mars_edit(*block, change, fault), words
 
 
-def debug(given: Battle, fault: Any) -> tuple[int, NDArray[Any]]:
-    words, held = battle(given)
-    _, buffer = untouched("uint8_t", given.buffer)
+def debug(arguments: Battle, fault: Any) -> tuple[int, NDArray[Any]]:
+    words, block = battle(arguments)
+    _, buffer = untouched("uint8_t", arguments.buffer)
     length = library()[0].new("size_t *")
-    return library()[1].mars_debug(*held, given.history, *text("show\n"), *buffer, length, fault), words
+    return library()[1].mars_debug(*block, arguments.history, *text("show\n"), *buffer, length, fault), words
 
 
 # A battle as it starts needs fewer words than its maximum length.
@@ -239,10 +241,10 @@ ON_BATTLES = {
 def test_battles(name: str) -> None:
     run, mistakes = ON_BATTLES[name]
     for first, second in [*((mistake, mistake) for mistake in mistakes), *combinations(mistakes, 2)]:
-        given, fault = Battle(), library()[0].new("MarsFault *")
+        arguments, fault = Battle(), library()[0].new("MarsFault *")
         for _, make, _ in (first, second):
-            make(given)
-        before, _ = battle(given)
-        code, words = run(given, fault)
+            make(arguments)
+        before, _ = battle(arguments)
+        code, words = run(arguments, fault)
         assert (code, fault.code, fault.number, fault.problem, fault.line) == (first[2][0], *first[2][:2], 0, 0)
         assert (words == before).all()

@@ -1,4 +1,4 @@
-"""The calls of the library for C at the greatest sizes that their ranges allow: none runs out of memory."""
+"""The calls of the library for C at the maximum sizes of their ranges: none runs out of memory."""
 import corewar
 from corewar.engine.calls import source_lines
 from corewar.engine.warriors import read_load
@@ -8,7 +8,7 @@ MAX_CORE = 1_048_576
 PROCESSES = 65_536
 MAX_LINES = 65_536
 IMP = [(1, 6, 1, 1, 0, 1)]
-# Splits each turn, so that a warrior has as many processes as it may.
+# Splits in each turn, until the warrior has the maximum number of processes.
 SPLITTER = [(14, 1, 1, 1, 0, 0), (7, 1, 1, 1, MAX_CORE - 1, 0)]
 HUGE = corewar.Settings(core=MAX_CORE, processes=PROCESSES, cycles=10, longest=MAX_CORE, distance=MAX_CORE)
 
@@ -26,14 +26,14 @@ def test_longest_warrior() -> None:
 
 
 def test_longest_source() -> None:
-    """As many lines as a source may have: the cells that they become, and the line of each."""
+    """A source with the maximum number of lines: its cells, and the line of each."""
     source = b"nop\n" * MAX_LINES
     assert len(corewar.assemble(source, settings=HUGE)) == MAX_LINES
     assert source_lines(source, HUGE) == [(line, []) for line in range(1, MAX_LINES + 1)]
 
 
 def test_most_warriors() -> None:
-    """The most warriors, each with the most processes, in the largest core."""
+    """The maximum number of warriors, each with the maximum number of processes, in the largest core."""
     settings = corewar.Settings(core=MAX_CORE, processes=PROCESSES, cycles=140_000, longest=2, distance=2)
     splitter = corewar.Warrior.from_cells(SPLITTER, settings=settings)
     battle = corewar.Battle(corewar.Match((splitter,) * MAX_WARRIORS, settings=settings))
@@ -45,7 +45,7 @@ def test_most_warriors() -> None:
 
 
 def test_longest_history() -> None:
-    """A history of a million places, all of which are used."""
+    """A history of a million places, which are all used."""
     imp = corewar.assemble("MOV 0, 1")
     battle = corewar.Battle(corewar.Match((imp, imp), settings=corewar.Settings(cycles=500_000)))
     lines = battle.debug(["run 1000000", "goto 0", "goto 1000000"], 1_000_000)
@@ -53,7 +53,7 @@ def test_longest_history() -> None:
 
 
 def test_large_league() -> None:
-    """A league and a population of 300 warriors, many lineups, and as many rounds as a match may have."""
+    """A league and a population of 300 warriors, many lineups, and a match with the maximum number of rounds."""
     settings = corewar.Settings(core=80, processes=80, cycles=5, longest=5, distance=5)
     imp = corewar.Warrior.from_cells(IMP, settings=settings)
     assert [row.ties for row in corewar.league([imp] * 300, settings=settings)] == [299] * 300

@@ -1,4 +1,4 @@
-"""Tests the completion of the program's words: that it has all of them and no other, and what bash offers.
+"""Tests the completion of the program's arguments: it has each option and no other, and bash offers the right words.
 """
 from __future__ import annotations
 
@@ -11,7 +11,7 @@ from pathlib import Path
 from counting import PROGRAM, TOP, skip
 
 FOLDER = os.path.join(TOP, "packaging", "completion")
-# Offers what bash would for the last of these words.
+# Prints what bash offers for the last of these words.
 OFFER = """source "$0"; COMP_WORDS=(mars "$@"); COMP_CWORD=$#; _mars; printf '%s\\n' "${COMPREPLY[@]}" """
 
 
@@ -31,7 +31,7 @@ def test_zsh() -> None:
     zsh = open(os.path.join(FOLDER, "_mars")).read()
     assert sorted(re.findall(r"^    '(--?[\w-]+)\[", zsh, re.M)) == sorted(words_of_the_program())
     if not shutil.which("zsh"):
-        skip("zsh reads it", "it isn't there", "zsh")
+        skip("the completion by zsh", "there is no zsh", "zsh")
     assert subprocess.run(["zsh", "-n", os.path.join(FOLDER, "_mars")]).returncode == 0
 
 

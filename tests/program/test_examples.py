@@ -18,13 +18,13 @@ class Examples:
         self.program = program
 
     def run(self, *words: str, commands: str = "") -> str:
-        """What the program writes, of its standard error too."""
+        """Returns the output of the program, with its standard error."""
         files = [os.path.join(TOP, "examples", word) if word.endswith(".red") else word for word in words]
         done = subprocess.run([self.program, *files], input=commands, capture_output=True, text=True, timeout=60)
         return done.stdout + done.stderr
 
     def cells(self, name: str, *words: str) -> tuple[str, list[str]]:
-        """The start of a warrior and its cells."""
+        """Returns the start of a warrior and its cells."""
         start, *cells = self.run("--load", *words, name).splitlines()[3:]
         return start, cells
 
@@ -63,13 +63,13 @@ def none_ends_itself(examples: Examples) -> Iterator[str]:
 
 
 def tailor_is_fitted(examples: Examples) -> Iterator[str]:
-    """Tailor takes another step in each core, and is refused where it has none."""
+    """Tailor has another step in each core, and is rejected if it has none."""
     for size, step in ((800, 248), (8000, 3048), (55440, 13544)):
         _, cells = examples.cells("fitted.red", "-s", str(size))
         if cells[-1] != f"DAT.F #{step}, #{step}":
             yield f"size {size}: {cells[-1]}"
     if "line 6: 5 AssertFailed" not in examples.run("--load", "-s", "1000", "fitted.red"):
-        yield "it isn't refused in a core of 1000 cells"
+        yield "it is not rejected in a core of 1000 cells"
 
 
 def stranger_boots(examples: Examples) -> Iterator[str]:
@@ -77,10 +77,10 @@ def stranger_boots(examples: Examples) -> Iterator[str]:
     # The pointer `to` is the cell 8, and lowered six times from 3941 + 6.
     at = 8 + 3941
     if examples.queue(0, "run 7", "boot.red") != [at]:
-        yield "its process doesn't stand on the copy"
+        yield "its process is not on the copy"
     copies = examples.run("-e", "boot.red", commands=f"run 7\nlist {at} 6\nlist 29 6\n").splitlines()[1:]
     if [line.split(" ", 1)[1] for line in copies[:6]] != [line.split(" ", 1)[1] for line in copies[6:]]:
-        yield "the copies aren't those of its last six cells"
+        yield "the copies are not those of its last six cells"
 
 
 def dusk_traps(examples: Examples) -> Iterator[str]:
@@ -97,11 +97,11 @@ def silk_weaves(examples: Examples) -> Iterator[str]:
     if cells[:3] != ["SPL.B $1, $0"] * 3 or cells[3:9] != pairs:
         yield str(cells)
     if len(examples.queue(0, "run 7", "silk.red")) != 8:
-        yield "there aren't eight processes after seven turns"
+        yield "there are not eight processes after seven turns"
 
 
 def glance_strikes(examples: Examples) -> Iterator[str]:
-    """Glance strikes within 60 turns of its own where a warrior lies at a place that it looks at, and not at others."""
+    """Glance strikes within 60 of its turns if a warrior is at a place that it looks at, and not otherwise."""
     _, cells = examples.cells("quick.red")
     strike = cells.index("MOV.I $10, *11")
     aim = len(cells) - 1
@@ -109,7 +109,7 @@ def glance_strikes(examples: Examples) -> Iterator[str]:
     for place in (aim + 640, aim + 640 + 160):
         seen = examples.queue(0, "run 120", "-F", str(place), "quick.red", "gate.red")
         if len(seen) != 1 or not strike <= seen[0] <= strike + 3:
-            yield f"a warrior at {place} isn't struck: {seen}"
+            yield f"a warrior at {place} is not struck: {seen}"
     seen = examples.queue(0, "run 120", "-F", str(aim + 700), "quick.red", "gate.red")
     if seen[0] <= strike + 3:
         yield f"it strikes at nothing: {seen}"
@@ -120,5 +120,5 @@ def glance_strikes(examples: Examples) -> Iterator[str]:
     [each_assembles, none_ends_itself, tailor_is_fitted, stranger_boots, dusk_traps, silk_weaves, glance_strikes],
 )
 def test_claims(claim: Callable[[Examples], Iterator[str]]) -> None:
-    """What a warrior's comments say of it is so."""
+    """A warrior does what its comments say."""
     assert not list(claim(Examples(PROGRAM)))

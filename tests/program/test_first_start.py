@@ -1,5 +1,5 @@
 """Tests ./mars and scripts/prove with a stub for the toolchain: which crates are proved, in which order, the messages,
-and what is left.
+and the files that are left.
 """
 from __future__ import annotations
 
@@ -38,7 +38,7 @@ def program(path):
         file.write('#!/bin/sh\\necho "played $*"\\n')
     os.chmod(path, 0o755)
 
-def made(path, is_rlib):
+def make(path, is_rlib):
     os.makedirs(path if is_rlib else os.path.dirname(path), exist_ok=True)
     with open(os.path.join(path, "format") if is_rlib else path, "w") as file:
         file.write("rattle rlib\\nrattle-build 1\\n")
@@ -60,15 +60,15 @@ needed = [word.partition("=")[2] for flag, word in zip(words, words[1:]) if flag
 if not all(map(os.path.isdir, needed)):
     sys.exit(f"{name}: {needed} aren't all there")
 if command == "rattle":
-    made(after("-o"), "--statements" in words)
+    make(after("-o"), "--statements" in words)
     print("logic=proved functions=1")
 else:
-    made("out/incremental/work", False)
+    make("out/incremental/work", False)
     (program if words[0] == "run" else lambda path: None)("out/mars")
 """
 
 
-# What each crate uses.
+# The crates that each crate uses.
 Below = dict[str, set[str]]
 
 
@@ -102,7 +102,7 @@ class Place:
             "webassembly.py",
         ):
             shutil.copy(os.path.join(TOP, "scripts", name), os.path.join(folder, "scripts"))
-        for crate in stands_on(os.path.join(TOP, "crates.txt"), ""):
+        for crate in dependencies(os.path.join(TOP, "crates.txt"), ""):
             for part in ("src", "specs", "proofs"):
                 os.makedirs(os.path.join(folder, "crates", crate, part))
             self.touch(crate)
@@ -125,7 +125,7 @@ class Place:
         open(os.path.join(self.folder, "crates", crate, "src", "lib.rt"), "w").close()
 
     def work(self) -> list[str]:
-        """The files that were left in the crates' work."""
+        """Returns the names of the files in the `out` folders of the crates."""
         crates = os.path.join(self.folder, "crates")
         return sorted(
             name
@@ -156,7 +156,9 @@ class Place:
         )
 
     def interrupted(self, sleeps: str) -> tuple[bool, str, str, bool]:
-        """What a start says that is broken off by Ctrl-C while this crate is proved."""
+        """Interrupts a start by Ctrl-C during the proof of this crate. Returns whether it fails, its output, the last
+        line of its errors, and whether they have a traceback.
+        """
         process = subprocess.Popen(
             [os.path.join(self.folder, "mars"), "a.red"],
             stdout=subprocess.PIPE,
@@ -165,13 +167,13 @@ class Place:
             env=self.environment(sleeps=sleeps),
             start_new_session=True,
             preexec_fn=lambda: signal.signal(signal.SIGINT, signal.SIG_DFL),
-        )  # (a background process of a shell ignores it)
+        )  # (a background process of a shell ignores the signal)
         while not os.path.exists(f"{self.log}-{sleeps}"):
             time.sleep(0.05)
         time.sleep(0.5)
         os.killpg(process.pid, signal.SIGINT)
-        output, faults = process.communicate(timeout=60)
-        return process.returncode != 0, output, faults.splitlines()[-1], "Traceback" in faults
+        output, errors = process.communicate(timeout=60)
+        return process.returncode != 0, output, errors.splitlines()[-1], "Traceback" in errors
 
     def calls(self) -> list[list[str]]:
         return [line.split() for line in open(self.log)] if os.path.exists(self.log) else []
@@ -181,22 +183,22 @@ class Place:
 
     def rooms(self) -> dict[str, Below]:
         """Returns, for each proved crate, the crates of its room with what each uses."""
-        return {name: stands_on(f"{self.log}-{name}") for name in self.proved()}
+        return {name: dependencies(f"{self.log}-{name}") for name in self.proved()}
 
     def jobs(self) -> dict[str, int]:
-        """The jobs of each crate."""
+        """Returns the number of jobs of each crate."""
         return {words[0]: int(words[words.index("--jobs") + 1]) for words in self.calls()}
 
 
-def stands_on(path: str, but_for: str = "_tests: staticlib:") -> Below:
-    """Returns what each crate of a crates.txt uses of the repository's own, except for crates of tests and libraries
+def dependencies(path: str, except_for: str = "_tests: staticlib:") -> Below:
+    """Returns the crates of the repository that each crate of a crates.txt uses, without crates of tests and libraries
     for C.
     """
     names = {line.split(":")[0] for line in open(os.path.join(TOP, "crates.txt")) if line[0].isalpha()}
     lines = [
         line.split(":")
         for line in open(path)
-        if line[0].isalpha() and not any(word in line for word in but_for.split())
+        if line[0].isalpha() and not any(word in line for word in except_for.split())
     ]
     return {name.split()[0]: set(rest.split()) & names for name, rest in lines}
 
@@ -213,24 +215,26 @@ def is_in_order(order: list[str], below: Below) -> bool:
 
 def test_first_start(place: Place) -> None:
     done = place.run("-b", "a.red")
-    order, below = place.proved(), stands_on(os.path.join(TOP, "crates.txt"))
-    assert (done.stdout, done.returncode) == ("played -b a.red\n", 0), "the words reach the program"
-    assert is_in_order(order, below), "each crate once, none before those that it stands on"
-    assert all(f"mars: proved {name}, " in done.stderr for name in below), "each is told"
-    assert f", {len(below)} of {len(below)} (" in done.stderr, "each is counted"
+    order, below = place.proved(), dependencies(os.path.join(TOP, "crates.txt"))
+    assert (done.stdout, done.returncode) == ("played -b a.red\n", 0), "the arguments reach the program"
+    assert is_in_order(order, below), "each crate is proved once, after those that it uses"
+    assert all(f"mars: proved {name}, " in done.stderr for name in below), "each crate is reported"
+    assert f", {len(below)} of {len(below)} (" in done.stderr, "the number of proved crates is reported"
     assert (min(place.jobs().values()) >= 1, place.jobs()["mars"]) == (
         True,
         1,
-    ), "each has its part of the jobs, the program one"
-    assert place.work() == ["mars"], "the program alone stays"
+    ), "each crate has at least one job, and the program has one"
+    assert place.work() == ["mars"], "only the program is left"
     place.run("again")
-    assert place.proved() == order, "what is built isn't proved again"
+    assert place.proved() == order, "a second start proves nothing"
     place.touch("mars_core_tests")
     done = place.run("again")
-    assert (place.proved() == order, done.stdout) == (True, "played again\n"), "nor where a test has changed"
+    assert (place.proved() == order, done.stdout) == (True, "played again\n"), "a changed test does not cause a build"
     place.touch("mars_match")
     place.run("again")
-    assert is_in_order(place.proved()[len(order) :], below), "a changed source is proved, with what it stands on"
+    assert is_in_order(
+        place.proved()[len(order) :], below
+    ), "after a change of a source, each crate is proved again, after those that it uses"
 
 
 def test_failure(place: Place) -> None:
@@ -239,20 +243,20 @@ def test_failure(place: Place) -> None:
         done.returncode == 1
         and "mars: cannot prove mars_core" in done.stderr
         and "no proof of mars_core" in done.stderr
-    ), "a failed proof is told"
-    assert ("mars" in place.proved(), done.stdout) == (False, ""), "nothing is built on it"
-    assert "format" in place.work(), "no proof of those beside it is lost"
+    ), "a failed proof is reported"
+    assert ("mars" in place.proved(), done.stdout) == (False, ""), "the program is not built"
+    assert "format" in place.work(), "the proofs of other crates are stored"
     before = len(place.proved())
     place.touch("redcode_asm")
     place.run("-b", "a.red")
     assert set(place.proved()[before:]) & {"mars_cell", "redcode_text", "mars_core"} == {
         "mars_core"
-    }, "the next start goes on from there"
-    assert place.work() == ["mars"], "and leaves the program alone"
+    }, "the next start does not prove the proved crates again"
+    assert place.work() == ["mars"], "only the program is left"
 
 
 def test_changes_meanwhile(place: Place) -> None:
-    """A source that changes while it is proved is proved again, whether that start came to its end or not."""
+    """A source that changes during its proof is proved again, whether that start succeeded or failed."""
     for fails in ("mars_core", ""):
         subprocess.run(
             [os.path.join(place.folder, "mars")],
@@ -261,7 +265,7 @@ def test_changes_meanwhile(place: Place) -> None:
         )
         before = len(place.proved())
         place.run("-b", "a.red")
-        assert "mars_cell" in place.proved()[before:], "what changed meanwhile"
+        assert "mars_cell" in place.proved()[before:]
         place.touch("mars_cell")
 
 
@@ -271,10 +275,10 @@ def test_stopped(place: Place) -> None:
         "",
         "mars: stopped; the proved crates are stored",
         False,
-    ), "Ctrl-C ends it in a line"
+    ), "Ctrl-C ends a start with one line"
     before = len(place.proved())
     place.run("-b", "a.red")
-    assert "mars_cell" not in place.proved()[before:], "what was proved is kept"
+    assert "mars_cell" not in place.proved()[before:], "a crate that was proved before Ctrl-C is not proved again"
 
 
 def test_two_starts(place: Place) -> None:
@@ -285,55 +289,63 @@ def test_two_starts(place: Place) -> None:
     while not os.path.exists(f"{place.log}-mars_cell"):
         time.sleep(0.05)
     second = subprocess.run(command, env=place.environment(), **how)
-    assert (first.communicate()[0], second.stdout) == ("played a.red\n", "played a.red\n"), "both play"
+    assert (first.communicate()[0], second.stdout) == ("played a.red\n", "played a.red\n"), "both run the program"
     assert (
         second.stderr == "mars: waiting for another build in this folder to end\n"
-    ), "the second one tells why it waits"
+    ), "the second one reports why it waits"
     assert len(place.proved()) == len({*place.proved()}), "each crate is proved once"
 
 
-def test_kept_work(place: Place) -> None:
-    """By --keep, and where such work is, `rt` proves in rooms, and what it made stays."""
+def test_stored_work(place: Place) -> None:
+    """With --keep, and if files of such a run are left, `rt` proves each crate in a room, and its files are stored."""
     place.leave_out("mars_match", "redcode_text")
     done = place.run("--keep", script="scripts/prove")
-    assert (done.returncode, {words[1] for words in place.calls()}) == (0, {"rt"}), "each is proved by rt"
+    assert (done.returncode, {words[1] for words in place.calls()}) == (0, {"rt"}), "rt proves each crate"
     assert all(
         name in room and is_closed(room) for name, room in place.rooms().items()
-    ), "each beside all that it stands on, by itself or through others"
-    assert len({*place.jobs().values()}) == 1, "all have all jobs"
-    kept = place.work()
-    assert (kept.count("mars"), kept.count("work")) == (1, len(place.proved())), "what they made stays"
+    ), "each room has all crates that its crate uses, directly or through others"
+    assert len({*place.jobs().values()}) == 1, "each crate has all jobs"
+    left = place.work()
+    assert (left.count("mars"), left.count("work")) == (
+        1,
+        len(place.proved()),
+    ), "the program and the files of each crate are stored"
     place.touch("mars_cell")
     place.run("-b", "a.red")
-    assert ({words[1] for words in place.calls()}, place.work()) == ({"rt"}, kept), "and is taken up again"
+    assert ({words[1] for words in place.calls()}, place.work()) == (
+        {"rt"},
+        left,
+    ), "the next start uses the stored files and stores them again"
     count = len(place.proved())
     place.touch("mars_core_tests")
     place.run("-b", "a.red")
-    assert len(place.proved()) == count, "what is newer than its sources isn't built again"
+    assert len(place.proved()) == count, "a program that is newer than its sources is not built again"
     place.run("--library", script="scripts/prove")
-    assert "mars" not in place.proved()[count:], "nor beside the library"
+    assert "mars" not in place.proved()[count:], "the library does not cause a build of the program"
     link = os.path.join(place.folder, "linked")
     os.symlink(os.path.join(place.folder, "mars"), link)
     assert (
         subprocess.run([link, "x"], capture_output=True, text=True).stdout == "played x\n"
-    ), "a link reaches the program"
+    ), "a link to ./mars runs the program"
 
 
 def test_terminal(place: Place) -> None:
-    """What a start writes to a terminal: a line that is written over, and how long the whole took."""
+    """A start writes to a terminal its expected time, a line that it overwrites, and the time that it took."""
     mine, theirs = os.openpty()
     subprocess.run(
         [os.path.join(place.folder, "mars")], env=place.environment(), stdout=subprocess.DEVNULL, stderr=theirs
     )
-    told = os.read(mine, 100_000).decode().split("\r\n")
-    first, last = told[0], told[-2]
+    lines = os.read(mine, 100_000).decode().split("\r\n")
+    first, last = lines[0], lines[-2]
     assert (
         "the program is proved before it is built: 8 crates, 12 to 16 minutes on four processors" in first
-    ), "what a start takes is told first"
-    assert last.rpartition("\r\033[K")[2].startswith("mars: proved 8 crates in 0 min "), "what it took at the end"
-    assert (len(told), told[-1]) == (3, ""), "nothing else has a line of its own"
+    ), "the first line has the expected time"
+    assert last.rpartition("\r\033[K")[2].startswith(
+        "mars: proved 8 crates in 0 min "
+    ), "the last line has the time that it took"
+    assert (len(lines), lines[-1]) == (3, ""), "there is no other line"
     with open(os.path.join(place.folder, "out", "last-start.json")) as file:
-        assert list(json.load(file))[-1] == "mars", "it is kept for the next start"
+        assert list(json.load(file))[-1] == "mars", "the times are stored for the next start"
     environment = {**place.environment(), "PATH": "/usr/bin:/bin"}
     place.touch("mars")
     done = subprocess.run([os.path.join(place.folder, "mars")], env=environment, capture_output=True, text=True)
@@ -341,60 +353,63 @@ def test_terminal(place: Place) -> None:
         1,
         True,
         True,
-    ), "without the toolchain it is told what runs without it"
+    ), "without the toolchain, the message names the packages"
 
 
 def test_progress(folder: str, monkeypatch: pytest.MonkeyPatch) -> None:
-    """The remaining time, by the last build; and a build without a terminal is not silent."""
+    """The remaining time is estimated from the last build, and a build without a terminal prints lines."""
     path = os.path.join(folder, "last-start.json")
     unknown = progress.Estimate(path, ["a", "b", "c"], 600)
-    assert [unknown.left({}, 0), unknown.left({"a": 50}, 100)] == [600, 500], "without a last start"
+    assert [unknown.left({}, 0), unknown.left({"a": 50}, 100)] == [
+        600,
+        500,
+    ], "without a last start, the default time is expected"
     unknown.keep({"a": 100, "b": 200, "c": 400})
     known = progress.Estimate(path, ["a", "b", "c"], 600)
-    assert [known.left({}, 50), known.left({"a": 100}, 150)] == [350, 250], "as the last one"
+    assert [known.left({}, 50), known.left({"a": 100}, 150)] == [350, 250], "a build of the same speed as the last one"
     assert [known.left({"a": 50}, 50), known.left({"a": 200}, 200), known.left({}, 200)] == [
         150,
         600,
         600,
-    ], "quicker, and slower"
-    assert progress.Estimate(path, ["a", "d"], 600).due == {"d": 600}, "a crate that isn't known"
-    told: list[str] = []
+    ], "a faster and a slower build"
+    assert progress.Estimate(path, ["a", "d"], 600).due == {"d": 600}, "a crate without a time of the last start"
+    lines: list[str] = []
     monkeypatch.setattr(progress, "SILENCE", 0)
-    monkeypatch.setattr(progress.Progress, "print_line", lambda _, line: told.append(line))
+    monkeypatch.setattr(progress.Progress, "print_line", lambda _, line: lines.append(line))
     one = progress.Progress(2)
     one.is_terminal = False
     one.add("a")
     one.update(["b", "c"])
-    assert told == [
+    assert lines == [
         "mars: proved a, 1 of 2 (0 min 0 s)",
         "mars: 1 of 2 crates proved in 0 min 0 s; proving b and c",
-    ], "each crate, and what goes on"
+    ], "a line for each crate, and a line for those under way"
 
 
 def test_library(place: Place) -> None:
     """The library for C is proved in the same run as the program, and again if a source is newer than its archive."""
-    below = {**stands_on(os.path.join(TOP, "crates.txt"), "_tests:"), "mars": {"mars_app"}}
+    below = {**dependencies(os.path.join(TOP, "crates.txt"), "_tests:"), "mars": {"mars_app"}}
     done = place.run(script="scripts/library")
-    assert is_in_order(place.proved(), below), "in the same run"
-    assert place.jobs()["mars"] == 1, "beside the program, which takes one job"
-    assert place.work() == ["libmars_c.a", "mars"], "what is built of them stays"
+    assert is_in_order(place.proved(), below), "the library and the program are proved in one run"
+    assert place.jobs()["mars"] == 1, "the program has one job"
+    assert place.work() == ["libmars_c.a", "mars"], "the archive and the program are left"
     assert (done.returncode, done.stderr.splitlines()[-1].partition(":")[0]) == (
         1,
         "library",
-    ), "what can't be built of that is told"
+    ), "the stub's archive is reported as an error"
     count = len(place.proved())
     place.run(script="scripts/library")
     place.run("b.red")
-    assert len(place.proved()) == count, "what is proved isn't proved again"
+    assert len(place.proved()) == count, "nothing is proved again"
     place.touch("mars_c")
     place.run(script="scripts/library")
-    assert "mars_c" in place.proved()[count:], "an archive older than its source is made anew"
-    assert "mars" not in place.proved()[count:], "and the program isn't"
+    assert "mars_c" in place.proved()[count:], "an archive that is older than its source is built again"
+    assert "mars" not in place.proved()[count:], "the program is not built again"
 
 
-def test_what_the_gate_leaves(place: Place) -> None:
-    """What `rt ci` leaves of each crate is used if it is newer than the sources, so that only the library is left to be
-    proved.
+def test_after_rt_ci(place: Place) -> None:
+    """The files that `rt ci` leaves are used if they are newer than the sources, so that only the program and the
+    library are proved.
     """
     environment = {**place.environment(), "RT_LOG": os.path.join(place.folder, "of-rt-ci")}
     for crate in ("mars_cell", "redcode_text", "redcode_asm", "mars_core", "mars_session", "mars_match", "mars_app"):
@@ -406,8 +421,13 @@ def test_what_the_gate_leaves(place: Place) -> None:
             stdout=subprocess.DEVNULL,
         )
     place.run("--library", script="scripts/prove")
-    assert sorted(place.proved()) == ["mars", "mars_c"], "what is left"
-    assert place.work().count("format") == 7, "the crates' own stays"
+    assert sorted(place.proved()) == ["mars", "mars_c"]
+    assert place.work().count("format") == 7, "the files of the crates are left"
     place.touch("mars_match")
     place.run("--library", script="scripts/prove")
-    assert sorted(place.proved()[2:]) == ["mars", "mars_app", "mars_c", "mars_match"], "with a changed crate"
+    assert sorted(place.proved()[2:]) == [
+        "mars",
+        "mars_app",
+        "mars_c",
+        "mars_match",
+    ], "after a change, the crate and those that use it are proved"

@@ -1,4 +1,4 @@
-"""Tests the program over what the system hands it: words of all kinds, files and pipes of all sizes, streams that fail.
+"""Tests the program with arguments of all kinds, with files and pipes of all sizes, and with streams that fail.
 """
 from __future__ import annotations
 
@@ -32,13 +32,13 @@ LISTED = "ORG 0\nMOV.I $0, $1\n"
 UNNAMED = ";name Unknown\n;author Anonymous\n"
 # A user who may read little.
 NOBODY = {"user": 65534, "group": 65534, "extra_groups": []}
-# Every word but files, and those that exclude `--league`.
+# Each argument, except for files and for the options that cannot be used with `--league`.
 WORDS = "-r 2 --seed 1 --score W -s 8000 -c 10 -p 2 -l 1 -d 1 --read-limit 8 --write-limit 8 --history 5".split()
 WORDS += ["-b", "-o", "--league"]
 
 
 def run(*words: str | bytes, name: str | bytes = PROGRAM, **how: Any) -> tuple[int, str, str]:
-    """Runs the program on words, under a name of its own."""
+    """Runs the program with arguments. `name` is the name under which it is started."""
     if "input" not in how:
         how.setdefault("stdin", subprocess.DEVNULL)
     how = {"executable": PROGRAM, "stdout": subprocess.PIPE, "stderr": subprocess.PIPE, "timeout": 60, **how}
@@ -47,13 +47,13 @@ def run(*words: str | bytes, name: str | bytes = PROGRAM, **how: Any) -> tuple[i
 
 
 def load(path: str, **how: Any) -> tuple[int, str, str]:
-    """The load file of a source in a core of 8 cells."""
+    """Runs the program with --load on a source, in a core of 8 cells."""
     return run("--load", *SMALL, path, **how)
 
 
 @pytest.fixture(autouse=True)
 def folder() -> Iterator[None]:
-    """Each test runs in a folder with an imp, also under a name with a letter that is not ASCII."""
+    """Runs each test in a folder with an imp, and with the same imp under a name with a letter that is not ASCII."""
     with tempfile.TemporaryDirectory() as folder, contextlib.chdir(folder):
         for name in ("imp.red", "w\u00e4chter.red"):
             Path(name).write_text("MOV 0, 1\n")
@@ -68,7 +68,7 @@ def is_read(stream: IO[bytes]) -> bool:
 
 
 def feed(stream: IO[bytes], text: bytes, size: int) -> None:
-    """Writes a text to a pipe in pieces of one size, each when the one before is read."""
+    """Writes a text to a pipe in pieces of one size, each after the previous one is read."""
     with contextlib.suppress(BrokenPipeError):
         for start in range(0, len(text), size):
             stream.write(text[start : start + size])
@@ -78,7 +78,7 @@ def feed(stream: IO[bytes], text: bytes, size: int) -> None:
 
 @contextlib.contextmanager
 def debugger(*words: str) -> Iterator[subprocess.Popen[bytes]]:
-    """The debugger of an imp over pipes, with errors among its replies. It is ended if it is silent for long."""
+    """The debugger of an imp over pipes, with errors among its replies. It is killed after a minute."""
     with subprocess.Popen(
         [PROGRAM, "-e", *words, "imp.red"],
         stdin=subprocess.PIPE,
@@ -96,18 +96,18 @@ def debugger(*words: str) -> Iterator[subprocess.Popen[bytes]]:
 
 def test_words() -> None:
     for word in (b"\xff.red", b"-\xff", b"--score=\xc3\x28"):
-        assert run(word, "imp.red") == (2, "", "mars: bad words\n"), f"a word that isn't UTF-8, {word!r}"
+        assert run(word, "imp.red") == (2, "", "mars: bad words\n"), f"an argument that is not UTF-8, {word!r}"
     assert run() == (2, "", "mars: bad words\n")
     for name in (b"\xff/mars", b"", b"x" * 5000, b"--help"):
         assert load("imp.red", name=name) == load("imp.red"), f"started as {name[:10]!r}"
-        assert run("-x", name=name) == (2, "", "mars: bad words\n"), f"a bad word, started as {name[:10]!r}"
+        assert run("-x", name=name) == (2, "", "mars: bad words\n"), f"a wrong option, started as {name[:10]!r}"
     assert load("w\u00e4chter.red") == (0, f";load 2 8\n{UNNAMED}{LISTED}", "")
     for words in (["imp.red", "--help"], ["--help", "-e", "imp.red"]):
-        assert run(*words) == run("--help"), f"a help beside other words, {words}"
+        assert run(*words) == run("--help"), f"--help with other arguments, {words}"
 
 
 def test_many_words() -> None:
-    """Each of the words counts, the last one too, and each byte of a long one."""
+    """The program reads each of many arguments, and each byte of a long one."""
     table = "  points   wins   ties losses  warrior\n" + 16 * "      60      0     30      0  Unknown by Anonymous\n"
     files = ["imp.red"] * 16
     assert run(*WORDS, *files) == (0, table, "")
@@ -143,8 +143,8 @@ def test_files() -> None:
     for size in (4_095, 4_096, 4_097, 65_537, MAX_FILE_SIZE):
         name = f"{size}.red"
         Path(name).write_text(source(size))
-        status, output, faults = load(name)
-        assert (status, output.endswith("\n" + LISTED), faults) == (0, True, ""), f"a file of {size} bytes"
+        status, output, errors = load(name)
+        assert (status, output.endswith("\n" + LISTED), errors) == (0, True, ""), f"a file of {size} bytes"
     Path("larger.red").write_text(";" * (MAX_FILE_SIZE + 1))
     os.mkdir("folder.red")
     os.symlink("imp.red", "link.red")
@@ -171,7 +171,7 @@ def test_limits() -> None:
         assert (done.returncode, done.stdout, done.stderr) == answer, name
 
 
-def test_leave() -> None:
+def test_permissions() -> None:
     """A file without permission to read. As root, the test runs a copy of the program as the user `nobody`."""
     Path("closed.red").write_text("MOV 0, 1\n")
     os.chmod("closed.red", 0)
@@ -180,8 +180,8 @@ def test_leave() -> None:
     user: dict[str, Any] = NOBODY if os.geteuid() == 0 else {}
     try:
         assert run("closed.red", executable=copy, **user) == (1, "", "mars: closed.red: cannot read\n")
-    except PermissionError as fault:
-        skip("a file that may not be read", str(fault))
+    except PermissionError as error:
+        skip("a file that may not be read", str(error))
 
 
 def feed_fifo(path: str, text: bytes, size: int) -> None:
@@ -190,7 +190,7 @@ def feed_fifo(path: str, text: bytes, size: int) -> None:
 
 
 def test_pipes() -> None:
-    """Files that come by a pipe are read whole."""
+    """Files from a pipe are read completely."""
     os.mkfifo("fifo.red")
     threading.Thread(target=feed_fifo, args=("fifo.red", b"NOP\nNOP\nNOP\n", 4), daemon=True).start()
     listed = f";load 2 8\n{UNNAMED}ORG 0\n" + 3 * "NOP.F $0, $0\n"
@@ -198,11 +198,11 @@ def test_pipes() -> None:
     Path(f"{MAX_FILE_SIZE}.red").write_text(source(MAX_FILE_SIZE))
     whole = load(f"{MAX_FILE_SIZE}.red")
     for size, answer in ((MAX_FILE_SIZE, whole), (MAX_FILE_SIZE + 1, (1, "", "mars: /dev/stdin: too large\n"))):
-        assert load("/dev/stdin", input=source(size).encode()) == answer, f"{size} bytes by a pipe"
+        assert load("/dev/stdin", input=source(size).encode()) == answer, f"{size} bytes from a pipe"
 
 
 def test_long_outputs() -> None:
-    """Outputs of more than 4,096 bytes, the most warriors, the greatest core."""
+    """Outputs of more than 4,096 bytes, of the maximum number of warriors, and of the largest core."""
     Path("long.red").write_text("".join(f"DAT 0, {number}\n" for number in range(300)))
     text = f";load 2 8000\n{UNNAMED}ORG 0\n" + "".join(f"DAT.F $0, ${number}\n" for number in range(300))
     assert run("--load", "-l", "300", "-d", "300", "long.red") == (0, text, "")
@@ -224,25 +224,25 @@ def test_streams() -> None:
             assert run(*words.split(), stdout=output) == full, f"{words} to a full device"
     with open("/dev/full", "wb") as output:
         assert run("-e", *SMALL, "imp.red", input=b"show\n", stdout=output) == full
-    with open("/dev/full", "wb") as faults:
-        assert run("none.red", stderr=faults)[0] == 1
-        assert run("-x", stderr=faults)[0] == 2
+    with open("/dev/full", "wb") as errors:
+        assert run("none.red", stderr=errors)[0] == 1
+        assert run("-x", stderr=errors)[0] == 2
     commands = os.open(".", os.O_RDONLY)
     assert run("-e", *SMALL, "imp.red", stdin=commands) == (1, "", "mars: cannot read the commands\n")
     os.close(commands)
 
 
 def test_sizes_of_files() -> None:
-    """A file that may not grow takes a part and fails. Where the signal of that isn't ignored, it ends the program
-    first.
+    """A file that may not grow gets a part of the output, and the program fails. Unless the signal of the system is
+    ignored, it ends the program.
     """
-    whole, kept = load("imp.red")[1], "kept"
+    whole, path = load("imp.red")[1], "kept"
     for size in (0, 10):
-        for is_ignored, ended in ((True, (1, "", "mars: cannot write\n")), (False, (-signal.SIGXFSZ, "", ""))):
-            with open(kept, "wb") as output:
+        for is_ignored, expected in ((True, (1, "", "mars: cannot write\n")), (False, (-signal.SIGXFSZ, "", ""))):
+            with open(path, "wb") as output:
                 limit = partial(resource.setrlimit, resource.RLIMIT_FSIZE, (size, size))
-                got = load("imp.red", stdout=output, preexec_fn=limit, restore_signals=not is_ignored)
-            assert (got, Path(kept).read_text()) == (ended, whole[:size]), (size, is_ignored)
+                result = load("imp.red", stdout=output, preexec_fn=limit, restore_signals=not is_ignored)
+            assert (result, Path(path).read_text()) == (expected, whole[:size]), (size, is_ignored)
 
 
 CONVERSATION = (
@@ -254,12 +254,14 @@ CONVERSATION = (
 
 
 def test_answers() -> None:
-    """Commands that come byte by byte, and for each a reply before the next one comes."""
+    """Each command comes byte by byte, and its reply comes before the next command."""
     with debugger(*SMALL) as process:
         assert process.stdin and process.stdout
         for line, reply in CONVERSATION:
             feed(process.stdin, f"{line}\n".encode(), 1)
-            assert process.stdout.readline().decode() == reply + "\n", f"{line!r} is answered before the next line"
+            assert (
+                process.stdout.readline().decode() == reply + "\n"
+            ), f"the reply to {line!r} comes before the next line"
         feed(process.stdin, b"quit\nstep\n", 10)
         assert (process.stdout.read(), process.wait()) == (b"", 0)
 
@@ -278,7 +280,7 @@ def test_stops() -> None:
 
 
 def long_session() -> tuple[bytes, bytes]:
-    """Lines up to a quit, and what they are answered: many short replies, and two of more than 4,096 bytes."""
+    """Returns lines up to a quit, and their replies: many short ones, and two of more than 4,096 bytes."""
     lines, replies = [], []
     for turn in range(1, 1001):
         lines += ["step", "queue 0"]
@@ -291,7 +293,7 @@ def long_session() -> tuple[bytes, bytes]:
 
 
 def test_pieces() -> None:
-    """Long inputs in pieces near what is read at once, and replies that are taken in such pieces."""
+    """Long inputs in pieces of about the size that is read at once, and replies that are read in such pieces."""
     lines, replies = long_session()
     for size in range(4_094, 4_099):
         with debugger(*CORE) as process:

@@ -37,7 +37,7 @@ def test_words(tmp_path: Path) -> None:
     for name in ("a.red", "more/a.red", "x=y.red", "stdin"):
         os.makedirs(os.path.dirname(os.path.join(folder, name)), exist_ok=True)
         open(os.path.join(folder, name), "w").close()
-    status, words, told = tried(folder, "-b", "more/a.red", "x=y.red", "stdin", "none.red", "more/a.red")
+    status, words, errors = tried(folder, "-b", "more/a.red", "x=y.red", "stdin", "none.red", "more/a.red")
     assert words[0] == os.path.join(TOP, "crates", "mars")
     data = [
         part
@@ -46,7 +46,7 @@ def test_words(tmp_path: Path) -> None:
     ]
     assert words[1:] == ["try", *data, "--", "-b", "a.red", "file-x=y.red", "file-stdin", "none.red", "a.red"]
     assert status == 3
-    assert told.startswith("try: this runs the program unproved")
+    assert errors.startswith("try: this runs the program unproved")
     assert tried(folder, "a.red", "more/a.red") == (
         1,
         [],
@@ -66,7 +66,7 @@ def test_words(tmp_path: Path) -> None:
 
 def test_run() -> None:
     """The match of the README, unproved and proved."""
-    # The other tests run at the same time, perhaps on two processors.
+    # Other tests run at the same time, perhaps on a machine with two processors.
     patient = {**os.environ, "RT_SECONDS": "600"}
     unproved, proved = (
         subprocess.run([program, *WORDS], cwd=TOP, capture_output=True, text=True, env=patient)

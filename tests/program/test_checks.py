@@ -20,30 +20,30 @@ STEPS = [
 ]
 
 
-def gate(**lines: Any) -> Any:
-    """Returns the status and the last lines of checks/run if a step prints these lines and exits with the status before
-    them, and the others pass one each.
+def run_checks(**lines: Any) -> Any:
+    """Returns the status and the last lines of checks/run. The steps that are given have this status and print these
+    lines; each other step prints that one test has passed.
     """
     with tempfile.TemporaryDirectory() as folder:
         for name in STEPS:
-            path, (status, *told) = os.path.join(folder, name), lines.get(
+            path, (status, *printed) = os.path.join(folder, name), lines.get(
                 os.path.basename(name), (0, "1 passed, 0 failed")
             )
             os.makedirs(os.path.dirname(path), exist_ok=True)
             with open(path, "w") as file:
-                file.write("#!/bin/sh\n" + "".join(f"echo '{line}'\n" for line in told) + f"exit {status}\n")
+                file.write("#!/bin/sh\n" + "".join(f"echo '{line}'\n" for line in printed) + f"exit {status}\n")
             os.chmod(path, 0o755)
         shutil.copy(os.path.join(TOP, "checks", "run"), os.path.join(folder, "checks"))
         for name in ("machine.py", "setup"):
             shutil.copy(os.path.join(TOP, "scripts", name), os.path.join(folder, "scripts"))
         environment = {**os.environ, "PATH": os.path.join(folder, "bin") + ":" + os.environ["PATH"]}
         done = subprocess.run([os.path.join(folder, "checks", "run")], capture_output=True, text=True, env=environment)
-        told = done.stdout.splitlines()
-        return done.returncode, [line for line in told if line.startswith("FAILED")] + told[-2:]
+        printed = done.stdout.splitlines()
+        return done.returncode, [line for line in printed if line.startswith("FAILED")] + printed[-2:]
 
 
 ALL = (0, ["0 skipped", "8 passed, 0 failed"])
-TOLD = "FAILED: skipped: a: it is away, though no package is missing"
+SKIPPED = "FAILED: skipped: a: it is away, though no package is missing"
 
 
 @pytest.mark.parametrize(
@@ -62,16 +62,16 @@ TOLD = "FAILED: skipped: a: it is away, though no package is missing"
         ),
         (
             {"tests": (0, "skipped: a: it is away (package sh)", "4 passed, 0 failed")},
-            (1, [TOLD, "1 skipped", "11 passed, 1 failed"]),
+            (1, [SKIPPED, "1 skipped", "11 passed, 1 failed"]),
         ),
         (
             {"tests": (0, "skipped: a: it is away", "4 passed, 0 failed")},
-            (1, [TOLD, "1 skipped", "11 passed, 1 failed"]),
+            (1, [SKIPPED, "1 skipped", "11 passed, 1 failed"]),
         ),
     ],
 )
 def test_what_counts(lines: Any, expected: Any) -> None:
-    """What each step prints is counted; one that counts nothing, whose status isn't that of its line, or that skips
-    without a missing package, fails.
+    """The counts of the steps are added. A step fails if it counts nothing, if its status contradicts its line, or if
+    it skips a test though no package is missing.
     """
-    assert gate(**lines) == expected
+    assert run_checks(**lines) == expected
