@@ -1,7 +1,7 @@
 """Random battles for hypothesis: warriors of any cells in a small core, and lines of the debugger.
 
-States and rows are those of a battle that is led to a place by one call for each line. What the debugger lists there is
-the same (`is_listed`).
+States and rows are those of a battle after one call for each line. `is_listed` compares a state with the listings of
+the debugger.
 """
 from __future__ import annotations
 
@@ -79,12 +79,12 @@ MAX_RUN = 1_000_000
 
 
 def run_lines(turns: int) -> list[str]:
-    """The debugger commands that execute a number of turns."""
+    """Returns debugger commands that execute a number of turns."""
     return [f"run {min(MAX_RUN, turns - done)}" for done in range(0, turns, MAX_RUN)]
 
 
 def edit_of(line: str, core: int) -> Edit:
-    """The edit of a line of the debugger."""
+    """Returns the edit of a line of the debugger."""
     word, rest = line.split(" ", 1)
     count = {"edit": 1, "fill": 2}.get(word)
     if count is None:
@@ -107,8 +107,8 @@ class State(NamedTuple):
 
 
 def replayed(fight: Match, round: int = 0, lines: Sequence[str] = (), turns: int = 0) -> Battle:
-    """The battle of a round after some lines, `step`, `run N` or edits, and then a number of turns. An edit that is
-    refused changes nothing.
+    """Returns the battle of a round after some lines (`step`, `run N` or edits) and then a number of turns. An edit
+    that is refused changes nothing.
     """
     battle = Battle(fight, round)
     for line in lines:
@@ -125,17 +125,17 @@ def replayed(fight: Match, round: int = 0, lines: Sequence[str] = (), turns: int
 
 
 def record(fight: Match, round: int = 0, lines: Sequence[str] = (), first: int = 0, turns: int = 1) -> Records:
-    """The records of turns, after some lines and then `first` turns."""
+    """Returns the records of turns, after some lines and then `first` turns."""
     return replayed(fight, round, lines, first).play(turns, records=turns)[0]
 
 
 def touched(fight: Match, round: int = 0, lines: Sequence[str] = (), first: int = 0, turns: int = 1) -> Records:
-    """The cells that turns touch, with the same arguments."""
+    """Returns the cells that turns touch, with the arguments of `record`."""
     return replayed(fight, round, lines, first).play(turns, touched=turns)[1]
 
 
 def same(one: State | Battle, other: State | Battle) -> bool:
-    """Whether two states are the same."""
+    """Returns whether two states are the same."""
     parts = [(one.cells, other.cells), (one.deaths, other.deaths), *zip(one.queues, other.queues)]
     return all(np.array_equal(*part) for part in parts) and (one.turns, one.cycle, one.next, one.over) == (
         *(other.turns, other.cycle, other.next, other.over),
@@ -143,7 +143,7 @@ def same(one: State | Battle, other: State | Battle) -> bool:
 
 
 def is_listed(fight: Match, lines: Sequence[str], now: State | Battle, round: int = 0) -> bool:
-    """Whether the debugger lists this state, cells, queues and deaths, where these lines lead it."""
+    """Returns whether the debugger lists this state (its cells, queues and deaths) after these lines."""
     core, dead = fight.settings.core, dict(now.deaths.tolist())
     expected = [f"{address} {cell_text(cell, core)}" for address, cell in enumerate(now.cells)]
     expected += [" ".join([f"queue {number}:", *map(str, queue)]) for number, queue in enumerate(now.queues)]

@@ -1,4 +1,4 @@
-"""Chromium and Firefox without windows, by the same calls: scripts, keys and a mouse, as WebDriver has them."""
+"""Chromium and Firefox without windows, with the same calls: the scripts, keys and mouse of WebDriver."""
 from __future__ import annotations
 
 import functools
@@ -17,7 +17,7 @@ from typing import Any
 
 from counting import skip
 
-# Keys by the numbers of WebDriver.
+# Keys, with their characters in WebDriver.
 KEYS = {"Escape": "\ue00c", "Enter": "\ue007", "Home": "\ue011", "End": "\ue010", "Left": "\ue012", "Right": "\ue014"}
 KEYS |= {"Shift": "\ue008", "Control": "\ue009", "Tab": "\ue004", "Backspace": "\ue003"}
 PATIENCE = 30
@@ -26,7 +26,7 @@ ASYNC = """const done = arguments[arguments.length - 1], given = [...arguments].
 
 
 class Files(http.server.SimpleHTTPRequestHandler):
-    """Any web server: it knows only the types of files."""
+    """A plain web server, which knows only the types of files."""
 
     extensions_map = {".html": "text/html", ".js": "text/javascript", ".wasm": "application/wasm"}
 
@@ -64,10 +64,10 @@ class Browser:
         return self.run(f"return {expression}", *given)
 
     def until(self, condition: str, patience: float = PATIENCE) -> None:
-        """Waits until something is so in the page."""
+        """Waits until a condition is true in the page."""
         end = time.monotonic() + patience
         while not self.value(f"!!({condition})"):
-            assert time.monotonic() < end, f"it never came to {condition}"
+            assert time.monotonic() < end, f"not true within {patience} s: {condition}"
             time.sleep(0.03)
 
     def text(self, name: str) -> str:
@@ -147,7 +147,7 @@ def chromium() -> Browser:
         "errors": lambda: [entry["message"] for entry in driver.get_log("browser") if entry["level"] == "SEVERE"],
         "end": driver.quit,
     }
-    browser = Browser(lambda name, given: commands[name](**given))
+    browser = Browser(lambda name, parameters: commands[name](**parameters))
     browser.resize(1280, 800)
     return browser
 
@@ -192,16 +192,16 @@ class Marionette:
             body += self.socket.recv(size - len(body))
         return json.loads(body)
 
-    def call(self, name: str, given: dict[str, Any]) -> Any:
+    def call(self, name: str, parameters: dict[str, Any]) -> Any:
         self.number += 1
-        text = json.dumps([0, self.number, name, given]).encode()
+        text = json.dumps([0, self.number, name, parameters]).encode()
         self.socket.sendall(b"%d:%s" % (len(text), text))
         _, _, fault, value = self.read()
         assert not fault, f"{name}: {fault}"
         return value.get("value") if isinstance(value, dict) else value
 
     def resize(self, width: int, height: int) -> None:
-        # The window has borders; a page is as wide as asked in the end.
+        # The window has borders. After the second call the page has the requested size.
         for _ in range(2):
             code = "return [outerWidth - innerWidth, outerHeight - innerHeight]"
             wide, tall = self.call("WebDriver:ExecuteScript", {"script": code, "args": [], "sandbox": None})

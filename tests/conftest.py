@@ -1,4 +1,4 @@
-"""What tests of the package share: the command as a process, the examples, and warriors that are read once."""
+"""What tests of the package share: the command as a process, the examples, and a browser."""
 from __future__ import annotations
 
 import os
@@ -32,7 +32,7 @@ Run = Callable[..., "subprocess.CompletedProcess[str]"]
 
 
 class StartedCommand(subprocess.Popen[str]):
-    """A command whose `with` doesn't wait for it if the test has failed."""
+    """A command whose `with` does not wait for it if the test has failed."""
 
     def __exit__(self, *failure: Any) -> None:
         if failure[0]:
@@ -41,21 +41,19 @@ class StartedCommand(subprocess.Popen[str]):
 
 
 def begin(*words: object, **how: Any) -> StartedCommand:
-    """`corewar` with words, as it is begun and not waited for."""
+    """Starts `corewar` with arguments, and does not wait for it."""
     options: dict[str, Any] = {"env": ENVIRONMENT, "stdout": subprocess.PIPE, "stderr": subprocess.PIPE, "text": True}
     return StartedCommand([*COMMAND, *map(str, words)], **{**options, **how})
 
 
 @pytest.fixture
 def run(tmp_path: Path) -> Run:
-    """Runs `corewar` with words in a folder of its own; `given` is its standard input. Files of examples are named by
-    `@dwarf`.
-    """
+    """Runs `corewar` with arguments in a new folder; `input` is its standard input. `@dwarf` is a file of examples/."""
 
-    def started(*words: object, given: str | bytes = "", **how: object) -> subprocess.CompletedProcess[str]:
+    def started(*words: object, input: str | bytes = "", **how: object) -> subprocess.CompletedProcess[str]:
         named = [str(EXAMPLES / f"{str(word)[1:]}.red") if str(word).startswith("@") else str(word) for word in words]
         environment = {**ENVIRONMENT, "NO_COLOR": "1", "XDG_STATE_HOME": str(tmp_path / "state")}
-        data = given.encode() if isinstance(given, str) else given
+        data = input.encode() if isinstance(input, str) else input
         options = {"cwd": tmp_path, "env": environment, "capture_output": True, "timeout": 300, **how}
         done: Any = subprocess.run([*COMMAND, *named], input=data, **options)  # type: ignore[call-overload]
         text = [part.decode(errors="replace") if part is not None else "" for part in (done.stdout, done.stderr)]
@@ -87,7 +85,7 @@ def browser() -> Iterator[Any]:
 
 
 def until(browser: Any, condition: str) -> None:
-    """Waits until something is so in the page."""
+    """Waits until a condition is true in the page."""
     from selenium.webdriver.support.wait import WebDriverWait
 
     WebDriverWait(browser, 20).until(lambda driver: driver.execute_script(f"return !!({condition})"))

@@ -1,4 +1,4 @@
-"""What tests of the program and of the library share: where it is, and how they are skipped."""
+"""What tests of the program and of the library share: the path of the program, and how tests are skipped."""
 from __future__ import annotations
 
 import os
@@ -9,7 +9,7 @@ import pytest
 
 TOP = str(Path(__file__).resolve().parents[1])
 SCRIPTS = os.path.join(TOP, "scripts")
-# The program, which `./mars` or CI has built; MARS names another one.
+# The program that `./mars` or CI has built, or the one that MARS names.
 PROGRAM = os.path.abspath(os.environ.get("MARS") or f"{TOP}/crates/mars/out/mars")
 
 

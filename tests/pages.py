@@ -37,9 +37,9 @@ def page(browser: Browser, site: str) -> Iterator[Browser]:
     assert found == [], found
 
 
-def native(*words: object, given: str = "") -> str:
+def native(*words: object, input: str = "") -> str:
     command = [PROGRAM, *map(str, words)]
-    return subprocess.run(command, input=given, capture_output=True, encoding="latin-1", check=True).stdout
+    return subprocess.run(command, input=input, capture_output=True, encoding="latin-1", check=True).stdout
 
 
 def files(*names: str) -> list[Path]:
@@ -54,14 +54,14 @@ def fight(page: Browser, *names: str) -> None:
 
 
 def go_to_turn(page: Browser, turn: int) -> None:
-    """Shows a turn, with all that is shown of it."""
+    """Shows a turn, and waits until all of it is shown."""
     page.run("corewar.session.jump(given[0])", turn)
     page.until("corewar.session.isSettled")
     page.run("await new Promise(done => setTimeout(done, 150))")
 
 
 def answer(page: Browser, line: str) -> str:
-    """Returns the last line that a command of the debugger answers."""
+    """Returns the last line of the reply to a command of the debugger."""
     code = "await corewar.console.run(given[0]); return document.querySelector('#answers').lastChild.textContent"
     found: str = page.run(code, line)
     return found
@@ -71,11 +71,11 @@ def test_a_newcomer_sees_a_fight(page: Browser) -> None:
     first = page.value("corewar.session.turn")
     page.until(f"corewar.session.turn > {first} && corewar.session.way === 1")
     assert page.value("document.title") == "Dwarf against Imp · Core War"
-    # A slow machine reads the page when the first caption is over, so it goes back.
+    # On a slow machine the first caption may be over, so the test returns to it.
     go_to_turn(page, 0)
     assert "share a ring of 8,000 cells" in page.text("caption")
     assert page.value("!document.getElementById('what').hidden")
-    # The story keeps its end for the end, unless a user wants to know.
+    # The story hides its end, unless a user wants to know it.
     shown = "[...document.querySelectorAll('#story li:not([hidden])')].length"
     assert page.value(shown) == 1
     page.click("#spoil")
@@ -107,8 +107,8 @@ def test_a_turn_in_words(page: Browser) -> None:
     assert page.text("following").endswith("End the process that executes this. dwarf.red, line 12")
 
 
-def test_a_cell_is_looked_at(page: Browser) -> None:
-    """Under the pointer in words; a click pins it, and it is listed with its changes."""
+def test_a_cell_is_inspected(page: Browser) -> None:
+    """The cell under the pointer is described in words; a click pins it and lists it with its changes."""
     go_to_turn(page, 7797)
     point = page.value("corewar.theatre.core.pointOf(5203)")
     page.mouse(point["x"], point["y"])
@@ -133,7 +133,7 @@ def test_turns_are_those_of_the_program(page: Browser, names: tuple[str, str]) -
     for turn in (1, end // 3, end // 2 + 1, end):
         go_to_turn(page, turn)
         assert page.value("corewar.session.turn") == turn
-        listed = native("-e", *files(*names), given=f"run {turn}\nlist 0 8000\n").splitlines()[-8000:]
+        listed = native("-e", *files(*names), input=f"run {turn}\nlist 0 8000\n").splitlines()[-8000:]
         cells = page.value("[...corewar.session.view.cells]")
         for address, line in enumerate(listed):
             assert text_of(cells[3 * address : 3 * address + 3]) in line, (turn, address)
@@ -170,7 +170,7 @@ def test_edits_make_futures(page: Browser) -> None:
     page.press("Enter")
     page.until("corewar.session.futures.length === 2 && corewar.session.isSettled")
     end = page.value("corewar.session.end")
-    lines = native("-e", *files("dwarf", "imp"), given="run 7790\nedit 2 JMP.B $0, $0\nrun 1000000\nshow\n")
+    lines = native("-e", *files("dwarf", "imp"), input="run 7790\nedit 2 JMP.B $0, $0\nrun 1000000\nshow\n")
     assert f"turn {end} " in lines
     page.run("document.activeElement.blur()")
     page.press("z")
@@ -186,8 +186,8 @@ def test_edits_make_futures(page: Browser) -> None:
 
 
 def test_an_edit_while_it_plays(page: Browser) -> None:
-    """It is made at the turn that is shown as the line is entered, although the assembler takes a moment."""
-    made = page.run(
+    """It is made in the turn that is shown when the line is entered, although the assembler takes some time."""
+    turns = page.run(
         """const session = corewar.session, found = [];
         for (let k = 0; k < 8; k++) {
             await session.showFuture(0);
@@ -200,7 +200,7 @@ def test_an_edit_while_it_plays(page: Browser) -> None:
         }
         return found;"""
     )
-    assert [shown for shown, _ in made] == [turn for _, turn in made] and len(made) == 8
+    assert [shown for shown, _ in turns] == [turn for _, turn in turns] and len(turns) == 8
 
 
 def test_the_debugger_has_a_line(page: Browser) -> None:
@@ -239,7 +239,7 @@ def test_the_debugger_has_a_line(page: Browser) -> None:
 
 
 def test_labels_of_several_warriors(page: Browser) -> None:
-    """They are named with their warrior, as in `corewar debug`; without it they are refused, also beside the core."""
+    """They require the number of their warrior, as in `corewar debug`, also in the list beside the core."""
     fight(page, "dwarf", "scanner")
     ask = functools.partial(answer, page)
     shared = "bomb is a label of several warriors; use 0.bomb or 1.bomb"
@@ -256,7 +256,7 @@ def test_labels_of_several_warriors(page: Browser) -> None:
 
 
 def test_the_line_is_completed(page: Browser) -> None:
-    """By Tab, which leaves the line once there is nothing more to complete."""
+    """Tab completes the line, and leaves it if there is nothing to complete."""
     page.press(" ", ":")
     line = "document.getElementById('line').value"
     page.type("conti")
@@ -312,7 +312,7 @@ def test_strangers_names_are_no_html(page: Browser, site: str) -> None:
     assert page.value("document.querySelectorAll('img').length") == 0
 
 
-def test_the_editor_shows_faults_and_fights(page: Browser, site: str) -> None:
+def test_the_editor_shows_errors_and_fights(page: Browser, site: str) -> None:
     page.press("e")
     page.run(
         "const {mirror} = corewar.shelf.editor; mirror.setValue(given[0])",
@@ -335,7 +335,7 @@ def test_the_editor_shows_faults_and_fights(page: Browser, site: str) -> None:
 
 
 def test_a_source_that_takes_minutes(page: Browser) -> None:
-    """It loses its worker, and the page lives: in the editor, and in a fight."""
+    """Its worker is ended, and the page continues to work: in the editor, and in a fight."""
     page.run("corewar.shelf.show(corewar.shelf.add({name: 'slow.red', text: given[0]}))", slow())
     page.until("document.getElementById('fault').textContent.includes('takes too long')")
     turn = page.value("corewar.session.turn")
@@ -364,7 +364,7 @@ def test_sources_are_checked_in_turn(page: Browser) -> None:
 
 
 def test_a_new_source_fights(page: Browser) -> None:
-    """It takes the mark of the source that was shown."""
+    """It is marked in place of the source that was shown."""
     page.run("document.getElementById('new').click(); document.getElementById('fight').click()")
     page.until("document.title === 'Imp against My first warrior · Core War'")
 
@@ -411,7 +411,7 @@ def test_the_bench_is_the_program(page: Browser) -> None:
 
 
 def change(seed: int, files: list[object]) -> tuple[list[float], str]:
-    """The change, its error, and what it shows, of the second file since the first one, against the others."""
+    """Returns the change from the first file to the second one against the others, its error, and the verdict."""
     words = ["challenge", "--old", files[0], "--sum", "-r", 40, "--seed", seed, *files[1:]]
     done = subprocess.run([*COMMAND, *map(str, words)], env=ENVIRONMENT, capture_output=True, text=True, check=True)
     _, row, verdict = done.stdout.splitlines()
@@ -419,7 +419,7 @@ def change(seed: int, files: list[object]) -> tuple[list[float], str]:
 
 
 def test_versions_on_the_bench(page: Browser, tmp_path: Path) -> None:
-    """They are compared as by `corewar challenge --old`, and again after the terms have changed."""
+    """Two versions are compared as by `corewar challenge --old`, and again after the terms have changed."""
     names = sorted(path for path in EXAMPLES.glob("*.red") if path.stem != "dwarf")
     page.run("rounds.value = '40'; rounds.dispatchEvent(new Event('change'))")
     page.click("[data-view=bench]")
@@ -435,12 +435,12 @@ def test_versions_on_the_bench(page: Browser, tmp_path: Path) -> None:
         page.run(f"{code} corewar.shelf.editor.mirror.setValue(given[0])", text)
         page.until(f"document.getElementById('bench-title').textContent === 'Stride {seed}' && {done}")
         numbers, verdict = change(seed, [EXAMPLES / "dwarf.red", tmp_path / "stride.red", *names])
-        told = page.text("bench-change")
-        found = re.match(r"([+−]\d+\.\d\d), error (\d+\.\d\d) since “Compare with this”\. (.*)", told)
-        assert found and found[3] == verdict, (told, verdict)
+        message = page.text("bench-change")
+        found = re.match(r"([+−]\d+\.\d\d), error (\d+\.\d\d) since “Compare with this”\. (.*)", message)
+        assert found and found[3] == verdict, (message, verdict)
         shown = [float(found[1].replace("−", "-")), float(found[2])]
         assert shown == pytest.approx(numbers, abs=0.006)
-    # Results of an earlier text say so.
+    # Results of an earlier text are marked.
     page.run("corewar.shelf.editor.mirror.setValue('x')")
     page.until("document.getElementById('bench-note').textContent.startsWith('The source has an error')")
     page.run("corewar.shelf.editor.mirror.setValue(given[0])", text)
@@ -454,11 +454,11 @@ def test_the_league_is_the_program(page: Browser) -> None:
     )
     page.until("document.querySelectorAll('#league-table tr').length === corewar.examples.length + 1")
     names = sorted(path.stem for path in EXAMPLES.glob("*.red"))
-    told = page.value(
+    texts = page.value(
         "[...document.querySelectorAll('#league-table tr')].slice(1).map(row => row.cells[2].textContent)"
     )
     points = sorted((row[0] for row in table("-r", 20, "--league", *files(*names))), reverse=True)
-    assert [int(text.replace(",", "")) for text in told] == points
+    assert [int(text.replace(",", "")) for text in texts] == points
 
 
 def test_fields_show_what_is_used(page: Browser) -> None:
@@ -466,8 +466,8 @@ def test_fields_show_what_is_used(page: Browser) -> None:
       field.value = given[1];
       field.dispatchEvent(new Event('change'));
       return [field.value, String(corewar.terms.value[given[0]])];"""
-    for name, given, used in (("seed", "0", "1"), ("rounds", "1000000", "100000"), ("rounds", "", "100")):
-        assert page.run(code, name, given) == [used, used], given
+    for name, entered, used in (("seed", "0", "1"), ("rounds", "1000000", "100000"), ("rounds", "", "100")):
+        assert page.run(code, name, entered) == [used, used], entered
 
 
 def test_own_settings(page: Browser) -> None:
@@ -495,19 +495,19 @@ def test_many_warriors(page: Browser) -> None:
     assert "1 to 16 warriors" in page.text("complaint")
 
 
-def test_a_lesson_is_judged(page: Browser) -> None:
+def test_a_lesson_is_checked(page: Browser) -> None:
     page.click("[data-view=learn]")
-    judge = "document.querySelectorAll('#lessons .lesson')[given[0]].querySelector('.main').click()"
+    check = "document.querySelectorAll('#lessons .lesson')[given[0]].querySelector('.main').click()"
     verdict = "document.querySelectorAll('#lessons .verdict')[%d].textContent === '%s'"
     go_to_turn(page, 536)
-    page.run(judge, 1)
+    page.run(check, 1)
     page.until(verdict % (1, "In turn 536 no warrior dies."))
     go_to_turn(page, 7798)
-    page.run(judge, 1)
+    page.run(check, 1)
     page.until(verdict % (1, "That is the turn."))
     page.run("document.querySelectorAll('#lessons .lesson')[3].querySelector('button').click()")
     page.until("corewar.shelf.shown.name.startsWith('a-tie')")
-    page.run(judge, 3)
+    page.run(check, 3)
     lost = "1 cell; 0 won, 0 tied, 100 lost of 100. Not yet: survive 100 of 100 rounds. Watch a lost round"
     page.until(verdict % (3, lost))
     page.run(
@@ -537,7 +537,7 @@ def narrow(page: Browser) -> Iterator[Browser]:
 
 
 def test_a_narrow_page_shows_lessons(narrow: Browser) -> None:
-    """The text of the next one, which is below the battle and before the editor; help from its first line."""
+    """The text of the next lesson is below the battle and above the editor, and help begins with its first line."""
     narrow.press("?")
     assert narrow.value("helping.open && !helping.scrollTop")
     narrow.press("Escape")
@@ -556,7 +556,7 @@ def test_a_narrow_page_shows_lessons(narrow: Browser) -> None:
 
 
 def test_a_narrow_page_shows_answers(narrow: Browser) -> None:
-    """Why a warrior died, the round that was clicked, errors, both futures, and the change of a version."""
+    """These are visible: why a warrior died, the clicked round, errors, both futures, and the change of a version."""
     narrow.run("document.getElementById('why-now').click()")
     words = "document.getElementById('turn-words').getBoundingClientRect()"
     narrow.until(f"corewar.session.turn === 7798 && {words}.top >= 0 && {words}.bottom <= innerHeight + 1")
@@ -611,7 +611,7 @@ return Math.max(ground / all[0], all[all.length - 1] / ground);"""
 
 
 def test_texts_in_cells_have_contrast(page: Browser) -> None:
-    """Whether the cell was written recently or not."""
+    """The contrast is enough whether the cell was written recently or not."""
     page.run("hill.value = 'nano'; hill.dispatchEvent(new Event('change'))")
     fight(page, "gate", "imp")
     go_to_turn(page, 20)
@@ -632,7 +632,7 @@ def test_texts_have_contrast_and_controls_have_names(page: Browser, theme: str) 
         page.run("corewar.show(given[0]); await new Promise(done => setTimeout(done, 200))", view)
         assert page.run(CONTRAST) == [], view
     assert page.run(UNNAMED) == []
-    # Firefox without a desktop's theme draws white bars on dark pages.
+    # Without the theme of a desktop, Firefox draws white bars on dark pages.
     assert page.value("getComputedStyle(names).scrollbarColor") != "auto"
 
 
@@ -652,8 +652,8 @@ def test_a_screen_reader_follows(page: Browser) -> None:
     assert page.run(HEADINGS)[:2] == [1, 2]
     go_to_turn(page, 7796)
     page.press("Right")
-    told = "[...document.querySelectorAll('#side [aria-live=polite]')].map(one => one.textContent).join('')"
-    page.until(f"{told}.startsWith('Dwarf executed MOV.I $2, @2 at 1.')")
+    announced = "[...document.querySelectorAll('#side [aria-live=polite]')].map(one => one.textContent).join('')"
+    page.until(f"{announced}.startsWith('Dwarf executed MOV.I $2, @2 at 1.')")
     page.press("Right")
     page.until("document.querySelector('#caption[aria-live=polite]')?.textContent === 'Dwarf wins after 7,798 turns.'")
 
@@ -665,8 +665,8 @@ def test_the_keyboard_leaves_the_editor(page: Browser) -> None:
     assert page.value("!document.activeElement.closest('#desk')")
 
 
-def test_memory_stays(page: Browser) -> None:
-    """Over 500 fights neither the machine nor what is kept of battles grows."""
+def test_memory_does_not_grow(page: Browser) -> None:
+    """Over 500 fights, the memory of the machine and of the stored battles does not grow."""
     code = """const [one, other] = [corewar.examples[0], corewar.examples[3]];
       corewar.terms.value = {...corewar.terms.value, settings: {...corewar.terms.value.settings, cycles: 500}};
       for (let seed = 1; seed <= given[0]; seed++) {
@@ -682,7 +682,7 @@ def test_memory_stays(page: Browser) -> None:
 
 
 def test_a_page_in_one_file(page: Browser, browser: Browser, tmp_path: Path) -> None:
-    """It opens from a disk, and saves another one."""
+    """A page opens from a disk, and saves another one."""
     go_to_turn(page, 7797)
     text = page.run("return pageWith(await shared(corewar.session))")
     (tmp_path / "fight.html").write_text(text, encoding="utf-8")

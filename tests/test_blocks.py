@@ -31,7 +31,7 @@ def slices(words: Words) -> tuple[Any, int]:
 
 
 def started(fight: Match, round: int = 0) -> Words:
-    """The battle of a round, with the capacity that it needs."""
+    """Returns the battle of a round, with the capacity that it needs."""
     settings = settings_struct(fight.settings, round + 1, fight.seed, fight.position)
     words = array("uint32_t", library()[1].mars_words(settings, len(fight.warriors)))
     assert (
@@ -42,17 +42,23 @@ def started(fight: Match, round: int = 0) -> Words:
 
 def play(words: Words, turns: int, rows: int = 0) -> tuple[NDArray[Any], NDArray[Any]]:
     """Plays turns; returns the rows of records and of touched cells."""
-    made = array("MarsRecord", rows), array("MarsTouched", rows)
+    results = array("MarsRecord", rows), array("MarsTouched", rows)
     assert (
-        call("mars_play", *slices(words), turns, *slice_of("MarsRecord", made[0]), *slice_of("MarsTouched", made[1]))
+        call(
+            "mars_play",
+            *slices(words),
+            turns,
+            *slice_of("MarsRecord", results[0]),
+            *slice_of("MarsTouched", results[1]),
+        )
         == 0
     )
-    return made
+    return results
 
 
 def edit(words: Words, what: int, warrior: int = 0, place: int = 0, address: int = 0, cell: Any = (0,) * 6) -> None:
-    made = library()[0].new("MarsEdit *", [what, warrior, place, address, list(cell)])
-    assert call("mars_edit", *slices(words), made) == 0
+    change = library()[0].new("MarsEdit *", [what, warrior, place, address, list(cell)])
+    assert call("mars_edit", *slices(words), change) == 0
 
 
 def header(words: Words) -> Any:
@@ -82,7 +88,7 @@ def is_turn(before: Battle, row: Any, touched: Any, after: Battle) -> bool:
 
 @given(matches(), st.integers(0, 2), st.integers(0, 60), st.integers(0, 30))
 def test_turns(fight: Match, round: int, first: int, more: int) -> None:
-    """After turns a battle is what the debugger lists; its rows and words are those of single turns."""
+    """After some turns a battle is the one that the debugger lists; its rows and words are those of single turns."""
     try:
         words = started(fight, round)
     except MarsError:
@@ -108,7 +114,7 @@ CELLS = st.tuples(*(st.integers(0, len(names) - 1) for names in (OPCODES, MODIFI
 
 @given(matches(), st.integers(0, 40), st.integers(1, 4), NUMBERS, NUMBERS, st.integers(0, 70), CELLS)
 def test_edits(fight: Match, first: int, what: int, warrior: int, place: int, address: int, cell: Any) -> None:
-    """An edit makes what the debugger's line makes, or is refused by the same number and changes nothing."""
+    """An edit does what the line of the debugger does, or is refused with the same number and changes nothing."""
     op, modifier, a_mode, b_mode, a, b = cell
     line = [
         f"edit {address} {OPCODES[op]}.{MODIFIERS[modifier]} {MODES[a_mode]}{a}, {MODES[b_mode]}{b}",
@@ -141,7 +147,7 @@ def three() -> Words:
     return words
 
 
-# What is written into the words of `three`, and the error then: its number, problem, line and warrior.
+# Changed words of `three`, and the error that they cause: its number, problem, line and warrior.
 ERRORS = [
     ({0: 0}, (2, 0, 0, 0)),
     ({2: 0}, (3, 1, 0, 0)),
@@ -177,13 +183,13 @@ def test_errors_of_blocks(changes: dict[int, int], error: tuple[int, ...]) -> No
     for ask in asks:
         with pytest.raises(MarsError) as found:
             ask()
-        told = found.value
-        assert (told.code, (told.number, told.problem, told.line, told.warrior)) == (BLOCK, error)
+        raised = found.value
+        assert (raised.code, (raised.number, raised.problem, raised.line, raised.warrior)) == (BLOCK, error)
         assert np.array_equal(words, before)
 
 
 def test_few_words() -> None:
-    """Words that are too few for the battle, or for what it may come to need."""
+    """Words that are too few for the battle, or for its turns."""
     words = three()
     assert header(words)["words"] == 91 and len(words) == 64 + 3 * 8 + 3 * 3
     for length in (0, 63, 90):
@@ -211,19 +217,19 @@ REFUSED = [
 ]
 
 
-@pytest.mark.parametrize("given, number", REFUSED, ids=str)
-def test_errors_of_edits(given: Any, number: int) -> None:
-    """Each refusal of an edit, of a battle whose warrior 1 has all its processes and whose warrior 2 is dead."""
+@pytest.mark.parametrize("arguments, number", REFUSED, ids=str)
+def test_errors_of_edits(arguments: Any, number: int) -> None:
+    """Each refusal of an edit, for a battle whose warrior 1 has all its processes and whose warrior 2 is dead."""
     words = three()
     for one in ((4, 1, 0, 5), (4, 1, 0, 6), (3, 2, 0)):
         edit(words, *one)
     before = words.copy()
     with pytest.raises(MarsError) as found:
-        edit(words, *given)
+        edit(words, *arguments)
     assert (found.value.code, found.value.number) == (EDIT, number) and np.array_equal(words, before)
 
 
-def test_a_core_of_its_own() -> None:
+def test_a_battle_of_a_caller() -> None:
     """A battle that a caller makes up: every cell an imp, two processes."""
     words = np.zeros(64 + 3 * 8 + 3, np.uint32)
     words[:16] = [MARK, 64 + 24 + 2, 8, 3, 10, 8, 8, 1, 1, 1, 0, 0, 0, 0, 0, 0]

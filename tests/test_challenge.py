@@ -1,4 +1,4 @@
-"""challenge: its rows against values that were calculated manually, and its errors."""
+"""challenge: its rows, compared with values that were calculated manually, and its errors."""
 from __future__ import annotations
 
 import csv
@@ -25,8 +25,8 @@ def folder(tmp_path: Path) -> None:
         (tmp_path / name).write_text(text)
 
 
-def test_by_hand(run: Run) -> None:
-    """A single survivor scores (2*2-1)/1 = 3 points in a round, each of two 3/2 = 1, a dead warrior nothing."""
+def test_rows(run: Run) -> None:
+    """A single survivor scores (2*2-1)/1 = 3 points in a round, each of two 3/2 = 1, a dead warrior none."""
     assert run("challenge", "-r", 4, "stay.red", "stay.red", "dead.red", "late.red").stdout == HEAD + (
         "      12      4      0      0        0  dead.red  Dead by Anonymous\n"
         "      12      4      0      0        0  late.red  Late by Me\n"
@@ -38,13 +38,13 @@ def test_by_hand(run: Run) -> None:
         "     -27      0      3      0      -27  stay.red  Stay by Anonymous\n"
         "     -39      3      3      0      -27  sum of 2\n"
     )
-    # Of two that die at once the one that takes the first turn does, and the turns are exchanged from round to round.
+    # The warrior that begins dies in its first turn, and the other one begins the next round.
     assert run("challenge", "--sum", "-r", 4, "dead.red", "dead.red").stdout == (
         "       6      2      0      2        6  sum of 1\n"
     )
     words = "-s 400 -c 10 -p 5 -l 10 -d 20 -F 100 --seed 5 --read-limit 200 --write-limit 200".split()
-    told = run("challenge", "--sum", "--jobs", 3, "-r", 4, *words, "made.red", "dead.red")
-    assert told.stdout == "      12      4      0      0        0  sum of 1\n"
+    done = run("challenge", "--sum", "--jobs", 3, "-r", 4, *words, "made.red", "dead.red")
+    assert done.stdout == "      12      4      0      0        0  sum of 1\n"
 
 
 def test_two_versions(run: Run) -> None:
@@ -85,25 +85,25 @@ def test_two_versions(run: Run) -> None:
 
 def test_versions_score_as_in_their_matches(run: Run) -> None:
     words, opponents = ["-r", 20, "--seed", 7], ["@imp", "@scanner", "@vampire"]
-    told = run("challenge", "--old", "@dwarf", "--jobs", 2, *words, "@bomber", *opponents).stdout.splitlines()
+    lines = run("challenge", "--old", "@dwarf", "--jobs", 2, *words, "@bomber", *opponents).stdout.splitlines()
     for column, version in ((0, "@dwarf"), (1, "@bomber")):
         rows = csv.DictReader(io.StringIO(run("challenge", "--format", "csv", *words, version, *opponents).stdout))
         scores = {row["name"]: float(row["score"]) for row in rows}
-        assert [float(line.split()[column]) for line in told[1:4]] == [scores[n] for n in ("Imp", "Lookout", "Dusk")]
+        assert [float(line.split()[column]) for line in lines[1:4]] == [scores[n] for n in ("Imp", "Lookout", "Dusk")]
 
 
 def test_versions_for_programs(run: Run) -> None:
-    """The rows of the table, with the names of the versions, and with exact errors."""
+    """CSV and JSON have the rows of the table, with the names of the versions and with exact errors."""
     words = ["challenge", "--old", "dead.red", "-r", 4, "stay.red", "stay.red", "dead.red"]
     heads = "file,name,author,old,new,change,error\n"
     rows = "stay.red,Stay,Anonymous,0.0,100.0,100.0,0.0\ndead.red,Dead,Anonymous,150.0,300.0,150.0,86.6025\n"
     mean = "stay.red,Stay,Anonymous,75.0,200.0,125.0,43.3013\n"
     assert run(*words, "--format", "csv").stdout == heads + rows
     assert run(*words, "--format", "csv", "--sum").stdout == heads + mean
-    told = json.loads(run(*words, "--format", "json").stdout)
-    found = [",".join(map(str, one.values())) + "\n" for one in (*told["matches"], told["warrior"])]
-    assert "".join(found) == rows + mean and told["rounds"] == 4
-    assert told["before"] == {"file": "dead.red", "name": "Dead", "author": "Anonymous"}
+    result = json.loads(run(*words, "--format", "json").stdout)
+    found = [",".join(map(str, one.values())) + "\n" for one in (*result["matches"], result["warrior"])]
+    assert "".join(found) == rows + mean and result["rounds"] == 4
+    assert result["before"] == {"file": "dead.red", "name": "Dead", "author": "Anonymous"}
     assert "matches" not in json.loads(run(*words, "--format", "json", "--sum").stdout)
     unknown = run("challenge", "--old", "dead.red", "--format", "csv", "stay.red", "stay.red").stdout
     assert unknown == heads + "stay.red,Stay,Anonymous,0.0,100.0,100.0,\n"
@@ -112,8 +112,8 @@ def test_versions_for_programs(run: Run) -> None:
 def test_the_same_change_in_every_round(run: Run) -> None:
     """Its error is 0, also if the mean of the opponents is no whole number."""
     files = ["stay.red", *["late.red"] * 4]
-    told = run("challenge", "--old", "dead.red", "--sum", "-r", 7, "--score", "S-1", "stay.red", *files).stdout
-    assert told.endswith("+20.0     0.0  mean of 5\nThe change is the same in every round.\n")
+    output = run("challenge", "--old", "dead.red", "--sum", "-r", 7, "--score", "S-1", "stay.red", *files).stdout
+    assert output.endswith("+20.0     0.0  mean of 5\nThe change is the same in every round.\n")
 
 
 def test_versions_that_cannot_be_compared(run: Run) -> None:
@@ -144,15 +144,15 @@ ROWS = [
 def test_formats_for_programs(run: Run) -> None:
     """They have a row for each match, with the opponent and the results of the candidate, and a row with the sums."""
     words, files = ["challenge", "-r", 4], ["stay.red", "stay.red", "dead.red"]
-    told = [*csv.reader(io.StringIO(run(*words, "--format", "csv", *files).stdout))]
-    assert told == [HEADS, *ROWS]
-    told = [*csv.reader(io.StringIO(run(*words, "--format", "csv", "--sum", *files).stdout))]
-    assert told == [HEADS, CANDIDATE]
-    made = json.loads(run(*words, "--format", "json", *files).stdout)
-    assert made["seed"] == 1 and made["rounds"] == 4 and "-r=4" in made["words"]
-    assert [[str(one[head]) for head in HEADS] for one in [made["warrior"], *made["matches"]]] == [CANDIDATE, *ROWS]
+    table = [*csv.reader(io.StringIO(run(*words, "--format", "csv", *files).stdout))]
+    assert table == [HEADS, *ROWS]
+    table = [*csv.reader(io.StringIO(run(*words, "--format", "csv", "--sum", *files).stdout))]
+    assert table == [HEADS, CANDIDATE]
+    result = json.loads(run(*words, "--format", "json", *files).stdout)
+    assert result["seed"] == 1 and result["rounds"] == 4 and "-r=4" in result["words"]
+    assert [[str(one[head]) for head in HEADS] for one in [result["warrior"], *result["matches"]]] == [CANDIDATE, *ROWS]
     only = json.loads(run(*words, "--format", "json", "--sum", *files).stdout)
-    assert only["warrior"] == made["warrior"] and "matches" not in only
+    assert only["warrior"] == result["warrior"] and "matches" not in only
     done = run(*words, "--format", "csv", "stay.red", "none.red")
     assert (done.returncode, done.stdout) == (1, ",".join(HEADS) + "\n")
 
@@ -161,11 +161,11 @@ def test_error(run: Run) -> None:
     """Of 4 rounds 2 give 3 points, so their sum has the variance 4 * 3, and the score the error 100 / 4 * 12 ** 0.5."""
     options: list[list[str]] = [[], ["--sum"]]
     for words in options:
-        told = run("challenge", "--format", "csv", *words, "-r", 4, "dead.red", "dead.red").stdout.splitlines()[1]
-        assert told == "dead.red,Dead,Anonymous,6,2,0,2,6,4,50.0,0.0,50.0,150.0,86.6025"
+        row = run("challenge", "--format", "csv", *words, "-r", 4, "dead.red", "dead.red").stdout.splitlines()[1]
+        assert row == "dead.red,Dead,Anonymous,6,2,0,2,6,4,50.0,0.0,50.0,150.0,86.6025"
 
 
-def test_faults(run: Run) -> None:
+def test_errors_of_files(run: Run) -> None:
     """An opponent with an error is reported and left out; an error of the candidate ends the command."""
     done = run("challenge", "-r", 2, "stay.red", "broken.red", "dead.red", "none.red")
     assert done.returncode == 1 and done.stdout == HEAD + (
@@ -180,11 +180,11 @@ def test_faults(run: Run) -> None:
     assert done.returncode == 2 and "expected at least two files" in done.stderr
 
 
-def test_results_are_kept(run: Run, tmp_path: Path) -> None:
-    """They are those of a league in which the candidate is the first file."""
+def test_results_are_stored(run: Run, tmp_path: Path) -> None:
+    """The stored results are those of a league in which the candidate is the first file."""
     words = ["--results", "kept.sqlite", "-r", 4, "stay.red", "dead.red", "late.red"]
-    told = run("league", *words)
-    assert told.returncode == 0
+    done = run("league", *words)
+    assert done.returncode == 0
     assert run("challenge", "--sum", *words).stdout == "      24      8      0      0        0  sum of 2\n"
     turned = run("challenge", "--results", "kept.sqlite", "-r", 4, "late.red", "stay.red")
     assert turned.stderr.startswith("corewar: 1 of 1 matches are stored only with the warriors in the other order")

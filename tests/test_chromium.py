@@ -13,6 +13,6 @@ from pages import *  # noqa: E402,F401,F403
 
 @pytest.fixture(scope="module")
 def browser() -> Iterator[Browser]:
-    made = chromium()
-    yield made
-    made.end()
+    started = chromium()
+    yield started
+    started.end()

@@ -1,4 +1,4 @@
-"""league and challenge on the workers of a Dask cluster, which come and go: a scheduler and workers on this machine."""
+"""league and challenge on a Dask cluster whose workers come and go: a scheduler and workers on this machine."""
 from __future__ import annotations
 
 import json
@@ -33,7 +33,7 @@ def wait_for(condition: Callable[[], Any]) -> None:
 
 @pytest.fixture
 def start(tmp_path: Path) -> Iterator[Start]:
-    """Starts a part of a cluster, which ends with the test. A worker has the package where its path leads to it."""
+    """Starts a part of a cluster, which ends with the test. A worker has the package if its path leads to it."""
     started = []
 
     def begin(*words: str, path: str = str(TOP / "python")) -> subprocess.Popen[bytes]:
@@ -54,10 +54,10 @@ def start(tmp_path: Path) -> Iterator[Start]:
 @pytest.fixture
 def scheduler(start: Start, tmp_path: Path) -> tuple[str, subprocess.Popen[bytes]]:
     """The address of a scheduler, and its process."""
-    told = tmp_path / "scheduler.json"
-    process = start("scheduler", "--port", "0", "--scheduler-file", str(told))
-    wait_for(lambda: told.exists() and told.stat().st_size)
-    return json.loads(told.read_text())["address"], process
+    file = tmp_path / "scheduler.json"
+    process = start("scheduler", "--port", "0", "--scheduler-file", str(file))
+    wait_for(lambda: file.exists() and file.stat().st_size)
+    return json.loads(file.read_text())["address"], process
 
 
 def worker(start: Start, address: str, **how: str) -> subprocess.Popen[bytes]:
@@ -65,19 +65,19 @@ def worker(start: Start, address: str, **how: str) -> subprocess.Popen[bytes]:
 
 
 def start_league(*words: object) -> subprocess.Popen[str]:
-    """A league of the examples that was started."""
+    """Starts a league of the examples."""
     return begin("league", *words, *FILES, cwd=EXAMPLES)
 
 
-def test_it_is_the_same_there(run: Run, start: Start, scheduler: tuple[str, Any]) -> None:
+def test_tables_are_the_same(run: Run, start: Start, scheduler: tuple[str, Any]) -> None:
     worker(start, scheduler[0])
     for command in ("league", "challenge"):
         words = [command, "-r", 3, *FILES]
         here, there = run(*words, cwd=EXAMPLES), run(*words, "--scheduler", scheduler[0], cwd=EXAMPLES)
         # The command may be there before its worker.
         assert (there.stdout, there.stderr.removeprefix(ABSENT)) == (here.stdout, "")
-    told = run("league", "--scheduler", scheduler[0], "--score", "1/(S-1)", *FILES, cwd=EXAMPLES)
-    assert told.returncode == 1 and "corewar: score 3 DivideByZero" in told.stderr
+    done = run("league", "--scheduler", scheduler[0], "--score", "1/(S-1)", *FILES, cwd=EXAMPLES)
+    assert done.returncode == 1 and "corewar: score 3 DivideByZero" in done.stderr
 
 
 def test_a_worker_dies_and_another_comes(start: Start, scheduler: tuple[str, Any], tmp_path: Path, run: Run) -> None:
@@ -95,22 +95,22 @@ def test_a_worker_dies_and_another_comes(start: Start, scheduler: tuple[str, Any
 
 
 def test_ends(start: Start, scheduler: tuple[str, Any]) -> None:
-    """Ctrl-C, and the end of a scheduler, are reported in a line."""
+    """Ctrl-C and the end of a scheduler are each reported in a line."""
     worker(start, scheduler[0])
     for status in (130, 1):
         process = start_league("-r", LONG, "--scheduler", scheduler[0])
         time.sleep(4)
         (process if status == 130 else scheduler[1]).send_signal(signal.SIGINT if status == 130 else signal.SIGKILL)
-        output, told = process.communicate(timeout=120)
-        assert (process.returncode, output, told.removeprefix(ABSENT).count("\n")) == (status, "", 1)
+        output, errors = process.communicate(timeout=120)
+        assert (process.returncode, output, errors.removeprefix(ABSENT).count("\n")) == (status, "", 1)
 
 
 def test_a_worker_without_the_package(run: Run, start: Start, scheduler: tuple[str, Any]) -> None:
     worker(start, scheduler[0], path="")
-    told = run("league", "--scheduler", scheduler[0], *FILES, cwd=EXAMPLES)
-    assert told.returncode == 1
+    done = run("league", "--scheduler", scheduler[0], *FILES, cwd=EXAMPLES)
+    assert done.returncode == 1
     assert (
-        told.stderr.removeprefix(ABSENT)
+        done.stderr.removeprefix(ABSENT)
         == "corewar: this package is not installed on a worker: No module named 'corewar'\n"
     )
 
@@ -123,14 +123,14 @@ def test_a_worker_of_another_version(run: Run, start: Start, scheduler: tuple[st
     for name in ("build", "include"):
         (kit / name).symlink_to(TOP / name)
     worker(start, scheduler[0], path=str(kit / "python"))
-    told = run("league", "--scheduler", scheduler[0], *FILES, cwd=EXAMPLES)
-    assert told.returncode == 1
-    assert told.stderr.removeprefix(ABSENT).startswith("corewar: a worker has corewar 0.9, library ")
+    done = run("league", "--scheduler", scheduler[0], *FILES, cwd=EXAMPLES)
+    assert done.returncode == 1
+    assert done.stderr.removeprefix(ABSENT).startswith("corewar: a worker has corewar 0.9, library ")
 
 
 def test_no_scheduler_and_no_package(run: Run) -> None:
-    told = run("league", "--scheduler", "127.0.0.1:9", "@imp", "@dwarf")
-    assert told.returncode == 1 and told.stderr.startswith("corewar: --scheduler 127.0.0.1:9: ")
+    result = run("league", "--scheduler", "127.0.0.1:9", "@imp", "@dwarf")
+    assert result.returncode == 1 and result.stderr.startswith("corewar: --scheduler 127.0.0.1:9: ")
     hidden = "import sys; sys.modules['distributed'] = None; from corewar.cli.main import main; main()"
     command = [sys.executable, "-c", hidden, "league", "--scheduler", "127.0.0.1:9", "imp.red", "dwarf.red"]
     done = subprocess.run(command, cwd=EXAMPLES, env=ENVIRONMENT, capture_output=True, text=True)

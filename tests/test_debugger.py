@@ -1,4 +1,4 @@
-"""The debugger: a session does what the program's debugger does, and commands report it."""
+"""The debugger: a session has the battle of the program's debugger, and commands report it."""
 from __future__ import annotations
 
 import itertools
@@ -36,8 +36,8 @@ def refused(session: Session, line: str) -> str:
 
 
 @given(matches(), st.lists(MOVES, max_size=12))
-def test_a_session_is_the_program_s(fight: Match, lines: list[str]) -> None:
-    """After any list of commands, accepted or refused, the battle is the one that the program's debugger has."""
+def test_a_session_has_the_battle_of_the_program(fight: Match, lines: list[str]) -> None:
+    """After any commands, accepted or refused, the battle is that of the program's debugger."""
     history = History(fight)
     session = Session(history, Sources(history))
     for line in lines:
@@ -106,14 +106,14 @@ def test_a_list_is_as_wide_as_its_names() -> None:
 def test_edits_of_processes_show_a_part_of_a_long_queue() -> None:
     session = session_of("dwarf", "imp")
     for address in range(39):
-        told = execute(session, f"spawn imp {address}")
+        lines = execute(session, f"spawn imp {address}")
     last = " ".join(map(str, range(19, 39)))
-    assert told == [f"Imp: {last} (processes 20 to 39; `queue` also lists the other 20)"]
+    assert lines == [f"Imp: {last} (processes 20 to 39; `queue` also lists the other 20)"]
     first = " ".join(map(str, [1305, *range(4), *range(5, 20)]))
     assert execute(session, "kill imp 5") == [f"Imp: {first} (processes 0 to 19; `queue` also lists the other 19)"]
     middle = " ".join(map(str, [*range(9, 19), 500, *range(20, 29)]))
-    told = execute(session, "move imp 19 500")
-    assert told == [f"Imp: {middle} (processes 9 to 28; `queue` also lists the other 19)"]
+    lines = execute(session, "move imp 19 500")
+    assert lines == [f"Imp: {middle} (processes 9 to 28; `queue` also lists the other 19)"]
     assert execute(session, "queue imp")[0].endswith(" 36 37 38")
 
 
@@ -156,7 +156,7 @@ def test_edits_make_futures() -> None:
     assert refused(session, "fill 5 3 nop") == "cannot fill 5 to 3: the first address is above the last"
 
 
-def test_what_is_described() -> None:
+def test_reports() -> None:
     session = session_of("dwarf", "imp")
     assert execute(session, "show") == ["turn 0, cycle 0, battle of 7798 turns", "Dwarf: 1 process", "Imp: 1 process"]
     execute(session, "run")
@@ -179,8 +179,8 @@ def test_what_is_described() -> None:
 
 def test_help_describes_each_command() -> None:
     session = session_of("imp")
-    told = "\n".join(execute(session, "help"))
-    assert all(one.usage in told for one in COMMANDS.values())
+    text = "\n".join(execute(session, "help"))
+    assert all(one.usage in text for one in COMMANDS.values())
     assert execute(session, "help step")[0].startswith("step [N|W]")
     assert find_command("cont").name == "continue"
     assert refused(session, "re") == "`re` can mean reverse-step, reverse-continue, redo"
@@ -190,17 +190,17 @@ def test_help_describes_each_command() -> None:
 
 
 def test_over_a_pipe(run: Run) -> None:
-    done = run("debug", "@dwarf", "@imp", given="step\n\nbad\nundo\nlog kept\nstep 2\nlog\nquit\nstep\n")
+    done = run("debug", "@dwarf", "@imp", input="step\n\nbad\nundo\nlog kept\nstep 2\nlog\nquit\nstep\n")
     lines = done.stdout.splitlines()
     assert (done.returncode, done.stderr) == (0, "")
     assert lines[0].startswith("turn 1: Dwarf") and lines[2] == "unknown command `bad`; `help` lists all commands"
     assert lines[-1] == "next: Dwarf at 1: MOV.I $2, @2    ; 10: MOV bomb, @bomb"
-    again = run("debug", "@dwarf", "@imp", "--turn", 4, given="source kept\nsource nowhere\n")
+    again = run("debug", "@dwarf", "@imp", "--turn", 4, input="source kept\nsource nowhere\n")
     assert again.stdout.splitlines()[0].startswith("turn 6: Imp")
     assert again.stdout.splitlines()[-1] == "nowhere: No such file or directory"
 
 
-def test_deaths_and_cells_by_hand() -> None:
+def test_deaths_and_cells_of_edits() -> None:
     """Effects of edits are reported as such, also before the first turn."""
     session = session_of("dwarf", "imp")
     execute(session, "kill imp 0")
@@ -215,7 +215,7 @@ def test_deaths_and_cells_by_hand() -> None:
     assert "It became" not in "".join(execute(session, "why"))
 
 
-def test_a_number_is_one_before_a_name() -> None:
+def test_a_number_has_priority_over_a_name() -> None:
     fight = Match(tuple(assemble(f";name {name}\nnop 0\n", file=f"{name}.red") for name in ("1", "0", "Imp", "imp")))
     session = Session(History(fight), Sources(History(fight)))
     named = ["0", "1", "Imp", "imp", "IMP", "imp.red"]
@@ -230,11 +230,11 @@ def test_numbers_of_thousands_of_digits_are_refused() -> None:
 
 
 def test_files_of_lines(run: Run, tmp_path: Path) -> None:
-    """Their commands have short names, too; a file that names itself, or is the log, ends."""
+    """The commands `log` and `source` have short names; a file that names itself, or that is the log, ends."""
     (tmp_path / "self").write_text("source self\nstep\n")
-    assert run("debug", "@imp", given="source self\n").stdout.splitlines()[-2].startswith("turn 8: ")
-    told = run("debug", "@imp", given="lo kept\nstep\nso kept\nlog\nlog a\0b\nsource a\0b\n").stdout.splitlines()
-    assert told[2].startswith("turn 2: ") and told[4:] == ["a?b: embedded null byte", "a?b: cannot read"]
+    assert run("debug", "@imp", input="source self\n").stdout.splitlines()[-2].startswith("turn 8: ")
+    lines = run("debug", "@imp", input="lo kept\nstep\nso kept\nlog\nlog a\0b\nsource a\0b\n").stdout.splitlines()
+    assert lines[2].startswith("turn 2: ") and lines[4:] == ["a?b: embedded null byte", "a?b: cannot read"]
     assert (tmp_path / "kept").read_text() == "step\nstep\n"
 
 
@@ -275,7 +275,7 @@ def test_a_terminal_with_bytes_that_are_not_utf_8(tmp_path: Path) -> None:
 def test_control_characters_of_sources_are_not_shown(run: Run, tmp_path: Path) -> None:
     """They are whitespace of the language, so that a valid warrior can have them."""
     (tmp_path / "esc.red").write_bytes(b"c DAT 0, \x1bc\x07\x00 ; \x1b[2J\n")
-    shown = run("debug", "esc.red", "@imp", given="list\nedit 0 dat \x1bc\n\x1b[2J\n")
+    shown = run("debug", "esc.red", "@imp", input="list\nedit 0 dat \x1bc\n\x1b[2J\n")
     assert shown.returncode == 0 and "; 1: c DAT 0, c" in shown.stdout and "\x1b" not in shown.stdout + shown.stderr
 
 
@@ -291,7 +291,7 @@ def test_a_killed_command_leaves_no_process(tmp_path: Path) -> None:
             time.sleep(0.05)
         time.sleep(0.3)
         process.send_signal(how)
-        # Output is closed by all processes that have it, or this waits for ever.
+        # This waits until each process with the output has closed it.
         process.communicate(timeout=20)
 
 

@@ -1,6 +1,6 @@
 """The files for editors: they colour the examples as the kit reads them, and Neovim and Emacs use the language server.
 
-Vim, Kate and bat colour the examples themselves; bat reads the grammar of VS Code and TextMate in another form.
+Vim, Emacs, Kate and bat colour the examples; bat reads the grammar of VS Code and TextMate in another form.
 """
 from __future__ import annotations
 
@@ -23,7 +23,7 @@ from counting import skip
 from corewar.editor.names import Names
 from corewar.explain.source import OPCODES, read_source
 
-# A source with what the examples don't have.
+# A source with tokens that the examples do not have.
 MORE = """\
 ;redcode-94nop
 ;name More ; and more
@@ -50,7 +50,7 @@ def needed(command: str, package: str) -> str:
 
 @pytest.fixture(scope="module")
 def share(tmp_path_factory: pytest.TempPathFactory) -> Path:
-    """What `make editors` writes, and a folder with the command and the sources."""
+    """The files that `make editors` writes, in a folder with the command and the sources."""
     folder = tmp_path_factory.mktemp("editors") / "share"
     words = [sys.executable, str(TOP / "packaging" / "editors.py"), str(folder)]
     subprocess.run(words, env=ENVIRONMENT, check=True)
@@ -95,13 +95,13 @@ quitall!
     (share.parent / "colours.vim").write_text(script)
     started(share, needed("vim", "vim"), "-u", "NONE", "-N", "-es", "-S", "colours.vim", "-c", "quitall!")
     classes = {"redcodeAssert": "directive", "redcodeOperator": "sign", "": ""}
-    told = (share.parent / "vim.out").read_text().split("=\n")[:-1]
+    texts = (share.parent / "vim.out").read_text().split("=\n")[:-1]
     return [
         [
             [classes.get(name, name.removeprefix("redcode").lower()) for name in line.split(",")]
-            for line in file.split("\n")
+            for line in text.split("\n")
         ]
-        for file in told
+        for text in texts
     ]
 
 
@@ -120,11 +120,11 @@ def by_emacs(share: Path, paths: list[Path]) -> list[Lines]:
   (princ "="))
 """
     (share.parent / "colours.el").write_text(script)
-    told = started(share, needed("emacs", "emacs-nox"), "--batch", "-Q", "-l", "colours.el").split("=")[:-1]
+    texts = started(share, needed("emacs", "emacs-nox"), "--batch", "-Q", "-l", "colours.el").split("=")[:-1]
     classes = {"keyword": "opcode", "preprocessor": "directive", "type": "modifier", "constant": "number"}
     classes |= {"builtin": "predefined", "comment": "comment", "comment-delimiter": "comment"}
     faces = {f"font-lock-{name}-face": found for name, found in classes.items()}
-    return [[[faces.get(name, "") for name in line.split(",")] for line in file.split("\n")] for file in told]
+    return [[[faces.get(name, "") for name in line.split(",")] for line in text.split("\n")] for text in texts]
 
 
 def by_kate(share: Path, paths: list[Path]) -> list[Lines]:
@@ -135,9 +135,9 @@ def by_kate(share: Path, paths: list[Path]) -> list[Lines]:
     program = needed("kate-syntax-highlighter", "libkf5syntaxhighlighting-tools")
     found = []
     for path in paths:
-        told = started(share, program, "-t", "Breeze Light", path).partition("<pre>\n")[2].partition("</pre>")[0]
+        output = started(share, program, "-t", "Breeze Light", path).partition("<pre>\n")[2].partition("</pre>")[0]
         lines = []
-        for line in told.split("\n"):
+        for line in output.split("\n"):
             parts = re.findall(r'<span style="([^"]*)">(.*?)</span>|([^<]+)', line)
             lines.append([styles[style] for style, inside, plain in parts for _ in html.unescape(inside or plain)])
         found.append(lines)
@@ -197,19 +197,19 @@ def test_colours_are_what_the_kit_reads(share: Path, colours: Callable[..., list
 
 
 def test_the_extension_for_vs_code(share: Path) -> None:
-    """What its manifest names is there, and its script is JavaScript."""
+    """The files that its manifest names exist, and its script is valid JavaScript."""
     folder = share / "corewar" / "vscode"
     manifest = json.loads((folder / "package.json").read_text())
-    given = manifest["contributes"]
-    for path in (manifest["main"], given["grammars"][0]["path"], given["languages"][0]["configuration"]):
+    parts = manifest["contributes"]
+    for path in (manifest["main"], parts["grammars"][0]["path"], parts["languages"][0]["configuration"]):
         assert (folder / path).is_file()
     assert (
-        json.loads((folder / "redcode.tmLanguage.json").read_text())["scopeName"] == given["grammars"][0]["scopeName"]
+        json.loads((folder / "redcode.tmLanguage.json").read_text())["scopeName"] == parts["grammars"][0]["scopeName"]
     )
     subprocess.run([needed("node", "nodejs"), "--check", folder / "extension.js"], check=True)
 
 
-# Six lines with three errors, and what is asked when they are corrected.
+# A source with three errors, the same without them and after a rename, and the messages of the errors.
 SOURCE = "step EQU 4\nloop ADD #stpe, bomb\n MVO bomb, @bomb\n JMP lop\nbomb DAT #0, #0\n FOR 2\n DAT 0, 0\n ROF\n"
 GOOD = SOURCE.replace("stpe", "step").replace("MVO", "MOV").replace("lop", "loop")
 RENAMED = GOOD.replace("bomb", "shell")
@@ -290,29 +290,29 @@ vim.cmd("qall!")
 """
 
 
-def checked(told: dict[str, Any]) -> None:
+def check_shown(shown: dict[str, Any]) -> None:
     """Checks what both editors have shown."""
-    assert told["errors"] == [[1, 10, MESSAGES[0]], [2, 1, MESSAGES[1]], [3, 5, MESSAGES[2]]]
-    assert told["corrected"] == GOOD and told["renamed"] == RENAMED
-    assert "ADD.AB #4, $3" in told["hover"] and "Add 4 to the B-number of the cell 3 ahead." in told["hover"]
-    assert "`step`: 4 here" in told["value"] and "already used in line 2" in told["refused"]
-    assert {"shell", "step", "loop", "CORESIZE"} <= {*told["completions"]}
-    assert told["folds"] == [{"startLine": 5, "endLine": 7}] and told["tokens"] == 30
+    assert shown["errors"] == [[1, 10, MESSAGES[0]], [2, 1, MESSAGES[1]], [3, 5, MESSAGES[2]]]
+    assert shown["corrected"] == GOOD and shown["renamed"] == RENAMED
+    assert "ADD.AB #4, $3" in shown["hover"] and "Add 4 to the B-number of the cell 3 ahead." in shown["hover"]
+    assert "`step`: 4 here" in shown["value"] and "already used in line 2" in shown["refused"]
+    assert {"shell", "step", "loop", "CORESIZE"} <= {*shown["completions"]}
+    assert shown["folds"] == [{"startLine": 5, "endLine": 7}] and shown["tokens"] == 30
 
 
 def test_neovim(share: Path) -> None:
     (share.parent / "one.red").write_text(SOURCE)
     (share.parent / "nvim").mkdir()
-    # As the page for users says.
+    # This is the line of the page for users.
     (share.parent / "nvim" / "init.lua").write_text('require("corewar").setup()\n')
     (share.parent / "all.lua").write_text(NEOVIM)
     try:
         started(share, needed("nvim", "neovim"), "--headless", "-c", "luafile all.lua")
     except AssertionError as error:
         raise AssertionError((share.parent / "nvim.out").read_text()) from error
-    told = json.loads((share.parent / "nvim.out").read_text())
-    assert told["filetype"] == "redcode" and told["omnifunc"] == "v:lua.vim.lsp.omnifunc"
-    checked(told)
+    shown = json.loads((share.parent / "nvim.out").read_text())
+    assert shown["filetype"] == "redcode" and shown["omnifunc"] == "v:lua.vim.lsp.omnifunc"
+    check_shown(shown)
 
 
 EMACS = r"""
@@ -351,10 +351,10 @@ EMACS = r"""
 (note 'corrected (buffer-substring-no-properties (point-min) (point-max)))
 (defun hover (line column name)
   (at line column)
-  (let ((told nil))
-    (eglot-hover-eldoc-function (lambda (text &rest _) (setq told (substring-no-properties text))))
-    (wait name (lambda () told))
-    told))
+  (let ((shown nil))
+    (eglot-hover-eldoc-function (lambda (text &rest _) (setq shown (substring-no-properties text))))
+    (wait name (lambda () shown))
+    shown))
 (note 'hover (hover 2 5 "hover"))
 (note 'value (hover 2 11 "value"))
 (at 3 5)
@@ -387,6 +387,6 @@ def test_emacs(share: Path) -> None:
     if subprocess.run([emacs, "--batch", "--eval", has_eglot], capture_output=True).returncode:
         skip("Emacs with its language client", "there is no eglot", "elpa-eglot")
     started(share, emacs, "--batch", "-l", "all.el")
-    told = json.loads((share.parent / "emacs.out").read_text())
-    checked(told)
-    assert told["references"] == 4 and {*told["names"]} == {"step", "loop", "bomb"}
+    shown = json.loads((share.parent / "emacs.out").read_text())
+    check_shown(shown)
+    assert shown["references"] == 4 and {*shown["names"]} == {"step", "loop", "bomb"}

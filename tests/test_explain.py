@@ -1,4 +1,4 @@
-"""explain: the causes of errors that happen, what pMARS reads differently, and sources that are fixed."""
+"""explain: the causes of errors, what pMARS reads differently, and sources that are fixed."""
 from __future__ import annotations
 
 import re
@@ -36,7 +36,7 @@ SOURCES = [
     ("i FOR 3\nmov.i 0, i\nROF\n", "line 2: 2 Operation", "`i` is the counter of the loop in line 1"),
     ("A FOR 3\nmov.A 0, A\nROF\n", "line 2: 2 Operation", "write `.a`"),
     ("x EQU 3\nx dat 0\n", "line 2: 2 Operation", "`x` is the EQU name of line 1"),
-    # Names that aren't defined.
+    # Names that are not defined.
     (
         "loop mov 0, 1\njmp lop\n",
         "line 2: 4 Expression 2 Unknown",
@@ -59,7 +59,7 @@ SOURCES = [
         "line 4: 4 Expression 2 Unknown",
         "`go` is the counter of the FOR in line 1",
     ),
-    # What is missing, and what isn't Redcode.
+    # Missing parts, and text that is not Redcode.
     ("mov 0 1\n", "line 1: 4 Expression 1 Syntax", "A comma may be missing between `0` and `1`."),
     ("mov $1 #2\n", "line 1: 4 Expression 1 Syntax", "A comma may be missing between `1` and `#`."),
     ("mov (1, 2\n", "line 1: 4 Expression 1 Syntax", "Parentheses: 1 opened, 0 closed."),
@@ -85,7 +85,7 @@ SOURCES = [
         "line 101: 8 TooLong",
         "shorten the warrior, or, unless it is for a hill, increase `-l`",
     ),
-    # Errors without a cause in the text: what they mean.
+    # Errors without a cause in the text are explained by their meaning.
     ("mov 0, 1.5\n", "line 1: 4 Expression 1 Syntax", "The expression is incomplete"),
     ("i FOR 2\nx&j dat 0\nROF\n", "line 2: 1 Text 2 BadToken", "`x&j`: `j` is not the counter of a loop"),
     ("FOR 1/0\ndat 0\nROF\n", "line 1: 1 Text 10 Expression 3 DivideByZero", "A division or remainder by zero."),
@@ -93,18 +93,18 @@ SOURCES = [
 ]
 
 
-@pytest.mark.parametrize("text, fault, expected", SOURCES)
-def test_causes(text: str, fault: str, expected: str) -> None:
+@pytest.mark.parametrize("text, error, expected", SOURCES)
+def test_causes(text: str, error: str, expected: str) -> None:
     with pytest.raises(MarsError) as found:
         assemble(text)
     sentences = explain_error(found.value, text.encode())
-    assert str(found.value) == fault and expected in sentences[0] and len(sentences) <= 2
+    assert str(found.value) == error and expected in sentences[0] and len(sentences) <= 2
 
 
 OPCODE = re.compile(r"\b(MOV|ADD|SUB|JMP|SPL|DJN|DAT|SEQ|SNE|JMN|JMZ)\b(\.\w+)?")
 EXAMPLES = [path.read_text() for path in sorted((TOP / "examples").glob("*.red"))]
-# Ways to make a line faulty.
-FAULTS: list[Callable[[str, re.Match[str]], str]] = [
+# Each makes an error in a line.
+MUTATIONS: list[Callable[[str, re.Match[str]], str]] = [
     lambda line, found: line[: found.start()] + found[0][0] + found[0][2] + found[0][1] + line[found.start() + 3 :],
     lambda line, found: line[: found.start()] + found[1] + ".Q" + line[found.end() :],
     lambda line, found: re.sub(r"\s*(;|$)", r"+undefinedname \1", line, count=1),
@@ -125,7 +125,7 @@ def mutated(count: int) -> Iterator[tuple[str, set[int]]]:
             found = OPCODE.search(lines[number].partition(";")[0])
             if found is None or "EQU" in lines[number].upper() or len(wrong) == 4:
                 continue
-            changed = dice.choice(FAULTS)(lines[number], found)
+            changed = dice.choice(MUTATIONS)(lines[number], found)
             try:
                 assemble("\n".join([*original[:number], changed, *original[number + 1 :]]))
             except MarsError:
@@ -141,7 +141,7 @@ def line_to_correct(fault: MarsError, sentences: list[str]) -> int:
 
 
 def test_all_errors_of_a_source_are_found() -> None:
-    """Nearly each of them, and nearly none that is not there."""
+    """Nearly all errors are reported, and nearly no false ones."""
     planted, found, more = 0, 0, 0
     for text, wrong in mutated(200):
         reported = {line_to_correct(*error) for error in errors_of(text.encode(), assemble)}
@@ -149,7 +149,7 @@ def test_all_errors_of_a_source_are_found() -> None:
     assert planted > 250 and found >= 0.99 * planted and more <= 0.01 * planted
 
 
-# What to write, and instead of what.
+# The texts of advice: what to write, and what it replaces.
 ADVICE = [
     re.compile(r"(?:In line \d+, )?`(?P<old>[^`]+)` is read as a label; did you mean `(?P<new>[^`]+)`"),
     re.compile(r"`(?P<old>[^`]+)` is not defined.*; did you mean `(?P<new>[^`]+)`"),
@@ -158,7 +158,7 @@ ADVICE = [
 
 
 def test_advice_makes_no_source_worse() -> None:
-    """A source in which one advice was followed has fewer errors."""
+    """A source in which one piece of advice is followed has fewer errors."""
     applied = 0
     for text, _ in mutated(200):
         errors = [*errors_of(text.encode(), assemble)]
@@ -176,7 +176,7 @@ LOOPS = "a FOR 2\nb FOR 2\nx NOP\nROF\nROF\n"
 
 
 def test_names_in_loops() -> None:
-    """The counters of all loops around are joined; a loop without one gets one first."""
+    """The advice joins the counters of all loops around the line; a loop without a counter needs one first."""
     ((_, sentences),) = errors_of(LOOPS.encode(), assemble)
     assert sentences == ["`x` is in a loop with several iterations; write `x&a&b`."]
     assert assemble(LOOPS.replace("x NOP", "x&a&b NOP"))
@@ -185,7 +185,7 @@ def test_names_in_loops() -> None:
 
 
 def test_a_label_of_another_line_is_not_lost() -> None:
-    """A label that an operand names is not taken for a misspelt opcode, and leaves no second error."""
+    """A label that an operand names is not read as a misspelt opcode, and causes no second error."""
     ((fault, sentences),) = errors_of(b"top stx 0, 1\n jmp top\n", assemble)
     assert str(fault) == "line 1: 2 Operation" and "`top`" not in sentences[0]
 
@@ -200,8 +200,8 @@ def test_all_errors_of_a_file(run: Run, tmp_path: Path) -> None:
     ]
 
 
-def test_each_fault_has_a_meaning() -> None:
-    """The errors of the documents; each is found in a line, whatever precedes it."""
+def test_each_error_has_a_meaning() -> None:
+    """Each error of the documents has one, and is found in a line after any text."""
     document = (TOP / "docs" / "user" / "LANGUAGE.md").read_text()
     table = document[document.index("## Errors") : document.index("## Differences")]
     names = [line.split("`")[1] for line in table.splitlines() if line.startswith("| `")]
@@ -214,8 +214,8 @@ def test_each_fault_has_a_meaning() -> None:
         assert [*read_faults([f"bench: mars: a b.red: line 7: {kind}"])][0][1:] == ("a b.red", 7, kind)
 
 
-def test_each_fault_of_the_library_is_known() -> None:
-    """The explained texts are those of the errors."""
+def test_each_error_of_the_library_is_known() -> None:
+    """The explained texts are the texts of the errors."""
     for number, name in enumerate(("", "Operation", "Operand", "", "AssertFailed", "BadOrigin", "Empty", "TooLong"), 1):
         assert not name or f"{number} {name}" in KINDS and explain_error(MarsError(ASSEMBLY, number, line=1), b"")
     for number, name in [*names("TEXT").items()][:-1]:
@@ -228,7 +228,7 @@ def test_each_fault_of_the_library_is_known() -> None:
         assert all(explain_error(fault, b"") for fault in faults)
 
 
-def test_words_are_the_languages() -> None:
+def test_words_are_those_of_the_language() -> None:
     document = (TOP / "docs" / "user" / "LANGUAGE.md").read_text()
     assert all(word in document for word in [*OPERATIONS, *PREDEFINED]) and all(
         f"`{word}`" in document for word in MODIFIERS
@@ -242,20 +242,20 @@ def test_standard_input(run: Run, tmp_path: Path) -> None:
         f"{line}\n     2 |         JMP     go\n>    3 | bomb    DAT     #0, #0\n"
         "In line 1, `MVO` is read as a label; did you mean `MOV`?\n"
     )
-    assert run("explain", given=f"a table\n{line}\n").stdout == shown
-    told = run("explain", "slip.red")
-    assert (told.returncode, told.stdout) == (1, shown.replace("league: mars: ", ""))
-    told = run("why", "slip.red")
-    assert told.returncode == 1 and told.stderr == (
+    assert run("explain", input=f"a table\n{line}\n").stdout == shown
+    done = run("explain", "slip.red")
+    assert (done.returncode, done.stdout) == (1, shown.replace("league: mars: ", ""))
+    done = run("why", "slip.red")
+    assert done.returncode == 1 and done.stderr == (
         "corewar: slip.red: line 3: 1 Text 7 Duplicate\n  In line 1, `MVO` is read as a label; did you mean `MOV`?\n"
     )
     gone = "mars: none.red: line 7: 4 Expression 2 Unknown"
-    assert run("explain", given=gone).stdout == (
+    assert run("explain", input=gone).stdout == (
         f"{gone}\nA name is undefined: it is not a label, an EQU name or a predefined name.\n"
     )
-    nothing = run("explain", given="no error\n")
+    nothing = run("explain", input="no error\n")
     assert (nothing.returncode, nothing.stderr) == (1, "corewar: no error message found in the input\n")
-    large = run("explain", given=f"{gone}\n" * 30000)
+    large = run("explain", input=f"{gone}\n" * 30000)
     assert (large.returncode, large.stderr) == (1, "corewar: -: too large\n")
 
 
@@ -290,14 +290,14 @@ def test_pmars(run: Run, tmp_path: Path) -> None:
     lines = run("explain", "--pmars", "other.red").stdout.splitlines()
     expected = ["line 1: pMARS obeys `; name`", "line 3: pMARS takes `start`", "line 4: pMARS reads `DAT #0, 1`"]
     expected += ["line 6: pMARS joins the counter `i`", "line 7: pMARS reads `.i` as a modifier"]
-    assert len(lines) == 5 and all(line.startswith(f"other.red: {told}") for line, told in zip(lines, expected))
+    assert len(lines) == 5 and all(line.startswith(f"other.red: {start}") for line, start in zip(lines, expected))
     nothing = f"dwarf.red: none of the {CHECKED_ROWS} known differences from pMARS was found\n"
     assert run("explain", "--pmars", "@dwarf").stdout.endswith(nothing)
     assert pmars_differences(b"i FOR 2\nmov.I 0, i\nROF\nx equ 2\n") == []
     assert run("explain", "--pmars").returncode == 2
 
 
-# For each row of the table in LANGUAGE.md that a source can show its beginning, such a source, and what is reported.
+# For each row of the table in LANGUAGE.md that a source can show: how it begins, a source, and a part of the note.
 DIFFERENT = [
     ("B-operand with `#`", "mov <0, #2\n", "before the side effect"),
     ("CMP and SEQ", "cmp 0, 1\n", "write SEQ"),
@@ -332,12 +332,12 @@ DIFFERENT = [
     ("a counter with the name of a label", "i nop 0\ni FOR 2\nnop i\nROF\n", "rejects the counter `i`"),
     ("lines and names of more", f"nop 0, {'+'.join(['1'] * 130)}\n", "cuts lines"),
 ]
-# Rows that no source shows.
+# Rows that no source can show.
 OF_MATCHES = ["three and more warriors", "starting positions", "`-F`", "`-l` above 100"]
 
 
 @pytest.mark.parametrize("row, text, expected", DIFFERENT)
-def test_each_row_of_the_table_is_looked_for(row: str, text: str, expected: str) -> None:
+def test_each_row_of_the_table_is_checked(row: str, text: str, expected: str) -> None:
     faults = [fault for fault, _ in errors_of(text.encode(), assemble)]
     assert any(expected in note for note in pmars_differences(text.encode(), faults))
 
@@ -350,7 +350,7 @@ def test_the_table_has_these_rows() -> None:
     assert all(any(row.startswith(one) for row in rows) for one in known)
 
 
-# What pMARS accepts and this kit rejects, and the same for both; None if it cannot be fixed.
+# A source that pMARS accepts and this kit rejects, and an equal one for both; None if it cannot be fixed.
 FIXED = [
     ("mov 0, \\\n 1 ; x\n", "mov 0, 1\n"),
     ("x nop 0\ny nop 0\nFOR y-x+1 ; two\ndat 1, 1\nROF\n", "nop 0\nnop 0\ndat 1, 1\ndat 1, 1\n"),
@@ -365,7 +365,7 @@ FIXED = [
 
 
 @pytest.mark.parametrize("text, same", FIXED)
-def test_what_is_fixed(text: str, same: str | None) -> None:
+def test_fixed_sources(text: str, same: str | None) -> None:
     fixed = fix(text.encode(), assemble)
     assert [*errors_of(text.encode(), assemble)]
     if same is None:
@@ -382,7 +382,7 @@ def test_what_cannot_be_fixed_is_reported(run: Run, tmp_path: Path) -> None:
 
 
 def test_fix(run: Run, tmp_path: Path) -> None:
-    """A counter with the name of a modifier of its loop is renamed; comments and other loops stay."""
+    """A counter with the name of a modifier in its loop is renamed; comments and other loops are unchanged."""
     source = b"i_ dat 0, i_\ni FOR 2\nmov.i 0, i ; i\nx&i jmp x&i, i_\nROF\ni FOR 2\ny&i dat i\nROF\n"
     (tmp_path / "scan.red").write_bytes(source)
     fixed = run("explain", "--fix", "scan.red").stdout.encode()
@@ -395,17 +395,17 @@ def test_fix(run: Run, tmp_path: Path) -> None:
         assert fix(valid, assemble) == valid
 
 
-def test_it_is_soon_there() -> None:
-    """Sources made to take long: thousands of causes, words after END, labels after loops, deep EQU names."""
+def test_expensive_sources_are_explained_soon() -> None:
+    """Expensive sources: thousands of causes, words after END, labels after loops, deep EQU names."""
     names, many = [f"q{number}" for number in range(15000)], [f"q{number}" for number in range(9000)]
     deep = "z0 EQU 1\n" + "".join(f"z{number} EQU z{number - 1}\n" for number in range(1, 34))
     sources = {
         "counters that are modifiers": "i FOR 1\nmov.i 0, i\nROF\n" * 9000,
-        "a row of joins": f"i FOR 1\nx{'&i' * 12} DAT 0\nROF\nDAT x{'1' * 60}y\n",
+        "many joins in a word": f"i FOR 1\nx{'&i' * 12} DAT 0\nROF\nDAT x{'1' * 60}y\n",
         "labels that are taken": "\n".join(names) + "\n" + " ".join(names) + "\n",
-        "names that aren't defined": " ".join(names) + " DAT " + "+".join(f"z{name}" for name in names) + "\n",
-        "words behind END": "DAT x\nEND\n" + "a " * 500000 + "\n",
-        "labels behind loops": "FOR 0\nROF\n" * 9000 + " ".join([*many, "q1"]) + "\n",
+        "names that are not defined": " ".join(names) + " DAT " + "+".join(f"z{name}" for name in names) + "\n",
+        "words after END": "DAT x\nEND\n" + "a " * 500000 + "\n",
+        "labels after loops": "FOR 0\nROF\n" * 9000 + " ".join([*many, "q1"]) + "\n",
         "deep names": deep
         + "y EQU z33 "
         + " ".join(many)
@@ -423,13 +423,13 @@ def test_it_is_soon_there() -> None:
         assert time.process_time() - started < 20, name
 
 
-def test_faults_of_all_commands_are_explained(run: Run) -> None:
-    """Contradictory settings are reported with what to do."""
-    told = run("why", "-l", 200, "@imp")
-    assert told.returncode == 2 and told.stderr.splitlines()[0] == "corewar: parameters 6 Distance"
-    assert "set `-d`" in told.stderr.splitlines()[1]
+def test_errors_of_all_commands_are_explained(run: Run) -> None:
+    """The message for contradictory settings says what to do."""
+    done = run("why", "-l", 200, "@imp")
+    assert done.returncode == 2 and done.stderr.splitlines()[0] == "corewar: parameters 6 Distance"
+    assert "set `-d`" in done.stderr.splitlines()[1]
     program = subprocess.run([TOP / "crates/mars/out/mars", "-l", "200", "x"], capture_output=True, text=True)
-    assert run("explain", given=program.stderr).stdout.splitlines()[1] == told.stderr.splitlines()[1].strip()
+    assert run("explain", input=program.stderr).stdout.splitlines()[1] == done.stderr.splitlines()[1].strip()
     assert Settings().longest == 100
 
 
@@ -525,7 +525,7 @@ def test_an_instruction(run: Run, words: list[str], expected: str) -> None:
 
 
 def test_what_is_no_instruction(run: Run, tmp_path: Path) -> None:
-    """A file comes first; a word that is not an opcode is a file that is not there; errors are explained."""
+    """A file has priority; a word that is not an opcode is a missing file; errors are explained."""
     (tmp_path / "mov 0, 1").write_text("dat 0\n")
     assert run("explain", "mov 0, 1").stdout == "mov 0, 1: no error\n"
     for name in ("move.red", "add.red", "bomb", "mvo 1,2.red"):
@@ -543,9 +543,9 @@ def test_what_is_no_instruction(run: Run, tmp_path: Path) -> None:
 
 
 def test_an_instruction_on_standard_input(run: Run) -> None:
-    done = run("explain", given="MOV 0, 1\n")
+    done = run("explain", input="MOV 0, 1\n")
     assert (done.stdout, done.returncode) == ("MOV.I $0, $1\nCopy this instruction to the next cell.\n", 0)
-    wrong = run("explain", given="mov 0 1\n")
+    wrong = run("explain", input="mov 0 1\n")
     assert wrong.returncode == 1 and wrong.stdout.endswith("A comma may be missing between `0` and `1`.\n")
 
 
@@ -573,7 +573,7 @@ NEWCOMERS = [
 
 
 @pytest.mark.parametrize("source, lines", NEWCOMERS)
-def test_what_a_newcomer_met(source: str, lines: dict[int, str]) -> None:
-    """Each error is reported by its word, and none hides another one or brings a false one with it."""
+def test_errors_of_newcomers(source: str, lines: dict[int, str]) -> None:
+    """Each error is reported with its word; no error hides another one or causes a false one."""
     found = {fault.line: sentences[0] for fault, sentences in errors_of(source.encode(), assemble)}
-    assert found.keys() == lines.keys() and all(found[line].startswith(told) for line, told in lines.items()), found
+    assert found.keys() == lines.keys() and all(found[line].startswith(start) for line, start in lines.items()), found

@@ -27,8 +27,8 @@ def test_a_file_is_replaced_in_a_folder_that_accepts_no_new_file(
     assert [path.read_bytes() for path in tmp_path.iterdir()] == [b"new"]
 
 
-def test_a_read_only_file_stays(tmp_path: Path, monkeypatch: pytest.MonkeyPatch) -> None:
-    """The system's answer is replaced, since root may write every file."""
+def test_a_read_only_file_is_not_replaced(tmp_path: Path, monkeypatch: pytest.MonkeyPatch) -> None:
+    """The reply of the system is replaced, since root may write each file."""
     (tmp_path / "old").write_text("old")
     monkeypatch.setattr(os, "access", lambda path, mode: False)
     with pytest.raises(FileError, match="read-only file"):

@@ -13,6 +13,6 @@ from pages import *  # noqa: E402,F401,F403
 
 @pytest.fixture(scope="module")
 def browser() -> Iterator[Browser]:
-    made = firefox()
-    yield made
-    made.end()
+    started = firefox()
+    yield started
+    started.end()

@@ -1,4 +1,4 @@
-"""A history is what the machine says of each turn, whatever the blocks and the edits."""
+"""A history has the states and records of the machine, for blocks of any size and any edits."""
 from __future__ import annotations
 
 from collections.abc import Callable, Iterator
@@ -44,8 +44,8 @@ def small_blocks(monkeypatch: pytest.MonkeyPatch) -> None:
 
 
 def edited(history: History, places: list[tuple[float, str]]) -> tuple[History, list[str]]:
-    """The history after the edits that are possible at these parts of what is left of it, and the lines that lead to
-    the last one.
+    """Returns the history after those edits that are possible, each after this part of the turns that are left, and the
+    debugger's lines up to the last edit.
     """
     turn, lines = 0, []
     for part, line in places:
@@ -57,14 +57,14 @@ def edited(history: History, places: list[tuple[float, str]]) -> tuple[History, 
             lines.append(line)
         except CorewarError:
             pass
-    # What leads to the last turn without an edit is not part of the last segment.
+    # The last segment begins at the last edit, so runs after it are left out.
     while lines and lines[-1].startswith("run"):
         lines.pop()
     return history, lines
 
 
 def block_state(history: History, turn: int) -> State:
-    """The state after a turn as the block with its record has it."""
+    """Returns the state after a turn, from the block with its record."""
     block = history.block(turn)
     queues = [block.queue(warrior, turn) for warrior in range(len(history.warriors))]
     over = history.head(turn) is None
@@ -94,7 +94,7 @@ PLACES = st.lists(st.tuples(st.floats(0, 1), edits()), max_size=3)
 
 
 @given(matches(), st.integers(0, 4), PLACES)
-def test_each_state_is_the_machine_s(fight: Match, round: int, places: list[tuple[float, str]]) -> None:
+def test_each_state_is_that_of_the_machine(fight: Match, round: int, places: list[tuple[float, str]]) -> None:
     history, lines = edited(History(fight, round), places)
     first = history.segments[-1].first
     for turn in range(first, history.end + 1):
@@ -102,9 +102,9 @@ def test_each_state_is_the_machine_s(fight: Match, round: int, places: list[tupl
         assert same(history.state(turn), expected) and same(block_state(history, turn), expected)
         assert np.array_equal(history.deaths(turn), expected.deaths)
     assert np.array_equal(history.ending.cells, history.state(history.end).cells)
-    made = record(fight, round, lines, 0, history.end - first + 3)
+    records = record(fight, round, lines, 0, history.end - first + 3)
     for turn in range(first + 1, history.end + 1):
-        mine, theirs = history.record(turn), made[turn - first - 1]
+        mine, theirs = history.record(turn), records[turn - first - 1]
         assert all(np.array_equal(mine[name], theirs[name]) for name in mine.dtype.names or ())
         changes = history.block_of(turn).changes
         own, before, after = changes.of(turn), history.state(turn - 1).cells, history.state(turn).cells
@@ -150,12 +150,12 @@ def test_a_cell_that_a_turn_does_not_touch_changes_nothing(fight: Match, part: f
 
 @given(matches(), st.integers(0, 23), st.integers(0, 3), PLACES)
 def test_reads_are_those_of_each_turn(fight: Match, first: int, more: int, places: list[tuple[float, str]]) -> None:
-    """Returns the cells that a turn touched, except for those that it wrote."""
+    """A turn reads the cells that it touches, except for those that it writes."""
     history, lines = edited(History(fight), places)
     begin, cells = history.segments[-1].first, {(first + place) % history.core for place in range(more + 1)}
-    rows, made = (call(fight, 0, lines, 0, history.end) for call in (touched, record))
+    rows, records = (call(fight, 0, lines, 0, history.end) for call in (touched, record))
     reads = []
-    for turn, (row, one) in enumerate(zip(rows, made), begin + 1):
+    for turn, (row, one) in enumerate(zip(rows, records), begin + 1):
         written = one["change"]["address"][: one["changes"]].tolist()
         if cells & {*row["address"][: row["count"]].tolist()} - {*written}:
             reads.append(turn)
@@ -198,8 +198,8 @@ def test_an_edit_leaves_the_other_future() -> None:
     assert (before.end, after.end) == (7798, 160000)
     assert before.edits == () and after.edits == ((6, edit),) and edit.text(8000) == "edit 0 JMP.B $2, $0"
     assert after.owners(6)[0] == BY_HAND and before.owners(6)[0] == 0
-    behind, old, new = after.by_hand(0, 100) or pytest.fail("the edit isn't found")
-    assert (behind, cell_text(old, 8000), cell_text(new, 8000)) == (6, "ADD.AB #4, $3", "JMP.B $2, $0")
+    turn, old, new = after.by_hand(0, 100) or pytest.fail("the edit is not found")
+    assert (turn, cell_text(old, 8000), cell_text(new, 8000)) == (6, "ADD.AB #4, $3", "JMP.B $2, $0")
     assert after.by_hand(1, 100) is None and before.by_hand(0, 100) is None
 
 
@@ -231,7 +231,7 @@ OUTSIDE = st.sampled_from(["edit 61 DAT.F $0, $0", "kill 0 9", "fill 3 2 DAT.F $
 
 
 @given(matches(), st.floats(0, 1), st.one_of(edits(), OUTSIDE))
-def test_an_edit_is_refused_where_the_debugger_refuses_it(fight: Match, part: float, line: str) -> None:
+def test_an_edit_is_refused_if_the_debugger_refuses_it(fight: Match, part: float, line: str) -> None:
     history = History(fight)
     turn, edit = int(part * history.end), edit_of(line, fight.settings.core)
     reply = Battle(fight).debug([*run_lines(turn), line]).splitlines()[-1]
@@ -240,13 +240,13 @@ def test_an_edit_is_refused_where_the_debugger_refuses_it(fight: Match, part: fl
             history.edited(turn, edit)
         assert str(fault.value) == reply
     else:
-        made = history.edited(turn, edit)
-        assert made.edits == ((turn, edit),) and edit_of(edit.text(fight.settings.core), fight.settings.core) == edit
-        assert same(made.state(turn), replayed(fight, 0, [*run_lines(turn), line]))
+        after = history.edited(turn, edit)
+        assert after.edits == ((turn, edit),) and edit_of(edit.text(fight.settings.core), fight.settings.core) == edit
+        assert same(after.state(turn), replayed(fight, 0, [*run_lines(turn), line]))
 
 
 def test_a_notebook_shows_its_end() -> None:
-    """The table of the warriors, with their names escaped: what became of each, its processes and its cells."""
+    """A table has the escaped name of each warrior, whether it is alive, its processes and its cells."""
     evil = assemble(";name <b>&Imp\nMOV 0, 1", settings="nano")
     history = History(Match((evil, assemble("DAT 0", settings="nano")), settings="nano"))
     owned = np.bincount(history.owners(history.end), minlength=2)
@@ -258,7 +258,7 @@ def test_a_notebook_shows_its_end() -> None:
     assert history.end == 2 and owned.tolist() == [2, 1] + [0] * 253 + [77]
 
 
-def test_what_is_no_turn_is_rejected() -> None:
+def test_wrong_turns_are_rejected() -> None:
     history, edit = dwarf_and_imp(), Edit.kill(0, 0)
     for turn in (-1, history.end + 1):
         calls: list[Callable[[int], object]] = [history.state, history.owners, lambda turn: history.edited(turn, edit)]

@@ -1,6 +1,6 @@
-"""Tests what `make` installs and packs: that it is all there, runs from there, and goes away again.
+"""Tests what `make` installs and packs: that it is complete, runs, and can be removed again.
 
-Besides: the man pages, and the lists of packages.
+Also the man pages, and the lists of packages.
 """
 from __future__ import annotations
 
@@ -38,7 +38,7 @@ def make(*words: object, **how: object) -> subprocess.CompletedProcess[str]:
     return subprocess.run(command, cwd=TOP, capture_output=True, text=True, timeout=300, **how)  # type: ignore
 
 
-def made(*words: object) -> None:
+def make_well(*words: object) -> None:
     done = make(*words)
     assert done.returncode == 0, done.stderr
 
@@ -47,23 +47,23 @@ def files_below(folder: Path) -> list[str]:
     return sorted(str(path.relative_to(folder)) for path in folder.rglob("*") if not path.is_dir())
 
 
-def without(needed: dict[str, str]) -> None:
-    """Skips the test where a command isn't there, and names its package."""
-    for command, package in needed.items():
+def require(packages: dict[str, str]) -> None:
+    """Skips the test if a command is missing, and names its package."""
+    for command, package in packages.items():
         if not shutil.which(command):
             skip("what it makes", f"there is no {command}", package)
 
 
 @pytest.fixture(scope="module")
 def prefix(tmp_path_factory: pytest.TempPathFactory) -> Iterator[Path]:
-    without({"make": "make", "click-man": "click-man"})
+    require({"make": "make", "click-man": "click-man"})
     folder = tmp_path_factory.mktemp("prefix")
-    made("install", f"PREFIX={folder}")
+    make_well("install", f"PREFIX={folder}")
     yield folder
 
 
 def started(prefix: Path, *words: object, **how: object) -> subprocess.CompletedProcess[str]:
-    """Runs what is installed below a prefix, and knows nothing of this repository."""
+    """Runs a program that is installed below a prefix, without a path to this repository."""
     environment = {"PATH": f"{prefix}/bin:/usr/bin:/bin", "HOME": str(prefix), "NO_COLOR": "1"}
     options = {"cwd": "/", "env": environment, "capture_output": True, "text": True, "timeout": 300, **how}
     return subprocess.run(list(map(str, words)), **options)  # type: ignore[call-overload,no-any-return]
@@ -76,8 +76,8 @@ def test_what_is_installed(prefix: Path) -> None:
     assert not [name for name in names if "__pycache__" in name or "target" in name]
     assert all(os.access(prefix / "bin" / name, os.X_OK) for name in ("mars", "corewar"))
     assert (prefix / "lib/libmars.so").readlink() == Path("libmars.so.2")
-    told = (prefix / "lib/pkgconfig/mars.pc").read_text()
-    assert told.startswith(f"prefix={prefix}\n") and f"\nVersion: {corewar.__version__}\n" in told
+    text = (prefix / "lib/pkgconfig/mars.pc").read_text()
+    assert text.startswith(f"prefix={prefix}\n") and f"\nVersion: {corewar.__version__}\n" in text
 
 
 def test_it_runs(prefix: Path, run: Run) -> None:
@@ -95,8 +95,8 @@ def test_it_calls_what_is_installed(prefix: Path) -> None:
     code = "from corewar.cli.web import *; from corewar.engine.binding import *; library(); "
     code += "print(open('/proc/self/maps').read(), next(path for path in EXAMPLES if path.is_dir()))"
     environment = {"PYTHONPATH": str(prefix / "lib/python3/dist-packages")}
-    told = started(prefix, "/usr/bin/python3", "-P", "-c", code, env=environment).stdout
-    assert f"{prefix}/lib/libmars.so.2\n" in told and told.endswith(f" {prefix}/share/doc/mars/examples\n")
+    output = started(prefix, "/usr/bin/python3", "-P", "-c", code, env=environment).stdout
+    assert f"{prefix}/lib/libmars.so.2\n" in output and output.endswith(f" {prefix}/share/doc/mars/examples\n")
 
 
 def test_a_missing_library_is_reported(prefix: Path) -> None:
@@ -106,31 +106,31 @@ def test_a_missing_library_is_reported(prefix: Path) -> None:
     assert done.stderr.startswith("corewar: /none.so: ") and done.stderr.count("\n") == 1
 
 
-def test_a_module_of_the_current_folder_is_not_taken(prefix: Path, tmp_path: Path) -> None:
+def test_a_module_of_the_current_folder_is_not_imported(prefix: Path, tmp_path: Path) -> None:
     (tmp_path / "click.py").write_text("raise SystemExit('the wrong one')\n")
     assert started(prefix, "corewar", "--version", cwd=tmp_path).returncode == 0
 
 
-def test_installed_anew_and_taken_away(tmp_path: Path) -> None:
-    without({"make": "make", "click-man": "click-man"})
+def test_installed_again_and_removed(tmp_path: Path) -> None:
+    require({"make": "make", "click-man": "click-man"})
     prefix = tmp_path / "prefix"
     ours = [prefix / name for name in ("share/doc/mars/old.md", "lib/python3/dist-packages/corewar/old.py")]
     for path in (*ours, prefix / "bin" / "mine"):
         path.parent.mkdir(parents=True, exist_ok=True)
         path.write_text("old\n")
-    made("install", f"PREFIX={prefix}")
+    make_well("install", f"PREFIX={prefix}")
     assert not [path for path in ours if path.exists()]
-    made("uninstall", f"PREFIX={prefix}")
+    make_well("uninstall", f"PREFIX={prefix}")
     assert files_below(prefix) == ["bin/mine"]
-    made("install", f"DESTDIR={tmp_path}/room", "PREFIX=/usr")
+    make_well("install", f"DESTDIR={tmp_path}/room", "PREFIX=/usr")
     assert {*INSTALLED, *ZSH} <= {*files_below(tmp_path / "room/usr")}
     assert (tmp_path / "room/usr/lib/pkgconfig/mars.pc").read_text().startswith("prefix=/usr\n")
-    made("uninstall", f"DESTDIR={tmp_path}/room", "PREFIX=/usr")
+    make_well("uninstall", f"DESTDIR={tmp_path}/room", "PREFIX=/usr")
     assert files_below(tmp_path / "room") == []
 
 
-def test_what_is_not_built_is_reported(tmp_path: Path) -> None:
-    without({"make": "make"})
+def test_a_missing_build_is_reported(tmp_path: Path) -> None:
+    require({"make": "make"})
     done = make("install", f"PREFIX={tmp_path}/prefix", "LIBRARY=none.a")
     assert (done.returncode, done.stderr.splitlines()[0]) == (
         2,
@@ -140,7 +140,7 @@ def test_what_is_not_built_is_reported(tmp_path: Path) -> None:
 
 
 def test_completion(prefix: Path) -> None:
-    """What bash offers for a word of `corewar` that is begun."""
+    """What bash offers for the beginning of a word of `corewar`."""
     script = prefix / "share/bash-completion/completions/corewar"
     code = (
         f"source {script}; COMP_WORDS=(corewar ch); COMP_CWORD=1; _corewar_completion corewar; echo ${{COMPREPLY[@]}}"
@@ -149,18 +149,18 @@ def test_completion(prefix: Path) -> None:
 
 
 def test_completion_by_zsh(prefix: Path) -> None:
-    without({"zsh": "zsh"})
+    require({"zsh": "zsh"})
     assert started(prefix, "zsh", "-n", prefix / ZSH[0]).returncode == 0
 
 
 def test_packages() -> None:
-    """Each file is in one of the packages; what is packed again is the same to the byte."""
-    without({"make": "make", "click-man": "click-man", "dh": "debhelper", "dh_python3": "dh-python"})
+    """Each file is in one of the packages, and packages that are built again have the same bytes."""
+    require({"make": "make", "click-man": "click-man", "dh": "debhelper", "dh_python3": "dh-python"})
     version = corewar.__version__
     packed = [TOP / "build" / name for name in (f"mars_{version}_amd64.deb", f"corewar_{version}_all.deb")]
-    made("packages")
+    make_well("packages")
     first = [path.read_bytes() for path in packed]
-    made("packages")
+    make_well("packages")
     assert first == [path.read_bytes() for path in packed]
     listed = [subprocess.run(["dpkg-deb", "-c", path], capture_output=True, text=True).stdout for path in packed]
     names = [
@@ -176,7 +176,7 @@ def test_packages() -> None:
 
 
 def test_one_version() -> None:
-    """That of the package is that of the library."""
+    """The package and the library have the same version."""
     major, minor = map(int, corewar.__version__.split("."))
     assert f"#define MARS_VERSION {major * 1000 + minor}\n" in (TOP / "include" / "mars.h").read_text()
 
@@ -188,7 +188,7 @@ def test_one_list_of_packages(tmp_path: Path) -> None:
     }
     control = (TOP / "packaging" / "debian" / "control").read_text().partition("Package: corewar")[2]
     assert {*re.findall(r"^ (python3-[\w-]+),$", control, re.M)} == required
-    # No package is installed for this stub.
+    # With this stub, no package is installed.
     (tmp_path / "dpkg-query").write_text("#!/bin/sh\n")
     (tmp_path / "dpkg-query").chmod(0o755)
     (tmp_path / "python3").symlink_to("/usr/bin/python3")
@@ -199,7 +199,7 @@ def test_one_list_of_packages(tmp_path: Path) -> None:
 
 
 def test_man_pages_are_well_formed(prefix: Path) -> None:
-    without({"mandoc": "mandoc", "groff": "groff-base"})
+    require({"mandoc": "mandoc", "groff": "groff-base"})
     for path in sorted((prefix / "share/man/man1").iterdir()):
         level = ["-W", "style" if path.name == "mars.1" else "error"]
         for words in (["mandoc", "-T", "lint", *level], ["groff", "-man", "-Tascii", "-z", "-ww"]):
@@ -208,7 +208,7 @@ def test_man_pages_are_well_formed(prefix: Path) -> None:
 
 
 def page_text() -> str:
-    """The words of the page of `mars` without their requests, fonts and escapes."""
+    """Returns the words of the page of `mars`, without requests, fonts and escapes."""
     lines = []
     for line in (TOP / "docs" / "mars.1").read_text("ascii").split("\n"):
         alternates = re.match(r"\.(B|I)[RBI] ", line)
@@ -218,11 +218,11 @@ def page_text() -> str:
     return re.sub(r"\s+", " ", re.sub(r"\\f\w", "", " ".join(lines)).replace("\\-", "-").replace("\\e", "\\"))
 
 
-def test_page_of_mars_has_the_words() -> None:
-    """Each word of the help is in the page, with its range and default."""
+def test_page_of_mars_has_the_options() -> None:
+    """Each option of the help is in the page, with its range and default."""
     text = page_text()
-    told = subprocess.run([PROGRAM, "--help"], capture_output=True, text=True).stdout
-    words = re.findall(r"^ +(--?[\w-]+)(?: <(\w+)>)? +(.*)$", told, re.M)
+    help_text = subprocess.run([PROGRAM, "--help"], capture_output=True, text=True).stdout
+    words = re.findall(r"^ +(--?[\w-]+)(?: <(\w+)>)? +(.*)$", help_text, re.M)
     assert len(words) == 18
     for word, value, meaning in words:
         assert f"{word} {value}".strip() + " " in text
@@ -230,7 +230,7 @@ def test_page_of_mars_has_the_words() -> None:
             assert part.rstrip("]").strip() in text, word
 
 
-def test_page_of_mars_has_the_commands_and_faults() -> None:
+def test_page_of_mars_has_the_commands_and_errors() -> None:
     """Each command of the debugger, refusal and error of the documents is in the page."""
     text = page_text()
     reference, language = ((TOP / "docs" / "user" / name).read_text() for name in ("REFERENCE.md", "LANGUAGE.md"))
@@ -238,8 +238,8 @@ def test_page_of_mars_has_the_commands_and_faults() -> None:
     rows = re.findall(r"^\| (`[a-z].*?`) \|", tables[: tables.index("| Refusal |")], re.M)
     names = [name for row in rows for name in re.findall(r"`([^`]+)`", row)]
     refusals = re.findall(r"`(\d+ [A-Z]\w+[ CFL]*)`", tables)
-    faults = re.findall(r"`(mars: [^`]*)`", tables)
-    assert (len(names), len(faults) > 10, len(refusals) > 10) == (15, True, True)
+    errors = re.findall(r"`(mars: [^`]*)`", tables)
+    assert (len(names), len(errors) > 10, len(refusals) > 10) == (15, True, True)
     of_sources = re.findall(r"^\| `(\d [^`]*?)(?: F)?` \|", language[language.index("## Errors") :], re.M)
-    plain = [re.sub(r"^[14] (Text|Expression) (?=\d)", "", fault) for fault in of_sources]
-    assert plain and not [name for name in (*names, *refusals, *faults, *plain) if name not in text]
+    plain = [re.sub(r"^[14] (Text|Expression) (?=\d)", "", error) for error in of_sources]
+    assert plain and not [name for name in (*names, *refusals, *errors, *plain) if name not in text]

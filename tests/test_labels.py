@@ -1,4 +1,4 @@
-"""Labels and lines of sources beside the core, as the assembler gives them."""
+"""Labels and lines of sources beside the core, as the assembler returns them."""
 from __future__ import annotations
 
 import numpy as np
@@ -40,7 +40,7 @@ def test_lines_of_loops_and_equ_names() -> None:
 
 
 def test_labels_of_two_warriors() -> None:
-    """A label of only one warrior needs no number; a label of both does."""
+    """A label of one warrior needs no number; a label of both warriors does."""
     imp = assemble("last MOV 0, 1")
     history = History(Match((assemble(SOURCE), imp)))
     sources, start = Sources(history), int(history.state(0).queues[1][0])
@@ -51,7 +51,7 @@ def test_labels_of_two_warriors() -> None:
 
 
 def test_late_lines_are_those_of_unchanged_cells(monkeypatch: pytest.MonkeyPatch) -> None:
-    """Tracing has a limit, and after it only cells that nothing has changed have a line."""
+    """After the limit of tracing, only unchanged cells have a line."""
     history = History(Match((read(str(EXAMPLES / "dwarf.red")), assemble("MOV 0, 1"))))
     sources = Sources(history)
     traced = {address: sources.line(history, address, 100) for address in range(8)}
@@ -85,7 +85,7 @@ PAIRS = ["dwarf imp", "silk imp", "paper imp", "scanner silk", "vampire spiral",
 
 
 def test_the_line_of_nearly_each_turn_is_known() -> None:
-    """Also of copies. The rest is empty core, and no cell has the line of another instruction."""
+    """Also the lines of copies. The rest is empty core, and no cell has the line of another instruction."""
     known, turns = 0, 0
     for names in PAIRS:
         history = History(Match(tuple(read(str(EXAMPLES / f"{name}.red")) for name in names.split())))

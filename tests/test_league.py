@@ -1,4 +1,4 @@
-"""league: its tables against the program's own, stored results, errors, and the files that it writes."""
+"""league: its tables, compared with the program's, its stored results, its errors, and the files that it writes."""
 from __future__ import annotations
 
 import csv
@@ -56,15 +56,15 @@ def folder(tmp_path: Path) -> Path:
 
 
 def own_rows(folder: Path, words: str) -> list[str]:
-    """The lines of the program's own league, without its head."""
+    """Returns the lines of the program's own league, without the head."""
     done = subprocess.run([PROGRAM, "-b", "--league", *words.split()], cwd=folder, capture_output=True, text=True)
     assert done.returncode == 0, done.stderr
     return done.stdout.splitlines()[1:]
 
 
-def rows(told: str) -> list[str]:
-    """The lines of a table without their ranks, which count from 1."""
-    head, *lines = told.splitlines()
+def rows(output: str) -> list[str]:
+    """Returns the lines of a table without their ranks, which count from 1."""
+    head, *lines = output.splitlines()
     assert head + "\n" == HEAD and [int(line[:6]) for line in lines] == [*range(1, len(lines) + 1)]
     return [line[7:] for line in lines]
 
@@ -83,27 +83,27 @@ def rows(told: str) -> list[str]:
 def test_it_is_the_programs_league(run: Run, words: str) -> None:
     """The same counts as the program's own: ties, negative points, formulas, limits, and warriors of the same text."""
     files = [*NAMES, *NAMES[:3]]
-    told = run("league", "--jobs", 3, *words.split(), *files, cwd=EXAMPLES).stdout
-    assert rows(told) == own_rows(EXAMPLES, f"-o {words} {' '.join(files)}")
+    output = run("league", "--jobs", 3, *words.split(), *files, cwd=EXAMPLES).stdout
+    assert rows(output) == own_rows(EXAMPLES, f"-o {words} {' '.join(files)}")
 
 
 def test_a_hill_is_its_words(run: Run) -> None:
     files, tiny = ["dwarf.red", "imp.red", "fitted.red"], "-o -r 20 -s 800 -c 8000 -p 800 -l 20"
     for words, own in (("", "20"), ("-d 300", "300")):
-        told = run("league", "-r", 20, "--hill", "tiny", *words.split(), *files, cwd=EXAMPLES).stdout
-        assert rows(told) == own_rows(EXAMPLES, f"{tiny} -d {own} {' '.join(files)}")
+        output = run("league", "-r", 20, "--hill", "tiny", *words.split(), *files, cwd=EXAMPLES).stdout
+        assert rows(output) == own_rows(EXAMPLES, f"{tiny} -d {own} {' '.join(files)}")
 
 
 def test_files(run: Run, folder: Path) -> None:
     """Load files, WARRIORS and ROUNDS, standard input, a name with a dash, and the file for a missing name."""
     own = own_rows(folder, "-o -r 4 old.load made.red unnamed.load late.red dead.red")
-    told = run("league", "-r", 4, "old.load", "made.red", "unnamed.load", "late.red", "dead.red").stdout
+    output = run("league", "-r", 4, "old.load", "made.red", "unnamed.load", "late.red", "dead.red").stdout
     shown = [line.replace(" Unknown by", " old.load by").replace("   by ", "  unnamed.load by ") for line in own]
-    assert rows(told) == [line.replace("   by", "  unnamed.load by") for line in shown]
-    told = run("league", "/dev/stdin", "late.red", "--", "-dash.red", given=FILES["stay.red"]).stdout
-    assert rows(told) == own_rows(folder, "-o stay.red late.red -- -dash.red")
-    told = run("league", "-r", 4, "-F", 300, "made.red", "dead.red").stdout
-    assert rows(told) == [
+    assert rows(output) == [line.replace("   by", "  unnamed.load by") for line in shown]
+    output = run("league", "/dev/stdin", "late.red", "--", "-dash.red", input=FILES["stay.red"]).stdout
+    assert rows(output) == own_rows(folder, "-o stay.red late.red -- -dash.red")
+    output = run("league", "-r", 4, "-F", 300, "made.red", "dead.red").stdout
+    assert rows(output) == [
         "      12      4      0      0  Made by Anonymous",
         "       0      0      0      4  Dead by Anonymous",
     ]
@@ -114,7 +114,7 @@ LAST_FIRST = ["-r", 4, "dead.red", "late.red", "stay.red", "same.red"]
 
 
 def test_csv(run: Run, folder: Path) -> None:
-    """Dead gets nothing. Late outlives only Dead, and the two others outlive both and tie."""
+    """Dead has no points. Late survives only Dead, and the two others survive both and tie."""
     head = "rank file name author points wins ties losses rounds win_percent tie_percent loss_percent score error"
     won, late = ["12", "66.6667", "33.3333", "0.0", "233.3333", "0.0"], [
         "12",
@@ -137,31 +137,31 @@ def test_csv(run: Run, folder: Path) -> None:
 
 
 def test_json(run: Run, folder: Path) -> None:
-    told = json.loads(run("league", "--format", "json", *LAST_FIRST).stdout)
-    assert told["seed"] == 1 and told["rounds"] == 4 and "--seed=1" in told["words"] and "-r=4" in told["words"]
-    assert [warrior["file"] for warrior in told["warriors"]] == ORDER
-    assert told["warriors"][0] == {
+    result = json.loads(run("league", "--format", "json", *LAST_FIRST).stdout)
+    assert result["seed"] == 1 and result["rounds"] == 4 and "--seed=1" in result["words"] and "-r=4" in result["words"]
+    assert [warrior["file"] for warrior in result["warriors"]] == ORDER
+    assert result["warriors"][0] == {
         **{"rank": 1, "file": "stay.red", "name": "Stay", "author": "Anonymous"},
         **{"points": 28, "wins": 8, "ties": 4, "losses": 0, "rounds": 12},
         **{"win_percent": 66.6667, "tie_percent": 33.3333, "loss_percent": 0.0, "score": 233.3333, "error": 0.0},
     }
-    assert [warrior["rank"] for warrior in told["warriors"]] == [1, 1, 3, 4]
+    assert [warrior["rank"] for warrior in result["warriors"]] == [1, 1, 3, 4]
     first = {"first": 3, "second": 2, "points": 0, "wins": 0, "ties": 0, "losses": 4, "theirs": 12}
-    assert len(told["matches"]) == 6 and told["matches"][0] == first
-    done = subprocess.run([PROGRAM, "-b", *told["words"], "dead.red", "late.red"], cwd=folder, capture_output=True)
+    assert len(result["matches"]) == 6 and result["matches"][0] == first
+    done = subprocess.run([PROGRAM, "-b", *result["words"], "dead.red", "late.red"], cwd=folder, capture_output=True)
     assert done.stdout.splitlines()[1].split()[:4] == [b"0", b"0", b"0", b"4"]
 
 
 def test_no_error_is_known_from_one_round(run: Run, folder: Path) -> None:
     """One round can be compared with no other, and with a given position nothing is drawn."""
     for words in (["-r", 1], ["-r", 4, "-F", 300]):
-        told = json.loads(run("league", "--format", "json", *words, "stay.red", "dead.red").stdout)
-        assert [(one["score"], one["error"]) for one in told["warriors"]] == [(300.0, None), (0.0, None)]
+        result = json.loads(run("league", "--format", "json", *words, "stay.red", "dead.red").stdout)
+        assert [(one["score"], one["error"]) for one in result["warriors"]] == [(300.0, None), (0.0, None)]
         table = run("league", "--format", "csv", *words, "stay.red", "dead.red").stdout.splitlines()
         assert [line.split(",")[-1] for line in table] == ["error", "", ""]
-    told = json.loads(run("league", "--format", "json", "-r", 4, "stay.red", "none.red").stdout)
-    alone = told["warriors"][0]
-    assert (alone["rounds"], alone["win_percent"], alone["score"], alone["error"]) == (0, 0.0, 0.0, None)
+    result = json.loads(run("league", "--format", "json", "-r", 4, "stay.red", "none.red").stdout)
+    warrior = result["warriors"][0]
+    assert (warrior["rounds"], warrior["win_percent"], warrior["score"], warrior["error"]) == (0, 0.0, 0.0, None)
 
 
 def test_the_error_is_how_seeds_differ() -> None:
@@ -202,8 +202,8 @@ def test_colours() -> None:
 
 
 def test_picture(run: Run, folder: Path) -> None:
-    told = run("league", "--picture", "m.svg", *LAST_FIRST)
-    assert rows(told.stdout) == own_rows(folder, "-o -r 4 dead.red late.red stay.red same.red")
+    done = run("league", "--picture", "m.svg", *LAST_FIRST)
+    assert rows(done.stdout) == own_rows(folder, "-o -r 4 dead.red late.red stay.red same.red")
     assert ElementTree.parse(folder / "m.svg").getroot().tag.endswith("svg")
     run("league", "--picture", "m.png", *LAST_FIRST)
     assert (folder / "m.png").read_bytes().startswith(b"\x89PNG")
@@ -220,8 +220,8 @@ def test_pages(run: Run, folder: Path) -> None:
     assert [name for name, _ in fight["w"]] == ["dead.red", "late.red", "same.red"]
 
 
-def test_faults_of_files(run: Run, folder: Path) -> None:
-    """A file with an error is explained and left out; the others play."""
+def test_errors_of_files(run: Run, folder: Path) -> None:
+    """A file with an error is explained and left out; the others fight."""
     done = run(
         "league", "-r", 2, "stay.red", "broken.red", "dead.red", "none.red", "alone.red", "late.red", "/dev/zero"
     )
@@ -237,7 +237,7 @@ def test_faults_of_files(run: Run, folder: Path) -> None:
 
 
 @pytest.mark.parametrize(
-    "words, status, told",
+    "words, status, error",
     [
         ("-r 0", 2, "expected a number from 1 to 100000, not `0`"),
         ("-F 50", 2, "corewar: settings 3 Position"),
@@ -258,12 +258,12 @@ def test_faults_of_files(run: Run, folder: Path) -> None:
         ("--format yaml", 2, "'yaml' is not one of 'table', 'csv', 'json', 'matrix'"),
     ],
 )
-def test_faults_of_words(run: Run, folder: Path, words: str, status: int, told: str) -> None:
+def test_errors_of_arguments(run: Run, folder: Path, words: str, status: int, error: str) -> None:
     done = run("league", *words.split(), "stay.red", "dead.red")
-    assert (done.returncode, done.stdout) == (status, "") and told in done.stderr and "Traceback" not in done.stderr
+    assert (done.returncode, done.stdout) == (status, "") and error in done.stderr and "Traceback" not in done.stderr
 
 
-def test_two_files_are_asked_for(run: Run, folder: Path) -> None:
+def test_two_files_are_required(run: Run, folder: Path) -> None:
     done = run("league", "stay.red")
     assert done.returncode == 2 and "expected at least two files" in done.stderr
 
@@ -279,16 +279,16 @@ def test_source_limit(run: Run, folder: Path) -> None:
     """A source that exceeds its limit is reported and left out; a long match is not."""
     (folder / "slow.red").write_text(slow())
     (folder / "names.red").write_text(large())
-    for limit, name, told in (("1", "slow.red", "more than 1 s"), ("60,200", "names.red", "more than 200 MB")):
+    for limit, name, cost in (("1", "slow.red", "more than 1 s"), ("60,200", "names.red", "more than 200 MB")):
         done = run("league", "--source-limit", limit, "-r", 4, "stay.red", name, "late.red")
         assert done.returncode == 1 and rows(done.stdout) == own_rows(folder, "-o -r 4 stay.red late.red")
-        assert done.stderr.startswith(f"corewar: {name}: assembling takes {told} of ")
+        assert done.stderr.startswith(f"corewar: {name}: assembling takes {cost} of ")
     words = "-c 10000000 -r 30 stay.red same.red"
     assert rows(run("league", "--source-limit", 1, *words.split()).stdout) == own_rows(folder, f"-o {words}")
 
 
-def count_kept(path: Path) -> int:
-    """How many results a file has, which is sound at any time."""
+def count_stored(path: Path) -> int:
+    """Returns the number of results in a file, which must be a valid database at any time."""
     if not path.exists():
         return 0
     with sqlite3.connect(path, timeout=60) as file:
@@ -300,11 +300,11 @@ def count_kept(path: Path) -> int:
 
 def wait_for_results(path: Path, count: int) -> None:
     end = time.monotonic() + 60
-    while count_kept(path) <= count and time.monotonic() < end:
+    while count_stored(path) <= count and time.monotonic() < end:
         time.sleep(0.02)
 
 
-def test_it_goes_on_where_it_was_ended(folder: Path) -> None:
+def test_it_continues_after_it_was_ended(folder: Path) -> None:
     """After a kill and after Ctrl-C, which reports how many are stored, the table is the same, and all are stored."""
     path, before = folder / "kept.sqlite", 0
     words = ["-r", 800, "--jobs", 1, "--results", path, *(EXAMPLES / name for name in NAMES[:7])]
@@ -312,40 +312,40 @@ def test_it_goes_on_where_it_was_ended(folder: Path) -> None:
         process = begin("league", *words)
         wait_for_results(path, before)
         process.send_signal(how)
-        output, told = process.communicate(timeout=60)
-        kept = count_kept(path)
-        assert before < kept < 21 and output == ""
+        output, errors = process.communicate(timeout=60)
+        stored = count_stored(path)
+        assert before < stored < 21 and output == ""
         if how == signal.SIGINT:
             assert (
                 process.returncode == 130
-                and told == f"corewar: {kept} of 21 matches stored; run the same command to continue\n"
+                and errors == f"corewar: {stored} of 21 matches stored; run the same command to continue\n"
             )
-        before = kept
+        before = stored
     both = [begin("league", *words) for _ in range(2)]
     tables = [process.communicate(timeout=300) for process in both]
     own = own_rows(EXAMPLES, f"-o -r 800 {' '.join(NAMES[:7])}")
-    assert [(rows(output), told) for output, told in tables] == 2 * [(own, "")] and count_kept(path) == 21
+    assert [(rows(output), errors) for output, errors in tables] == 2 * [(own, "")] and count_stored(path) == 21
 
 
 def test_ctrl_c_without_results(folder: Path) -> None:
-    """What is under way isn't waited for."""
+    """The command does not wait for a source or for matches."""
     os.mkfifo(folder / "pipe")
     long = "-c 10000000 -r 100000 same.red"
     for words in ("league pipe", f"league {long}", f"challenge --old same.red {long}"):
         command, *rest = words.split()
         process = begin(command, "stay.red", *rest, cwd=folder)
         children, end = Path(f"/proc/{process.pid}/task/{process.pid}/children"), time.monotonic() + 60
-        # Its assembler has begun, so it isn't being loaded any more.
+        # The process that assembles has started, so the command is loaded.
         while not children.read_text() and time.monotonic() < end:
             time.sleep(0.01)
         time.sleep(0.5)
         process.send_signal(signal.SIGINT)
-        output, told = process.communicate(timeout=20)
-        assert (process.returncode, output, told.strip()) == (130, "", "corewar: stopped")
+        output, errors = process.communicate(timeout=20)
+        assert (process.returncode, output, errors.strip()) == (130, "", "corewar: stopped")
 
 
-def test_a_kept_match_is_of_its_contest(folder: Path) -> None:
-    """One that is kept is taken as it is; by another seed, other rounds, or the other way round it is another one."""
+def test_a_stored_match_is_of_its_contest(folder: Path) -> None:
+    """A stored match is used again. With another seed, other rounds, or the other order it is another match."""
     path = str(folder / "kept.sqlite")
     warriors = [
         assemble(text, file=name) for name, text in FILES.items() if name in ("stay.red", "dead.red", "late.red")
@@ -362,8 +362,8 @@ def test_a_kept_match_is_of_its_contest(folder: Path) -> None:
     with Results(path, matches) as results, threads(matches, 2) as place:
         for rows_done in place.fight(matches):
             results.keep(rows_done)
-    kept, turned = filled(contest)
-    assert kept.is_fought.all() and turned == 0 and (kept.counts == matches.counts).all()
+    stored, turned = filled(contest)
+    assert stored.is_fought.all() and turned == 0 and (stored.counts == matches.counts).all()
     others = [
         Contest(rounds=5),
         Contest(rounds=4, seed=2),
@@ -372,8 +372,8 @@ def test_a_kept_match_is_of_its_contest(folder: Path) -> None:
     ]
     for other in others:
         assert not filled(other)[0].is_fought.any()
-    kept, turned = filled(contest, (0, 2, 1, 0))
-    assert kept.is_fought.tolist() == [True, True, False, False, False, False] and turned == 3
+    stored, turned = filled(contest, (0, 2, 1, 0))
+    assert stored.is_fought.tolist() == [True, True, False, False, False, False] and turned == 3
     with sqlite3.connect(path) as file, pytest.raises(sqlite3.IntegrityError):
         file.execute("UPDATE fought SET wins = 'many'")
 
@@ -381,10 +381,10 @@ def test_a_kept_match_is_of_its_contest(folder: Path) -> None:
 def test_a_corrected_name_runs_nothing_again(run: Run, folder: Path) -> None:
     """A stored match is known without names and authors; a file of version 1.2, which knew them, is still read."""
     words = ["league", "-r", 4, "--results", "kept.sqlite", "stay.red", "late.red", "dead.red"]
-    table, kept = run(*words).stdout, folder / "kept.sqlite"
+    table, path = run(*words).stdout, folder / "kept.sqlite"
     (folder / "late.red").write_text(FILES["late.red"].replace("later", "latest").replace("Me", "Myself"))
-    assert run(*words).stdout == table.replace("later", "latest").replace("Me", "Myself") and count_kept(kept) == 3
-    with sqlite3.connect(kept) as file:
+    assert run(*words).stdout == table.replace("later", "latest").replace("Me", "Myself") and count_stored(path) == 3
+    with sqlite3.connect(path) as file:
         for name in ("stay", "late", "dead"):
             warrior = assemble((folder / f"{name}.red").read_text(), rounds=4)
             new, old = digests_of(warrior)
@@ -392,7 +392,7 @@ def test_a_corrected_name_runs_nothing_again(run: Run, folder: Path) -> None:
             for place in ("first", "second"):
                 file.execute(f"UPDATE fought SET {place} = ? WHERE {place} = ?", (old, new))
     run(*words)
-    assert count_kept(kept) == 3
+    assert count_stored(path) == 3
 
 
 WRONG_COUNTS = [
@@ -416,7 +416,7 @@ def test_counts_of_a_results_file_are_checked(run: Run, folder: Path, change: st
 
 
 def test_a_locked_results_file(run: Run, folder: Path) -> None:
-    """Another process may have it for some time, which is reported; Ctrl-C does not wait for it."""
+    """A file that another process has locked is reported; Ctrl-C does not wait for it."""
     words = ["league", "--results", "kept.sqlite", "stay.red", "dead.red"]
     table = run(*words).stdout
     for how in (None, signal.SIGINT):
@@ -460,8 +460,8 @@ def test_counts_of_a_worker_are_checked(sent: object) -> None:
 
 def test_results_of_the_other_order_are_reported(run: Run, folder: Path) -> None:
     run("league", "--results", "kept.sqlite", "stay.red", "dead.red", "late.red")
-    told = run("league", "--results", "kept.sqlite", "dead.red", "stay.red", "late.red").stderr
-    assert told.startswith("corewar: 1 of 3 matches are stored only with the warriors in the other order")
+    errors = run("league", "--results", "kept.sqlite", "dead.red", "stay.red", "late.red").stderr
+    assert errors.startswith("corewar: 1 of 3 matches are stored only with the warriors in the other order")
     assert run("league", "--results", "kept.sqlite", "dead.red", "stay.red", "late.red").stderr == ""
 
 
@@ -482,7 +482,7 @@ def test_names_that_a_terminal_obeys(run: Run, folder: Path) -> None:
 
 
 def test_a_large_league() -> None:
-    """Bundles cover all pairs once, whatever their size, and the sums are those of the pairs."""
+    """Bundles of any size cover all pairs once, and the sums are those of the pairs."""
     contest = Contest(settings=HILLS["nano"], formula="S")
     warriors = [assemble(f"jmp {number % 5}", settings=contest.settings) for number in range(60)]
     matches = Matches(contest, warriors, all_pairs(60))
@@ -500,6 +500,6 @@ def test_a_contest_is_words() -> None:
 
 
 def test_the_call_keeps_its_name() -> None:
-    """The package `league`, which this file imports from, doesn't hide the call."""
+    """The modules that this file imports do not hide the call `league`."""
     imp = corewar.assemble("MOV 0, 1")
     assert [row.ties for row in corewar.league([imp, imp], rounds=2)] == [2, 2]

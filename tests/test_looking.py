@@ -47,32 +47,32 @@ def test_why(run: Run) -> None:
     assert run("why", "--turns", 1, "@dwarf", "@imp").stdout == DEATH
     assert run("why", "--turns", 1, "--of", "imp", "@dwarf", "@imp").stdout == DEATH
     assert run("why", "--of", 0, "@dwarf", "@imp").stdout == LIFE
-    alone = run("why", "@imp").stdout.splitlines()
-    assert alone[0] == "No warrior died; the battle is over: Imp lives."
-    assert alone[-1] == "   1000           1000  5: MOV.I 0, 1"
+    lines = run("why", "@imp").stdout.splitlines()
+    assert lines[0] == "No warrior died; the battle is over: Imp lives."
+    assert lines[-1] == "   1000           1000  5: MOV.I 0, 1"
     bad = run("why", "--of", "nobody", "@dwarf", "@imp")
     assert bad.returncode == 2 and "no warrior `nobody`; the warriors are 0 Dwarf, 1 Imp" in bad.stderr
 
 
 def test_why_shows_what_another_wrote(run: Run) -> None:
     """If a warrior executed a cell of another one, the turn that wrote it is reported, however far back."""
-    told = run("why", "--turns", 2, "--of", "Dwarf", "@dwarf", "@paper").stdout
-    assert told.startswith("Dwarf died in turn 23543:\n")
-    assert "of Folder at" in told or "Folder at" in told
+    output = run("why", "--turns", 2, "--of", "Dwarf", "@dwarf", "@paper").stdout
+    assert output.startswith("Dwarf died in turn 23543:\n")
+    assert "of Folder at" in output or "Folder at" in output
 
 
 def test_a_round_and_names(run: Run) -> None:
-    """In round 1 the second file begins; a name holds everywhere."""
-    told = run("why", "-r", 2, "--round", 1, "--of", "imp", "@dwarf", "@imp").stdout
-    assert told.startswith(("Imp died", "Imp lives"))
+    """In round 1 the second file begins, and a name is that of the same file in each round."""
+    output = run("why", "-r", 2, "--round", 1, "--of", "imp", "@dwarf", "@imp").stdout
+    assert output.startswith(("Imp died", "Imp lives"))
     assert run("trace", "-r", 2, "--round", 1, "--from", 1, "--turns", 1, "@dwarf", "@imp").stdout.startswith(
         "turn 1: Imp at 1139"
     )
 
 
 def test_trace(run: Run) -> None:
-    told = run("trace", "--from", 1, "--turns", 2, "@dwarf", "@imp").stdout
-    assert told == (
+    output = run("trace", "--from", 1, "--turns", 2, "@dwarf", "@imp").stdout
+    assert output == (
         "turn 1: Dwarf at 0 (loop): ADD.AB #4, $3\n    3 (bomb): DAT.F #0, #0 -> DAT.F #0, #4\n"
         "turn 2: Imp at 1305: MOV.I $0, $1\n    1306: DAT.F $0, $0 -> MOV.I $0, $1\n"
     )
@@ -92,9 +92,9 @@ def test_changed(run: Run) -> None:
     )
 
 
-def test_bad_words_and_faults(run: Run, tmp_path: Path) -> None:
-    """The wrong argument and the file with an error are reported, without a traceback."""
-    for words, told in (
+def test_wrong_arguments_and_files(run: Run, tmp_path: Path) -> None:
+    """A wrong argument and a file with an error are reported, without a traceback."""
+    for words, error in (
         (["why", "-r", "0", "@imp"], "expected a number from 1 to 100000, not `0`"),
         (["why", "--hil", "nano", "@imp"], "No such option: --hil"),
         (["frobnicate"], "unknown command `frobnicate`; `corewar --help` lists all commands"),
@@ -103,7 +103,7 @@ def test_bad_words_and_faults(run: Run, tmp_path: Path) -> None:
         (["why", "--source-limit", "0", "@imp"], "expected S or S,MB with numbers from 1 to 1000000, not `0`"),
     ):
         done = run(*words)
-        assert done.returncode == 2 and told in done.stderr and "Traceback" not in done.stderr
+        assert done.returncode == 2 and error in done.stderr and "Traceback" not in done.stderr
     done = run("why", "nowhere.red")
     assert (done.returncode, done.stderr) == (1, "corewar: nowhere.red: No such file or directory\n")
     seventeen = run("why", *["@imp"] * 17)
@@ -111,8 +111,8 @@ def test_bad_words_and_faults(run: Run, tmp_path: Path) -> None:
     (tmp_path / "stone.red").write_text("DAT 0\n")
     for command in ("fight", "why", "study", "explain", "web"):
         meant = run(command, "stone")
-        told = "corewar: stone: No such file or directory; did you mean `stone.red`?\n"
-        assert (meant.returncode, meant.stderr) == (1, told), command
+        error = "corewar: stone: No such file or directory; did you mean `stone.red`?\n"
+        assert (meant.returncode, meant.stderr) == (1, error), command
     folder = run("study", ".")
     assert (folder.returncode, folder.stderr) == (1, "corewar: .: Is a directory; expected a file\n")
 
@@ -128,25 +128,25 @@ def test_the_help_has_a_whole_sentence_for_each_command() -> None:
 
 
 def test_streams(run: Run) -> None:
-    """A warrior may come from standard input; a full or closed output ends in a line, or in silence."""
+    """A warrior may come from standard input; a full output is reported in a line."""
     source = (EXAMPLES / "imp.red").read_text()
-    assert run("why", "-", given=source).stdout.startswith("No warrior died")
+    assert run("why", "-", input=source).stdout.startswith("No warrior died")
     with open("/dev/full", "w") as full:
         done = run("trace", "@dwarf", "@imp", stdout=full, capture_output=False, stderr=-1)
     assert done.returncode == 1 and done.stderr == "corewar: No space left on device\n"
 
 
 def test_streams_that_are_closed_or_no_text(run: Run) -> None:
-    """A stream that isn't there takes nothing and gives nothing; bytes that are no text are no end of a session."""
+    """A closed stream is no error, and bytes that are not text do not end a session."""
     words = "import os, sys; [os.close(n) for n in map(int, sys.argv[1])]; os.execv(sys.argv[2], sys.argv[2:])"
     for closed in ("0", "1", "01", "012"):
         for command in ("why", "debug"):
-            given = [sys.executable, "-c", words, closed, str(EXAMPLES.parent / "corewar"), command]
+            launcher = [sys.executable, "-c", words, closed, str(EXAMPLES.parent / "corewar"), command]
             done = subprocess.run(
-                [*given, str(EXAMPLES / "imp.red")], stdin=subprocess.DEVNULL, capture_output=True, text=True
+                [*launcher, str(EXAMPLES / "imp.red")], stdin=subprocess.DEVNULL, capture_output=True, text=True
             )
             assert (done.returncode, done.stderr) == (0, ""), (closed, command)
-    assert run("debug", "@imp", given=b"step\n\xff\nstep\n").stdout.count("turn 2:") == 1
+    assert run("debug", "@imp", input=b"step\n\xff\nstep\n").stdout.count("turn 2:") == 1
 
 
 def test_names_of_files_that_are_no_text(run: Run, tmp_path: Path) -> None:
@@ -169,10 +169,10 @@ def test_names_are_no_formulas(run: Run, tmp_path: Path) -> None:
         assert (done.returncode, done.stderr) == (0, ""), words
 
 
-def test_numbers_and_names_that_none_has(run: Run) -> None:
-    """Neither a number of thousands of digits nor an empty name of a file is a traceback, or is passed over."""
+def test_impossible_numbers_and_names(run: Run) -> None:
+    """Numbers of thousands of digits and empty names of files are reported, without a traceback."""
     long = "1" * 5000
-    for words, told in (
+    for words, error in (
         (["why", "--of", long, "@imp"], "no warrior `1111"),
         (["changed", "--cell", long, "@imp"], "is neither a label"),
         (["picture", "--cells", f"0-{long}", "@imp"], "expected A-B"),
@@ -184,7 +184,7 @@ def test_numbers_and_names_that_none_has(run: Run) -> None:
         (["league", "--results", "", "@imp", "@dwarf"], "expected a name, not an empty argument"),
     ):
         done = run(*words)
-        assert done.returncode == 2 and told in done.stderr and "Traceback" not in done.stderr, words
+        assert done.returncode == 2 and error in done.stderr and "Traceback" not in done.stderr, words
     memory = run("picture", "-o", "a.png", "--rows", 1000000, "--columns", 8000, "-c", 1000000, "@imp")
     assert (memory.returncode, memory.stderr) == (1, "corewar: out of memory\n")
 
@@ -195,14 +195,14 @@ def test_ctrl_c_while_it_is_loaded(tmp_path: Path) -> None:
     for module in ("corewar.model", "numpy", "cffi", "click", "corewar.cli.options", "prompt_toolkit.shortcuts"):
         with begin("debug", EXAMPLES / "imp.red", env=environment, stdin=subprocess.PIPE) as one:
             assert one.stderr
-            told = next(line for line in one.stderr if line.split("|")[-1].strip() == module)
+            errors = next(line for line in one.stderr if line.split("|")[-1].strip() == module)
             one.send_signal(signal.SIGINT)
-            told += one.stderr.read()
-        assert one.returncode in (-signal.SIGINT, 130) and "Traceback" not in told, module
+            errors += one.stderr.read()
+        assert one.returncode in (-signal.SIGINT, 130) and "Traceback" not in errors, module
 
 
 def test_ctrl_c_ends_a_match(tmp_path: Path) -> None:
-    """One call of the library fights all rounds, and isn't waited for."""
+    """The command does not wait for the call of the library, which runs all rounds."""
     words = ["fight", "-r", "100000", "-c", "10000000", *[str(EXAMPLES / f"{name}.red") for name in ("imp", "dwarf")]]
     with begin(*words, stdout=None) as process:
         status = Path(f"/proc/{process.pid}/task")
@@ -210,8 +210,8 @@ def test_ctrl_c_ends_a_match(tmp_path: Path) -> None:
             time.sleep(0.05)
         time.sleep(0.5)
         process.send_signal(signal.SIGINT)
-        _, faults = process.communicate(timeout=20)
-        assert (faults, process.returncode) == ("\ncorewar: stopped\n", 130)
+        _, errors = process.communicate(timeout=20)
+        assert (errors, process.returncode) == ("\ncorewar: stopped\n", 130)
 
 
 def test_a_write_that_changes_nothing(run: Run, tmp_path: Path) -> None:
@@ -228,18 +228,18 @@ def test_folders_are_files_of_warriors(run: Run, tmp_path: Path) -> None:
     for name in ("b", "a"):
         (tmp_path / "hill" / f"{name}.red").write_text(f";name {name}\njmp 0\n")
     assert run("league", "hill").stdout == run("league", "hill/a.red", "hill/b.red").stdout
-    # A file that is given by its name is not in its folder again.
+    # A file that is also named itself counts once.
     assert run("challenge", "hill/a.red", "hill").stdout.endswith("sum of 1\n")
     assert run("league", "hill", "hill/a.red").stdout == run("league", "hill/b.red", "hill/a.red").stdout
     (tmp_path / "hill" / "b.red").unlink()
-    alone = run("challenge", "hill/a.red", "hill")
-    assert alone.stderr == "corewar: hill: no other file in this folder ends in .red\n"
+    done = run("challenge", "hill/a.red", "hill")
+    assert done.stderr == "corewar: hill: no other file in this folder ends in .red\n"
 
 
 def test_why_over_a_match(run: Run) -> None:
     """Losses are counted by the line that was hit and the line that hit it; `--round` selects a round."""
-    told = run("why", "-r", 20, "@dwarf", "@imp").stdout
-    assert told == (
+    output = run("why", "-r", 20, "@dwarf", "@imp").stdout
+    assert output == (
         "Dwarf tied 13 of 20 rounds:\n  ties round  executed in its last 1000 turns\n"
         "     8     2  cells that Imp wrote\n     5     4  cells that it wrote\n"
         "Imp lost 7 of 20 rounds:\nlosses round  died on                 hit by\n"
@@ -259,16 +259,16 @@ def test_why_over_a_match(run: Run) -> None:
 
 
 def test_a_tie(run: Run, tmp_path: Path) -> None:
-    """What the survivors did last: lines of others, load files, hits, and no more than some lines."""
-    told = run("why", "@boot", "@imp").stdout.splitlines()
-    assert told[:5] == [
+    """The report on the last turns of survivors: lines of others, load files, hits, and a limited number of lines."""
+    lines = run("why", "@boot", "@imp").stdout.splitlines()
+    assert lines[:5] == [
         "No warrior died; the battle is over: Stranger and Imp live.",
         "Stranger is alive after turn 160000, the last one, with 1 process.",
         "Its last 1000 turns:",
         "  turns  cells written  line",
         "   1000           1000  Imp 5: MOV.I 0, 1",
     ]
-    assert re.fullmatch(r"Imp executed \d+ of the cells written, in its last turns\.", told[5])
+    assert re.fullmatch(r"Imp executed \d+ of the cells written, in its last turns\.", lines[5])
     (tmp_path / "a.load").write_bytes(read(EXAMPLES / "imp.red").load)
     loaded = run("why", "-c", 10, "a.load").stdout
     assert loaded.endswith("Its last 10 turns:\n  turns  cells written  line\n     10             10  MOV.I $0, $1\n")
@@ -295,16 +295,16 @@ def test_lines_at_the_end_are_those_of_the_turns(names: tuple[str, ...]) -> None
                 for turn in last_turns(history, one)
                 if (line := sources.line(history, int(history.record(turn)["address"]), turn - 1))
             }
-            told = summarize_last_turns(history, sources, history.names, one)
-            for owner, numbers in re.findall(r"(?:(\w+)'s )?lines? ((?:[\d-]+(?:, (?=\d))?)+)", told):
+            summary = summarize_last_turns(history, sources, history.names, one)
+            for owner, numbers in re.findall(r"(?:(\w+)'s )?lines? ((?:[\d-]+(?:, (?=\d))?)+)", summary):
                 for first, last in re.findall(r"(\d+)(?:-(\d+))?", numbers):
                     of = history.names.index(owner) if owner else one
-                    assert {(of, line) for line in range(int(first), int(last or first) + 1)} <= traced, told
+                    assert {(of, line) for line in range(int(first), int(last or first) + 1)} <= traced, summary
     assert [ties[number] for number in range(len(names))] == [row.ties for row in match(warriors, rounds=4)]
 
 
 def test_the_ways_to_die(run: Run, tmp_path: Path) -> None:
-    """On a cell of its own that it hit itself, on one that has not changed, in empty core, and in load files."""
+    """On its own cell that it hit itself, on a cell that has not changed, in empty core, and in load files."""
     sources = {
         "suicide": ";name Suicide\nMOV 2, 1\nNOP\nDAT 0\n",
         "dat": ";name Dat\nDAT 0\n",
@@ -322,26 +322,26 @@ def test_the_ways_to_die(run: Run, tmp_path: Path) -> None:
         lines = run("why", "-r", 3, f"{name}.red", "wait.red").stdout.splitlines()
         assert lines[0].endswith(" lost 3 of 3 rounds:") and lines[2].split(None, 2) == ["3", "0", row], lines
     (tmp_path / "dwarf.load").write_bytes(read(EXAMPLES / "dwarf.red").load)
-    told = run("why", "-r", 20, "dwarf.load", "@imp").stdout
-    assert "     7     0  its line 5: MOV.I 0, 1  Dwarf, by an unknown line\n" in told
+    output = run("why", "-r", 20, "dwarf.load", "@imp").stdout
+    assert "     7     0  its line 5: MOV.I 0, 1  Dwarf, by an unknown line\n" in output
 
 
 def test_losses_are_those_of_the_match(run: Run) -> None:
-    """The sums are the losses of the table, whatever the order, also in matches of three."""
+    """The sums are the losses of the table, in any order, also in matches of three."""
     for files in (["@silk", "@paper"], ["@vampire", "@dwarf", "@scanner"], ["@dwarf", "@dwarf"]):
         rows = run("fight", "-r", 9, *files).stdout.splitlines()[1:]
-        told = run("why", "-r", 9, *files).stdout
-        found = re.findall(r"^(.*) lost (\d+) of 9 rounds:$", told, re.M)
+        output = run("why", "-r", 9, *files).stdout
+        found = re.findall(r"^(.*) lost (\d+) of 9 rounds:$", output, re.M)
         assert [int(count) for _, count in found] == [int(row.split()[3]) for row in rows if int(row.split()[3])]
-        tied = re.findall(r"^(.*) tied (\d+) of 9 rounds:$", told, re.M)
+        tied = re.findall(r"^(.*) tied (\d+) of 9 rounds:$", output, re.M)
         assert [int(count) for _, count in tied] == [int(row.split()[2]) for row in rows if int(row.split()[2])]
-        assert sum(map(int, re.findall(r"^ +(\d+) ", told, re.M))) == sum(int(count) for _, count in found + tied)
+        assert sum(map(int, re.findall(r"^ +(\d+) ", output, re.M))) == sum(int(count) for _, count in found + tied)
 
 
 def test_why_of_several_processes(run: Run) -> None:
     """The first hit on the loaded code of a warrior with several processes is added."""
-    told = run("why", "@paper", "@bomber").stdout
-    assert "The first hit of another warrior on its loaded code was:\nturn " in told
+    output = run("why", "@paper", "@bomber").stdout
+    assert "The first hit of another warrior on its loaded code was:\nturn " in output
     assert "The first hit" not in run("why", "@dwarf", "@imp").stdout
 
 
@@ -388,7 +388,7 @@ def test_study(run: Run, tmp_path: Path) -> None:
 
 
 def test_a_terminal_breaks_lines_at_spaces(run: Run, tmp_path: Path) -> None:
-    """Elsewhere lines stay whole."""
+    """Without a terminal, lines are not broken."""
     pexpect = pytest.importorskip("pexpect", reason="package python3-pexpect")
     environment = {**os.environ, "TERM": "xterm", "XDG_STATE_HOME": str(tmp_path)}
     scanner = str(EXAMPLES / "scanner.red")
@@ -398,8 +398,8 @@ def test_a_terminal_breaks_lines_at_spaces(run: Run, tmp_path: Path) -> None:
             str(EXAMPLES.parent / "corewar"), words, env=environment, timeout=20, dimensions=(40, 50), encoding="utf-8"
         ) as child:
             child.expect(pexpect.EOF)
-            told = child.before.splitlines()
-        assert max(map(len, whole.splitlines())) > 50 >= max(map(len, told)), words
-        assert " ".join(told).split() == whole.split()
+            lines = child.before.splitlines()
+        assert max(map(len, whole.splitlines())) > 50 >= max(map(len, lines)), words
+        assert " ".join(lines).split() == whole.split()
     assert broken("help  list all commands", 16) == "help  list all\n      commands"
     assert broken("  a sentence of words", 16) == "  a sentence of\n      words"

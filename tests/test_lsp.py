@@ -1,4 +1,4 @@
-"""The language server: errors as one types, what is under the cursor, names, and what it does with anything else."""
+"""The language server: errors during typing, hover, names, and requests and sources of other kinds."""
 from __future__ import annotations
 
 import ast
@@ -41,7 +41,7 @@ def literals() -> Iterator[str]:
             yield ast.literal_eval(f'b""{found[1:]}""').decode("utf-8", "replace")
 
 
-# Every source of the tests: correct ones, faulty ones, and examples with errors.
+# The sources of all tests: examples, examples with errors, and each text in the tests.
 SOURCES = [
     *(path.read_text() for path in sorted(EXAMPLES.glob("*.red"))),
     *(text for text, _ in test_explain.mutated(100)),
@@ -79,28 +79,28 @@ class Editor:
     def about(self, method: str, **params: Any) -> Params:
         return self.ask(f"textDocument/{method}", textDocument={"uri": URI}, **params)
 
-    def tell(self, method: str, **params: Any) -> None:
+    def notify(self, method: str, **params: Any) -> None:
         self.wire.send({"method": method, "params": params})
 
     def write(self, text: str) -> list[Params]:
         """The errors after a change of the whole text."""
-        self.tell("textDocument/didChange", textDocument={"uri": URI}, contentChanges=[{"text": text}])
-        told = self.wire.receive()
-        assert told is not None and told["method"] == "textDocument/publishDiagnostics"
-        found: list[Params] = told["params"]["diagnostics"]
+        self.notify("textDocument/didChange", textDocument={"uri": URI}, contentChanges=[{"text": text}])
+        message = self.wire.receive()
+        assert message is not None and message["method"] == "textDocument/publishDiagnostics"
+        found: list[Params] = message["params"]["diagnostics"]
         return found
 
 
 @pytest.fixture
 def editor() -> Iterator[Editor]:
-    found = Editor()
-    assert "hoverProvider" in found.ask("initialize", capabilities={})["result"]["capabilities"]
-    yield found
-    if found.process.poll() is None:
-        assert found.ask("shutdown")["result"] is None
-        found.tell("exit")
-    assert found.process.wait(10) == 0
-    assert found.process.stdout.read() == b""
+    client = Editor()
+    assert "hoverProvider" in client.ask("initialize", capabilities={})["result"]["capabilities"]
+    yield client
+    if client.process.poll() is None:
+        assert client.ask("shutdown")["result"] is None
+        client.notify("exit")
+    assert client.process.wait(10) == 0
+    assert client.process.stdout.read() == b""
 
 
 BAD = "step EQU 4\nloop ADD #stpe, bomb\n MVO bomb, @bomb\n JMP lop\nbomb DAT #0, #0\n END loop\n"
@@ -186,10 +186,10 @@ def test_no_error_of_an_answer_ends_the_server(editor: Editor, tmp_path: Path) -
     for body in (b"{", b"[]", b"\xff", b"", b"[" * 100_000):
         editor.process.stdin.write(b"Content-Length: %d\r\nX: y\r\n\r\n%s" % (len(body), body))
         editor.process.stdin.flush()
-        told = editor.wire.receive()
-        assert told is not None and told["error"]["code"] == -32700
-    editor.tell("textDocument/didChange", textDocument={"uri": URI})
-    editor.tell("$/cancelRequest", id=3)
+        message = editor.wire.receive()
+        assert message is not None and message["error"]["code"] == -32700
+    editor.notify("textDocument/didChange", textDocument={"uri": URI})
+    editor.notify("$/cancelRequest", id=3)
     editor.wire.send({"id": 99, "result": None})
     assert editor.about("documentSymbol")["result"][0]["name"] == "step"
 
@@ -197,7 +197,7 @@ def test_no_error_of_an_answer_ends_the_server(editor: Editor, tmp_path: Path) -
 def test_only_messages_reach_standard_output() -> None:
     code = "import corewar.editor.answers as a, corewar.editor.server as s; "
     code += "a.ANSWERS['textDocument/hover'] = lambda *_: print('noise'); s.serve(s.Settings(), '')"
-    given = []
+    messages = []
     for number, (method, params) in enumerate(
         [
             ("textDocument/didOpen", {"textDocument": {"uri": URI, "text": "MOV 0, 1\n"}}),
@@ -206,16 +206,16 @@ def test_only_messages_reach_standard_output() -> None:
         ]
     ):
         body = json.dumps({"id": number, "method": method, "params": params})
-        given.append(f"Content-Length: {len(body)}\r\n\r\n{body}")
+        messages.append(f"Content-Length: {len(body)}\r\n\r\n{body}")
     done = subprocess.run(
-        [sys.executable, "-c", code], input="".join(given), env=ENVIRONMENT, capture_output=True, text=True
+        [sys.executable, "-c", code], input="".join(messages), env=ENVIRONMENT, capture_output=True, text=True
     )
     assert "noise" in done.stderr and "noise" not in done.stdout
     assert re.sub(r"Content-Length: \d+\r?\n\r?\n", "", done.stdout).count("jsonrpc") == 2
 
 
-def test_started_by_hand_and_ended(run: Run) -> None:
-    """The end of input ends the server; on a terminal it says what is expected."""
+def test_start_and_end(run: Run) -> None:
+    """The end of input ends the server; on a terminal it prints what it expects."""
     done = run("lsp")
     assert (done.returncode, done.stdout, done.stderr) == (1, "", "")
     code = "import pty, sys; sys.exit(pty.spawn(sys.argv[1:]) >> 8)"
@@ -241,7 +241,7 @@ def test_a_source_that_costs_too_much(editor: Editor) -> None:
 
 
 def test_a_large_source() -> None:
-    """Loops, names of iterations and long lines: what takes time in proportion to their square would not end."""
+    """Loops, names of iterations and long lines: the test would not end if they took quadratic time."""
     loops = "".join(f"i{n} FOR 1\nx{n}&i{n} NOP x{n}01\nROF\n" for n in range(10_000))
     long_line = "x" + "1" * 300_000 + " NOP " + "1+" * 100_000 + ";\U0001f600"
     for source, count in ((loops, 80_000), ("i FOR 1\n" * 30_000, 90_000), (long_line, 200_003)):
@@ -250,8 +250,8 @@ def test_a_large_source() -> None:
 
 def test_hover() -> None:
     text = text_of(GOOD)
-    told = request(text, "hover", 1, 6)["contents"]["value"]
-    assert told.split("\n") == [
+    hover = request(text, "hover", 1, 6)["contents"]["value"]
+    assert hover.split("\n") == [
         "0  ADD.AB #4, $3",
         "Add 4 to the B-number of the cell 3 ahead.",
     ]
@@ -307,8 +307,8 @@ def test_names() -> None:
             assert [(one["line"], one["character"]) for one in ranges] == found
             (defined,) = request(text, "definition", line, column)
             assert tuple(defined["range"]["start"].values()) == found[0]
-    kept = request(text, "references", 1, 0, context={"includeDeclaration": False})
-    assert len(kept) == 3
+    uses = request(text, "references", 1, 0, context={"includeDeclaration": False})
+    assert len(uses) == 3
     assert [one["name"] for one in request(text, "documentSymbol", 0, 0)] == ["i", "x", "y"]
     assert request(text, "foldingRange", 0, 0) == [{"startLine": 0, "endLine": 2}]
 
@@ -346,7 +346,7 @@ def test_renames_are_refused() -> None:
 
 
 def outcomes(source: str) -> list[bytes | str]:
-    """What a source is under the settings of each hill: its load file or its error."""
+    """Returns the load file of a source, or its error, with the settings of each hill."""
     found: list[bytes | str] = []
     for settings in HILLS.values():
         try:
@@ -357,7 +357,7 @@ def outcomes(source: str) -> list[bytes | str]:
 
 
 def test_no_rename_changes_a_warrior() -> None:
-    """Each name of all sources, by a fresh name, and by names that clash: under every hill's settings."""
+    """Each name of each source is renamed to a fresh name and to names that may clash, with each hill's settings."""
     dice, count = Random(7), [0, 0]
     for source in SOURCES:
         text = text_of(source)
@@ -375,13 +375,13 @@ def test_no_rename_changes_a_warrior() -> None:
                     continue
                 count[1] += 1
                 assert outcomes(edited(source, edit)) == before, (source, token, new)
-    # A fresh name is refused in a few sources only, of which the look is wrong.
+    # A fresh name is never refused in a source without errors.
     assert count[1] > 100 and count[0] == 0, count
 
 
 @given(st.sampled_from(SOURCES), st.data())
 def test_any_text_is_answered(source: str, data: st.DataObject) -> None:
-    """Whatever is in a source, and wherever one asks."""
+    """Each request has an answer, for any source and any position."""
     first = data.draw(st.integers(0, len(source)))
     added = data.draw(st.text(max_size=8) | st.sampled_from(["FOR", " ROF", "&", ";assert", "\U0001f600", "x&i", "."]))
     text = text_of(source[:first] + added + source[first + data.draw(st.integers(0, 40)) :])
@@ -427,7 +427,7 @@ def test_hills(name: str) -> None:
 
 
 def test_words_are_those_of_the_document() -> None:
-    """The tables of opcodes, modifiers and predefined names say what hover says."""
+    """The tables of opcodes, modifiers and predefined names have the sentences of hover."""
     page = (TOP / "docs" / "user" / "LANGUAGE.md").read_text()
     tables = {**words.OPCODES, **words.MODIFIERS, **words.PREDEFINED}
     for name, meaning in tables.items():

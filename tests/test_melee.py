@@ -30,7 +30,7 @@ def warriors() -> list[corewar.Warrior]:
 
 @pytest.mark.parametrize("formula", ["(W*W-1)/S", "W-S", "10-3*S"])
 def test_it_is_the_sum_of_its_matches(formula: str) -> None:
-    """Each standing is the sum of the rows of the matches, whatever the number of threads."""
+    """Each standing is the sum of the rows of the matches, for any number of threads."""
     contest = Contest(rounds=3, seed=9, formula=formula)
     table = melee(contest, warriors(), 3, 20, 1)
     assert table == melee(contest, warriors(), 3, 20, 3)
@@ -51,7 +51,7 @@ def test_it_is_the_sum_of_its_matches(formula: str) -> None:
 
 
 def test_lineups_are_fair() -> None:
-    """No warrior is twice in a lineup, all are equally often, and each is anywhere in its lineup."""
+    """No warrior is twice in a lineup, all occur equally often, and each occurs at each place of a lineup."""
     lineups = lineups_of(7, 4, 100, random.Random(1))
     assert all(len({*lineup}) == 4 for lineup in lineups)
     counts = [sum(lineup.count(one) for lineup in lineups) for one in range(7)]
@@ -91,19 +91,21 @@ def test_the_error_is_how_seeds_differ() -> None:
 def test_formats_for_programs(run: Run) -> None:
     words = ["melee", "--size", 3, "--lineups", 14, "-r", 2, *(f"@{name}" for name in NAMES)]
     head, *rows = run(*words).stdout.splitlines()
-    told = json.loads(run(*words, "--format", "json").stdout)
-    assert (told["size"], told["lineups"], told["rounds"], told["seed"]) == (3, 14, 2, 1) and "-r=2" in told["words"]
-    for row, one in zip(rows, told["warriors"], strict=True):
+    result = json.loads(run(*words, "--format", "json").stdout)
+    assert (result["size"], result["lineups"], result["rounds"], result["seed"]) == (3, 14, 2, 1) and "-r=2" in result[
+        "words"
+    ]
+    for row, one in zip(rows, result["warriors"], strict=True):
         counts = [f"{one['score']:.1f}", *(str(one[name]) for name in ("rounds", "wins", "ties", "losses"))]
         assert row.split()[:6] == [str(one["rank"]), *counts] and row.split("  ")[-1].startswith(one["name"])
         assert one["rounds"] == 14 and one["error"] >= 0 and one["win_percent"] == round(100 * one["wins"] / 14, 4)
     table = [*csv.DictReader(io.StringIO(run(*words, "--format", "csv").stdout))]
-    assert table == [{name: str(value) for name, value in one.items()} for one in told["warriors"]]
+    assert table == [{name: str(value) for name, value in one.items()} for one in result["warriors"]]
     assert [*table[0]][:2] == ["rank", "file"] and [*table[0]][-2:] == ["score", "error"]
 
 
 def test_the_command(run: Run, tmp_path: Path) -> None:
-    """The table, files that are left out, and what is refused."""
+    """The table, files that are left out, and errors."""
     (tmp_path / "bad.red").write_text("foo 1\n")
     (tmp_path / "many.red").write_text(";assert WARRIORS == 3\nmov 0, 1\n")
     files = [f"@{name}" for name in NAMES]
@@ -123,9 +125,9 @@ def test_the_command(run: Run, tmp_path: Path) -> None:
         (["--size", 6, "-d", 2000, *files], "placement 1 NoRoom"),
         (["--lineups", 0, *files], "expected a number from 1 to 1000000"),
     ]
-    for words, told in refusals:
+    for words, error in refusals:
         refused = run("melee", *words)
-        assert refused.returncode in (1, 2) and told in refused.stderr and not refused.stdout
+        assert refused.returncode in (1, 2) and error in refused.stderr and not refused.stdout
 
 
 def test_it_can_be_stopped() -> None:
@@ -134,11 +136,11 @@ def test_it_can_be_stopped() -> None:
     start_time = time.monotonic()
     begin("melee", "--lineups", 1, *files).communicate()
     started = begin("melee", "--lineups", 100000, *files)
-    # By then it runs matches, also on a slow machine.
+    # After this time it runs matches, also on a slow machine.
     time.sleep(2 * (time.monotonic() - start_time))
     started.send_signal(signal.SIGINT)
-    _, told = started.communicate(timeout=20)
-    assert (started.returncode, told) == (130, "corewar: stopped\n")
+    _, errors = started.communicate(timeout=20)
+    assert (started.returncode, errors) == (130, "corewar: stopped\n")
 
 
 def test_it_reports_its_progress(monkeypatch: pytest.MonkeyPatch) -> None:

@@ -1,4 +1,4 @@
-"""Pages and pictures: what a page carries is what was given, and pictures show what the machine says."""
+"""Pages and pictures: a page has the fight of its arguments, and a picture shows the states of the machine."""
 from __future__ import annotations
 
 import base64
@@ -32,7 +32,7 @@ def unpacked(page: str) -> dict[str, Any]:
 
 
 def test_files_are_replaced_whole_or_not_at_all(run: Run, tmp_path: Path) -> None:
-    """On a full disk the older file stays; a link stays, and nothing else is left in the folder."""
+    """On a full disk the older file is unchanged; a link remains one, and no other file is left in the folder."""
     words = ("league", "--format", "csv", "-o", "out.csv", "@dwarf", "@imp")
     (tmp_path / "kept").mkdir()
     (tmp_path / "kept" / "old.csv").write_text("old")
@@ -50,7 +50,7 @@ def test_files_are_replaced_whole_or_not_at_all(run: Run, tmp_path: Path) -> Non
 
 
 def test_a_page_is_written(run: Run, tmp_path: Path) -> None:
-    """It carries sources, settings, a turn and edits; the page of many battles is the same file."""
+    """It has the sources, the settings, a turn and edits, and is not overwritten without --force."""
     words = ["--round", 2, "-r", 5, "--seed", 9, "-c", 5000, "--score", "W", "--turn", 300]
     words += ["--edit", "100 edit 3 mov 0, 1", "--edit", "200 fill 5 6 dat <1, #2", "--edit", "200 move 0 0 7"]
     done = run("page", *words, "--edit", "250 kill 1 0", "--edit", "250 spawn 0 9", "@dwarf", "@imp")
@@ -87,17 +87,17 @@ def test_a_page_is_written(run: Run, tmp_path: Path) -> None:
         ("1 edit 3 jmq 0", "is not an instruction: line 1: 2 Operation"),
     ],
 )
-def test_edits_that_are_none(run: Run, tmp_path: Path, edit: str, why: str) -> None:
+def test_wrong_edits(run: Run, tmp_path: Path, edit: str, why: str) -> None:
     done = run("page", "--edit", edit, "@imp")
     assert done.returncode == 2 and why in done.stderr and not (tmp_path / "battle.html").exists()
 
 
 def test_texts_of_strangers_are_no_html(run: Run, tmp_path: Path) -> None:
     source = ";redcode\n;name <script>alert(1)</script>\n;author </script><b>x\nDAT 0, 0\n"
-    run("page", "-", "@imp", given=source)
+    run("page", "-", "@imp", input=source)
     text = (tmp_path / "battle.html").read_text()
     assert "<script>alert" not in text and unpacked(text)["w"][0] == ["-", source]
-    run("rounds", "-", "@imp", "--pages", "pages", given=source)
+    run("rounds", "-", "@imp", "--pages", "pages", input=source)
     assert "<script>alert" not in (tmp_path / "pages" / "index.html").read_text()
 
 
@@ -116,16 +116,16 @@ def test_the_points_of_a_picture() -> None:
 
     imp = read(EXAMPLES / "imp.red", warriors=1)
     history = History(Match((imp,), settings=Settings(core=8, cycles=7, longest=1, distance=1)))
-    made = pixels_of(history, View(list(range(8)), range(8), 8))
-    owned, standing = made[0, 0], made[0, 1]
+    pixels = pixels_of(history, View(list(range(8)), range(8), 8))
+    owned, process = pixels[0, 0], pixels[0, 1]
     for row in range(7):
-        assert (made[row, row + 1] == standing).all()
-        assert all((made[row, column] == owned).all() for column in range(row + 1))
-        assert (made[row, row + 2 :] == 1).all()
+        assert (pixels[row, row + 1] == process).all()
+        assert all((pixels[row, column] == owned).all() for column in range(row + 1))
+        assert (pixels[row, row + 2 :] == 1).all()
 
 
 def test_a_figure_is_the_picture(run: Run, tmp_path: Path, monkeypatch: pytest.MonkeyPatch) -> None:
-    """`History.figure` is what `corewar picture` writes; without matplotlib it says so."""
+    """`History.figure` is the picture that `corewar picture` writes; a missing matplotlib is reported."""
     history = History(Match([read(EXAMPLES / f"{name}.red") for name in ("dwarf", "imp")]))
     run("picture", "-o", "fight.png", "@dwarf", "@imp")
     history.figure().savefig(tmp_path / "figure.png")

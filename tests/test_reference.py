@@ -21,7 +21,7 @@ def test_api_pages_are_current() -> None:
 
 
 def test_a_difference_is_found(tmp_path: Path) -> None:
-    """Another help of `mars` fails the check, which shows the option."""
+    """With another help of `mars` the check fails, and prints the option."""
     program = tmp_path / "mars"
     program.write_text("#!/bin/sh\necho '  -r <N>  Something else [default: 7]'\n")
     program.chmod(0o755)

@@ -1,4 +1,4 @@
-"""The rounds of a match in portions, and the bar that shows how many are run."""
+"""The rounds of a match in portions, and the bar that shows how many have been run."""
 from __future__ import annotations
 
 import contextlib
@@ -35,7 +35,7 @@ def test_portions_are_the_match(fight: Match, rounds: int, size: int, fixed: int
 
 
 def test_a_fight_in_portions(monkeypatch: pytest.MonkeyPatch) -> None:
-    """The table is the library's, and points that fit only in portions are refused as it does."""
+    """The table is that of the library, and points that fit only in portions are the same error."""
     fight = Match([read(EXAMPLES / f"{name}.red") for name in ("dwarf", "imp", "paper")], rounds=100)
     monkeypatch.setattr(module, "CYCLES", 7 * fight.settings.cycles)
     assert module.rows_of(fight, FORMULA) == match(fight.warriors, rounds=100)
@@ -44,7 +44,7 @@ def test_a_fight_in_portions(monkeypatch: pytest.MonkeyPatch) -> None:
 
 
 def all_of(terminal: int) -> str:
-    """Everything that is written to a terminal until its other end is closed, which is an error of reading then."""
+    """Returns all that is written to a terminal until its other end is closed, when reading fails."""
     shown = bytearray()
     with contextlib.suppress(OSError):
         while part := os.read(terminal, 4096):
@@ -55,7 +55,7 @@ def all_of(terminal: int) -> str:
 
 @pytest.mark.parametrize("words", [["fight"], ["why"]])
 def test_progress(words: list[str]) -> None:
-    """On a terminal standard error has a bar, which is removed, and standard output what it has without."""
+    """On a terminal, standard error has a bar, which is removed, and standard output is the same as without one."""
     ours, theirs = os.openpty()
     files = [EXAMPLES / "dwarf.red", EXAMPLES / "imp.red"]
     process = begin(*words, "-r", 160, *files, env={**ENVIRONMENT, "TERM": "xterm"}, stderr=theirs)
@@ -63,8 +63,8 @@ def test_progress(words: list[str]) -> None:
     # A terminal that is not read stops the command after 4 KB.
     with ThreadPoolExecutor(1) as pool:
         reading = pool.submit(all_of, ours)
-        told, _ = process.communicate()
+        output, _ = process.communicate()
         shown = reading.result()
     # The line of the bar is erased at the end.
     assert "160/160" in shown and "rounds" in shown and "\x1b[2K" in shown.rpartition("160/160")[2]
-    assert told == begin(*words, "-r", 160, *files).communicate()[0]
+    assert output == begin(*words, "-r", 160, *files).communicate()[0]

@@ -21,15 +21,15 @@ def run(script: str, *words: object, cwd: Path) -> subprocess.CompletedProcess[s
 
 
 def test_a_hill(tmp_path: Path) -> None:
-    """The last is pushed off, ages count the challenges that a warrior survives, and scores are of the matches."""
-    told = run("hill.py", "--size", 3, "--rounds", 20, "hill.json", *FILES, cwd=tmp_path).stdout.splitlines()
-    head = told.index(HEAD)
-    assert head == 2 and len(told) == 6 and all(" is pushed off at age " in line for line in told[:head])
+    """The last warrior is pushed off, ages count the survived challenges, and scores are those of the matches."""
+    lines = run("hill.py", "--size", 3, "--rounds", 20, "hill.json", *FILES, cwd=tmp_path).stdout.splitlines()
+    head = lines.index(HEAD)
+    assert head == 2 and len(lines) == 6 and all(" is pushed off at age " in line for line in lines[:head])
     hill = json.loads((tmp_path / "hill.json").read_text())
     assert (hill["size"], hill["rounds"], hill["settings"], hill["challenges"]) == (3, 20, "94nop", 5)
     ages = {one["number"]: one["age"] for one in hill["warriors"]}
     assert ages == {number: 5 - int(number) for number in ages} and len(ages) == 3
-    for line, one in zip(told[head + 1 :], hill["warriors"], strict=True):
+    for line, one in zip(lines[head + 1 :], hill["warriors"], strict=True):
         wins, ties = (sum(column) for column in zip(*one["against"].values()))
         assert {*one["against"]} == {*ages} - {one["number"]}
         score = 100 * (3 * wins + ties) / 40
@@ -50,14 +50,14 @@ def test_a_hill_is_the_same_in_steps(tmp_path: Path) -> None:
         last = run("hill.py", "--size", 3, "--rounds", 20, "steps.json", load, cwd=tmp_path)
     table = whole.stdout[whole.stdout.index(HEAD) :]
     assert last.stdout[last.stdout.index(HEAD) :] == table
-    made = (tmp_path / "steps.json").read_bytes()
-    assert made == (tmp_path / "whole.json").read_bytes()
+    stored = (tmp_path / "steps.json").read_bytes()
+    assert stored == (tmp_path / "whole.json").read_bytes()
     assert run("hill.py", "--size", 9, "steps.json", cwd=tmp_path).stdout == table
-    assert (tmp_path / "steps.json").read_bytes() == made and not [*tmp_path.glob("*.new")]
+    assert (tmp_path / "steps.json").read_bytes() == stored and not [*tmp_path.glob("*.new")]
 
 
 @pytest.mark.parametrize(
-    "words, status, told",
+    "words, status, error",
     [
         (["bad.red"], 1, "hill: bad.red: line 1: 2 Operation"),
         (["none.red"], 1, "hill: none.red: No such file or directory"),
@@ -66,28 +66,28 @@ def test_a_hill_is_the_same_in_steps(tmp_path: Path) -> None:
         (["--settings", "micro"], 2, "invalid choice: 'micro'"),
     ],
 )
-def test_errors_of_a_hill(tmp_path: Path, words: list[object], status: int, told: str) -> None:
-    """An error is one line, and the file stays as it was."""
+def test_errors_of_a_hill(tmp_path: Path, words: list[object], status: int, error: str) -> None:
+    """An error is reported, and the file is unchanged."""
     run("hill.py", "--settings", "tiny", "hill.json", FILES[0], FILES[1], cwd=tmp_path)
     before = (tmp_path / "hill.json").read_bytes()
     (tmp_path / "bad.red").write_text("foo 1\n")
     done = run("hill.py", "hill.json", *words, cwd=tmp_path)
-    assert (done.returncode, done.stdout) == (status, "") and told in done.stderr and "Traceback" not in done.stderr
+    assert (done.returncode, done.stdout) == (status, "") and error in done.stderr and "Traceback" not in done.stderr
     assert (tmp_path / "hill.json").read_bytes() == before
 
 
-def test_what_is_no_hill(tmp_path: Path) -> None:
-    for text, told in (("[]", "hill: hill.json is not a hill\n"), ("{", "hill: Expecting")):
+def test_files_that_are_no_hill(tmp_path: Path) -> None:
+    for text, error in (("[]", "hill: hill.json is not a hill\n"), ("{", "hill: Expecting")):
         (tmp_path / "hill.json").write_text(text)
         done = run("hill.py", "hill.json", FILES[0], cwd=tmp_path)
-        assert done.returncode == 1 and done.stderr.startswith(told) and (tmp_path / "hill.json").read_text() == text
+        assert done.returncode == 1 and done.stderr.startswith(error) and (tmp_path / "hill.json").read_text() == text
 
 
 def test_elites(tmp_path: Path) -> None:
-    """The table has the rewards, the same in each run, and later generations replace them only by greater ones."""
-    told = run("elites.py", 1, cwd=tmp_path).stdout
-    assert told == run("elites.py", 1, cwd=tmp_path).stdout
-    head, *rows = told.splitlines()
+    """The table has the rewards, the same in each run; later generations only replace them by greater ones."""
+    table = run("elites.py", 1, cwd=tmp_path).stdout
+    assert table == run("elites.py", 1, cwd=tmp_path).stdout
+    head, *rows = table.splitlines()
     assert head.split() == ["started", "touched", *(str(10 * tens) for tens in range(9))]
     assert [row.split()[0] for row in rows] == [str(1 << power >> 1) for power in range(len(rows))]
     rewards = [float(text) for row in rows for text in row.split()[1:] if text != "-"]

@@ -1,4 +1,4 @@
-"""Warriors as values, and how they fare in many matches."""
+"""Warriors as values, and their outcomes in many matches."""
 from __future__ import annotations
 
 import pickle
@@ -34,14 +34,14 @@ def test_a_warrior_is_a_value(fight: Match) -> None:
 
 @given(matches())
 def test_another_core_reads_numbers_by_value(fight: Match) -> None:
-    """A warrior fights in a core of another size as its load file says."""
+    """In a core of another size, a warrior has the cells that its load file has there."""
     read = [read_load(one.load, fight.settings) for one in fight.warriors]
     assert [one.core for one in read] == [fight.settings.core] * len(read)
     assert [one.cells_in(fight.settings.core) for one in fight.warriors] == [one.data for one in read]
 
 
-def test_what_a_caller_may_give(tmp_path: Path) -> None:
-    """Paths, hills by name, and short texts of values."""
+def test_kinds_of_arguments(tmp_path: Path) -> None:
+    """Paths, and hills by name; also the short texts of values."""
     dwarf, imp = corewar.read(EXAMPLES / "dwarf.red"), corewar.assemble(
         "MOV 0, 1", settings="nano", file=tmp_path / "imp.red"
     )
@@ -68,7 +68,7 @@ CELL = (1, 6, 1, 1, 0, 1)
 
 
 @pytest.mark.parametrize(
-    "given, name",
+    "changes, name",
     [
         ({"cells": []}, "Length"),
         ({"cells": [CELL] * 101}, "Length"),
@@ -83,9 +83,9 @@ CELL = (1, 6, 1, 1, 0, 1)
     ],
     ids=str,
 )
-def test_errors_of_warriors(given: dict[str, Any], name: str) -> None:
+def test_errors_of_warriors(changes: dict[str, Any], name: str) -> None:
     """Each call reports a wrong warrior by name and index, and a wrong cell by its index."""
-    words: dict[str, Any] = {"cells": [CELL], **given}
+    words: dict[str, Any] = {"cells": [CELL], **changes}
     wrong, right = Warrior.from_cells(**words), Warrior.from_cells([CELL])
     line = 1 if name in ("Cell", "Field") else 0
     if name != "Name":
@@ -93,9 +93,9 @@ def test_errors_of_warriors(given: dict[str, Any], name: str) -> None:
         for run in runs:
             with pytest.raises(MarsError) as found:
                 run([right, wrong])
-            told = found.value
-            assert (told.kind, told.name, told.warrior, told.line) == ("warrior", name, 1, line)
-            assert str(told).startswith("index 1: warrior ")
+            error = found.value
+            assert (error.kind, error.name, error.warrior, error.line) == ("warrior", name, 1, line)
+            assert str(error).startswith("index 1: warrior ")
     if name in ("Field", "Cell"):
         for hill in ("nano", "94x"):
             with pytest.raises(MarsError) as found:
@@ -108,11 +108,11 @@ def test_errors_of_warriors(given: dict[str, Any], name: str) -> None:
 
 
 @pytest.mark.parametrize("cell", [(1, 2, 3), (1, 6, 1, 1, 0, 1, 2), (1, 6, 1, 1, 0, 0.5), 5, "MOV 0, 1"], ids=str)
-def test_what_is_no_cell(cell: Any) -> None:
-    told = re.escape(f"expected the six numbers of a cell, not {cell!r}")
-    with pytest.raises(ValueError, match=told):
+def test_wrong_cells(cell: Any) -> None:
+    message = re.escape(f"expected the six numbers of a cell, not {cell!r}")
+    with pytest.raises(ValueError, match=message):
         Warrior.from_cells([cell])
-    with pytest.raises(ValueError, match=told):
+    with pytest.raises(ValueError, match=message):
         corewar.Battle(Match([Warrior.from_cells([CELL])])).edit(Edit.set(0, cell))
 
 
@@ -120,7 +120,7 @@ SMALL = Settings(core=400, processes=20, cycles=150, longest=10, distance=10)
 
 
 def random_warriors(dice: random.Random, count: int) -> list[Warrior]:
-    """Random warriors; what moves and splits is drawn more often, so that many live for a while."""
+    """Returns random warriors. MOV, SPL and JMP are drawn more often, so that many warriors live for some time."""
     weights = [9 if name in ("MOV", "SPL", "JMP") else 1 for name in OPCODES]
 
     def cell() -> Cell:
@@ -132,29 +132,29 @@ def random_warriors(dice: random.Random, count: int) -> list[Warrior]:
 
 
 def test_outcomes_are_those_of_matches_and_battles() -> None:
-    """In random melees of 2 to 8: sums over rounds are rows of matches, and a round is what its battle shows."""
+    """In random melees of 2 to 8, sums over rounds are rows of matches, and each round is that of its battle."""
     dice, died = random.Random(70), 0
     for _ in range(1000):
         warriors, count, rounds = random_warriors(dice, 10), dice.randint(2, 8), dice.randint(1, 3)
         lineups = [dice.sample(range(10), count) for _ in range(2)]
         seeds = [dice.randint(1, 2_147_483_646) for _ in lineups]
         words: Any = {"settings": SMALL, "rounds": rounds, "seeds": seeds}
-        made = corewar.outcomes(warriors, lineups, counts=True, jobs=2, **words)
-        assert made.shape == (2, rounds, count) and made.dtype == COUNTED
-        alone = corewar.outcomes(warriors, lineups, **words)
-        assert alone.dtype == OUTCOME
-        assert all(np.array_equal(made[name], alone[name]) for name in OUTCOME.names or ())
-        for lineup, seed, rows in zip(lineups, seeds, made):
+        counted = corewar.outcomes(warriors, lineups, counts=True, jobs=2, **words)
+        assert counted.shape == (2, rounds, count) and counted.dtype == COUNTED
+        outcomes = corewar.outcomes(warriors, lineups, **words)
+        assert outcomes.dtype == OUTCOME
+        assert all(np.array_equal(counted[name], outcomes[name]) for name in OUTCOME.names or ())
+        for lineup, seed, rows in zip(lineups, seeds, counted):
             fighters = [warriors[index] for index in lineup]
-            given: Any = {"settings": SMALL, "rounds": rounds, "seed": seed}
+            terms: Any = {"settings": SMALL, "rounds": rounds, "seed": seed}
             survivors = rows["survived"].sum(axis=1)
             wins = (rows["survived"] & (survivors == 1)[:, None]).sum(axis=0).tolist()
-            lives, match = rows["survived"].sum(axis=0).tolist(), corewar.match(fighters, **given)
+            lives, match = rows["survived"].sum(axis=0).tolist(), corewar.match(fighters, **terms)
             assert [(row.wins, row.wins + row.ties, row.losses) for row in match] == [
                 (won, lived, rounds - lived) for won, lived in zip(wins, lives)
             ]
             round = dice.randrange(rounds)
-            died += check_round(Match(fighters, **given), round, rows[round])
+            died += check_round(Match(fighters, **terms), round, rows[round])
     assert died > 2000
 
 
@@ -166,14 +166,14 @@ def check_round(fight: Match, round: int, row: Any) -> int:
     deaths = dict(battle.deaths.tolist())
     for place, warrior in enumerate(fight.warriors):
         number = (place - round) % count
-        death, told = deaths.get(number), row[place]
-        assert told["start"] == (first[number] - warrior.start) % SMALL.core
-        assert (bool(told["survived"]), int(told["turns"])) == (death is None, death or battle.turns)
+        death, outcome = deaths.get(number), row[place]
+        assert outcome["start"] == (first[number] - warrior.start) % SMALL.core
+        assert (bool(outcome["survived"]), int(outcome["turns"])) == (death is None, death or battle.turns)
         # The record of the turn before has the number of cycles that were complete.
         cycles = SMALL.cycles if death is None else int(records["cycle"][death - 2]) if death > 1 else 0
-        assert told["cycles"] == cycles
+        assert outcome["cycles"] == cycles
         own = records["warrior"] == number
-        assert told[[*COUNTS]].tolist() == counts_in(records[own], touched[own])
+        assert outcome[[*COUNTS]].tolist() == counts_in(records[own], touched[own])
     return len(deaths)
 
 
@@ -186,12 +186,12 @@ def counts_in(records: Any, touched: Any) -> tuple[int, ...]:
 
 
 def test_lineups() -> None:
-    """One lineup of all by default, threads, seeds of each, and what is refused."""
+    """One lineup of all warriors by default, threads, a seed for each lineup, and errors."""
     warriors = [corewar.read(EXAMPLES / f"{name}.red") for name in ("dwarf", "imp", "silk")]
     pairs = [[0, 1], [1, 2], [2, 0]]
-    made = corewar.outcomes(warriors, pairs, rounds=4, seeds=[3, 4, 5])
-    assert np.array_equal(made, corewar.outcomes(warriors, np.array(pairs), rounds=4, seeds=[3, 4, 5], jobs=3))
-    assert np.array_equal(made[1:2], corewar.outcomes(warriors[1:], rounds=4, seeds=4))
+    outcomes = corewar.outcomes(warriors, pairs, rounds=4, seeds=[3, 4, 5])
+    assert np.array_equal(outcomes, corewar.outcomes(warriors, np.array(pairs), rounds=4, seeds=[3, 4, 5], jobs=3))
+    assert np.array_equal(outcomes[1:2], corewar.outcomes(warriors[1:], rounds=4, seeds=4))
     assert corewar.outcomes(warriors, [], jobs=2).shape == (0, 1, 0) and corewar.outcomes(warriors).shape == (1, 1, 3)
     placed = corewar.outcomes(warriors, pairs, position=400)
     assert placed["start"].tolist() == [[[0, 400]]] * 3
@@ -226,17 +226,17 @@ def test_lineups() -> None:
 
 
 def test_shares() -> None:
-    """In each cycle those who live share, and all shares of a round make as many as there are warriors."""
-    made = np.zeros((1, 3), OUTCOME)
-    made["cycles"] = [[1, 4, 10]]
+    """In each cycle the living warriors share, and the shares of a round add up to the number of warriors."""
+    outcomes = np.zeros((1, 3), OUTCOME)
+    outcomes["cycles"] = [[1, 4, 10]]
     # Three share 2 cycles, two of them 3 more, and the last one has the other 5.
     points = [2 / 3, 2 / 3 + 3 / 2, 2 / 3 + 3 / 2 + 5]
-    assert np.allclose(corewar.shares(made, 10), [[share * 3 / 10 for share in points]])
+    assert np.allclose(corewar.shares(outcomes, 10), [[share * 3 / 10 for share in points]])
     with pytest.raises(CorewarError, match="expected 1 or more cycles, not 0"):
-        corewar.shares(made, 0)
+        corewar.shares(outcomes, 0)
     dice = random.Random(3)
     for _ in range(20):
-        made = corewar.outcomes(random_warriors(dice, 5), rounds=10, settings=SMALL)
-        shared = corewar.shares(made, SMALL.cycles)
-        lives = made["cycles"].max(axis=-1) == SMALL.cycles
+        outcomes = corewar.outcomes(random_warriors(dice, 5), rounds=10, settings=SMALL)
+        shared = corewar.shares(outcomes, SMALL.cycles)
+        lives = outcomes["cycles"].max(axis=-1) == SMALL.cycles
         assert np.allclose(shared.sum(axis=-1)[lives], 5)

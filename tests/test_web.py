@@ -1,4 +1,4 @@
-"""`corewar web`: who it answers to, what it saves, leagues with stored results, and the page over a folder."""
+"""`corewar web`: the requests that it accepts, saved sources, leagues with stored results, and the page of a folder."""
 from __future__ import annotations
 
 import json
@@ -29,7 +29,7 @@ if not (TOP / "build" / "site").is_dir():
 
 @dataclass
 class Site:
-    """The site as it is served, and the folder of its sources."""
+    """The address of the served site, and the folder of its sources."""
 
     address: str
     folder: Path
@@ -68,8 +68,8 @@ def site(tmp_path: Path) -> Iterator[Site]:
     yield from served("--port", 0, "--results", tmp_path / "kept", tmp_path)
 
 
-def test_who_it_answers_to(site: Site) -> None:
-    """Only who has the token, under its own name, from its own page."""
+def test_accepted_requests(site: Site) -> None:
+    """Requests need the token, the name of this machine as host, and the page as origin."""
     root = site.address.rsplit("/", 2)[0] + "/"
     assert site.ask("")[0] == 200 and site.ask("api/sources")[0] == 200 and "127.0.0.1" in site.address
     for path in ("", "api/sources", "0/", "x" * 22 + "/api/sources", "%2e%2e/"):
@@ -87,22 +87,22 @@ def test_who_it_answers_to(site: Site) -> None:
         assert b"default-src 'none'" in page.read()
 
 
-def test_the_browser_is_led_by_a_file(tmp_path: Path) -> None:
-    """The token is in no argument of a command, but in a file that only its user may read."""
+def test_the_browser_opens_a_file(tmp_path: Path) -> None:
+    """The token is not in an argument of a command, but in a file that only its user may read."""
     (tmp_path / "imp.red").write_text("MOV 0, 1\n")
     (tmp_path / "browser").write_text('#!/bin/sh\necho "$@"\nstat -c %a "${1#file://}"\ncat "${1#file://}"\n')
     (tmp_path / "browser").chmod(0o755)
     environment = {**ENVIRONMENT, "BROWSER": f"{tmp_path}/browser %s"}
     with begin("web", "--port", 0, tmp_path, env=environment) as process:
         assert process.stdout
-        told, word, mode, page = [process.stdout.readline() for _ in range(4)]
-        found = re.search(r"at (http://\S+)", told)
+        line, word, mode, page = [process.stdout.readline() for _ in range(4)]
+        found = re.search(r"at (http://\S+)", line)
         assert found and f"url={found[1]}" in page and found[1] not in word and mode == "600\n"
         process.send_signal(signal.SIGINT)
         assert process.wait(WAIT) == 130 and not Path(word.strip().removeprefix("file://")).exists()
 
 
-def test_a_killed_one_leaves_no_file(tmp_path: Path) -> None:
+def test_a_killed_server_leaves_no_file(tmp_path: Path) -> None:
     """The page with the token is removed on SIGTERM, too."""
     pages = tmp_path / "pages"
     pages.mkdir()
@@ -117,7 +117,7 @@ def test_a_killed_one_leaves_no_file(tmp_path: Path) -> None:
 
 
 def test_its_port_is_the_same_each_time(tmp_path: Path) -> None:
-    """Unless it is taken: then it is a free one."""
+    """If another program uses the port, the server has a free one."""
     with socket.create_server(("127.0.0.1", 0)) as taken:
         port = taken.getsockname()[1]
         with begin("web", "--no-browser", "--port", port, tmp_path) as process:
@@ -136,7 +136,7 @@ def test_a_site_that_is_not_built_is_reported(monkeypatch: pytest.MonkeyPatch) -
         site_folder()
 
 
-def test_requests_that_are_none(site: Site) -> None:
+def test_wrong_requests(site: Site) -> None:
     for method, path, body in (
         ("PUT", "api/sources/x.red", {}),
         ("PUT", "api/sources/x.red", []),
@@ -154,7 +154,7 @@ def test_requests_that_are_none(site: Site) -> None:
     assert site.ask("api/other", {}, "POST")[0] == site.ask("other", {}, "PUT")[0] == 404
 
 
-def test_sources_are_those_that_are_there_now(site: Site) -> None:
+def test_sources_are_those_of_the_folder_now(site: Site) -> None:
     (site.folder / "dwarf.red").unlink()
     (site.folder / "new.red").write_text("MOV 0, 1\n")
     (site.folder / "large.red").write_bytes(b";" * 1_048_577)
@@ -163,7 +163,7 @@ def test_sources_are_those_that_are_there_now(site: Site) -> None:
     assert found["large.red"]["fault"] == "large.red has more than 1048576 bytes; left out"
 
 
-def test_sources_are_saved_where_they_came_from(site: Site) -> None:
+def test_sources_are_saved_to_their_files(site: Site) -> None:
     seen = site.sources()["imp.red"]["seen"]
     status, saved = site.save("imp.red", "MOV 0, 1\n", seen)
     assert status == 200 and (site.folder / "imp.red").read_text() == "MOV 0, 1\n"
@@ -172,15 +172,15 @@ def test_sources_are_saved_where_they_came_from(site: Site) -> None:
     assert (site.folder / "imp.red").read_bytes() == b"MOV 0, 1\r\nDAT 0\n\xff\r"
     assert site.sources()["imp.red"]["text"] == ends
     (site.folder / "imp.red").write_text("changed")
-    status, told = site.save("imp.red", "lost?", saved["seen"])
-    assert status == 409 and told["fault"] == "imp.red has changed on disk; not overwritten"
+    status, answer = site.save("imp.red", "lost?", saved["seen"])
+    assert status == 409 and answer["fault"] == "imp.red has changed on disk; not overwritten"
     assert (site.folder / "imp.red").read_text() == "changed"
-    assert site.save("imp.red", "mine", told["seen"])[0] == 200
+    assert site.save("imp.red", "mine", answer["seen"])[0] == 200
     for name in ("%2e%2e%2fout.red", "%2fetc%2fx.red", "x.txt", ".red", "", "a%00.red"):
         assert site.save(name, "", "")[0] == 400, name
     assert site.save("large.red", ";" * 1_048_577, "")[0] == 400
-    status, told = site.save("x" * 300 + ".red", "", "")
-    assert status == 400 and told["fault"].endswith(": File name too long")
+    status, answer = site.save("x" * 300 + ".red", "", "")
+    assert status == 400 and answer["fault"].endswith(": File name too long")
     assert site.save("new.red", "DAT 0, 0\n", "")[0] == 200
     assert (site.folder / "new.red").read_text() == "DAT 0, 0\n"
 
@@ -209,7 +209,7 @@ def fight(*names: str, rounds: int = 5) -> dict[str, Any]:
     return {"sources": sources, **terms, "formula": "(W*W-1)/S"}
 
 
-def test_a_league_grows_and_is_kept(site: Site) -> None:
+def test_a_league_grows_and_is_stored(site: Site) -> None:
     def run(body: object) -> list[list[list[int]]]:
         return [json.loads(line) for line in site.ask("api/league", body, "POST")[1].splitlines()]
 
@@ -224,9 +224,9 @@ def test_a_league_grows_and_is_kept(site: Site) -> None:
 
 @pytest.fixture(scope="module")
 def browser() -> Iterator[Browser]:
-    made = chromium()
-    yield made
-    made.end()
+    started = chromium()
+    yield started
+    started.end()
 
 
 @pytest.fixture
@@ -237,7 +237,7 @@ def page(browser: Browser, site: Site) -> Browser:
 
 
 def test_the_page_saves_to_the_folder(page: Browser, site: Site) -> None:
-    """Its first source fights another; what something else changed is overwritten only if the user says so."""
+    """Its first source fights another one; a file that has changed on disk is overwritten only if the user says so."""
     assert page.value("document.title") == "Dwarf against Imp · Core War"
     (site.folder / "own.red").write_bytes(b";name Own\n; caf\xe9\nmov 0, 1\n")
     page.open(site.address + "?again")
@@ -291,7 +291,7 @@ def test_the_page_runs_leagues_by_the_server(page: Browser, site: Site) -> None:
 
 
 def test_pipes_and_devices_are_not_read(site: Site) -> None:
-    """One could be read without end."""
+    """Reading such a file might never end."""
     os.mkfifo(site.folder / "pipe.red")
     (site.folder / "zero.red").symlink_to("/dev/zero")
     for name in ("pipe.red", "zero.red"):

@@ -1,4 +1,4 @@
-"""Tests mars.wasm, the proved library compiled to WebAssembly, and what JavaScript calls it by."""
+"""Tests mars.wasm, the proved library compiled to WebAssembly, and the JavaScript that calls it."""
 from __future__ import annotations
 
 import gzip
@@ -52,7 +52,7 @@ def test_it_is_the_native_machine() -> None:
 
 
 def randomly(count: int) -> list[dict[str, Any]]:
-    """Fights of random warriors with edits, and questions about them."""
+    """Returns fights of random warriors with edits, and questions about them."""
     chance = random.Random(74)
     number, pick = chance.randrange, chance.choice
 
@@ -99,7 +99,7 @@ def turn_of(edit: dict[str, Any]) -> int:
 
 
 def history_of(fight: dict[str, Any]) -> History:
-    """The history that Python makes of a fight, with those of its edits that are possible."""
+    """Returns Python's history of a fight, with those of its edits that are possible."""
     settings = settings_of(fight["settings"])
     rounds, texts = fight["round"] + 1, [one["text"] for one in fight["warriors"]]
     warriors = [assemble(text, settings=settings, rounds=rounds, warriors=len(texts)) for text in texts]
@@ -134,8 +134,8 @@ def test_its_history_is_that_of_python() -> None:
             assert (state["head"], state["cycle"]) == (history.head(turn), block.cycle(turn))
             assert state["queues"] == [int(one) for queue in history.state(turn).queues for one in queue]
         for question, found in zip(fight["questions"], answer["found"]):
-            given = question["condition"]
-            condition = Condition(given["word"], given["first"], given.get("last", given["first"]), given.get("by"))
+            parts = question["condition"]
+            condition = Condition(parts["word"], parts["first"], parts.get("last", parts["first"]), parts.get("by"))
             expected = search(history, [condition], min(question["turn"], history.end), question["forward"])
             assert found == (expected and expected[0]), (fight, question)
         count = len(history.warriors)
@@ -149,7 +149,7 @@ def test_its_history_is_that_of_python() -> None:
 
 
 def test_its_sentences_are_those_of_python(tmp_path: Path) -> None:
-    """What instructions do, with every opcode, modifier and mode."""
+    """The sentences of instructions with each opcode, modifier and mode."""
     if not shutil.which("esbuild"):
         skip("JavaScript's sentences", "there is no esbuild", "esbuild")
     script = tmp_path / "sentences.js"
@@ -160,13 +160,13 @@ def test_its_sentences_are_those_of_python(tmp_path: Path) -> None:
         f"{opcode}.{modifier} {first}{next(numbers)}, {second}{next(numbers)}"
         for opcode, modifier, first, second in itertools.product(OPCODES, MODIFIERS, MODES, MODES)
     ]
-    given = "".join(f"{cell}\n" for cell in cells)
-    done = subprocess.run(["node", script, "8000"], input=given, capture_output=True, text=True)
+    lines = "".join(f"{cell}\n" for cell in cells)
+    done = subprocess.run(["node", script, "8000"], input=lines, capture_output=True, text=True)
     assert done.stdout.splitlines() == [describe_instruction(cell) for cell in cells], done.stderr
 
 
 def test_the_site_is_light() -> None:
-    """All that a browser loads has at most 200 KiB, compressed as servers do."""
+    """The files that a browser loads have at most 200 KiB, compressed as by a server."""
     files = [file for file in (TOP / "build" / "site").glob("*") if file.name != "one.html"]
     if not files:
         skip("the weight of the site", "it is not built; `make site` builds it", "esbuild")
@@ -195,7 +195,7 @@ def test_its_layout_is_that_of_the_header(tmp_path: Path) -> None:
 
 
 def test_its_errors_are_those_of_explain() -> None:
-    """The lines and the sentences, also of several errors in a source. It has no names of characters."""
+    """The lines and the sentences, also of several errors in a source. JavaScript has no names of characters."""
     if not WASM.is_file():
         skip("mars.wasm", "scripts/library could not build it", "binaryen")
     texts = [text for text, fault, _ in SOURCES if "NotAscii" not in fault]

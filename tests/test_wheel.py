@@ -11,10 +11,10 @@ import corewar
 import pytest
 from conftest import EXAMPLES, TOP
 from counting import skip
-from test_install import made
+from test_install import make_well
 
 WHEEL = TOP / "build" / f"corewar-{corewar.__version__}-py3-none-manylinux_2_17_x86_64.manylinux2014_x86_64.whl"
-# A user's script with two mistakes that its types show: a warrior that is text, and a field that a row does not have.
+# A user's script with two mistakes that a type checker finds: a warrior that is text, and a field that no row has.
 MISTAKEN = """\
 import corewar
 
@@ -31,7 +31,7 @@ def environment(tmp_path_factory: pytest.TempPathFactory) -> Iterator[Path]:
         code = f"import importlib.util, sys; sys.exit(importlib.util.find_spec('{module}') is None)"
         if subprocess.run(["/usr/bin/python3", "-c", code]).returncode:
             skip("the wheel", f"there is no module {module}", f"python3-{package}")
-    made("wheel")
+    make_well("wheel")
     folder = tmp_path_factory.mktemp("venv")
     for words in (
         ["/usr/bin/python3", "-m", "venv", "--system-site-packages", folder],
@@ -42,26 +42,26 @@ def environment(tmp_path_factory: pytest.TempPathFactory) -> Iterator[Path]:
     yield folder
 
 
-def started(environment: Path, *words: object, given: str = "", folder: object = "/") -> str:
-    """What a program of the environment prints in a folder, with exit status 0 and no error."""
+def started(environment: Path, *words: object, input: str = "", folder: object = "/") -> str:
+    """Runs a program of the environment in a folder, and returns its output. The program has no error."""
     command = [str(environment / "bin" / str(words[0])), *map(str, words[1:])]
     variables = {"PATH": "/usr/bin:/bin", "HOME": str(environment), "NO_COLOR": "1"}
-    done = subprocess.run(command, input=given, cwd=str(folder), env=variables, capture_output=True, text=True)
+    done = subprocess.run(command, input=input, cwd=str(folder), env=variables, capture_output=True, text=True)
     assert (done.stderr, done.returncode) == ("", 0)
     return done.stdout
 
 
 def test_it_is_the_same_again() -> None:
-    made("wheel")
+    make_well("wheel")
     first = WHEEL.read_bytes()
-    made("wheel")
+    make_well("wheel")
     assert first == WHEEL.read_bytes()
 
 
 def test_it_calls_its_own_library(environment: Path) -> None:
     code = "import corewar.engine.binding as b; b.library(); print(b.ENGINE, open('/proc/self/maps').read())"
-    told = started(environment, "python", "-c", code)
-    assert told.startswith(f"{environment}/lib/") and f"{told.split()[0]}/libmars.so.2\n" in told
+    output = started(environment, "python", "-c", code)
+    assert output.startswith(f"{environment}/lib/") and f"{output.split()[0]}/libmars.so.2\n" in output
 
 
 def test_no_header_is_parsed(environment: Path) -> None:
@@ -77,7 +77,7 @@ def test_commands_run_from_any_folder(environment: Path, tmp_path: Path) -> None
     league = started(environment, "corewar", "league", "--results", tmp_path / "hill.sqlite", *files, folder=tmp_path)
     assert "Dwarf by A. K. Dewdney" in league
     assert "Imp died" in started(environment, "corewar", "why", *files).replace("dies", "died")
-    assert "turn 3" in started(environment, "corewar", "debug", *files, given="step 3\n")
+    assert "turn 3" in started(environment, "corewar", "debug", *files, input="step 3\n")
 
 
 def test_files_for_editors(environment: Path) -> None:
