@@ -1,7 +1,7 @@
 """Counts the forms of the project's old idiom, which docs/dev/STYLE.md replaces by the field's terms.
 
-The text that is read is prose: documents without their code, comments, docstrings, and the texts that a command prints.
-It has three parts: "documents", "messages" and "comments".
+The text that is read is prose: documents without their code, comments, docstrings, the messages of assertions in tests,
+and the texts that a command prints. It has three parts: "documents", "messages" and "comments".
 """
 from __future__ import annotations
 
@@ -66,6 +66,14 @@ def docstrings(text: str) -> Iterator[tuple[int, bool]]:
             yield node.body[0].lineno, any("command" in ast.unparse(decorator) for decorator in decorators)
 
 
+def assertion_messages(text: str) -> Iterator[tuple[int, str]]:
+    """The texts in the messages of assertions, each with its line."""
+    for node in ast.walk(ast.parse(text)):
+        for part in ast.walk(node.msg) if isinstance(node, ast.Assert) and node.msg else ():
+            if isinstance(part, ast.Constant) and isinstance(part.value, str):
+                yield part.lineno, part.value
+
+
 def without_expressions(text: str) -> str:
     """A text without the code in braces, which may be nested."""
     while text != (text := re.sub(r"\$?\{[^{}]*\}", " ", text)):
@@ -75,8 +83,10 @@ def without_expressions(text: str) -> str:
 
 def python_pieces(name: str, text: str) -> Iterator[Piece]:
     """The comments, docstrings and texts of a Python source. The texts of scripts and tests are no messages of the
-    product.
+    product, and the messages of assertions in tests are read as comments.
     """
+    if name.startswith("tests/"):
+        yield from (("comments", line, message) for line, message in assertion_messages(text))
     is_help = dict(docstrings(text))
     for token in tokenize.generate_tokens(io.StringIO(text).readline):
         line = token.start[0]
