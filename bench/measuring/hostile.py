@@ -60,7 +60,7 @@ def cases() -> Iterator[tuple[str, str]]:
     yield "tokens: 16,000 sums of 12,000 labels in a line", "x NOP\nsum EQU " + "+".join(
         ["x"] * 12000
     ) + "\n" + in_loops("DAT sum", 2, 8000)
-    yield "bytes: 1 MB of blanks, read 63,000 times", filled("j FOR 7\ni FOR 9000\n", " ", "NOP\nROF\nROF\n")
+    yield "bytes: 1 MB of spaces, read 63,000 times", filled("j FOR 7\ni FOR 9000\n", " ", "NOP\nROF\nROF\n")
     yield "bytes: a name of 1 MB, read 27,000 times", filled("FOR 3\nFOR 9000\nDAT ", "x", "\nROF\nROF\n")
     yield "joins: 50,000 in a word, read 60,000 times", in_loops("x" + "&i" * 50000, 6, 10000)
     yield "joins: 50,000 of the outermost of 31 loops, read 1,000 times", in_31_loops(";assert x" + "&c0" * 50000)
@@ -72,7 +72,7 @@ def cases() -> Iterator[tuple[str, str]]:
     )
     yield "1 MB of parentheses", "DAT " + "(" * (MAX_FILE_SIZE - 4)
     yield "1 MB of words at random", words_at_random()
-    yield "32 empty loops in one another, of 10,000 rounds each", "FOR 10000\n" * 32 + "ROF\n" * 32 + "NOP\n"
+    yield "32 nested empty loops, of 10,000 iterations each", "FOR 10000\n" * 32 + "ROF\n" * 32 + "NOP\n"
 
 
 def measure(words: argparse.Namespace) -> None:
@@ -90,6 +90,6 @@ def measure(words: argparse.Namespace) -> None:
                 file.write(text.encode("ascii"))
             assert os.path.getsize(path) <= MAX_FILE_SIZE, what
             done = run([program, "--load", "-s", "1048576", "-l", "65536", "-d", "65536", path], bound=bound)
-            error = done.faults.decode().strip().removeprefix("mars: ").removeprefix(f"{path}: ")
+            error = done.errors.decode().strip().removeprefix("mars: ").removeprefix(f"{path}: ")
             answer = error or ("more time than that" if done.status == -signal.SIGXCPU else "assembled")
             print(f"| {what} | {len(text):,} | {done.cpu:.2f} | {done.peak / 1e6:.0f} | {answer} |", flush=True)

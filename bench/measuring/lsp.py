@@ -69,13 +69,13 @@ class Client:
 
 def print_times(what: str, runs: int, prepare: Callable[[int], object], work: Callable[[int], object]) -> None:
     """Prints the time of some work, each after its preparation."""
-    taken = []
+    times = []
     for run in range(runs):
         prepare(run)
         start = time.perf_counter()
         work(run)
-        taken.append(1000 * (time.perf_counter() - start))
-    print(f"  {what:24} {statistics.median(taken):6.0f} {max(taken):6.0f}")
+        times.append(1000 * (time.perf_counter() - start))
+    print(f"  {what:24} {statistics.median(times):6.0f} {max(times):6.0f}")
 
 
 def measure_lines(client: Client, lines: int, runs: int) -> None:

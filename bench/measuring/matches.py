@@ -64,5 +64,5 @@ def measure(words: argparse.Namespace) -> None:
             print(f"{', '.join(match.split()):<24}" + "".join(f"{cost:>13.1f}" for cost in costs[-1]), flush=True)
         print(f"{'geometric mean':<24}" + "".join(f"{geometric_mean(column):>13.1f}" for column in zip(*costs)))
         papers = [warrior(place, "PAPER")] * 2
-        made = [allocations([programs[0], *words_of(papers, 100, rounds)]) for rounds in (1, 10)]
-        print(f"allocations: {made[0]} in one round, {made[1]} in ten")
+        counts = [allocations([programs[0], *words_of(papers, 100, rounds)]) for rounds in (1, 10)]
+        print(f"allocations: {counts[0]} in one round, {counts[1]} in ten")

@@ -23,16 +23,16 @@ class Run:
 
     status: int
     output: bytes
-    faults: bytes
+    errors: bytes
     seconds: float
     cpu: float
     peak: int
 
 
-def run(command: Sequence[str], given: str = "", bound: Callable[[], None] | None = None) -> Run:
+def run(command: Sequence[str], input: str = "", bound: Callable[[], None] | None = None) -> Run:
     """Runs a program with standard input; `bound` sets its limits."""
     streams = [tempfile.TemporaryFile() for _ in range(3)]
-    streams[0].write(given.encode())
+    streams[0].write(input.encode())
     streams[0].seek(0)
     start = time.perf_counter()
     child = subprocess.Popen(command, stdin=streams[0], stdout=streams[1], stderr=streams[2], preexec_fn=bound)
@@ -42,32 +42,32 @@ def run(command: Sequence[str], given: str = "", bound: Callable[[], None] | Non
     child.returncode = os.waitstatus_to_exitcode(status)
     for stream in streams:
         stream.seek(0)
-    output, faults = streams[1].read(), streams[2].read()
+    output, errors = streams[1].read(), streams[2].read()
     for stream in streams:
         stream.close()
     cpu = usage.ru_utime + usage.ru_stime
-    return Run(child.returncode, output, faults, seconds, cpu, usage.ru_maxrss * 1024)
+    return Run(child.returncode, output, errors, seconds, cpu, usage.ru_maxrss * 1024)
 
 
-def run_well(command: Sequence[str], given: str = "") -> Run:
+def run_well(command: Sequence[str], input: str = "") -> Run:
     """Runs a program that has to succeed."""
-    done = run(command, given)
+    done = run(command, input)
     if done.status:
-        raise subprocess.CalledProcessError(done.status, command[0], stderr=done.faults)
+        raise subprocess.CalledProcessError(done.status, command[0], stderr=done.errors)
     return done
 
 
-def count(command: Sequence[str], pattern: str, options: Sequence[str], given: str) -> tuple[int, str]:
+def count(command: Sequence[str], pattern: str, options: Sequence[str], input: str) -> tuple[int, str]:
     """Returns a number that valgrind reports of a run, and the output of the run."""
-    done = run_well(["valgrind", *options, *command], given)
-    found = re.search(pattern, done.faults.decode())
+    done = run_well(["valgrind", *options, *command], input)
+    found = re.search(pattern, done.errors.decode())
     assert found, "valgrind reports no such number"
     return int(found[1].replace(",", "")), done.output.decode()
 
 
-def instructions(command: Sequence[str], given: str = "") -> tuple[int, str]:
+def instructions(command: Sequence[str], input: str = "") -> tuple[int, str]:
     """Returns the machine instructions of a run, and its output."""
-    return count(command, r"refs: +([\d,]+)", ["--tool=callgrind", "--callgrind-out-file=/dev/null"], given)
+    return count(command, r"refs: +([\d,]+)", ["--tool=callgrind", "--callgrind-out-file=/dev/null"], input)
 
 
 def allocations(command: Sequence[str]) -> int:
