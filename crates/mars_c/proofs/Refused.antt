@@ -16,9 +16,11 @@ use Rattle.mars_c.specs.declared.warriors.EntrantFault.{EntrantFault}
 use Rattle.mars_c.specs.declared.warriors.EntrantFault.TheVariants as entrant
 use Rattle.mars_c.specs.declared.cells.MarsCell.{MarsCell}
 use Rattle.mars_c.specs.declared.warriors.MarsWarrior.{MarsWarrior}
-use Rattle.mars_c.specs.Refusals.{Fails, IsWrong, RefusesEntry, fight_refusal}
+use Rattle.mars_c.specs.Refusals.{Fails, IsWrong, RefusesEntry, RefusesWarriors, fight_refusal}
 use Rattle.mars_c.specs.declared.faults.CallRefusal.{CallRefusal}
+use Rattle.mars_c.specs.declared.faults.CallRefusal.TheVariants as call
 use Rattle.mars_c.specs.declared.faults.CallRefusal.TheVariants.{OutOfMemory}
+use Rattle.mars_c.specs.declared.ranges.SettingsFault.TheVariants as settings
 use Rattle.mars_c.specs.declared.settings.MarsSettings.{MarsSettings}
 
 abbrev pub total : List MarsWarrior → ℕ
@@ -57,6 +59,14 @@ pub wrong_at : (p : Parameters) (cells : List MarsCell) (ns : List MarsWarrior) 
     → i < length ns → Reads p cells (take i ns) ws rest → (get_or ns i d).length ≤ length rest
     → fault ≢ entrant.OutOfMemory → IsNoEntrant p (take (get_or ns i d).length rest) (get_or ns i d).start fault → IsWrong p cells ns i fault
 wrong_at p cells ns i d ws rest fault inside all few other wrong = (ws, rest, get_or ns i d, slice_get-get_or ns i d inside, all, few, other, wrong)
+
+-- An error of the parameters or the warriors is one of the whole entry.
+pub entry_of : (s : MarsSettings) (text : List ℕ) (count : ℕ) (cells : List MarsCell) (entrants : List MarsWarrior) (refusal : CallRefusal)
+    → RefusesWarriors s cells entrants refusal → RefusesEntry s text count cells entrants refusal
+entry_of s text count cells entrants (call.Settings settings.Lengths) refuses = refuses
+entry_of s text count cells entrants (call.Settings other) refuses = absurd refuses
+entry_of s text count cells entrants (call.Formula fault) refuses = absurd refuses
+entry_of s text count cells entrants other refuses = refuses
 
 -- A failed allocation in a match is a refusal of every call.
 pub memory : (s : MarsSettings) (text : List ℕ) (count : ℕ) (cells : List MarsCell) (entrants : List MarsWarrior) (fault : MatchFault) (refusal : CallRefusal)

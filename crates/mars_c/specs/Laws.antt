@@ -1,11 +1,12 @@
 -- The laws of the library: calls with the same arguments have the same results, and the same errors.
-use Rattle.std.specs.Prelude.{◌≡◌, ◌≤◌, ℕ, List, length}
+use Rattle.std.specs.Prelude.{◌≡◌, ◌≤◌, ℕ, All, List, length}
+use Rattle.mars_core.specs.Limits.{max_warriors}
 use Rattle.mars_core.specs.State.{State}
 use Rattle.mars_match.specs.Leagues.{max_league_warriors}
 use Rattle.mars_c.specs.Battles.{IsStart}
-use Rattle.mars_c.specs.Blocks.{RefusesStart}
+use Rattle.mars_c.specs.Blocks.{HoldsStart, OverflowsStart, RefusesStart}
 use Rattle.mars_c.specs.Contests.{HoldsLeague, HoldsMatch, HoldsSums}
-use Rattle.mars_c.specs.Outcomes.{HoldsOutcomes}
+use Rattle.mars_c.specs.Outcomes.{HoldsOutcomes, IsLineup, RefusesOutcomes, rows_for}
 use Rattle.mars_c.specs.Refusals.{AreWarriors, RefusesLeague, RefusesMatch, RefusesPopulation}
 use Rattle.mars_c.specs.declared.cells.MarsCell.{MarsCell}
 use Rattle.mars_c.specs.declared.faults.CallRefusal.{CallRefusal}
@@ -66,3 +67,15 @@ abbrev pub StartErrorsRecur : Type 0
 StartErrorsRecur = (settings : MarsSettings) (cells : List MarsCell) (entrants : List MarsWarrior) (round : ℕ) (start : State) (refusal : CallRefusal)
     → AreWarriors (length entrants)
     → IsStart settings cells entrants round start → RefusesStart settings cells entrants round refusal → refusal ≡ OutOfMemory
+
+-- The same holds for outcomes of lineups, each of which has its warriors in an array of 16.
+abbrev pub OutcomeErrorsRecur : Type 0
+OutcomeErrorsRecur = (settings : MarsSettings) (cells : List MarsCell) (entrants : List MarsWarrior) (lineups : List MarsLineup) (rows : List MarsOutcome) (refusal : CallRefusal)
+    → All (λ (lineup : MarsLineup). IsLineup (length entrants) lineup) lineups → All (λ (lineup : MarsLineup). length lineup.warrior ≡ max_warriors) lineups
+    → length rows ≡ rows_for settings lineups
+    → HoldsOutcomes settings cells entrants lineups rows → RefusesOutcomes settings cells entrants lineups (length rows) refusal → refusal ≡ OutOfMemory
+
+-- The words in which a battle was started are not too few for a call with the same arguments.
+abbrev pub StartsFitAgain : Type 0
+StartsFitAgain = (settings : MarsSettings) (cells : List MarsCell) (entrants : List MarsWarrior) (round : ℕ) (before after : List ℕ)
+    → HoldsStart settings cells entrants round before after → OverflowsStart settings cells entrants round before → ⊥

@@ -9,7 +9,7 @@ use Rattle.mars_match.specs.declared.fates.Fate.{Fate}
 use Rattle.mars_match.specs.declared.fault.MatchFault.{MatchFault}
 use Rattle.mars_match.specs.declared.setup.Setup.{Setup}
 use Rattle.mars_c.specs.Entrants.{AreEntrants}
-use Rattle.mars_c.specs.Refusals.{AreWarriors, IsOutOfRange, RefusesEntry, fight_refusal}
+use Rattle.mars_c.specs.Refusals.{AreWarriors, IsOutOfRange, RefusesEntry, RefusesWarriors, fight_refusal}
 use Rattle.mars_c.specs.Settings.{IsSetup, parameters_in}
 use Rattle.mars_c.specs.declared.cells.MarsCell.{MarsCell}
 use Rattle.mars_c.specs.declared.faults.CallRefusal.{CallRefusal}
@@ -117,5 +117,5 @@ abbrev pub RefusesOutcomes : MarsSettings → List MarsCell → List MarsWarrior
 RefusesOutcomes s cells entrants lineups places refusal =
     IsWrongLineup (length entrants) lineups refusal
     ⊎ IsOutOfRange Rows (places ≡ rows_for s lineups) refusal
-    ⊎ RefusesEntry s (codes "0") 0 cells entrants refusal
+    ⊎ RefusesWarriors s cells entrants refusal
     ⊎ FailsLineup s cells entrants lineups refusal

@@ -90,15 +90,20 @@ IsOutside s warriors cells entrants Position = (p : Parameters) × (checked_para
 IsOutside s warriors cells entrants Lengths = sum_by (λ (one : MarsWarrior). one.length) entrants ≢ length cells
 IsOutside s warriors cells entrants other = ⊥
 
+-- `refusal` is the error of the parameters or the warriors.
+abbrev pub RefusesWarriors : MarsSettings → List MarsCell → List MarsWarrior → CallRefusal → Type 0
+RefusesWarriors s cells entrants OutOfMemory = ⊤
+RefusesWarriors s cells entrants (Settings Lengths) = sum_by (λ (one : MarsWarrior). one.length) entrants ≢ length cells
+RefusesWarriors s cells entrants (OfParameters fault) = checked_parameters (parameters_in s) ≡ Err fault
+RefusesWarriors s cells entrants (Warrior index fault) = (p : Parameters) × (checked_parameters (parameters_in s) ≡ Ok p) × IsWrong p cells entrants index fault
+RefusesWarriors s cells entrants other = ⊥
+
 -- `refusal` is the error of the settings, the formula `text` or the warriors. The position must fit battles of `warriors`
 -- warriors.
 abbrev pub RefusesEntry : MarsSettings → List ℕ → ℕ → List MarsCell → List MarsWarrior → CallRefusal → Type 0
-RefusesEntry s text warriors cells entrants OutOfMemory = ⊤
 RefusesEntry s text warriors cells entrants (Settings fault) = IsOutside s warriors cells entrants fault
-RefusesEntry s text warriors cells entrants (OfParameters fault) = checked_parameters (parameters_in s) ≡ Err fault
 RefusesEntry s text warriors cells entrants (Formula fault) = formula_of text ≡ Err fault
-RefusesEntry s text warriors cells entrants (Warrior index fault) = (p : Parameters) × (checked_parameters (parameters_in s) ≡ Ok p) × IsWrong p cells entrants index fault
-RefusesEntry s text warriors cells entrants other = ⊥
+RefusesEntry s text warriors cells entrants other = RefusesWarriors s cells entrants other
 
 -- The refusal of a match with this error.
 abbrev pub fight_refusal : MatchFault → CallRefusal

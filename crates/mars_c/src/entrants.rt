@@ -1,10 +1,10 @@
 //! The setup and the warriors of a match.
-ghost use Rattle.std.specs.Prelude.{◌≡◌, ℕ, IfErr, IfOk, List, Ok, length, vec_len};
+ghost use Rattle.std.specs.Prelude.{◌≡◌, IfErr, IfOk, Ok, length, vec_len};
 ghost use Rattle.mars_cell.specs.ParameterFaults.{checked_parameters};
 ghost use Rattle.mars_match.specs.Placement.{FitsTwo};
 ghost use Rattle.mars_c.specs.Entrants.{AreEntrants};
 ghost use Rattle.mars_c.specs.Settings.{IsSetup, parameters_in};
-ghost use Rattle.mars_c.specs.Refusals.{RefusesEntry};
+ghost use Rattle.mars_c.specs.Refusals.{RefusesEntry, RefusesWarriors};
 ghost use Rattle.mars_c.specs.declared.settings.MarsSettings.{MarsSettings as SettingsValue};
 
 use crate::cells::MarsCell;
@@ -31,8 +31,8 @@ pub fn read_all(
 ) -> Result<Vec<Warrior>, CallRefusal>
     ensures many { IfOk result (λ warriors. vec_len warriors ≡ length entrants.entry.warriors.now) }
     ensures read { let e = entrants.entry in IfOk result (λ warriors. AreEntrants params.now e.cells.now e.warriors.now warriors.items) }
-    ensures refused { (s : SettingsValue) (text : List ℕ) (count : ℕ) → checked_parameters (parameters_in s) ≡ Ok params.now
-        → let e = entrants.entry in IfErr result (RefusesEntry s text count e.cells.now e.warriors.now) }
+    ensures refused { (s : SettingsValue) → checked_parameters (parameters_in s) ≡ Ok params.now
+        → let e = entrants.entry in IfErr result (RefusesWarriors s e.cells.now e.warriors.now) }
 {
     let mut warriors = Vec::new(alloc);
     let mut rest = entrants.cells;

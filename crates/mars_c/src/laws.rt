@@ -1,6 +1,6 @@
 //! Laws of the library: calls with the same arguments have the same results, and the same errors. The functions do nothing; their
 //! contracts are the laws.
-ghost use Rattle.mars_c.specs.Laws.{EqualLeagues, EqualMatches, EqualOutcomes, EqualPopulations, EqualStarts, LeagueErrorsRecur, MatchErrorsRecur, PopulationErrorsRecur, StartErrorsRecur};
+ghost use Rattle.mars_c.specs.Laws.{EqualLeagues, EqualMatches, EqualOutcomes, EqualPopulations, EqualStarts, LeagueErrorsRecur, MatchErrorsRecur, OutcomeErrorsRecur, PopulationErrorsRecur, StartErrorsRecur, StartsFitAgain};
 
 /// There is only one table of a match.
 pub fn equal_matches()
@@ -43,7 +43,17 @@ pub fn population_errors_recur()
     ensures { PopulationErrorsRecur }
 {}
 
+/// The same holds for the outcomes of lineups.
+pub fn outcome_errors_recur()
+    ensures { OutcomeErrorsRecur }
+{}
+
 /// The same holds for the start of a battle.
 pub fn start_errors_recur()
     ensures { StartErrorsRecur }
+{}
+
+/// The words in which a battle was started are not too few for a call with the same arguments.
+pub fn starts_fit_again()
+    ensures { StartsFitAgain }
 {}

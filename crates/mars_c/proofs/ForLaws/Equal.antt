@@ -30,7 +30,7 @@ use Rattle.mars_c.specs.Cells.{plain_cell}
 use Rattle.mars_c.specs.Contests.{plain_row, plain_sum, population}
 use Rattle.mars_c.specs.Entrants.{AreEntrants, IsEntrant, Reads}
 use Rattle.mars_c.specs.Laws.{EqualLeagues, EqualMatches, EqualOutcomes, EqualPopulations, EqualStarts}
-use Rattle.mars_c.specs.Outcomes.{AreFought, IsFought, is_counting, plain_fate, seeded}
+use Rattle.mars_c.specs.Outcomes.{AreChosen, AreFought, IsFought, indices_of, is_counting, plain_fate, seeded}
 use Rattle.mars_c.specs.Settings.{IsSetup}
 use Rattle.mars_c.specs.declared.cells.MarsCell.{MarsCell}
 use Rattle.mars_c.specs.declared.outcomes.MarsLineup.{MarsLineup}
@@ -97,7 +97,7 @@ module _ (p : Parameters) where
       rw (names, authors, same, starts) refl in
       whole
 
-  one_reading : (cells : List MarsCell) (entrants : List MarsWarrior) (vs ws : List WarriorValue) (rest : List MarsCell)
+  pub one_reading : (cells : List MarsCell) (entrants : List MarsWarrior) (vs ws : List WarriorValue) (rest : List MarsCell)
       → Reads p cells entrants vs rest → Reads p cells entrants ws rest → vs ≡ ws
   one_reading cells [] [] [] rest first second = refl
   one_reading cells [] [] (w ∷ ws) rest first second = absurd second
@@ -165,14 +165,22 @@ equal_starts s cells entrants round one other (a, vs, first, are, fits, inside, 
     let same = same_given s (codes "0") cells entrants a b vs ws first second are too (λ a ws. round_start_state a ws round) in
     ok_injective one other (sym (round_starts a vs round one begins) ∙ same ∙ round_starts b ws round other starts)
 
+-- The fates of a lineup's match.
+abbrev pub fates_in : MarsLineup → Setup → List WarriorValue → Result (List Fate) MatchFault
+fates_in lineup a us = fates_of (is_counting lineup) a.params us a.plan.fixed a.plan.rounds a.plan.seed
+
 module _ (s : MarsSettings) (ws : List WarriorValue) where
-  one_fought : (lineup : MarsLineup) (xs ys : List Fate) → IsFought s ws lineup xs → IsFought s ws lineup ys → xs ≡ ys
-  one_fought lineup xs ys (a, us, first, are, fits, is) (b, vs, second, too, fitting, too_is) =
-      let fates : Setup → List WarriorValue → Result (List Fate) MatchFault =
-      λ a ws. fates_of (is_counting lineup) a.params ws a.plan.fixed a.plan.rounds a.plan.seed in
+  pub same_fates : (lineup : MarsLineup) (a b : Setup) (us vs : List WarriorValue)
+      → IsSetup (seeded s lineup.seed) (codes "0") a → IsSetup (seeded s lineup.seed) (codes "0") b
+      → AreChosen ws (indices_of lineup) us → AreChosen ws (indices_of lineup) vs → fates_in lineup a us ≡ fates_in lineup b vs
+  same_fates lineup a b us vs first second are too =
       let setup = one_setup (seeded s lineup.seed) (codes "0") a b first second in
       let chosen = one_list {B = Option WarriorValue} (λ w. Some w) same_Some us vs (sym are ∙ too) in
-      ok_injective xs ys (sym is ∙ ap (λ a. fates a us) setup ∙ ap (fates b) chosen ∙ too_is)
+      ap (λ a. fates_in lineup a us) setup ∙ ap (fates_in lineup b) chosen
+
+  one_fought : (lineup : MarsLineup) (xs ys : List Fate) → IsFought s ws lineup xs → IsFought s ws lineup ys → xs ≡ ys
+  one_fought lineup xs ys (a, us, first, are, fits, is) (b, vs, second, too, fitting, too_is) =
+      ok_injective xs ys (sym is ∙ same_fates lineup a b us vs first second are too ∙ too_is)
 
   all_fought : (lineups : List MarsLineup) (xs ys : List Fate) → AreFought s ws lineups xs → AreFought s ws lineups ys → xs ≡ ys
   all_fought [] xs ys first second = first ∙ sym second

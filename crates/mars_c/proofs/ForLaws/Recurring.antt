@@ -1,6 +1,7 @@
 -- Errors of arguments recur: a call that can succeed is refused only because memory ran out.
-use Rattle.std.proofs.Common.{◌≡◌, ◌≢◌, ◌⊎◌, refl, ap, sym, subst, ◌∙◌, arith, ℕ, zero, suc, List, [], ◌∷◌, length, map, take, drop, None, Some, Result, Ok, Err, inl, inr}
-use Rattle.std.specs.Prelude.{All, codes, slice_get}
+use Rattle.std.proofs.Common.{◌≡◌, ◌≢◌, ◌<◌, ◌≤◌, ◌⊎◌, refl, ap, sym, subst, ◌∙◌, arith, ℕ, zero, suc, List, [], ◌∷◌, length, map, take, drop, None, Option, Some, Result, Ok, Err, inl, inr}
+use Rattle.std.specs.Prelude.{All, codes, slice_get, sum_by}
+use Rattle.std.proofs.lemmas.List.{length-map, length-take-le}
 use Rattle.std.proofs.lemmas.List.Elements.{All-head, All-tail}
 use Rattle.std.proofs.lemmas.Option.{same_Some}
 use Rattle.mars_cell.specs.Cells.{FitsCore}
@@ -9,25 +10,32 @@ use Rattle.mars_cell.specs.Parameters.{Parameters}
 use Rattle.mars_cell.specs.Warriors.{WarriorValue}
 use Rattle.mars_cell.specs.declared.instruction.Cell.{Cell}
 use Rattle.mars_match.specs.Placement.{FitsTwo}
+use Rattle.mars_core.specs.Limits.{max_warriors}
+use Rattle.mars_match.specs.declared.fates.Fate.{Fate}
 use Rattle.mars_match.specs.declared.fault.MatchFault.{MatchFault}
 use Rattle.mars_match.specs.declared.setup.Setup.{Setup}
 use Rattle.mars_c.specs.Battles.{round_start_state}
+use Rattle.mars_c.specs.Blocks.{capacity_of}
 use Rattle.mars_c.specs.Cells.{plain_cell}
 use Rattle.mars_c.specs.Contests.{population}
 use Rattle.mars_c.specs.Entrants.{AreEntrants, IsEntrant, IsNoEntrant, Reads}
-use Rattle.mars_c.specs.Laws.{LeagueErrorsRecur, MatchErrorsRecur, PopulationErrorsRecur, StartErrorsRecur}
-use Rattle.mars_c.specs.Refusals.{Fails, IsOutside, IsWrong, RefusesEntry}
+use Rattle.mars_c.specs.Laws.{LeagueErrorsRecur, MatchErrorsRecur, OutcomeErrorsRecur, PopulationErrorsRecur, StartErrorsRecur, StartsFitAgain}
+use Rattle.mars_c.specs.Outcomes.{AreChosen, AreFought, IsFought, IsLineup, IsNoLineup, RefusesLineup, indices_of, seeded}
+use Rattle.mars_c.specs.Refusals.{Fails, IsOutside, IsWrong, RefusesEntry, RefusesWarriors}
 use Rattle.mars_c.specs.Settings.{IsSetup, parameters_in, position_of}
 use Rattle.mars_c.specs.declared.cells.MarsCell.{MarsCell}
 use Rattle.mars_c.specs.declared.faults.CallRefusal.{CallRefusal}
 use Rattle.mars_c.specs.declared.faults.CallRefusal.TheVariants as call
+use Rattle.mars_c.specs.declared.outcomes.MarsLineup.{MarsLineup}
+use Rattle.mars_c.specs.declared.ranges.LineupFault.{LineupFault}
+use Rattle.mars_c.specs.declared.ranges.LineupFault.TheVariants as lineup_fault
 use Rattle.mars_c.specs.declared.ranges.SettingsFault.{SettingsFault}
 use Rattle.mars_c.specs.declared.ranges.SettingsFault.TheVariants as settings
 use Rattle.mars_c.specs.declared.settings.MarsSettings.{MarsSettings}
 use Rattle.mars_c.specs.declared.warriors.EntrantFault.{EntrantFault}
 use Rattle.mars_c.specs.declared.warriors.EntrantFault.TheVariants as entrant
 use Rattle.mars_c.specs.declared.warriors.MarsWarrior.{MarsWarrior}
-use Rattle.mars_c.proofs.ForLaws.Equal.{league_in, match_of, ok_injective, one_cell, round_starts, same_given}
+use Rattle.mars_c.proofs.ForLaws.Equal.{equal_starts, fates_in, league_in, match_of, ok_injective, one_cell, one_reading, round_starts, same_fates, same_given}
 use Rattle.mars_c.proofs.Refused.{read_cells}
 
 not_both : {X F : Type 0} (r : Result X F) (x : X) (f : F) → r ≡ Ok x → r ≡ Err f → ⊥
@@ -79,17 +87,33 @@ module _ (p : Parameters) where
   as_many cells (e ∷ others) (w ∷ ws) rest all = ap suc (as_many (drop e.length cells) others ws rest all.2)
   as_many cells entrants ws rest all = absurd all
 
+lengths_add_up : (p : Parameters) (cells : List MarsCell) (entrants : List MarsWarrior) (ws : List WarriorValue) → AreEntrants p cells entrants ws
+    → sum_by (λ (one : MarsWarrior). one.length) entrants ≡ length cells
+lengths_add_up p cells entrants ws are = omega (arith, read_cells p cells entrants ws [] are)
+
+-- Warriors that are read are refused only because memory ran out.
+module _ (s : MarsSettings) (cells : List MarsCell) (entrants : List MarsWarrior) (p : Parameters) (ws : List WarriorValue)
+    (allowed : checked_parameters (parameters_in s) ≡ Ok p) (are : AreEntrants p cells entrants ws) where
+  not_wrong : (i : ℕ) (f : EntrantFault) → IsWrong p cells entrants i f → ⊥
+  not_wrong i f (us, left, one, at, front, few, other, broken) =
+      let read = read_at p cells entrants ws us [] left i one are front at in
+      is_entrant p (take one.length left) one.start read.0 f read.1 other broken
+
+  warriors_read : (refusal : CallRefusal) → RefusesWarriors s cells entrants refusal → refusal ≡ call.OutOfMemory
+  warriors_read call.OutOfMemory h = refl
+  warriors_read (call.Settings settings.Lengths) h = absurd (h (lengths_add_up p cells entrants ws are))
+  warriors_read (call.Settings other) h = absurd h
+  warriors_read (call.Parameters f) h = absurd (not_both (checked_parameters (parameters_in s)) p f allowed h)
+  warriors_read (call.Warrior i f) (q, too, wrong) =
+      absurd (not_wrong i f (subst (λ p. IsWrong p cells entrants i f) (ok_injective q p (sym too ∙ allowed)) wrong))
+  warriors_read other h = absurd h
+
 -- ---- A call without an error
 
 module _ (s : MarsSettings) (text : List ℕ) (cells : List MarsCell) (entrants : List MarsWarrior) (a : Setup) (ws : List WarriorValue)
     (made : IsSetup s text a) (are : AreEntrants a.params cells entrants ws) where
   same_params : (p : Parameters) → checked_parameters (parameters_in s) ≡ Ok p → p ≡ a.params
   same_params p allowed = ok_injective p a.params (sym allowed ∙ made.params)
-
-  not_wrong : (i : ℕ) (f : EntrantFault) → IsWrong a.params cells entrants i f → ⊥
-  not_wrong i f (us, left, one, at, front, few, other, broken) =
-      let read = read_at a.params cells entrants ws us [] left i one are front at in
-      is_entrant a.params (take one.length left) one.start read.0 f read.1 other broken
 
   pub fits_all : FitsTwo a.params (length ws) a.plan.fixed → FitsTwo a.params (length entrants) a.plan.fixed
   fits_all fits = subst (λ n. FitsTwo a.params n a.plan.fixed) (as_many a.params cells entrants ws [] are) fits
@@ -100,16 +124,13 @@ module _ (s : MarsSettings) (text : List ℕ) (cells : List MarsCell) (entrants 
     inside settings.Seed outside = outside made.seed_allowed
     inside settings.Position (p, allowed, outside) =
         outside (subst (λ p. FitsTwo p count (position_of s.position)) (sym (same_params p allowed)) (subst (FitsTwo a.params count) made.fixed fits))
-    inside settings.Lengths outside = outside (omega (arith, read_cells a.params cells entrants ws [] are))
+    inside settings.Lengths outside = outside (lengths_add_up a.params cells entrants ws are)
     inside other outside = outside
 
-    entered : (refusal : CallRefusal) → RefusesEntry s text count cells entrants refusal → refusal ≡ call.OutOfMemory
-    entered call.OutOfMemory h = refl
+    pub entered : (refusal : CallRefusal) → RefusesEntry s text count cells entrants refusal → refusal ≡ call.OutOfMemory
     entered (call.Settings f) h = absurd (inside f h)
-    entered (call.Parameters f) h = absurd (not_both (checked_parameters (parameters_in s)) a.params f made.params h)
     entered (call.Formula f) h = absurd (not_both _ a.plan.formula f made.formula h)
-    entered (call.Warrior i f) (p, allowed, wrong) = absurd (not_wrong i f (subst (λ p. IsWrong p cells entrants i f) (same_params p allowed) wrong))
-    entered other h = absurd h
+    entered other h = warriors_read s cells entrants a.params ws made.params are other h
 
     -- If what the warriors do has a result, the call is refused only because memory ran out.
     pub only_memory : {X : Type 0} (fought : Setup → List WarriorValue → Result X MatchFault) (x : X) (refusal : CallRefusal) → fought a ws ≡ Ok x
@@ -117,6 +138,43 @@ module _ (s : MarsSettings) (text : List ℕ) (cells : List MarsCell) (entrants 
     only_memory fought x refusal is (inl entry) = entered refusal entry
     only_memory fought x refusal is (inr (b, us, fault, too, read, fails, refused)) =
         absurd (not_both (fought b us) x fault (sym (same_given s text cells entrants a b ws us made too are read fought) ∙ is) fails)
+
+-- ---- Lineups
+
+all_at : {X : Type 0} (P : X → Type 0) (xs : List X) (i : ℕ) (x : X) → All P xs → slice_get xs i ≡ Some x → P x
+all_at P [] i x all at = absurd (let none : None ≡ Some x = at in cc)
+all_at P (y ∷ ys) zero x all at = subst P (same_Some y x at) (All-head P y ys all)
+all_at P (y ∷ ys) (suc i) x all at = all_at P ys i x (All-tail P y ys all) at
+
+right_lineup : (count : ℕ) (lineup : MarsLineup) (f : LineupFault) → IsLineup count lineup → IsNoLineup count lineup f → ⊥
+right_lineup count lineup lineup_fault.Count is broken = broken is.warriors
+right_lineup count lineup lineup_fault.Index is broken = broken is.indices
+
+-- As many warriors are chosen as the lineup has.
+all_chosen : (ws us : List WarriorValue) (lineup : MarsLineup) → AreChosen ws (indices_of lineup) us → lineup.count ≤ length lineup.warrior → length us ≡ lineup.count
+all_chosen ws us lineup are few =
+    let same = ap (λ (l : List (Option WarriorValue)). length l) are in
+    let here = length-map (indices_of lineup) (λ i. slice_get ws i) in
+    let there = length-map us (λ w. Some w) in
+    let taken = length-take-le lineup.count lineup.warrior few in
+    omega (arith, same, here, there, taken)
+
+module _ (s : MarsSettings) (ws : List WarriorValue) where
+  fought_at : (lineups : List MarsLineup) (fates : List Fate) (i : ℕ) (lineup : MarsLineup) → AreFought s ws lineups fates → slice_get lineups i ≡ Some lineup
+      → (first : List Fate) × IsFought s ws lineup first
+  fought_at [] fates i lineup fought at = absurd (let none : None ≡ Some lineup = at in cc)
+  fought_at (one ∷ others) fates zero lineup (first, rest, fought, more, is) at =
+      (first, subst (λ lineup. IsFought s ws lineup first) (same_Some one lineup at) fought)
+  fought_at (one ∷ others) fates (suc i) lineup (first, rest, fought, more, is) at = fought_at others rest i lineup more at
+
+  -- A lineup with fates is refused only because memory ran out.
+  fought_lineup : (lineup : MarsLineup) (fates : List Fate) (refusal : CallRefusal) → lineup.count ≤ length lineup.warrior
+      → IsFought s ws lineup fates → RefusesLineup s ws lineup refusal → refusal ≡ call.OutOfMemory
+  fought_lineup lineup fates refusal few (a, us, made, are, fits, is) (inl entry) =
+      let fit = subst (λ n. FitsTwo a.params n a.plan.fixed) (all_chosen ws us lineup are few) fits in
+      entered (seeded s lineup.seed) (codes "0") [] [] a [] made refl lineup.count fit refusal entry
+  fought_lineup lineup fates refusal few (a, us, made, are, fits, is) (inr (b, vs, fault, too, chosen, fails, refused)) =
+      absurd (not_both (fates_in lineup b vs) fates fault (sym (same_fates s ws lineup a b us vs made too are chosen) ∙ is) fails)
 
 -- ---- The laws
 
@@ -145,3 +203,25 @@ start_errors_recur s cells entrants round start refusal few (a, ws, made, are, f
     let fit = fits_all s (codes "0") cells entrants a ws made are fits in
     only_memory s (codes "0") cells entrants a ws made are (length entrants) fit (λ a ws. round_start_state a ws round) start refusal
     (round_starts a ws round start begins) refused
+
+pub starts_fit_again : StartsFitAgain
+starts_fit_again s cells entrants round before after (one, begins, few, written) (other, starts, over) =
+    let same = equal_starts s cells entrants round one other begins starts in
+    let short = subst (λ s. length before < capacity_of s) (sym same) over in
+    omega (arith, few, short)
+
+pub outcome_errors_recur : OutcomeErrorsRecur
+outcome_errors_recur s cells entrants lineups rows refusal all long many held (inl (i, lineup, f, at, broken, is)) =
+    absurd (right_lineup (length entrants) lineup f (all_at (IsLineup (length entrants)) lineups i lineup all at) broken)
+outcome_errors_recur s cells entrants lineups rows refusal all long many held (inr (inl counted)) = absurd (counted.1 many)
+outcome_errors_recur s cells entrants lineups rows refusal all long many (p, ws, fates, allowed, are, fought, holds) (inr (inr (inl refused))) =
+    warriors_read s cells entrants p ws allowed are refusal refused
+outcome_errors_recur s cells entrants lineups rows refusal all long many (p, ws, fates, allowed, are, fought, holds)
+    (inr (inr (inr (q, vs, i, lineup, too, read, at, refused)))) =
+    let params : q ≡ p = ok_injective q p (sym too ∙ allowed) in
+    let warriors = one_reading p cells entrants vs ws [] (subst (λ p. AreEntrants p cells entrants vs) params read) are in
+    let here = fought_at s ws lineups fates i lineup fought at in
+    let is = all_at (IsLineup (length entrants)) lineups i lineup all at in
+    let array : length lineup.warrior ≡ max_warriors = all_at (λ (lineup : MarsLineup). length lineup.warrior ≡ max_warriors) lineups i lineup long at in
+    let few : lineup.count ≤ length lineup.warrior = subst (λ n. lineup.count ≤ n) (sym array) is.warriors.1 in
+    fought_lineup s ws lineup here.0 refusal few here.1 (subst (λ ws. RefusesLineup s ws lineup refusal) warriors refused)

@@ -1,4 +1,5 @@
 use Rattle.std.proofs.Common.{rules}
+use Rattle.mars_c.proofs.Refused.{entry_of}
 use Rattle.mars_c.proofs.entrants.enter.Goals as goal
 
 pub returns-in_err-setup-clause-refused : goal.returns-in_err-setup-clause-refused
@@ -6,4 +7,7 @@ returns-in_err-setup-clause-refused c = let shown = c.in_err-setup.ensures.refus
 
 pub returns-in_err-warriors-clause-refused : goal.returns-in_err-warriors-clause-refused
 returns-in_err-warriors-clause-refused c =
-    let shown = c.in_err-warriors.ensures.refused c.args.settings.now c.args.formula.now c.args.count c.in_ok-setup.ensures.setup.params in search rules
+    let s = c.args.settings.now in
+    let cells = c.args.entrants.cells.now in
+    let refuses = c.in_err-warriors.ensures.refused s c.in_ok-setup.ensures.setup.params in
+    let shown = entry_of s c.args.formula.now c.args.count cells c.args.entrants.warriors.now _ refuses in search rules

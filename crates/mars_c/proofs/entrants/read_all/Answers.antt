@@ -23,7 +23,7 @@ loop-i-preserved c =
     )
 
 pub returns-in_default-clause-refused : goal.returns-in_default-clause-refused
-returns-in_default-clause-refused c = λ s text count checked.
+returns-in_default-clause-refused c = λ s checked.
     too_few c.args.params.now c.args.entrants.cells.now c.args.entrants.warriors.now c.loop-i.i none c.loop-i.warriors.items c.loop-i.rest.now c.loop-i.invariant.1
     c.loop-i-test.true c.in_default.ensures.cases
 
@@ -33,7 +33,7 @@ returns-in-Err c =
     record {
       many = tt;
       read = tt;
-      refused = λ s text count checked. (
+      refused = λ s checked. (
         c.args.params.now,
         checked,
         wrong_at c.args.params.now c.args.entrants.cells.now c.args.entrants.warriors.now c.loop-i.i none
@@ -42,6 +42,6 @@ returns-in-Err c =
     }
 
 pub returns-then-not-is_empty-clause-refused : goal.returns-then-not-is_empty-clause-refused
-returns-then-not-is_empty-clause-refused c = λ s text count checked.
+returns-then-not-is_empty-clause-refused c = λ s checked.
     too_many c.args.params.now c.args.entrants.cells.now c.args.entrants.warriors.now c.loop-i.i c.loop-i.warriors.items c.loop-i.rest.now c.loop-i.invariant.1
     c.loop-i-test.false c.if-not-is_empty.ensures
