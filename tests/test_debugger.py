@@ -61,7 +61,7 @@ def test_moves() -> None:
         execute(session, line)
         assert session.turn == turn, line
     assert refused(session, "until 5") == "cycle 5 is already completed in turn 7798; use `goto` with an earlier turn"
-    assert execute(session, "goto end")[-1] == "the battle is over: Dwarf lives"
+    assert execute(session, "goto end")[-1] == "the battle is over: Dwarf survives"
     assert refused(session, "goto 7799") == "the battle has turns 0 to 7798"
     assert refused(session, "step imp") == "Imp has no turn after turn 7798"
 

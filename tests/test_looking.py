@@ -48,7 +48,7 @@ def test_why(run: Run) -> None:
     assert run("why", "--turns", 1, "--of", "imp", "@dwarf", "@imp").stdout == DEATH
     assert run("why", "--of", 0, "@dwarf", "@imp").stdout == LIFE
     lines = run("why", "@imp").stdout.splitlines()
-    assert lines[0] == "No warrior died; the battle is over: Imp lives."
+    assert lines[0] == "No warrior died; the battle is over: Imp survives."
     assert lines[-1] == "   1000           1000  5: MOV.I 0, 1"
     bad = run("why", "--of", "nobody", "@dwarf", "@imp")
     assert bad.returncode == 2 and "no warrior `nobody`; the warriors are 0 Dwarf, 1 Imp" in bad.stderr
@@ -153,7 +153,7 @@ def test_names_of_files_that_are_no_text(run: Run, tmp_path: Path) -> None:
     """A file's name replaces a missing name of a warrior, with `?` for characters unfit for a terminal or a page."""
     name = os.fsdecode(b"a\xff\x1b[31m.red")
     (tmp_path / name).write_text("mov 0, 1\n")
-    assert run("why", name).stdout.startswith("No warrior died; the battle is over: a??[31m.red lives.\n")
+    assert run("why", name).stdout.startswith("No warrior died; the battle is over: a??[31m.red survives.\n")
     assert run("page", "-o", "a.html", name).returncode == 0
     assert run("rounds", "--pages", "folder", name).returncode == 0
     assert "a??[31m.red by Anonymous" in run("fight", name).stdout
@@ -262,13 +262,13 @@ def test_a_tie(run: Run, tmp_path: Path) -> None:
     """The report on the last turns of survivors: lines of others, load files, hits, and a limited number of lines."""
     lines = run("why", "@boot", "@imp").stdout.splitlines()
     assert lines[:5] == [
-        "No warrior died; the battle is over: Stranger and Imp live.",
+        "No warrior died; the battle is over: Stranger and Imp survive.",
         "Stranger is alive after turn 160000, the last one, with 1 process.",
         "Its last 1000 turns:",
         "  turns  cells written  line",
         "   1000           1000  Imp 5: MOV.I 0, 1",
     ]
-    assert re.fullmatch(r"Imp executed \d+ of the cells written, in its last turns\.", lines[5])
+    assert re.fullmatch(r"In its last turns, Imp executed \d+ of the cells written\.", lines[5])
     (tmp_path / "a.load").write_bytes(read(EXAMPLES / "imp.red").load)
     loaded = run("why", "-c", 10, "a.load").stdout
     assert loaded.endswith("Its last 10 turns:\n  turns  cells written  line\n     10             10  MOV.I $0, $1\n")
@@ -356,7 +356,7 @@ def test_a_round_that_a_match_does_not_have(run: Run) -> None:
 
 def test_study(run: Run, tmp_path: Path) -> None:
     assert run("study", "@dwarf").stdout == (
-        "Dwarf without an opponent: 4 cells, at most 1 process; lives after 80000 turns.\n"
+        "Dwarf without an opponent: 4 cells, at most 1 process; survives 80000 turns.\n"
         "It never writes another opcode over its own code.\n"
         "It writes to 2000 of 8000 cells:\n"
         "  writes  cells by turn  stride               line\n"
@@ -367,9 +367,9 @@ def test_study(run: Run, tmp_path: Path) -> None:
     scanner = run("study", "@scanner").stdout
     assert "\n   53232   7990   12002  14                   11: look SEQ scan + hop, scan + hop + gap\n" in scanner
     hit = run("study", "@vampire").stdout
-    assert "\nIt first hits itself in turn 2935: line 24 at 14 writes over line 16 at 5.\n" in hit
+    assert "\nIt first hits itself in turn 2935: line 24 at 14 overwrites line 16 at 5.\n" in hit
     assert run("study", "--hill", "nano", "@imp").stdout.startswith(
-        "Imp without an opponent: 1 cell, at most 1 process; lives after "
+        "Imp without an opponent: 1 cell, at most 1 process; survives "
     )
     (tmp_path / "dwarf.load").write_bytes(read(EXAMPLES / "dwarf.red").load)
     assert "4                    cell 1: MOV.I $2, @2\n" in run("study", "dwarf.load").stdout
@@ -383,7 +383,7 @@ def test_study(run: Run, tmp_path: Path) -> None:
     none = run("study", "none.red")
     assert (none.returncode, none.stderr) == (1, "corewar: none.red: No such file or directory\n")
     # No more turns are run than those in which lines are known.
-    assert "lives after 1000000 turns." in run("study", "-c", 5_000_000, "@gate").stdout
+    assert "survives 1000000 turns." in run("study", "-c", 5_000_000, "@gate").stdout
     assert all(len(run("study", file).stdout.splitlines()) < 24 for file in sorted(EXAMPLES.glob("*.red")))
 
 

@@ -19,7 +19,7 @@ def outcome(history: History) -> str:
     if not living:
         return "No survivors"
     if len(living) == 1:
-        return f"{living[0]} {'wins' if len(history.names) > 1 else 'lives'}"
+        return f"{living[0]} {'wins' if len(history.names) > 1 else 'survives'}"
     return f"Tie between {join_names(living)}"
 
 
@@ -29,7 +29,7 @@ def fate(history: History, warrior: int) -> str:
     if death is not None:
         return f"died in turn {death:,}"
     if len(history.names) == 1:
-        return "lives"
+        return "survives"
     return "wins" if len(history.ending.deaths) == len(history.names) - 1 else "ties"
 
 

@@ -74,7 +74,7 @@ def describe_hits(formatter: BattleFormatter, warrior: int, cells: set[int]) -> 
     for other, name in enumerate(formatter.names):
         if cells and other != warrior and history.death(other) is None:
             count = len(cells.intersection(executed_at(history, last_turns(history, other))))
-            yield f"{name} executed {count or 'none'} of the cells written, in its last turns."
+            yield f"In its last turns, {name} executed {count or 'none'} of the cells written."
 
 
 def summarize_last_turns(history: History, sources: Sources, names: Sequence[str], warrior: int) -> str:

@@ -111,7 +111,7 @@ class BattleFormatter:
         """Describes how the battle ended."""
         dead = self.history.ending.deaths["warrior"]
         living = [name for number, name in enumerate(self.names) if number not in dead]
-        verb = "lives" if len(living) == 1 else "live"
+        verb = "survives" if len(living) == 1 else "survive"
         return f"the battle is over: {join_names(living)} {verb}" if living else "the battle is over: no survivors"
 
     def warrior_states(self, turn: int) -> Iterator[str]:

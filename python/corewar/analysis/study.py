@@ -91,7 +91,7 @@ class Study:
     def describe(self) -> Iterator[str]:
         """Yields the lines of the report: how it ends, when it first hits itself, and what it writes and scans."""
         history, name = self.history, self.history.names[0]
-        fate = f"{'lives' if history.death(0) is None else 'dies'} after {pluralize(history.end, 'turn')}"
+        fate = f"{'survives' if history.death(0) is None else 'dies after'} {pluralize(history.end, 'turn')}"
         size, processes = pluralize(len(history.warriors[0]), "cell"), pluralize(self.processes, "process")
         yield f"{name} without an opponent: {size}, at most {processes}; {fate}."
         yield self._describe_hit()
@@ -107,7 +107,7 @@ class Study:
             return "It never writes another opcode over its own code."
         turn, address = self.hit
         writer = self._line(int(self.history.record(turn)["address"]), turn)
-        return f"It first hits itself in turn {turn}: {writer} writes over {self._line(address, turn)}."
+        return f"It first hits itself in turn {turn}: {writer} overwrites {self._line(address, turn)}."
 
     def _line(self, address: int, turn: int) -> str:
         """Returns the line of a cell before a turn, and its address."""
