@@ -104,7 +104,7 @@ def test_a_turn_in_words(page: Browser) -> None:
     go_to_turn(page, 7797)
     executed = "Dwarf executed MOV.I $2, @2 at 1. It wrote DAT.F #0, #-2800 to 5,203, over Imp’s MOV.I $0, $1."
     assert page.text("turn-words") == f"{executed} It looked at 3 (bomb)."
-    assert page.text("following").endswith("End the process that executes this. dwarf.red, line 12")
+    assert page.text("following").endswith("End the process. dwarf.red, line 12")
 
 
 def test_a_cell_is_inspected(page: Browser) -> None:
@@ -113,7 +113,7 @@ def test_a_cell_is_inspected(page: Browser) -> None:
     point = page.value("corewar.theatre.core.pointOf(5203)")
     page.mouse(point["x"], point["y"])
     page.until("!document.getElementById('tip').hidden")
-    assert "End the process" in page.text("tip") and "Written by Dwarf in turn 7,797" in page.text("tip")
+    assert "End the process." in page.text("tip") and "Written by Dwarf in turn 7,797" in page.text("tip")
     page.mouse(point["x"], point["y"], "pointerDown", "pointerUp")
     page.until("corewar.session.pinned === 5203")
     page.until("document.getElementById('where').textContent === 'Cell 5,203'")
@@ -227,7 +227,7 @@ def test_the_debugger_has_a_line(page: Browser) -> None:
     # The last line of each answer.
     assert ask("explain") == "Add 4 to the B-number of bomb."
     assert ask("explain 1") == "Copy bomb to the cell pointed to by the B-number of bomb."
-    assert ask("explain 4") == "End the process that executes this."
+    assert ask("explain 4") == "End the process."
     ask("goto end")
     assert ask("explain") == ". is the cell to execute next, but the battle is over"
     fight(page, "silk", "imp")

@@ -314,9 +314,9 @@ DIFFERENT = [
     ("a label in `;assert`", "a nop 0\n;assert a == 0\n", "the label `a` in an assert"),
     ("`;assert VERSION", ";assert VERSION >= 90\nnop 0\n", "VERSION is 92"),
     ("a label before ROF", "FOR 2\nnop 0\nx ROF\n", "a label before ROF"),
-    ("a start outside", "nop 0\nORG 5\n", "only warns of this start"),
+    ("a start outside", "nop 0\nORG 5\n", "only warns about this start"),
     ("`DAT x`", "dat 5+3\n", "`DAT #0, 5+3`"),
-    ("`1-2*3+4`", "mov 1-2*3+4, 1\n", "subtracts all that follows"),
+    ("`1-2*3+4`", "mov 1-2*3+4, 1\n", "subtracts everything that follows"),
     ("a second `;redcode`", ";redcode\nnop 0\n;redcode\nnop 0\n", "second `;redcode`"),
     ("`ORG 0` and `END 1`", "ORG 0\nnop 0\nnop 0\nEND 1\n", "starts where END says"),
     (
@@ -330,7 +330,7 @@ DIFFERENT = [
     ("one operand with opcodes", "mov 1\n", "with this number of operands"),
     ("a last line with only a label", "jmp last\nlast\n", "drops a last line"),
     ("a counter with the name of a label", "i nop 0\ni FOR 2\nnop i\nROF\n", "rejects the counter `i`"),
-    ("lines and names of more", f"nop 0, {'+'.join(['1'] * 130)}\n", "cuts lines"),
+    ("lines and names of more", f"nop 0, {'+'.join(['1'] * 130)}\n", "truncates lines"),
 ]
 # Rows that no source can show.
 OF_MATCHES = ["three and more warriors", "starting positions", "`-F`", "`-l` above 100"]
@@ -463,12 +463,23 @@ def test_words_of_mars(run: Run) -> None:
 @pytest.mark.parametrize(
     "cell, names, expected",
     [
-        ("DAT.F $0, $0", ("", ""), "End the process that executes this."),
+        ("DAT.F $0, $0", ("", ""), "End the process."),
         ("MOV.I $0, $1", ("", ""), "Copy this instruction to the next cell."),
         ("MOV.AB #4, $3", ("`step`", ""), "Copy `step` to the B-number of the cell 3 ahead."),
         ("ADD.F #1, $-2000", ("", ""), "Add both numbers of this cell to those of the cell 2,000 back."),
+        (
+            "MUL.X $1, $2",
+            ("", ""),
+            "Multiply both numbers of the cell 2 ahead by both numbers, crosswise, of the next cell.",
+        ),
+        (
+            "MOD.B #3, $2",
+            ("", ""),
+            "Replace the B-number of the cell 2 ahead with the remainder of its division by the B-number of this cell; "
+            "a division by 0 ends the process.",
+        ),
         ("JMZ.I $-3, $1", ("", ""), "Jump to the cell 3 back if each number of the next cell is 0."),
-        ("SNE.I $1, $-1", ("", ""), "Skip the next cell if the next cell and the cell before differ."),
+        ("SNE.I $1, $-1", ("", ""), "Skip the next cell if the next cell and the previous cell differ."),
         (
             "SNE.X $1, $2",
             ("", ""),
@@ -478,12 +489,12 @@ def test_words_of_mars(run: Run) -> None:
             "SPL.B $2, {1",
             ("", ""),
             "Start another process at the cell 2 ahead; this one continues with the next cell "
-            "(first the A-number of the next cell is lowered by 1).",
+            "(first the A-number of the next cell is decremented).",
         ),
         (
             "DJN.B @5, $5",
             ("", ""),
-            "Lower the B-number of the cell 5 ahead by 1, then jump to the cell pointed to by the "
+            "Decrement the B-number of the cell 5 ahead, then jump to the cell pointed to by the "
             "B-number of the cell 5 ahead unless it is 0.",
         ),
         ("MOV.Q 0, 1", ("", ""), ""),
@@ -500,18 +511,18 @@ def test_cells_in_words(cell: str, names: tuple[str, str], expected: str) -> Non
             ["MOV }bomb, >ptr"],
             "MOV.I }bomb, >ptr\n"
             "Copy the cell pointed to by the A-number of `bomb` to the cell pointed to by the B-number of `ptr` "
-            "(then the A-number of `bomb` is raised by 1, then the B-number of `ptr` is raised by 1).\n",
+            "(then the A-number of `bomb` is incremented, then the B-number of `ptr` is incremented).\n",
         ),
         (["mov 0, 1"], "MOV.I $0, $1\nCopy this instruction to the next cell.\n"),
         (
             ["ADD", "#step,", "*-1"],
             "ADD.AB #step, *-1\nAdd `step` to the B-number of the cell pointed to by the A-number "
-            "of the cell before.\n",
+            "of the previous cell.\n",
         ),
         (["loop jmp.b loop - 1 ; again"], "JMP.B $loop - 1, $0\nJump to `loop - 1`.\n"),
         (
             ["dat <ptr"],
-            "DAT.F $0, <ptr\nEnd the process that executes this (first the B-number of `ptr` is lowered by 1).\n",
+            "DAT.F $0, <ptr\nEnd the process (first the B-number of `ptr` is decremented).\n",
         ),
         (["Slt"], "Slt: skips the next instruction if A is less than B\n"),
         (["jmp.b"], "jmp.b: jumps to A\n"),
@@ -568,7 +579,7 @@ NEWCOMERS = [
         "c EQU NOP\n EQU NOP\nc\nJMP c\n",
         {4: "`c` is the EQU of several lines in line 1, which can be used only as an operation"},
     ),
-    ("NOP\nNOP\nNOP\nFOR 2-CURLINE\nNOP\nROF\n", {4: "The value of `2-CURLINE` is not from 0 to 10,000"}),
+    ("NOP\nNOP\nNOP\nFOR 2-CURLINE\nNOP\nROF\n", {4: "The value of `2-CURLINE` is not between 0 and 10,000"}),
 ]
 
 

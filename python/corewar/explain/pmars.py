@@ -25,9 +25,9 @@ Found = Iterator[tuple[int, str]]
 CHECKS: list[Callable[[Source], Found]] = []
 # What pMARS makes of an error of this kit.
 ACCEPTED = {
-    "1 Text 5 BadCount": "pMARS reads a count below 0 as no iteration; write `(count)*(count>0)`.",
-    "6 BadOrigin": "pMARS only warns of this start.",
-    "7 Empty": "pMARS only warns of a source without instructions.",
+    "1 Text 5 BadCount": "pMARS reads a count below 0 as 0; write `(count)*(count>0)`.",
+    "6 BadOrigin": "pMARS only warns about this start.",
+    "7 Empty": "pMARS only warns about a source without instructions.",
     "5 AssertFailed": "In pMARS this assert may hold: VERSION is 92 there and 80 here.",
     "4 Expression 4 Range": "pMARS may hang on this value.",
 }
@@ -168,7 +168,7 @@ def names(source: Source) -> Found:
         if line.unread or line.skipped:
             continue
         if line.word in ("FOR", "EQU") and len(line.labels) > 1:
-            yield line.number, f"pMARS accepts several labels before {line.word}; write each in a line of its own."
+            yield line.number, f"pMARS accepts several labels before {line.word}; write each on a line of its own."
         for name in line.labels if line.word != "FOR" else []:
             if name in first:
                 yield line.number, f"pMARS drops this second `{name}` with a warning; use another name."
@@ -185,7 +185,7 @@ def asserts(source: Source) -> Found:
     for line in source.lines:
         found = ASSERT.match(line.text)
         if found and not found[1].strip():
-            yield line.number, "pMARS only warns of an assert without an expression; remove the line."
+            yield line.number, "pMARS only warns about an assert without an expression; remove the line."
         for name in line.operands if found else []:
             if name in labels:
                 yield line.number, f"pMARS accepts the label `{name}` in an assert."
@@ -200,7 +200,7 @@ def ends_of_lines(source: Source) -> Found:
             continue
         operands = line.operands if line.word in OPCODES else []
         if line.word == "ROF" and line.labels:
-            yield line.number, "pMARS accepts a label before ROF; write it in a line of its own."
+            yield line.number, "pMARS accepts a label before ROF; write it on a line of its own."
         if line.is_continued:
             yield line.number, "pMARS joins a line that ends in `\\` with the next one; write one line."
         if any(one.isdecimal() and other.isdecimal() for one, other in zip(operands, operands[1:])):
@@ -224,7 +224,7 @@ def operands(source: Source) -> Found:
 def products(source: Source) -> Found:
     for line in source.lines:
         if MINUS.search(" ".join(line.operands)):
-            yield line.number, "pMARS subtracts all that follows this `-`, as in `1-(2*3+4)`; write parentheses."
+            yield line.number, "pMARS subtracts everything that follows this `-`, as in `1-(2*3+4)`; write parentheses."
 
 
 @check
@@ -235,9 +235,10 @@ def directives(source: Source) -> Found:
         if directive:
             yield line.number, f"pMARS obeys `; {directive[1]}`, which is a comment here; remove the space."
         if named and (len(named[2].encode()) > MAX_NAME_LENGTH or not (named[2].isascii() and named[2].isprintable())):
-            yield line.number, f"pMARS keeps any `;{named[1]}`; here it has {MAX_NAME_LENGTH} bytes of printable ASCII."
+            bound = f"at most {MAX_NAME_LENGTH} bytes of printable ASCII"
+            yield line.number, f"pMARS keeps any `;{named[1]}`; here it is {bound}."
         if len(line.text) > MAX_LINE_LENGTH:
-            yield line.number, f"pMARS cuts lines of more than some {MAX_LINE_LENGTH} characters."
+            yield line.number, f"pMARS truncates lines of more than about {MAX_LINE_LENGTH} characters."
     for line in [line for line in kept if re.match(r"\s*;redcode", line.text, re.I)][1:]:
         yield line.number, "pMARS ends the warrior at a second `;redcode`; give each warrior a file."
     starts = {line.word: line for line in kept if line.word in ("ORG", "END") and line.rest}
