@@ -61,7 +61,7 @@ def test_two_versions(run: Run) -> None:
         ("--old stay.red -r 4 dead.red stay.red dead.red", "worse: the change is 2.9 standard errors.\n"),
         (
             "--old dead.red -r 2 late.red dead.red",
-            "1.0 standard errors, which may be chance. More rounds show smaller changes.\n",
+            "1.0 standard errors, which may be chance. More rounds can detect smaller changes.\n",
         ),
         (
             "--old stay.red -r 4 stay.red dead.red",
@@ -73,11 +73,11 @@ def test_two_versions(run: Run) -> None:
         ),
         (
             "--old dead.red -r 1 stay.red stay.red",
-            "       -  mean of 1\nChance is not known from one round, or for a given position; try `-r 100`.\n",
+            "       -  mean of 1\nChance cannot be estimated from one round or for a fixed position; try `-r 100`.\n",
         ),
         (
             "--old dead.red -r 4 -F 900 stay.red stay.red",
-            "       -  mean of 1\nChance is not known from one round, or for a given position; try `-r 100`.\n",
+            "       -  mean of 1\nChance cannot be estimated from one round or for a fixed position; try `-r 100`.\n",
         ),
     ):
         assert run("challenge", "--sum", "--jobs", 3, *words.split()).stdout.endswith(end), words

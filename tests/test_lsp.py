@@ -124,13 +124,13 @@ def test_errors_are_at_their_words_and_corrected(editor: Editor) -> None:
 @pytest.mark.parametrize(
     "source, title, expected",
     [
-        ("mov $1 #2\n", "Replace `1 #` by `1, #`", "mov $1, #2\n"),
-        ("my-loop JMP 0\n", "Replace `my-loop` by `my_loop`", "my_loop JMP 0\n"),
-        ("i FOR 2\nx DAT 0\nROF\n", "Replace `x` by `x&i`", "i FOR 2\nx&i DAT 0\nROF\n"),
-        ("JPM go\ngo DAT 0\n", "Replace `JPM` by `JMP`", "JMP go\ngo DAT 0\n"),
+        ("mov $1 #2\n", "Replace `1 #` with `1, #`", "mov $1, #2\n"),
+        ("my-loop JMP 0\n", "Replace `my-loop` with `my_loop`", "my_loop JMP 0\n"),
+        ("i FOR 2\nx DAT 0\nROF\n", "Replace `x` with `x&i`", "i FOR 2\nx&i DAT 0\nROF\n"),
+        ("JPM go\ngo DAT 0\n", "Replace `JPM` with `JMP`", "JMP go\ngo DAT 0\n"),
         (
             "; \U0001f600\nJMP og ; \U0001f600\ngo DAT 0",
-            "Replace `og` by `go`",
+            "Replace `og` with `go`",
             "; \U0001f600\nJMP go ; \U0001f600\ngo DAT 0",
         ),
         ("mov 0, \\\n1\n", "as `corewar explain --fix` does", "mov 0, 1\n"),
@@ -334,7 +334,7 @@ def test_renames_are_refused() -> None:
         (1, 0, "2x", "not a valid name"),
         (1, 0, "a&i", "not a valid name"),
         (1, 0, "mov", "not a valid name"),
-        (1, 0, "VERSION", "another warrior"),
+        (1, 0, "VERSION", "would change the warrior"),
         (2, 0, "I", "already used in line 4"),
         (5, 12, "x", "expected a label"),
         (1, 6, "x", "expected a label"),

@@ -13,7 +13,7 @@ test("a change has its standard error", () => {
   assert.equal(verdict(found), "The new version is better: the change is 2.9 standard errors.");
   assert.equal(verdict(changeOf(now, old, true)), "The new version is worse: the change is 2.9 standard errors.");
   const small = changeOf(old.slice(1), [[0, 3, 3, 3]], true);
-  const chance = "The change is 1.0 standard errors, which may be chance. More rounds show smaller changes.";
+  const chance = "The change is 1.0 standard errors, which may be chance. More rounds can detect smaller changes.";
   assert.deepEqual([verdict(small), isSure(small)], [chance, false]);
 });
 
@@ -31,6 +31,6 @@ test("a change in every round is no chance", () => {
 test("chance is not known from one round, or for a given position", () => {
   for (const found of [changeOf([[0]], [[3]], true), changeOf(old, now, false)]) {
     assert.deepEqual([found.error, isSure(found)], [null, false]);
-    assert.match(verdict(found), /^Chance is not known/);
+    assert.match(verdict(found), /^Chance cannot be estimated/);
   }
 });

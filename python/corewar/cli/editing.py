@@ -20,8 +20,8 @@ from .options import core_options
 def lsp(settings: Settings) -> int:
     """Show errors, values and names in an editor.
 
-    An editor starts this command and talks to it by the Language Server Protocol, over standard input and output. A
-    comment such as `;redcode-tiny` selects the settings of that hill for its source; the options are for all others.
+    An editor starts this command and talks to it in the Language Server Protocol, over standard input and output. A
+    comment such as `;redcode-tiny` selects the settings of that hill for its source; the options apply to all others.
     """
     from ..editor.server import serve
 

@@ -51,8 +51,8 @@ class Explain(Command):
 def explain(options: BattleOptions, pmars: bool, is_fixed: bool) -> int:
     """Explain the errors of files, or what an instruction does.
 
-    An argument that is no file but an instruction, such as 'MOV }bomb, >ptr', or an opcode or directive, is put in
-    plain words, or its error is explained.
+    An argument that is not a file but an instruction, such as 'MOV }bomb, >ptr', an opcode or a directive is described
+    in plain words, or its error is explained.
 
     Without files, error messages of any program of this kit are read from standard input, such as `mars: first.red:
     line 7: 2 Operation`. If the first argument is `mars`, the others are checked as the arguments of that program, and

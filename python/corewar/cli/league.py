@@ -228,7 +228,7 @@ def league(options: BattleOptions, runner: MatchRunner, order: str, form: str, *
 @click.option(
     "--old",
     metavar="FILE",
-    help="An earlier version of the first file: compare the scores of both against the others, for 100 rounds",
+    help="An earlier version of the first file: compare the scores of both against the others, per 100 rounds",
 )
 @format_option(list(CHALLENGE_FORMATS))
 def challenge(options: BattleOptions, runner: MatchRunner, only_sum: bool, old: str | None, form: str) -> int:

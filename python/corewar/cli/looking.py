@@ -58,9 +58,9 @@ def warrior_of(history: History, named: str) -> int:
 def why(options: BattleOptions, named: str | None, turns: int) -> None:
     """Explain why a warrior died.
 
-    Prints its last turn, the cell that it executed, the turn that changed this cell last, and its turns before that;
-    for a warrior that lives in a tie, the lines that it executed last. For a match of several rounds without `--round`,
-    it counts by which lines each warrior died, and what it executed last in ties.
+    Prints its last turn, the cell that it executed, the turn that last changed this cell, and its turns before that;
+    for a warrior that survives in a tie, the lines that it executed last. For a match of several rounds without
+    `--round`, counts the lines that killed each warrior, and what it executed last in ties.
     """
     if options.rounds > 1 and not is_given("round_"):
         print_losses(options, named)
@@ -152,7 +152,7 @@ def study(file: str, settings: Settings, limit: Limit) -> None:
     """Show where a warrior writes and scans without an opponent.
 
     For each line that writes or compares cells, prints how often it does so, how many cells it reaches and by which
-    turn, and the stride from one to the next. It also finds the first turn in which the warrior hits its own code.
+    turn, and the stride from one to the next. Also finds the first turn in which the warrior hits its own code.
     """
     warriors = read_warriors([file], settings, limit=limit, warriors=2)
     # Lines are known up to this turn.

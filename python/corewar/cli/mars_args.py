@@ -11,7 +11,7 @@ from .layout import Number
 NUMBERS_OF_MARS = {number.word: (number.minimum, number.maximum) for number in NUMBERS.values()} | {
     "--history": (1, 1_000_000)
 }
-COMBINATIONS = f"""Each argument is valid by itself. Together they have to follow these rules:
+COMBINATIONS = f"""Each argument is valid by itself. Together they must follow these rules:
 - There are 1 to {MAX_WARRIORS} files; --league requires at least two, -F exactly two and --load one.
 - The position of -F is at least the minimum distance, and at most the core size minus it.
 - No option is given twice.

@@ -38,8 +38,8 @@ from .waiting import progress, run_in_thread
 def melee(options: BattleOptions, size: int, lineups: int, form: str, jobs: int) -> int:
     """Run matches in random lineups, and rank all warriors.
 
-    All warriors are in the same number of matches, or in one more. The score is the points for 100 rounds; equal scores
-    share a rank. A file with an error is reported and left out.
+    The warriors' numbers of matches differ by at most one. The score is the points per 100 rounds; equal scores share a
+    rank. A file with an error is reported and left out.
     """
     if len(options.files) < size:
         wanted = f"expected at least {size} files for matches of {size}"

@@ -102,12 +102,12 @@ def text_of(row: Row) -> str:
 def verdict(change: float, error: float | None) -> str:
     """Says whether a change is more than chance."""
     if error is None:
-        return "Chance is not known from one round, or for a given position; try `-r 100`."
+        return "Chance cannot be estimated from one round or for a fixed position; try `-r 100`."
     if error == 0:
         return f"{'The change is the same' if change else 'Both versions score the same'} in every round."
     size = abs(change) / error
     if size < MIN_STANDARD_ERRORS:
-        return f"The change is {size:.1f} standard errors, which may be chance. More rounds show smaller changes."
+        return f"The change is {size:.1f} standard errors, which may be chance. More rounds can detect smaller changes."
     return f"The new version is {'better' if change > 0 else 'worse'}: the change is {size:.1f} standard errors."
 
 

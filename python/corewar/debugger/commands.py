@@ -140,7 +140,10 @@ def continue_forward(session: Session, rest: str) -> Iterator[str]:
 
 
 @command(
-    "reverse-continue [CONDITION]", "go back to the previous breakpoint, or to where it held last", "rc", repeats=True
+    "reverse-continue [CONDITION]",
+    "go back to the previous breakpoint, or to where the condition last held",
+    "rc",
+    repeats=True,
 )
 def continue_back(session: Session, rest: str) -> Iterator[str]:
     yield from search_from_here(session, rest, False)
@@ -270,7 +273,9 @@ def futures(session: Session, rest: str) -> Iterator[str]:
         yield f"{'>' if history is session.history else ' '} {number}: {edits}; {history.end} turns"
 
 
-@command("list [A [N]]", "list N cells from A on, or the cells around each warrior's next process", "l", repeats=True)
+@command(
+    "list [A [N]]", "list N cells, starting at A, or the cells around each warrior's next process", "l", repeats=True
+)
 def list_cells(session: Session, rest: str) -> Iterator[str]:
     core, formatter, turn = session.history.core, session.formatter, session.turn
     if rest:
@@ -312,12 +317,12 @@ def why(session: Session, rest: str) -> Iterator[str]:
         yield from describe_cause(formatter, address, turn)
 
 
-@command("changed A", "find the last turn up to here that changed cell A")
+@command("changed A", "find the last turn so far that changed cell A")
 def changed(session: Session, rest: str) -> Iterator[str]:
     yield from describe_change(session.formatter, session.address(rest), session.turn)
 
 
-@command("explain [A]", "say in words what the instruction at A does, or the next one to execute")
+@command("explain [A]", "explain the instruction at A, or the next one to execute")
 def explain(session: Session, rest: str) -> Iterator[str]:
     address, core, labels = session.address(rest or "."), session.history.core, session.sources.labels
     cell = session.history.block(session.turn).cell(address, session.turn)
@@ -339,7 +344,7 @@ CONDITIONS = """A CONDITION, for continue, reverse-continue and break:
   ends W          warrior W lost a process
   dies W          warrior W died
 An address A is a number, a label, `.` (the cell to execute next), or one of
-these with +N or -N. If B is below A, the range from A to B goes past the end
+these with +N or -N. If B is below A, the range from A to B wraps around the end
 of the core.
 A warrior W is a number or a name. Commands can be abbreviated. An empty line
 repeats the last command that moves or lists."""

@@ -142,7 +142,9 @@ class Runner:
 
 
 COMMANDS["source"] = Command("source FILE", "execute the lines of a file", (), False, lambda *_: [])
-COMMANDS["log"] = Command("log [FILE]", "log the next lines to a new file, or stop the log", (), False, lambda *_: [])
+COMMANDS["log"] = Command(
+    "log [FILE]", "log the following lines to a new file, or stop logging", (), False, lambda *_: []
+)
 
 
 def run_lines(session: Session, lines: Iterable[str]) -> None:

@@ -68,7 +68,7 @@ def actions(text: Text, params: Params) -> Any:
     for error in in_range:
         word = text.word_range(error)
         if word and error.advice and error.advice.new:
-            title = f"Replace `{error.advice.old}` by `{error.advice.new}`"
+            title = f"Replace `{error.advice.old}` with `{error.advice.new}`"
             edit = workspace_edit(params, [{"range": word, "newText": error.advice.new}])
             found.append({"title": title, "kind": QUICK_FIX, "edit": edit, "diagnostics": [diagnostic(text, error)]})
     fixed = fix(text.data, text.load) if in_range and not found else text.data
@@ -168,7 +168,7 @@ def rename(text: Text, params: Params) -> Any:
     except CorewarError:
         is_same = False
     if not is_same:
-        raise CorewarError(f"with `{new}` in place of `{token.text}` this would be another warrior; nothing is changed")
+        raise CorewarError(f"`{new}` in place of `{token.text}` would change the warrior; nothing is renamed")
     return workspace_edit(params, [{"range": text.range_of(one), "newText": new} for one in found])
 
 
@@ -178,7 +178,7 @@ def name_to_rename(text: Text, params: Params) -> Token:
     if token is None or not token.key or token.kind == "predefined":
         raise CorewarError("expected a label, the name of an EQU or a counter at the cursor")
     if text.errors:
-        raise CorewarError("correct the errors first; a rename is compared with the warrior")
+        raise CorewarError("correct the errors first; a rename is checked by assembling the source")
     return token
 
 

@@ -174,7 +174,7 @@ def serve(served: ServedSite, port: int, opens_browser: bool, say: Callable[[str
     with Server(served, port) as server:
         taken = server.server_address[1]
         if port not in (0, taken):
-            say(f"Port {port} is taken. A browser keeps unsaved texts by the port, so this one has none of that one.")
+            say(f"Port {port} is taken. Browsers store unsaved texts by port, so those of port {port} are not shown.")
         address = f"http://{HOST}:{taken}/{served.token}/"
         say(f"The site is at {address} (press Ctrl-C to stop)")
         with open_browser(address) if opens_browser else nullcontext(), served.assembler:

@@ -39,11 +39,11 @@ export const isSure = ({ change, error }) => error !== null && Math.abs(change) 
  * @param {Change} change
  */
 export function verdict({ change, error }) {
-  if (error === null) return "Chance is not known from one round, or for a given position; try 100 rounds.";
+  if (error === null) return "Chance cannot be estimated from one round or for a fixed position; try 100 rounds.";
   if (error === 0) return `${change ? "The change is the same" : "Both versions score the same"} in every round.`;
   const size = (Math.abs(change) / error).toFixed(1);
   if (!isSure({ change, error })) {
-    return `The change is ${size} standard errors, which may be chance. More rounds show smaller changes.`;
+    return `The change is ${size} standard errors, which may be chance. More rounds can detect smaller changes.`;
   }
   return `The new version is ${change > 0 ? "better" : "worse"}: the change is ${size} standard errors.`;
 }
