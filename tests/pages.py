@@ -102,8 +102,8 @@ def test_keys_move_in_time(page: Browser) -> None:
 
 def test_a_turn_in_words(page: Browser) -> None:
     go_to_turn(page, 7797)
-    executed = "Dwarf executed MOV.I $2, @2 at 1. It wrote DAT.F #0, #-2800 to 5,203, over Imp’s MOV.I $0, $1."
-    assert page.text("turn-words") == f"{executed} It looked at 3 (bomb)."
+    executed = "Dwarf executed MOV.I $2, @2 at 1. It wrote DAT.F #0, #-2800 to 5,203, replacing Imp’s MOV.I $0, $1."
+    assert page.text("turn-words") == f"{executed} It read cell 3 (bomb)."
     assert page.text("following").endswith("End the process. dwarf.red, line 12")
 
 
@@ -117,7 +117,7 @@ def test_a_cell_is_inspected(page: Browser) -> None:
     page.mouse(point["x"], point["y"], "pointerDown", "pointerUp")
     page.until("corewar.session.pinned === 5203")
     page.until("document.getElementById('where').textContent === 'Cell 5,203'")
-    page.until("document.getElementById('past').textContent.includes('Turn 7,796 Imp')")
+    page.until("document.getElementById('past').textContent.includes('Turn 7,796: Imp (was DAT.F $0, $0)')")
     page.click("#seek [data-word=changes][data-way=back]")
     page.until("corewar.session.turn === 7796")
     page.click("#seek [data-word=reads][data-way=back]")
@@ -287,11 +287,11 @@ def test_a_link_carries_the_fight(page: Browser, site: str) -> None:
     page.open(f"{site}?linked#f={link}")
     page.until("window.corewar?.session.turn === 7795")
     assert page.value("[corewar.session.end, corewar.session.pinned, corewar.session.future]") == [end, 2, 1]
-    damaged = "damaged or not whole"
-    for broken, why in (("AAAA", damaged), ("x", damaged), ("%00", damaged), ("q1YqU7JSMlSqBQA", "not a fight")):
+    damaged, other = "It is damaged or incomplete.", "It does not contain a battle."
+    for broken, why in (("AAAA", damaged), ("x", damaged), ("%00", damaged), ("q1YqU7JSMlSqBQA", other)):
         page.open(f"{site}?{broken}#f={broken}")
         page.until("window.corewar?.session.view")
-        assert page.text("complaint") == f"This link cannot be shown: it is {why}"
+        assert page.text("complaint") == f"This link cannot be opened. {why}"
 
 
 def test_strangers_names_are_no_html(page: Browser, site: str) -> None:
@@ -343,7 +343,7 @@ def test_a_source_that_takes_minutes(page: Browser) -> None:
     page.run("corewar.shelf.show(corewar.shelf.find('dwarf.red'))")
     page.until("document.getElementById('fault').textContent.includes('Dwarf: 4 of 100 cells')")
     page.run("corewar.fight([{name: 'slow.red', text: given[0]}])", slow())
-    page.until("document.getElementById('complaint').textContent === 'it takes too long'")
+    page.until("document.getElementById('complaint').textContent === 'This takes too long and was stopped.'")
     go_to_turn(page, 7798)
     assert "Imp is dead" in page.text("turn-words")
 
@@ -395,7 +395,7 @@ def test_rounds_are_those_of_the_program(page: Browser) -> None:
     found = re.findall(r"(\d+) wins?, (\d+) ties?, (\d+) loss", page.text("tally"))
     rows = table("-r", 100, *files("scanner", "bomber"))
     assert [[*map(int, one)] for one in found] == [row[1:] for row in rows]
-    assert re.search(r"\d+× Lookout died on its line \d+, on what Hail wrote by line \d+", page.text("why"))
+    assert re.search(r"\d+× Lookout died on its line \d+, hit by line \d+ of Hail", page.text("why"))
     page.click("#strip button:nth-child(8)")
     page.until("corewar.session.fight.round === 7 && document.querySelectorAll('#strip [aria-current]').length === 1")
 
@@ -436,7 +436,7 @@ def test_versions_on_the_bench(page: Browser, tmp_path: Path) -> None:
         page.until(f"document.getElementById('bench-title').textContent === 'Stride {seed}' && {done}")
         numbers, verdict = change(seed, [EXAMPLES / "dwarf.red", tmp_path / "stride.red", *names])
         message = page.text("bench-change")
-        found = re.match(r"([+−]\d+\.\d\d), error (\d+\.\d\d) since “Compare with this”\. (.*)", message)
+        found = re.match(r"Change from the baseline: ([+−]\d+\.\d\d), error (\d+\.\d\d)\. (.*)", message)
         assert found and found[3] == verdict, (message, verdict)
         shown = [float(found[1].replace("−", "-")), float(found[2])]
         assert shown == pytest.approx(numbers, abs=0.006)
@@ -482,7 +482,7 @@ def test_own_settings(page: Browser) -> None:
         "hill.value = ''; hill.dispatchEvent(new Event('change')); document.getElementById('own-core').value = '50'"
     )
     page.run("document.querySelector('#own-form .main').click()")
-    page.until("document.getElementById('complaint').textContent === 'these parameters are impossible'")
+    page.until("document.getElementById('complaint').textContent === 'These core settings are not valid together.'")
 
 
 def test_many_warriors(page: Browser) -> None:
@@ -501,20 +501,21 @@ def test_a_lesson_is_checked(page: Browser) -> None:
     verdict = "document.querySelectorAll('#lessons .verdict')[%d].textContent === '%s'"
     go_to_turn(page, 536)
     page.run(check, 1)
-    page.until(verdict % (1, "In turn 536 no warrior dies."))
+    page.until(verdict % (1, "No warrior dies in turn 536."))
     go_to_turn(page, 7798)
     page.run(check, 1)
-    page.until(verdict % (1, "That is the turn."))
+    page.until(verdict % (1, "Correct: a warrior dies in this turn."))
     page.run("document.querySelectorAll('#lessons .lesson')[3].querySelector('button').click()")
     page.until("corewar.shelf.shown.name.startsWith('a-tie')")
     page.run(check, 3)
-    lost = "1 cell; 0 won, 0 tied, 100 lost of 100. Not yet: survive 100 of 100 rounds. Watch a lost round"
+    counts = "1 cell; won %d, tied %d and lost %d of 100 rounds."
+    lost = f"{counts % (0, 0, 100)} The goal is to survive 100. Watch a lost round"
     page.until(verdict % (3, lost))
     page.run(
         "corewar.shelf.editor.mirror.setValue('MOV 0, 1\\n');"
         "document.querySelectorAll('#lessons .lesson')[3].querySelector('.main').click()"
     )
-    page.until(verdict % (3, "1 cell; 0 won, 100 tied, 0 lost of 100. Well done."))
+    page.until(verdict % (3, f"{counts % (0, 100, 0)} Well done."))
 
 
 @pytest.mark.parametrize("view", ["battle", "bench", "league", "learn"])

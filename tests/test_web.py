@@ -245,16 +245,16 @@ def test_the_page_saves_to_the_folder(page: Browser, site: Site) -> None:
     page.run("corewar.showDesk(true); corewar.shelf.show(corewar.shelf.find('own.red'))")
     page.run("const {mirror} = corewar.shelf.editor; mirror.setValue(mirror.getValue().replace('mov 0', 'mov.i 0'))")
     page.click("#download")
-    page.until("document.getElementById('saved').textContent === 'saved'")
+    page.until("document.getElementById('saved').textContent === 'Saved'")
     assert (site.folder / "own.red").read_bytes() == b";name Own\n; caf\xe9\nmov.i 0, 1\n"
     (site.folder / "own.red").write_text("nop 0\n")
     page.run("corewar.shelf.editor.mirror.setValue('mov 0, 1\\n')")
     page.click("#download")
     page.until("document.querySelector('#saved button')")
-    assert page.text("saved").startswith("own.red has changed on disk; not overwritten.")
+    assert page.text("saved") == "own.red has changed on disk; not overwritten. Overwrite or Reload"
     assert (site.folder / "own.red").read_text() == "nop 0\n"
     page.click("#saved button")
-    page.until("document.getElementById('saved').textContent === 'saved'")
+    page.until("document.getElementById('saved').textContent === 'Saved'")
     assert (site.folder / "own.red").read_text() == "mov 0, 1\n"
     (site.folder / "own.red").write_text("nop 1\n")
     page.run("corewar.shelf.editor.mirror.setValue('mov 0, 2\\n')")
@@ -264,10 +264,10 @@ def test_the_page_saves_to_the_folder(page: Browser, site: Site) -> None:
     page.until("corewar.shelf.shown.doc.getValue() === 'nop 1\\n'")
     page.run("corewar.shelf.editor.mirror.setValue('mov 0, 1\\n')")
     page.click("#download")
-    page.until("document.getElementById('saved').textContent === 'saved'")
+    page.until("document.getElementById('saved').textContent === 'Saved'")
     page.click("#new")
     page.click("#download")
-    page.until("document.getElementById('saved').textContent === 'saved'")
+    page.until("document.getElementById('saved').textContent === 'Saved'")
     assert (site.folder / "warrior.red").read_text().startswith(";redcode-94\n")
 
 

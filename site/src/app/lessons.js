@@ -55,7 +55,7 @@ export class Lessons {
   #open(lesson) {
     element("lesson-box").hidden = lesson === null;
     if (!lesson) return;
-    const close = make("button", { className: "link", onclick: () => this.#open(null) }, "close this lesson");
+    const close = make("button", { className: "link", onclick: () => this.#open(null) }, "Close lesson");
     refill(element("lesson-box"), this.#card(lesson, "h2"), close);
   }
 
@@ -136,7 +136,7 @@ export class Lessons {
   async judge(lesson) {
     if (lesson.judge !== "match") return this.#judgeBattle(lesson);
     const own = this.#own(lesson);
-    if (!own) return { isDone: false, text: "Begin first, and write your warrior." };
+    if (!own) return { isDone: false, text: "Press Begin first, then write your warrior." };
     try {
       return await this.#judgeMatch(lesson, own);
     } catch (error) {
@@ -156,16 +156,18 @@ export class Lessons {
     const { turn, end, known } = session;
     if (lesson.judge === "end") {
       const isEnd = turn === end;
-      return { isDone: isEnd, text: isEnd ? "That is the end." : `Turn ${number(turn)} is not the last one.` };
+      const found = isEnd ? "Correct: this is the last turn." : `Turn ${number(turn)} is not the last one.`;
+      return { isDone: isEnd, text: found };
     }
     if (lesson.judge === "saved") {
-      if (!session.opened?.edits.length) return { isDone: false, text: "You have edited no cell yet." };
+      if (!session.opened?.edits.length) return { isDone: false, text: "You have not edited a cell yet." };
       const isSaved = known.deaths.length === 0;
       const verdict = isSaved ? "Both survive: you changed history." : "In this future a warrior still dies.";
       return { isDone: isSaved, text: verdict };
     }
     const isDeath = known.deaths.some((death) => death.turn === turn);
-    return { isDone: isDeath, text: isDeath ? "That is the turn." : `In turn ${number(turn)} no warrior dies.` };
+    const found = isDeath ? "Correct: a warrior dies in this turn." : `No warrior dies in turn ${number(turn)}.`;
+    return { isDone: isDeath, text: found };
   }
 
   /**
@@ -181,12 +183,13 @@ export class Lessons {
     const entered = await pool.ask("warriors", [sources, TERMS], "lesson", 1);
     const fighters = entered.map(({ warrior }) => warrior);
     const { wins: won, ties, losses, scores } = await pool.ask("scores", [fighters, TERMS], "lesson", 1);
-    const result = `${pluralize(code.length, "cell")}; ${won} won, ${ties} tied, ${losses} lost of ${ROUNDS}.`;
+    const counts = `won ${won}, tied ${ties} and lost ${losses} of ${ROUNDS} rounds`;
+    const result = `${pluralize(code.length, "cell")}; ${counts}.`;
     if (code.length > cells) return { isDone: false, text: `${result} Use at most ${cells} cells.` };
     if (won >= wins && won + ties >= survives) return { isDone: true, text: `${result} Well done.` };
     const missing = won < wins ? `win ${wins}` : `survive ${survives}`;
     const show = () => this.host.fight(sources, { ...TERMS, round: scores.indexOf(Math.min(...scores)) });
     const watch = make("button", { className: "link", onclick: show }, `Watch a ${losses ? "lost" : "tied"} round`);
-    return { isDone: false, text: `${result} Not yet: ${missing} of ${ROUNDS} rounds.`, watch };
+    return { isDone: false, text: `${result} The goal is to ${missing}.`, watch };
   }
 }

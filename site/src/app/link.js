@@ -65,7 +65,7 @@ export async function pack({ fight, turn, pinned }) {
 function whole(value, minimum, maximum, fallback) {
   if (value === undefined || value === null) return fallback;
   if (typeof value !== "number" || !Number.isInteger(value) || value < minimum || value > maximum) {
-    throw new Error("a number in it is out of range");
+    throw new Error("A number in it is out of range.");
   }
   return value;
 }
@@ -76,7 +76,7 @@ function whole(value, minimum, maximum, fallback) {
  */
 function readSettings(given) {
   if (typeof given === "string" && Object.hasOwn(HILLS, given)) return HILLS[given];
-  if (typeof given !== "object" || given === null) throw new Error("it has no settings");
+  if (typeof given !== "object" || given === null) throw new Error("It has no settings.");
   const found = /** @type {Record<string, unknown>} */ (given);
   const entries = SETTINGS.map((name) => {
     const { minimum, maximum } = RANGES[name];
@@ -87,11 +87,11 @@ function readSettings(given) {
 
 /** @param {unknown} given */
 function readSources(given) {
-  if (!Array.isArray(given) || given.length < 1) throw new Error("it has no sources");
+  if (!Array.isArray(given) || given.length < 1) throw new Error("It has no sources.");
   return given.map((one) => {
     const [name, text] = Array.isArray(one) ? one : [];
     if (typeof name !== "string" || typeof text !== "string" || text.length > MAX_SOURCE_SIZE) {
-      throw new Error("a source in it is damaged");
+      throw new Error("A source in it is damaged.");
     }
     return { name: name.slice(0, MAX_NAME_LENGTH), text };
   });
@@ -104,7 +104,7 @@ function readSources(given) {
 function readEdits(given, core) {
   return (Array.isArray(given) ? given : []).slice(0, MAX_EDITS).map((one) => {
     const edit = Array.isArray(one) && typeof one[1] === "string" ? parseEdit(one[1], core) : null;
-    if (!edit) throw new Error("an edit in it is damaged");
+    if (!edit) throw new Error("An edit in it is damaged.");
     return { turn: whole(one[0], 0, LAST_TURN, 0), edit };
   });
 }
@@ -119,7 +119,7 @@ async function inflate(text) {
     const bytes = Uint8Array.from(code, (letter) => letter.charCodeAt(0));
     return JSON.parse(new TextDecoder().decode(await through(bytes, new DecompressionStream("deflate-raw"))));
   } catch {
-    throw new Error("it is damaged or not whole");
+    throw new Error("It is damaged or incomplete.");
   }
 }
 
@@ -131,12 +131,12 @@ async function inflate(text) {
  */
 export async function unpack(text, selection = {}) {
   const short = await inflate(text);
-  if (short?.v !== VERSION) throw new Error("it is not a fight");
+  if (short?.v !== VERSION) throw new Error("It does not contain a battle.");
   const settings = readSettings(short.h);
   const all = readSources(short.w);
   const warriors = (selection.warriors ?? [...all.keys()]).flatMap((index) => all[index] ?? []);
-  if (warriors.length < 1 || warriors.length > MAX_WARRIORS) throw new Error("it has too many warriors, or none");
-  if (settings.cycles * warriors.length > MAX_TURNS) throw new Error("its battle is too long for this page");
+  if (warriors.length < 1 || warriors.length > MAX_WARRIORS) throw new Error("It has too many warriors, or none.");
+  if (settings.cycles * warriors.length > MAX_TURNS) throw new Error("Its battle is too long for this page.");
   const rounds = whole(short.n, 1, MAX_ROUNDS, 100);
   const round = Math.min(selection.round ?? whole(short.r, 0, rounds - 1, 0), rounds - 1);
   const formula = typeof short.f === "string" ? short.f.slice(0, MAX_FORMULA) : FORMULA;

@@ -162,7 +162,7 @@ class Page {
     document.body.classList.add("busy");
     try {
       const isMatch = warriors.length >= 1 && warriors.length <= MAX_WARRIORS;
-      if (!isMatch) throw new Error(`A match has 1 to ${MAX_WARRIORS} warriors: mark them in the list of sources.`);
+      if (!isMatch) throw new Error(`A match has 1 to ${MAX_WARRIORS} warriors; select them in the list of sources.`);
       await this.session.open({ ...this.terms.value, round: 0, ...terms, warriors, edits: [] }, { plays });
       document.body.classList.add("running");
       if (location.hash) history.replaceState(null, "", location.pathname + location.search);
@@ -276,7 +276,7 @@ class Page {
       this.session.rename(this.shelf.mark(warriors));
       document.body.classList.add("running");
     } catch (error) {
-      this.complain(`This link cannot be shown: ${errorWords(error, warriors, this.meanings)}`);
+      this.complain(`This link cannot be opened. ${errorWords(error, warriors, this.meanings)}`);
     }
   }
 
@@ -339,6 +339,6 @@ main().catch((error) => {
   const message = /** @type {Error} */ (error).message;
   const lacksFeatures = ["WebAssembly", "DecompressionStream"].some((name) => !(name in window));
   const isOld = lacksFeatures || /wasm|compile|memory/i.test(message);
-  const what = isOld ? "This browser cannot run the machine, a module of WebAssembly" : "The page cannot start";
+  const what = isOld ? "This browser cannot run the simulator, a WebAssembly module" : "The page cannot start";
   element("loading").textContent = `${what}: ${message}`;
 });

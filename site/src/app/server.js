@@ -27,7 +27,7 @@ export class Server {
     const sources = all.flatMap((one) => ("fault" in one ? [] : one));
     this.path = path;
     this.sources = sources;
-    this.faults = all.flatMap((one) => ("fault" in one ? one.fault : []));
+    this.faults = all.flatMap((one) => ("fault" in one ? `${one.fault}.` : []));
     for (const { name, seen, isExample } of sources) if (!isExample) this.#seen.set(name, seen);
   }
 
@@ -56,7 +56,7 @@ export class Server {
       if (answer.ok) this.#seen.set(name, seen);
       return answer.ok ? null : { text: fault, isOther: answer.status === 409 };
     } catch {
-      return { text: "the server does not answer; start `corewar web` again", isOther: false };
+      return { text: "The server does not respond; restart `corewar web`", isOther: false };
     }
   }
 

@@ -28,7 +28,8 @@ export function listenToShare(session) {
     const field = typed("link", HTMLInputElement);
     field.value = link;
     const isLong = link.length > MAX_LINK_LENGTH;
-    note(isLong ? `The link has ${number(link.length)} characters, which some programs cut. A page has no limit.` : "");
+    const size = `${number(link.length)} characters`;
+    note(isLong ? `The link has ${size}; some programs truncate it. A page has no limit.` : "");
     typed("sharing", HTMLDialogElement).showModal();
     field.select();
   });
@@ -39,7 +40,7 @@ export function listenToShare(session) {
       await navigator.clipboard.writeText(field.value);
       note("Copied.");
     } catch {
-      note("The browser does not let the page copy; the link is selected: press Ctrl-C.");
+      note("The browser does not allow copying. The link is selected; press Ctrl-C.");
     }
   });
   onClick("page", async () => {
@@ -47,7 +48,7 @@ export function listenToShare(session) {
     try {
       download(`${name}.html`, await pageWith(await shared(session)), "text/html");
     } catch (error) {
-      note(`The page cannot be made: ${/** @type {Error} */ (error).message}`);
+      note(`The page cannot be saved: ${/** @type {Error} */ (error).message}`);
     }
   });
 }

@@ -1,4 +1,4 @@
-/** The terms of matches: a hill or own settings, seed, rounds, position and score formula. */
+/** The terms of matches: a hill or custom settings, seed, rounds, position and score formula. */
 import { MAX_ROUNDS, MAX_SEED } from "../model/layout.js";
 import { DEFAULTS, FORMULA, HILLS, RANGES, SETTINGS, hillOf } from "../model/settings.js";
 import { clamp, element, make, onClick, typed } from "../view/dom.js";
@@ -6,7 +6,7 @@ import { clamp, element, make, onClick, typed } from "../view/dom.js";
 /** @typedef {import("../model/settings.js").Settings} Settings */
 /** @typedef {import("../view/host.js").MatchTerms} MatchTerms */
 
-/** The choice of own settings. */
+/** The choice of custom settings. */
 const OWN = "";
 
 export class Terms {
@@ -25,7 +25,7 @@ export class Terms {
     this.rounds.max = String(MAX_ROUNDS);
     this.changed = changed;
     this.hill.append(...Object.keys(HILLS).map((name) => make("option", { value: name }, name)));
-    this.hill.append(make("option", { value: OWN }, "own …"));
+    this.hill.append(make("option", { value: OWN }, "custom"));
     element("terms").addEventListener("submit", (event) => event.preventDefault());
     this.hill.onchange = () => this.#choose();
     const take = (/** @type {boolean} */ isShown) => {

@@ -54,7 +54,7 @@ class Run {
     for (;;) {
       start.play(mars, this.stride, origins, chronicle);
       if (start.battle.over) break;
-      if (start.turn > MAX_TURNS) throw new Error(`the battle is too long: at most ${MAX_TURNS} turns are shown`);
+      if (start.turn > MAX_TURNS) throw new Error(`The battle is too long: the site shows at most ${MAX_TURNS} turns.`);
       this.marks.push(start.copy());
       if (this.marks.length > maxMarks) this.#thin();
     }

@@ -45,8 +45,8 @@ export const HILLS = {
  */
 export const RANGES = {
   core: { name: "Core size", minimum: 1, maximum: MAX_CORE },
-  cycles: { name: "Cycles", minimum: 1, maximum: MAX_CYCLES },
-  processes: { name: "Processes", minimum: 1, maximum: MAX_PROCESSES },
+  cycles: { name: "Cycle limit", minimum: 1, maximum: MAX_CYCLES },
+  processes: { name: "Process limit", minimum: 1, maximum: MAX_PROCESSES },
   longest: { name: "Maximum length", minimum: 1, maximum: MAX_CORE },
   distance: { name: "Minimum distance", minimum: 1, maximum: MAX_CORE },
   readLimit: { name: "Read limit", minimum: 0, maximum: MAX_CORE },

@@ -16,7 +16,7 @@ import { errorWords, mean } from "./host.js";
 
 /** What a win is worth against one opponent, the right end of the scale. */
 const WIN = 3;
-const STALE = "The source has an error; below are the results before it.";
+const STALE = "The source has an error; the results below are from before it.";
 
 /** @param {number} value */
 const fixed = (value) => value.toFixed(2);
@@ -202,13 +202,14 @@ export class Bench {
       losses: one.losses + other.losses,
     }));
     const { points, far } = mean(sum);
-    return [make("strong", {}, fixed(points)), make("span", { className: "soft" }, ` ± ${fixed(far)} points a round`)];
+    const rest = make("span", { className: "soft" }, ` ± ${fixed(far)} points per round`);
+    return [make("strong", {}, fixed(points)), rest];
   }
 
   /** Returns how the mean has changed, and what that shows. */
   #change() {
     const found = this.#changeOf(this.#opponents);
-    return found ? [...described(found), ` since “Compare with this”. ${verdict(found)}`] : [];
+    return found ? ["Change from the baseline: ", ...described(found), `. ${verdict(found)}`] : [];
   }
 
   /**
@@ -241,7 +242,7 @@ export class Bench {
     return make(
       "tr",
       {},
-      make("td", {}, make("button", { className: "link", title: "Show the first round", onclick: show }, title)),
+      make("td", {}, make("button", { className: "link", title: "Watch the first round", onclick: show }, title)),
       make("td", { className: "shares" }, stack(row)),
       make("td", { className: "mean" }, scale(points, far, change ? points - change.change : undefined)),
       make("td", {}, `${fixed(points)} ± ${fixed(far)}`),

@@ -13,7 +13,7 @@ import { swatch } from "./palette.js";
 /** The number of cells before and after the one that is looked at. */
 const AROUND = 4;
 const DONE = { at: "executed", changes: "changed", reads: "read" };
-const NOT_A_LINE = "This is not an instruction: write it as in a source, such as `jmp -3` or `dat #0, #0`.";
+const NOT_A_LINE = "This is not an instruction; expected a line of source such as `jmp -3` or `dat #0, #0`.";
 
 export class Cells {
   #isEditing = false;
@@ -120,9 +120,9 @@ export class Cells {
     // The colour of the line says whose label it is.
     const label = known.labels.get(address)?.replace(/^\d+\./, "") ?? "";
     const origin = line ? `${line.name}, line ${line.line}: ${line.text}` : "";
-    const button = make("button", { className: "bare text", title: `${sentence} A click edits it.` }, text);
+    const button = make("button", { className: "bare text", title: `${sentence} Click to edit.` }, text);
     button.onclick = () => this.#edit(address, text, button);
-    const look = { className: "bare address", title: "Look at it", onclick: () => session.pin(address) };
+    const look = { className: "bare address", title: "Select this cell", onclick: () => session.pin(address) };
     const names = standing.map(({ who, many }) => known.names[who] + (many > 1 ? ` ×${many}` : "")).join(", ");
     const chips = standing.flatMap(({ who, many }) => [
       make("i", { className: "chip", style: colour(who) }),
@@ -159,14 +159,14 @@ export class Cells {
     const lines = changes.map(({ turn, warrior, before }) => {
       const to = turn === session.turn ? turn - 1 : turn;
       const code = make("code", {}, cellText(readCell(before, 0), known.core));
-      return make("li", {}, link(to, `Turn ${number(turn)}`), ` ${known.names[warrior]}; before: `, code);
+      return make("li", {}, link(to, `Turn ${number(turn)}`), `: ${known.names[warrior]} (was `, code, ")");
     });
     const owner = view.owner[focus];
     const loaded = owner < known.names.length ? `Loaded with ${ownerName(owner, known)}, and not changed since.` : "";
     const when = view.written[focus];
     const unchanged = when ? `Edited after turn ${number(when)}.` : loaded || "Not changed since the start.";
     if (!lines.length) lines.push(make("li", {}, unchanged));
-    if (next !== null) lines.push(make("li", {}, "Changes next in ", link(next, `turn ${number(next)}`)));
+    if (next !== null) lines.push(make("li", {}, "Next change in ", link(next, `turn ${number(next)}`)));
     const source = make("li", {}, this.side.lineLink(focus));
     refill(element("past"), ...lines, source.childNodes.length ? source : null);
   }

@@ -204,7 +204,7 @@ async function make(session, edit) {
     await session.edit(edit);
   } catch (error) {
     const { message } = /** @type {Error} */ (error);
-    throw new CommandError(`the machine refuses \`${editText(edit, known.core)}\`: ${message}`);
+    throw new CommandError(`the simulator refuses \`${editText(edit, known.core)}\`: ${message}`);
   }
   return [`after turn ${number(turn)}: ${editText(edit, known.core)}`];
 }
@@ -235,7 +235,7 @@ async function fill(session, rest) {
  */
 function split(session, rest, count) {
   const words = rest.split(/\s+/);
-  if (words.length <= count) throw new CommandError("expected a warrior and more: see `help`");
+  if (words.length <= count) throw new CommandError("expected a warrior and other arguments; see `help`");
   return { warrior: readWarrior(session, words.slice(0, -count).join(" ")), words: words.slice(-count) };
 }
 
@@ -355,7 +355,7 @@ async function changed(session, rest) {
   const { changes } = await session.desk.cell(session.future, address, session.turn);
   const { known } = session;
   const text = (/** @type {Uint32Array} */ words) => cellText(readCell(words, 0), known.core);
-  if (!changes.length) return [`cell ${place(address, known)} was changed by no turn up to here`];
+  if (!changes.length) return [`no turn so far has changed cell ${place(address, known)}`];
   const [{ turn, warrior, before, after }] = changes;
   return [`turn ${number(turn)}: ${known.names[warrior]}; ${place(address, known)}: ${text(before)} -> ${text(after)}`];
 }
@@ -363,7 +363,7 @@ async function changed(session, rest) {
 /** @type {Act} */
 const help = () => [...COMMANDS.map(({ usage, meaning }) => `${usage.padEnd(24)} ${meaning}`), "", ...HELP];
 const HELP = [
-  "Tab completes commands, labels and names. Several lines that are pasted are executed one after another.",
+  "Tab completes commands, labels and names. Pasted lines are executed one after another.",
   "A CONDITION: at, changes or reads A[..B] [by W], or splits, ends or dies W.",
   "An address A is a number, a label, or `.` (the cell to execute next), with or without +N or -N.",
   "A warrior W is a number or a name. Commands can be abbreviated.",
@@ -388,9 +388,9 @@ const undo = (session) => session.undo().then(() => here(session));
 const redo = (session) => session.redo().then(() => here(session));
 
 export const COMMANDS = [
-  command("step [N|W]", "one turn, N turns, or to the next turn of warrior W", (s, rest) => step(s, rest, 1), "s", "n"),
+  command("step [N|W]", "execute one turn, N turns, or up to W's next turn", (s, rest) => step(s, rest, 1), "s", "n"),
   command("reverse-step [N|W]", "step back in the same way", (s, rest) => step(s, rest, -1), "rs", "back"),
-  command("run [N]", "N turns, or all that are left", run, "r"),
+  command("run [N]", "execute N turns, or all that are left", run, "r"),
   command("goto T", "go to turn T, `start` or `end`", goto, "g"),
   command("until C", "execute turns until C cycles are completed", until),
   command("continue [CONDITION]", "go to the next breakpoint or condition", (s, rest) => search(s, rest, true), "c"),
@@ -405,12 +405,12 @@ export const COMMANDS = [
   command("undo", "undo the last edit", undo, "u"),
   command("redo", "redo the edit that was undone", redo),
   command("futures [N]", "list the futures that edits have made, or switch to number N", futures),
-  command("list [A [N]]", "list N cells from A on", list, "l"),
-  command("queue [W [I]]", "list processes of warrior W from number I on; 0 is the next one", queue, "p"),
+  command("list [A [N]]", "list N cells, starting at A", list, "l"),
+  command("queue [W [I]]", "list the processes of warrior W, starting at number I; 0 is the next one", queue, "p"),
   command("show", "show the turn, the cycle and the state of each warrior", show, "i"),
-  command("why [W]", "say why warrior W died, or what comes next", why),
-  command("changed A", "find the last turn up to here that changed cell A", changed),
-  command("explain [A]", "say in words what the instruction at A does, or the next one to execute", explain),
+  command("why [W]", "explain why warrior W died, or what comes next", why),
+  command("changed A", "find the last turn so far that changed cell A", changed),
+  command("explain [A]", "explain the instruction at A, or the next one to execute", explain),
   command("help", "list all commands", help, "h", "?"),
 ];
 

@@ -1,5 +1,6 @@
 /** The editor: Redcode in colours, errors at their words, each line in words under the pointer. */
 import CodeMirror from "codemirror";
+import { pluralize } from "../words/battle.js";
 import { instructionWords } from "../words/instruction.js";
 import { DIRECTIVES, OPCODES } from "../words/source.js";
 import { element, make, placeTip, refill } from "./dom.js";
@@ -67,7 +68,7 @@ export class Editor {
       },
     });
     const field = this.mirror.getInputField();
-    field.setAttribute("aria-label", "Source. Escape leaves the editor, Control and Enter fights.");
+    field.setAttribute("aria-label", "Source. Escape leaves the editor; Control-Enter starts a battle.");
     this.mirror.on("changes", () => {
       this.#hideTip();
       changed();
@@ -113,7 +114,7 @@ export class Editor {
     this.mirror.refresh();
     for (const [line, { died, killed }] of hits) {
       if (line > this.mirror.lineCount()) continue;
-      const title = [killed && `killed ${killed} times`, died && `was hit ${died} times`].filter(Boolean).join("; ");
+      const title = [killed && pluralize(killed, "kill"), died && pluralize(died, "death")].filter(Boolean).join("; ");
       const parts = [
         killed ? make("span", { className: "killed" }, `+${killed}`) : null,
         died ? make("span", { className: "died" }, `−${died}`) : null,

@@ -22,14 +22,14 @@ import { explain } from "../words/errors.js";
  * @type {Record<number, string>}
  */
 const REASONS = {
-  [results.OUT_OF_MEMORY]: "out of memory",
-  [results.SETTINGS]: "these settings are impossible",
-  [results.PARAMETERS]: "these parameters are impossible",
-  [results.FORMULA]: "the score formula is wrong",
-  [results.LOAD]: "this load file is wrong",
-  [results.PLACEMENT]: "the core has no room for these warriors at this distance",
-  [results.BATTLE]: "the warriors cannot be loaded",
-  [results.SCORE]: "the score formula has no value in some round",
+  [results.OUT_OF_MEMORY]: "Out of memory.",
+  [results.SETTINGS]: "These settings are not valid.",
+  [results.PARAMETERS]: "These core settings are not valid together.",
+  [results.FORMULA]: "The score formula is not valid.",
+  [results.LOAD]: "This load file is not valid.",
+  [results.PLACEMENT]: "The core has no room for these warriors at this minimum distance.",
+  [results.BATTLE]: "The warriors cannot be loaded.",
+  [results.SCORE]: "The score formula has no value in some round.",
 };
 
 /**

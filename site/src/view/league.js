@@ -64,7 +64,7 @@ export class League {
     const run = ++this.#run;
     pool.drop("league");
     if (sources.length < 2) {
-      element("league-note").textContent = "A league needs at least two sources: mark them in the list of sources.";
+      element("league-note").textContent = "A league needs at least two sources; select them in the list of sources.";
       return;
     }
     const terms = this.host.terms();
@@ -195,7 +195,7 @@ export class League {
     if (!row) return make("td", { className: "match" }, who === other ? "·" : "");
     const [red, green, blue, share] = shade(row);
     const counts = `${pluralize(row.wins, "win")}, ${pluralize(row.ties, "tie")}, ${pluralize(row.losses, "loss")}`;
-    const title = `${this.#names[who]} against ${this.#names[other]}: ${counts}. A click shows the first round.`;
+    const title = `${this.#names[who]} against ${this.#names[other]}: ${counts}. Click to watch the first round.`;
     const button = make("button", { className: "bare", title, onclick: () => this.#show(who, other) }, row.wins);
     const style = `background:rgba(${red},${green},${blue},${share.toFixed(2)})`;
     return make("td", { className: "match", style }, button);

@@ -117,15 +117,15 @@ export class Rounds {
   #why({ count, warrior, line, killer, by }, names) {
     const link = (/** @type {number} */ source, /** @type {number} */ at) => {
       const found = this.session.fight?.warriors[source];
-      if (!at || !found) return "a copied cell";
+      if (!at || !found) return "an unknown line";
       const title = found.text.split("\n")[at - 1]?.trim();
       const show = () => this.show(found.name, at);
       return make("button", { className: "link", title, onclick: show }, `line ${at}`);
     };
-    const away = killer < 0 ? " in empty memory" : " away from its code";
+    const away = killer < 0 ? " in empty memory" : " outside its code";
     const where = line ? [" on its ", link(warrior, line)] : [away];
-    const other = killer < 0 ? [] : [`, on what ${names[killer]} wrote by `, link(killer, by)];
-    const what = killer === warrior ? [", on what it had written itself"] : other;
+    const other = killer < 0 ? [] : [", hit by ", link(killer, by), ` of ${names[killer]}`];
+    const what = killer === warrior ? [", hit by itself"] : other;
     return make("li", {}, make("b", {}, `${number(count)}×`), ` ${names[warrior]} died`, ...where, ...what);
   }
 }

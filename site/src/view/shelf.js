@@ -172,7 +172,7 @@ export class Shelf {
   #remove() {
     const { shown } = this;
     if (!shown || this.sources.length < 2) return;
-    const where = this.host.folder ? "The file in the folder stays." : "It is stored nowhere else.";
+    const where = this.host.folder ? "The file stays in the folder." : "It is stored nowhere else.";
     if (!shown.isExample && !confirm(`Remove ${shown.name} from the list? ${where}`)) return;
     this.sources = this.sources.filter((entry) => entry !== shown);
     this.show(this.sources[0]);
@@ -192,9 +192,9 @@ export class Shelf {
     else {
       const fault = await folder.save(name, text, isForced);
       if (fault) {
-        const force = make("button", { className: "link", onclick: () => this.save(true) }, "Overwrite it");
-        const reload = make("button", { className: "link", onclick: () => this.#reload(shown) }, "Load it");
-        refill(element("saved"), `${fault.text}. `, ...(fault.isOther ? [force, " or ", reload] : []));
+        const force = make("button", { className: "link", onclick: () => this.save(true) }, "Overwrite");
+        const reload = make("button", { className: "link", onclick: () => this.#reload(shown) }, "Reload");
+        refill(element("saved"), withCode(`${fault.text}. `), ...(fault.isOther ? [force, " or ", reload] : []));
         return;
       }
     }
@@ -203,7 +203,7 @@ export class Shelf {
     this.list();
     this.sign();
     this.host.changed();
-    if (folder) this.#showMessage("saved");
+    if (folder) this.#showMessage("Saved");
   }
 
   /**
@@ -228,7 +228,7 @@ export class Shelf {
   list() {
     const lines = this.sources.map((entry) => {
       const { name, isExample, fights } = entry;
-      const box = make("input", { type: "checkbox", checked: fights, "aria-label": `${name} fights` });
+      const box = make("input", { type: "checkbox", checked: fights, "aria-label": `Select ${name}` });
       box.onchange = () => {
         entry.fights = box.checked;
         this.host.changed();
@@ -236,7 +236,7 @@ export class Shelf {
       const isShown = entry === this.shown;
       const show = { className: "bare", onclick: () => this.show(entry), "aria-current": String(isShown) };
       const button = make("button", show, titleOf(entry));
-      const label = make("label", { title: "Fights" }, box);
+      const label = make("label", { title: "Select" }, box);
       const kind = make("small", {}, isExample ? "example" : "");
       return make("li", { className: isShown ? "shown" : "" }, label, button, kind);
     });
@@ -296,8 +296,8 @@ export class Shelf {
     const text = shown.doc.getValue();
     const button = element("names").querySelector(".shown button");
     if (button) button.textContent = titleOf(shown);
-    const unsaved = host.folder ? "not saved" : "stored in this browser; Download writes a file";
-    if (host.isStale(shown.name, text)) this.#showMessage("changed since this fight: Ctrl-Enter fights it");
+    const unsaved = host.folder ? "Not saved" : "Stored in this browser; Download saves a file";
+    if (host.isStale(shown.name, text)) this.#showMessage("Changed since this battle; Ctrl-Enter starts a new one");
     else this.#showMessage(text === shown.saved ? "" : unsaved);
   }
 

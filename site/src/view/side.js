@@ -98,11 +98,11 @@ export class Side {
     element("alone").hidden = beside === null;
     const lines = futures.map(({ edits, end }, index) => {
       const edited = edits.map(({ turn, edit }) => `turn ${number(turn)}: ${editText(edit, known.core)}`);
-      const text = `${index}: ${edited.join("; ") || "as it was fought"} (${pluralize(end, "turn")})`;
+      const text = `${index}: ${edited.join("; ") || "no edits"} (${pluralize(end, "turn")})`;
       const current = index === future ? "true" : null;
       const here = { className: "bare", "aria-current": current, onclick: () => session.showFuture(index) };
-      const compare = { className: "link", title: "Show it beside this one", onclick: () => session.compare(index) };
-      return make("li", {}, make("button", here, text), index === future ? null : make("button", compare, "compare"));
+      const compare = { className: "link", title: "Show both side by side", onclick: () => session.compare(index) };
+      return make("li", {}, make("button", here, text), index === future ? null : make("button", compare, "Compare"));
     });
     refill(element("futures"), ...lines);
   }
@@ -149,6 +149,7 @@ export class Side {
     bar.style.width = `${(100 * view.owned[who]) / known.core}%`;
     const death = opened.deaths.find(({ warrior }) => warrior === who);
     if (death && death.turn <= view.turn) fate.textContent = `died in turn ${number(death.turn)}`;
+    else if (view.turn === opened.end && known.names.length === 1) fate.textContent = "survives";
     else if (view.turn === opened.end) fate.textContent = outcome(known).startsWith("A tie") ? "ties" : "wins";
     else fate.textContent = opened.authors[who] ? `by ${opened.authors[who]}` : "";
   }
@@ -158,7 +159,7 @@ export class Side {
     const { known, way, move } = this.session;
     element("turn-words").className = way ? "soft" : "";
     if (way) element("turn-words").textContent = PAUSE;
-    else if (view.turn === 0) element("turn-words").textContent = "The start: no turn is made yet.";
+    else if (view.turn === 0) element("turn-words").textContent = "The start: no turn has been executed yet.";
     else if (move) element("turn-words").textContent = moveWords(move, known);
     if (way || view.head === null) {
       refill(element("following"));

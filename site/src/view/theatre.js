@@ -21,7 +21,7 @@ const FASTEST = 200_000;
 const SLOW = 15;
 /** The maximum number of marked cells that differ between two futures. */
 const MAX_DIFFERENCES = 2000;
-const EMPTY = "Empty memory. A process that comes here ends.";
+const EMPTY = "Empty memory. A process that executes it ends.";
 const EVENTS = { splits: "split", ends: "end of a process", dies: "death" };
 
 export class Theatre {
@@ -169,17 +169,17 @@ export class Theatre {
   #showPlay() {
     const { way, rate } = this.session;
     for (const { id, isOn, path, name, key } of [
-      { id: "play", isOn: way > 0, path: PLAY, name: "Play", key: "space" },
+      { id: "play", isOn: way > 0, path: PLAY, name: "Play", key: "Space" },
       { id: "rewind", isOn: way < 0, path: BACKWARDS, name: "Play backwards", key: "J" },
     ]) {
       const button = element(id);
       button.setAttribute("aria-label", isOn ? "Pause" : name);
-      button.title = isOn ? "Pause (space)" : `${name} (${key})`;
+      button.title = isOn ? "Pause (Space)" : `${name} (${key})`;
       button.querySelector("path")?.setAttribute("d", isOn ? PAUSE : path);
       button.classList.toggle("on", isOn);
     }
     typed("speed", HTMLInputElement).value = String((100 * Math.log(rate)) / Math.log(FASTEST));
-    element("speed").setAttribute("aria-valuetext", `${number(Math.round(rate))} turns a second`);
+    element("speed").setAttribute("aria-valuetext", `${number(Math.round(rate))} turns per second`);
     element("rate").textContent = `${number(Number(rate.toPrecision(2)))} turns/s`;
   }
 
@@ -251,7 +251,7 @@ export class Theatre {
     if (view.owner.length !== this.other.size) return;
     const marks = { ...this.#marks(view), head: view.head, reads: [], graves: [] };
     this.other.draw(view, palette, session.grain, marks);
-    const isOver = view.turn < session.turn ? ", its end" : "";
+    const isOver = view.turn < session.turn ? " (its end)" : "";
     element("other-name").textContent = `Future ${future} at turn ${number(view.turn)}${isOver}`;
     element("own-name").textContent = `Future ${session.future}; cells that differ are framed`;
   }
@@ -331,6 +331,6 @@ export class Theatre {
       first += count;
       return many ? `${this.session.known.names[who]}${many > 1 ? ` ×${number(many)}` : ""}` : [];
     });
-    return found.length ? `. Here: ${found.join(", ")}` : "";
+    return found.length ? `. Processes: ${found.join(", ")}` : "";
   }
 }

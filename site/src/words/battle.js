@@ -91,7 +91,7 @@ export const place = (address, { labels }) =>
  * @param {number} owner
  * @param {Known} known
  */
-export const ownerName = (owner, { names }) => names[owner] ?? (owner === BY_HAND ? "you" : "nobody");
+export const ownerName = (owner, { names }) => names[owner] ?? (owner === BY_HAND ? "you" : "no warrior");
 
 /**
  * Returns who won.
@@ -102,7 +102,7 @@ export function outcome({ names, deaths }) {
   const living = names.filter((_, who) => !dead.has(who));
   if (living.length === 0) return "No warrior survives";
   if (living.length === 1) return `${living[0]} ${names.length > 1 ? "wins" : "survives"}`;
-  return living.length === 2 && names.length === 2 ? "A tie: both survive" : `A tie of ${joinNames(living)}`;
+  return living.length === 2 && names.length === 2 ? "A tie: both survive" : `A tie between ${joinNames(living)}`;
 }
 
 /**
@@ -118,7 +118,7 @@ export function moveWords(move, known) {
   for (const write of move.writes) sentences.push(writeWords(write, move.warrior, known));
   if (move.reads.length) {
     const cells = move.reads.slice(0, 4).map((address) => place(address, known));
-    sentences.push(`It looked at ${joinNames(cells)}.`);
+    sentences.push(`It read cell${cells.length > 1 ? "s" : ""} ${joinNames(cells)}.`);
   }
   sentences.push(endWords(move, known));
   return sentences.filter(Boolean).join(" ");
@@ -133,8 +133,10 @@ function writeWords({ address, before, after, owner }, warrior, known) {
   const text = (/** @type {Uint32Array} */ words) => cellText(readCell(words, 0), known.core);
   const isSame = before.every((word, index) => word === after[index]);
   let rest = "";
-  if (isSame) rest = ", as it was";
-  else if (owner < known.names.length && owner !== warrior) rest = `, over ${known.names[owner]}’s ${text(before)}`;
+  if (isSame) rest = ", which changed nothing";
+  else if (owner < known.names.length && owner !== warrior) {
+    rest = `, replacing ${known.names[owner]}’s ${text(before)}`;
+  }
   return `It wrote ${text(after)} to ${place(address, known)}${rest}.`;
 }
 
@@ -164,13 +166,13 @@ export function eventWords(event, known) {
       return `${who} ${names.length > 1 ? "are" : "is"} loaded into the core`;
     }
     case "split":
-      return `${name} splits for the first time: two processes`;
+      return `${name} splits for the first time, into two processes`;
     case "hit":
-      return `${name} writes over a cell of ${names[event.other]}`;
+      return `${name} overwrites a cell of ${names[event.other]}`;
     case "most":
       return `${name} peaks at ${number(event.count)} processes`;
     case "edit":
-      return event.address < 0 ? "You remove a process" : `You edit at cell ${place(event.address, known)}`;
+      return event.address < 0 ? "You remove a process" : `You make an edit at cell ${place(event.address, known)}`;
     case "death":
       return deathWords(event, known);
     default:
@@ -186,12 +188,12 @@ function deathWords({ warrior, other, address, count }, known) {
   const name = known.names[warrior];
   if (address < 0) return `${name} dies: you removed its last process`;
   const [at, when] = [place(address, known), count ? ` in turn ${number(count)}` : ""];
-  const own = count ? `it wrote itself${when}` : "it brought along";
+  const own = count ? `it wrote itself${when}` : "was loaded with it";
   if (other === warrior) return `${name} dies at ${at}, a cell that ${own}`;
   if (other === BY_HAND) return `${name} dies at ${at}, which you wrote`;
   const killer = known.names[other];
   if (killer === undefined) return `${name} dies: it runs into empty memory at ${at}`;
-  return `${name} dies: it executes ${at}, which ${killer} ${count ? `wrote${when}` : "brought along"}`;
+  return `${name} dies: it executes ${at}, which ${count ? `${killer} wrote${when}` : `was loaded with ${killer}`}`;
 }
 
 /**
@@ -217,9 +219,12 @@ export function captionWords(turn, events, known, { processes, cells }) {
   if (latest) return `${eventWords(latest, known)}.`;
   if (turn < end / 10) {
     if (names.length === 1) return `${names[0]} has the core to itself.`;
-    return `${joinNames(names)} share a ring of ${number(core)} cells, and each tries to end the other.`;
+    const others = names.length > 2 ? "others" : "other";
+    return `${joinNames(names)} share a ring of ${number(core)} cells, and each tries to kill the ${others}.`;
   }
   const [leader, many] = [cells, processes].map((counts) => counts.indexOf(Math.max(...counts)));
-  const share = `${names[leader]} owns ${Math.round((100 * cells[leader]) / core)} % of the core`;
-  return processes[many] > 2 ? `${share}; ${names[many]} runs ${number(processes[many])} processes.` : `${share}.`;
+  const share = `${names[leader]} owns ${Math.round((100 * cells[leader]) / core)}% of the core`;
+  if (processes[many] <= 2) return `${share}.`;
+  const runs = `runs ${number(processes[many])} processes`;
+  return leader === many ? `${share} and ${runs}.` : `${share}; ${names[many]} ${runs}.`;
 }

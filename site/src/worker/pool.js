@@ -35,7 +35,7 @@ class WorkerClient {
       else if (typeof data.error === "string") request?.failed(new Error(data.error));
       else request?.failed(new MarsError(data.error.code, data.error));
     };
-    this.worker.onerror = (event) => this.#fail(new Error(event.message || "the worker does not start"));
+    this.worker.onerror = (event) => this.#fail(new Error(event.message || "A worker does not start."));
     /** @type {Promise<unknown>} */
     this.ready = module.then((compiled) => this.#send("start", [compiled]));
     this.ready.catch(() => {});
@@ -66,7 +66,7 @@ class WorkerClient {
     answer.catch(() => {});
     let timer;
     const late = new Promise((_, failed) => {
-      timer = setTimeout(() => failed(new TimedOut("it takes too long")), timeout);
+      timer = setTimeout(() => failed(new TimedOut("This takes too long and was stopped.")), timeout);
     });
     try {
       return await Promise.race([answer, late]);
