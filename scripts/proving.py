@@ -8,7 +8,7 @@ import subprocess
 import tempfile
 from collections.abc import Iterable
 
-from machine import max_parallel, toolchain
+from machine import free_memory, max_parallel, toolchain
 from program import BUILT as PROGRAM_FILE, CRATE, TOP
 from rooms import all_below, crate_lines, make_room
 from webassembly import keeping_toolchain
@@ -22,7 +22,7 @@ BUILT = {PROGRAM: PROGRAM_FILE, LIBRARY: ARCHIVE}
 # Marks the statements of a crate that come from a build that was stopped or is still running.
 MARK = "of-a-first-start"
 # The memory that each job needs, in parallel with other crates, in bytes.
-MEMORY_OF_A_JOB = 3_300_000_000
+MEMORY_OF_A_JOB = 2_500_000_000
 
 
 class NotProved(Exception):
@@ -106,12 +106,13 @@ class FromScratch:
 
     def __init__(self, lines: dict[str, list[str]]) -> None:
         self.lines, self.kit, self.max_jobs = lines, toolchain(), max_parallel(MEMORY_OF_A_JOB)
+        self.memory = free_memory()
 
     def jobs(self, at_once: int) -> int:
-        """Returns the number of jobs of each of `at_once` crates. All jobs are busy all the time, so the crates share
-        them.
+        """Returns the number of jobs of each of `at_once` crates: one for each processor, if there is memory for that,
+        because the processors would be idle when one crate is proved and the others continue with few jobs.
         """
-        return max(1, self.max_jobs // at_once)
+        return max(1, min(self.max_jobs, self.memory // (at_once * MEMORY_OF_A_JOB)))
 
     def proved(self) -> set[str]:
         """Returns what need not be proved: unchanged since the program or the archive was built, or since the crate was
