@@ -25,7 +25,7 @@ from corewar.explain import errors_of
 from corewar.explain.instructions import describe_instruction
 from corewar.explain.meanings import GREATER
 from corewar.model.cells import MODES, MODIFIERS, OPCODES
-from corewar.model.errors import MarsError
+from corewar.model.errors import RESULTS, MarsError
 from corewar.web.contests import settings_of
 
 WASM = TOP / "build" / "mars.wasm"
@@ -192,6 +192,17 @@ def test_its_layout_is_that_of_the_header(tmp_path: Path) -> None:
     source.write_text(assertions)
     done = run("gcc", "-c", "-I", header.parent, source, "-o", tmp_path / "layout.o")
     assert (done.stderr, done.returncode) == ("", 0)
+
+
+def test_its_errors_have_the_texts_of_python() -> None:
+    """The texts of all results of calls and of their numbers, also of nested ones."""
+    numbers = itertools.product([code for code in RESULTS.values() if code], range(11), (0, 3, 10), (0, 2), [4], [5])
+    errors = [MarsError(*fields) for fields in numbers]
+    fields = ("code", "number", "problem", "expression", "line", "warrior")
+    given = json.dumps([{field: getattr(error, field) for field in fields} for error in errors])
+    script = f"""import {{ errorText }} from {json.dumps(str(SITE / "src" / "model" / "errors.js"))};
+        console.log(JSON.stringify({given}.map(errorText)));"""
+    assert json.loads(run("node", "--input-type=module", "--eval", script).stdout) == [str(error) for error in errors]
 
 
 def test_its_errors_are_those_of_explain() -> None:

@@ -13,8 +13,10 @@ const SIZES = { uint8_t: 1, uint32_t: 4, int64_t: 8, uint64_t: 8, size_t: 8 };
 // Enumerations of errors, by what all their names begin with.
 const ERRORS = ["SETTINGS", "PARAMETERS", "EXPRESSION", "ASSEMBLY", "TEXT", "LOAD", "PLACEMENT", "BATTLE", "BLOCK"];
 ERRORS.push("EDIT", "WARRIOR", "LINEUP");
-// Enumerations of names of cells, by their first names. The comment of a mode is its character.
-const CELLS = { DAT: "OPCODES", A: "MODIFIERS" };
+// Lists of the names of enumerations, by the first name.
+const LISTS = { DAT: "OPCODES", A: "MODIFIERS", DONE: "RESULTS" };
+// Enumerations of cells, whose numbers have no names of their own. The comment of a mode is its character.
+const CELLS = ["DAT", "A", "IMMEDIATE"];
 const MODE = /MARS_\w+,? +\/\* (\S) \*\//g;
 
 const aligned = (offset, alignment) => Math.ceil(offset / alignment) * alignment;
@@ -67,11 +69,12 @@ function numbersOf(text) {
     const kind = ERRORS.find((error) => enumeration.every(([name]) => name.startsWith(`${error}_`)));
     const entries = enumeration.map(([name, number]) => `${number}: "${spelled(name.slice(kind?.length + 1))}"`);
     if (kind) names.push(`  ${kind}: { ${entries.join(", ")} },`);
-    else if (CELLS[first]) {
-      const listed = enumeration.map(([name]) => `"${name}"`).join(", ");
-      lines.push(`export const ${CELLS[first]} = [${listed}];`);
-    } else if (first !== "IMMEDIATE") {
+    else if (!CELLS.includes(first)) {
       lines.push(...enumeration.map(([name, number]) => `export const ${name} = ${number};`));
+    }
+    if (first in LISTS) {
+      const listed = enumeration.map(([name]) => `"${name}"`).join(", ");
+      lines.push(`export const ${LISTS[first]} = [${listed}];`);
     }
   }
   return [...lines, ...names, "};"];

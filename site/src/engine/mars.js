@@ -27,6 +27,7 @@ import {
 import { Battle } from "./battle.js";
 import { DEFAULTS, FORMULA } from "../model/settings.js";
 import { CELL_WORDS, writeCell } from "../model/cells.js";
+import { errorText } from "../model/errors.js";
 
 /** @typedef {import("../model/settings.js").Settings} Settings */
 /** @typedef {import("../model/cells.js").Cell} Cell */
@@ -53,14 +54,17 @@ const CELLS = 128;
 const encoder = new TextEncoder();
 const decoder = new TextDecoder();
 
-/** Why a call was not done: `code` is a result of include/mars.h, the others are the fields of MarsFault. */
+/**
+ * An error of a call, with the text that `mars` prints after the name of the file. `code` is a result of include/mars.h, the
+ * others are the fields of MarsFault.
+ */
 export class MarsError extends Error {
   /**
    * @param {number} code
    * @param {{number?: number, problem?: number, expression?: number, line?: number, warrior?: number}} details
    */
   constructor(code, { number = 0, problem = 0, expression = 0, line = 0, warrior = 0 } = {}) {
-    super(`error ${code}, number ${number}`);
+    super(errorText({ code, number, problem, expression, line, warrior }));
     this.name = "MarsError";
     this.code = code;
     this.number = number;

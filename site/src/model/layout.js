@@ -27,6 +27,7 @@ export const BLOCK = 11;
 export const EDIT = 12;
 export const WARRIOR = 13;
 export const LINEUP = 14;
+export const RESULTS = ["DONE", "OUT_OF_MEMORY", "SETTINGS", "PARAMETERS", "FORMULA", "ASSEMBLY", "LOAD", "PLACEMENT", "BATTLE", "SCORE", "ROOM", "BLOCK", "EDIT", "WARRIOR", "LINEUP"];
 export const MARK = 22167885;
 export const SET_CELL = 1;
 export const MOVE_PROCESS = 2;

@@ -204,7 +204,7 @@ async function make(session, edit) {
     await session.edit(edit);
   } catch (error) {
     const { message } = /** @type {Error} */ (error);
-    throw new CommandError(`the simulator refuses \`${editText(edit, known.core)}\`: ${message}`);
+    throw new CommandError(`\`${editText(edit, known.core)}\`: ${message}`);
   }
   return [`after turn ${number(turn)}: ${editText(edit, known.core)}`];
 }

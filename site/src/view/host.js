@@ -42,7 +42,7 @@ export function errorWords(error, sources, meanings) {
   if (!(error instanceof MarsError)) return String(/** @type {Error} */ (error).message ?? error);
   const source = sources[error.warrior] ?? sources[0];
   if (error.code !== results.ASSEMBLY || !source) {
-    return REASONS[error.code] ?? `error ${error.code}, number ${error.number}`;
+    return REASONS[error.code] ?? error.message;
   }
   const { line, text } = explain(error, source.text, meanings);
   return `${source.name}, line ${line}: ${text}`;

@@ -1,15 +1,12 @@
 /** What an error of a source means, where it is, and what to do: the sentences of `corewar explain`. */
-import { ASSEMBLY, ERROR_NAMES, OUT_OF_MEMORY } from "../model/layout.js";
+import { errorName } from "../model/errors.js";
 import { CAUSES } from "./causes.js";
 import { NAME, codeOf, labelsOf, readSource, wordOf } from "./source.js";
 
+/** @typedef {import("../model/errors.js").Numbers} Numbers */
 /** @typedef {import("./causes.js").Cause} Cause */
 /** @typedef {import("./source.js").Line} Line */
 /** @typedef {import("./source.js").Source} Source */
-/**
- * The fields of a MarsError.
- * @typedef {{code: number, number: number, problem: number, expression: number, line: number}} Numbers
- */
 /**
  * An error at some columns of a line, and the cause if a word is in place of an operation. Lines are numbered from 1,
  * columns from 0.
@@ -21,28 +18,12 @@ import { NAME, codeOf, labelsOf, readSource, wordOf } from "./source.js";
  * @typedef {Record<string, string>} Meanings
  */
 
-/** @type {Record<string, Record<number, string>>} */
-const { ASSEMBLY: ERRORS, TEXT: PROBLEMS, EXPRESSION: EXPRESSIONS } = ERROR_NAMES;
 /** The maximum number of causes that are reported for an error, and of errors of a source that are looked for. */
 const MAX_CAUSES = 2;
 const MAX_ERRORS = 10;
 /** After these errors the rest of a source cannot be read. */
 const LAST = ["1 Text 9 TooLong", "7 Empty", "8 TooLong"];
 const UNCLOSED = "1 Text 3 UnclosedFor";
-
-/**
- * Returns the text of an error as `mars` prints it, without its line.
- * @param {Numbers} error
- */
-export function errorName({ code, number, problem, expression }) {
-  if (code !== ASSEMBLY) return code === OUT_OF_MEMORY ? "out of memory" : `error ${code}, number ${number}`;
-  const parts = [`${number} ${ERRORS[number]}`];
-  if (ERRORS[number] === "Text") parts.push(`${problem} ${PROBLEMS[problem]}`);
-  if (ERRORS[number] === "Expression" || (ERRORS[number] === "Text" && PROBLEMS[problem] === "Expression")) {
-    parts.push(`${expression} ${EXPRESSIONS[expression]}`);
-  }
-  return parts.join(" ");
-}
 
 /**
  * @param {Cause} given
