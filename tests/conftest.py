@@ -1,12 +1,11 @@
-"""What tests of the package share: the command as a process, the examples, and a browser."""
+"""What tests of the package share: the command as a process, and the examples."""
 from __future__ import annotations
 
 import os
-import shutil
 import signal
 import subprocess
 import sys
-from collections.abc import Callable, Iterator
+from collections.abc import Callable
 from pathlib import Path
 from typing import Any
 
@@ -14,9 +13,9 @@ import pytest
 from hypothesis import settings
 
 # CI tries the same examples each time; `--hypothesis-profile=wide` tries others, and more of them.
-settings.register_profile("gate", deadline=None, derandomize=True)
+settings.register_profile("ci", deadline=None, derandomize=True)
 settings.register_profile("wide", deadline=None, max_examples=3000)
-settings.load_profile("gate")
+settings.load_profile("ci")
 
 # Processes of tests receive Ctrl-C, even if a shell runs the tests in the background and ignores it.
 signal.signal(signal.SIGINT, signal.default_int_handler)
@@ -60,32 +59,3 @@ def run(tmp_path: Path) -> Run:
         return subprocess.CompletedProcess(done.args, done.returncode, *text)
 
     return started
-
-
-@pytest.fixture(scope="module")
-def browser() -> Iterator[Any]:
-    """Chromium without a window."""
-    webdriver = pytest.importorskip("selenium.webdriver", reason="package python3-selenium")
-    driver = shutil.which("chromedriver")
-    if driver is None:
-        pytest.skip("no browser (package chromium-driver)")
-    options = webdriver.ChromeOptions()
-    for word in (
-        "--headless=new",
-        "--no-sandbox",
-        "--disable-gpu",
-        "--disable-dev-shm-usage",
-        "--window-size=1400,900",
-    ):
-        options.add_argument(word)
-    options.set_capability("goog:loggingPrefs", {"browser": "ALL"})
-    started = webdriver.Chrome(service=webdriver.chrome.service.Service(driver), options=options)
-    yield started
-    started.quit()
-
-
-def until(browser: Any, condition: str) -> None:
-    """Waits until a condition is true in the page."""
-    from selenium.webdriver.support.wait import WebDriverWait
-
-    WebDriverWait(browser, 20).until(lambda driver: driver.execute_script(f"return !!({condition})"))

@@ -58,13 +58,13 @@ def test_why_shows_what_another_wrote(run: Run) -> None:
     """If a warrior executed a cell of another one, the turn that wrote it is reported, however far back."""
     output = run("why", "--turns", 2, "--of", "Dwarf", "@dwarf", "@paper").stdout
     assert output.startswith("Dwarf died in turn 23543:\n")
-    assert "of Folder at" in output or "Folder at" in output
+    assert "Cell 2 was last changed in turn 23538:\nturn 23538: Folder at 5281" in output
 
 
 def test_a_round_and_names(run: Run) -> None:
     """In round 1 the second file begins, and a name is that of the same file in each round."""
     output = run("why", "-r", 2, "--round", 1, "--of", "imp", "@dwarf", "@imp").stdout
-    assert output.startswith(("Imp died", "Imp lives"))
+    assert output.startswith("Imp died in turn 6809:\n")
     assert run("trace", "-r", 2, "--round", 1, "--from", 1, "--turns", 1, "@dwarf", "@imp").stdout.startswith(
         "turn 1: Imp at 1139"
     )
