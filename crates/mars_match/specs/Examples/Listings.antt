@@ -1,7 +1,7 @@
 -- Examples: the text of a table.
-use Rattle.std.specs.Prelude.{◌≡◌, ℕ, ℤ, pos, negsuc, List, [], ◌∷◌, ◌++◌, true, false, codes, refl}
+use Rattle.std.specs.Prelude.{◌≡◌, ◌≤◌, ℕ, ℤ, pos, negsuc, List, [], ◌∷◌, ◌++◌, true, false, codes, length, refl}
 use Rattle.std.specs.Fmt.{digits}
-use Rattle.mars_match.specs.Tables.{RowValue}
+use Rattle.mars_match.specs.Tables.{IsRow, RowValue}
 use Rattle.mars_match.specs.Results.{row_line, results_text}
 
 abbrev pub row_of : List ℕ → List ℕ → ℤ → ℕ → ℕ → ℕ → RowValue
@@ -38,3 +38,7 @@ pub wide_points : results_text (row_of (codes "A") [] (negsuc 922337203685477580
     ++ codes "-9223372036854775808 1000000      0      0  A by \n"
 unfolding results_text row_line digits
 wide_points = refl
+
+-- Names and authors have at most 60 bytes.
+pub names_in_rows : (row : RowValue) → IsRow row → (length row.name ≤ 60) × (length row.author ≤ 60)
+names_in_rows row is = (is.name.short, is.author.short)

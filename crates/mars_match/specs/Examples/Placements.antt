@@ -1,7 +1,8 @@
 -- Examples: starting positions, and the seed that is left.
-use Rattle.std.specs.Prelude.{◌≡◌, ℕ, [], ◌∷◌, None, Some, refl}
+use Rattle.std.specs.Prelude.{◌≡◌, ◌<◌, ◌≤◌, ℕ, [], ◌∷◌, None, Some, refl}
+use Rattle.std.proofs.Common.{arith}
 use Rattle.mars_cell.specs.Parameters.{Parameters}
-use Rattle.mars_match.specs.Placement.{drawn, starts_of, next_seed, place_fault}
+use Rattle.mars_match.specs.Placement.{IsSpaced, drawn, starts_of, next_seed, place_fault}
 use Rattle.mars_match.specs.declared.placement.PlaceFault.TheVariants.{NoRoom, BadSeed}
 
 -- A core of `m` cells with the minimum distance `d`.
@@ -94,3 +95,11 @@ start_of_one = refl
 pub seed_after_one : next_seed 1 1 ≡ 1
 unfolding next_seed
 seed_after_one = refl
+
+-- In a core of 200 cells no two starts are 99 cells apart, in either direction, and no start is 200.
+pub starts_that_are_not_spaced : (IsSpaced 200 100 (0 ∷ 99 ∷ []) → ⊥) × (IsSpaced 200 100 (0 ∷ 101 ∷ []) → ⊥) × (IsSpaced 200 100 (200 ∷ []) → ⊥)
+starts_that_are_not_spaced = (
+  λ s. let e : 100 ≤ 99 = (s.apart 0 1 (λ e. omega (arith, e)) (omega arith) (omega arith)).up in omega (arith, e),
+  λ s. let e : 100 ≤ 99 = (s.apart 0 1 (λ e. omega (arith, e)) (omega arith) (omega arith)).down in omega (arith, e),
+  λ s. let e : 200 < 200 = s.inside 0 (omega arith) in omega (arith, e),
+)
