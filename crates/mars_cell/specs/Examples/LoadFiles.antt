@@ -1,5 +1,6 @@
 -- Examples: load files.
-use Rattle.std.specs.Prelude.{◌≡◌, ℕ, List, [], ◌∷◌, ◌++◌, replicate, Ok, Err, codes, refl}
+use Rattle.std.specs.Prelude.{◌≡◌, ◌<◌, ℕ, zero, suc, List, [], ◌∷◌, ◌++◌, replicate, Some, Ok, Err, codes, refl, slice_index_or}
+use Rattle.std.proofs.Common.{ap, arith}
 use Rattle.std.specs.Fmt.{digits}
 use Rattle.mars_cell.specs.declared.instruction.Op.TheVariants as op
 use Rattle.mars_cell.specs.declared.instruction.Modifier.TheVariants as modifier
@@ -10,6 +11,7 @@ use Rattle.mars_cell.specs.Grammar.{cell_of, comma_at, default_modifier, mode_at
 use Rattle.mars_cell.specs.Header.{header_of, name_of, size_of, has_version}
 use Rattle.mars_cell.specs.Load.{body, end_of, lines_of, load, only_number, statement_of, statements}
 use Rattle.mars_cell.specs.Numbers.{nearest, parse_digits, parse_number, split_sign}
+use Rattle.mars_cell.specs.Output.{CutShort}
 use Rattle.mars_cell.specs.Parts.{begins_word, joins, parts}
 use Rattle.mars_cell.specs.Warriors.{WarriorValue}
 use Rattle.mars_cell.specs.Words.{mode_of, modifier_of, op_of}
@@ -131,3 +133,15 @@ pub bomber_is_written : load_text 8000 (record {
 }) ≡ codes ";load 2 8000\n;name Bomber ;\n;author \nORG 0\nADD.AB #4, $3\nMOV.I $2, @2\nJMP.B $-2, $0\nDAT.F #0, #0\n"
 unfolding digits
 bomber_is_written = refl
+
+-- A text that is cut short is not whole, and what was written is its beginning.
+pub texts_that_are_not_cut_short : (CutShort (Some []) (Some (65 ∷ [])) (65 ∷ []) → ⊥) × (CutShort (Some []) (Some (66 ∷ [])) (65 ∷ 65 ∷ []) → ⊥)
+texts_that_are_not_cut_short = (whole, other)
+  where
+    whole : CutShort (Some []) (Some (65 ∷ [])) (65 ∷ []) → ⊥
+    whole (zero, inside, is) = let e : 65 ≡ 0 = ap (λ bytes. slice_index_or bytes 0 0) is in omega (arith, e)
+    whole (suc n, inside, is) = let e : suc n < 1 = inside in omega (arith, e)
+
+    other : CutShort (Some []) (Some (66 ∷ [])) (65 ∷ 65 ∷ []) → ⊥
+    other (zero, inside, is) = let e : 66 ≡ 0 = ap (λ bytes. slice_index_or bytes 0 0) is in omega (arith, e)
+    other (suc n, inside, is) = let e : 66 ≡ 65 = ap (λ bytes. slice_index_or bytes 0 0) is in omega (arith, e)

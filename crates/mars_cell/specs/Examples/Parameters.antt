@@ -1,5 +1,6 @@
 -- Examples: parameters and programs that are accepted, and the errors of others.
 use Rattle.std.specs.Prelude.{◌≡◌, ℕ, List, [], ◌∷◌, Ok, Err, refl}
+use Rattle.std.proofs.lemmas.Bool.{le-leb}
 use Rattle.mars_cell.specs.declared.instruction.Field.TheVariants.{ANumber, BNumber}
 use Rattle.mars_cell.specs.declared.instruction.Cell.{Cell}
 use Rattle.mars_cell.specs.declared.instruction.Op.TheVariants as op
@@ -9,7 +10,8 @@ use Rattle.mars_cell.specs.declared.parameters.ParamFault.{ParamFault}
 use Rattle.mars_cell.specs.declared.parameters.ParamFault.TheVariants.{CoreSize, Processes, Cycles, Limit, Length, Distance}
 use Rattle.mars_cell.specs.declared.warriors.WarriorFault.TheVariants as warrior
 use Rattle.mars_cell.specs.Cells.{empty_cell, field_of, with_field}
-use Rattle.mars_cell.specs.Parameters.{Parameters}
+use Rattle.mars_cell.specs.Limits.{max_core_size, max_cycles, max_processes}
+use Rattle.mars_cell.specs.Parameters.{AreInRange, Parameters}
 use Rattle.mars_cell.specs.ParameterFaults.{checked_parameters}
 use Rattle.mars_cell.specs.Warriors.{WarriorValue}
 use Rattle.mars_cell.specs.WarriorFaults.{checked_warrior}
@@ -50,6 +52,25 @@ pub parameters_are_refused :
     × Refused (of_sizes 8 1 1 8 8 3 2) Distance
     × Refused (of_sizes 8 1 1 8 8 3 9) Distance
 parameters_are_refused = (refl, refl, refl, refl, refl, refl, refl, refl, refl, refl, refl, refl, refl, refl)
+
+-- Parameters are accepted if they are in their ranges.
+pub parameters_in_range : (p : Parameters) → AreInRange p → Taken p
+parameters_in_range p is = rw (
+  le-leb 1 p.core_size is.core_least,
+  le-leb p.core_size max_core_size is.core_most,
+  le-leb 1 p.processes is.processes_least,
+  le-leb p.processes max_processes is.processes_most,
+  le-leb 1 p.cycles is.cycles_least,
+  le-leb p.cycles max_cycles is.cycles_most,
+  le-leb 1 p.read_limit is.read_least,
+  le-leb p.read_limit p.core_size is.read_most,
+  le-leb 1 p.write_limit is.write_least,
+  le-leb p.write_limit p.core_size is.write_most,
+  le-leb 1 p.max_length is.length_least,
+  le-leb p.max_length p.core_size is.length_most,
+  le-leb p.max_length p.distance is.distance_least,
+  le-leb p.distance p.core_size is.distance_most,
+) refl
 
 -- If several parameters are out of range, the error is that of the first.
 pub first_fault_of_parameters :
