@@ -126,7 +126,8 @@ test("edits are made or refused by name, and wrong words are no battle", () => {
   const cell = { op: OPCODES.indexOf("JMP"), modifier: 1, aMode: 1, bMode: 1, a: 7, b: 0 };
   assert.deepEqual(errorOf(() => mars.edit(battle, { kind: "cell", address: 8000, cell })), [EDIT, 2]);
   assert.deepEqual(errorOf(() => mars.edit(battle, { kind: "kill", warrior: 0, place: 1 })), [EDIT, 5]);
-  assert.throws(() => mars.edit(battle, { kind: "kill", warrior: 0, place: 1 }), { message: "refused 5 NoSuchProcess" });
+  const message = "refused 5 NoSuchProcess";
+  assert.throws(() => mars.edit(battle, { kind: "kill", warrior: 0, place: 1 }), { message });
   assert.deepEqual(battle.words, before.words);
   mars.edit(battle, { kind: "cell", address: 3, cell });
   mars.edit(battle, { kind: "add", warrior: 0, address: 3 });
@@ -137,7 +138,8 @@ test("edits are made or refused by name, and wrong words are no battle", () => {
 });
 
 test("errors have their line or their index", () => {
-  assert.throws(() => mars.assemble("MOV 0, 1\nFOO 1\n"), { code: ASSEMBLY, number: 2, line: 2, message: "line 2: 2 Operation" });
+  const message = "line 2: 2 Operation";
+  assert.throws(() => mars.assemble("MOV 0, 1\nFOO 1\n"), { code: ASSEMBLY, number: 2, line: 2, message });
   assert.throws(() => mars.readLoad("MOV 0\n"), { code: LOAD, number: 1, line: 1 });
   const imp = mars.assemble("MOV 0, 1");
   const wrong = { ...imp, cells: Uint32Array.of(...imp.cells, 16, 0, 0) };

@@ -55,8 +55,8 @@ const encoder = new TextEncoder();
 const decoder = new TextDecoder();
 
 /**
- * An error of a call, with the text that `mars` prints after the name of the file. `code` is a result of include/mars.h, the
- * others are the fields of MarsFault.
+ * An error of a call, with the text that `mars` prints after the name of the file. `code` is a result of
+ * include/mars.h, the others are the fields of MarsFault.
  */
 export class MarsError extends Error {
   /**
