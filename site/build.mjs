@@ -28,9 +28,10 @@ function bundle(from, name, banner) {
   execFileSync("esbuild", words);
 }
 
-/** The style sheets in one, without the editor's own colours: the site has others. */
+/** The style sheets in one, without those of the editor's Vim mode, theme and addons, which the site lacks. */
 function style() {
-  const editor = read(path.join(codemirror, "lib", "codemirror.css")).replace(/^\.cm-s-default .*\n/gm, "");
+  const unused = /^\.cm-fat-cursor [^]*(?=^\.cm-tab )|^\.CodeMirror-rulers [^]*\/\* STOP \*\//gm;
+  const editor = read(path.join(codemirror, "lib", "codemirror.css")).replace(unused, "");
   const input = editor + read(inside("static", "site.css"));
   return execFileSync("esbuild", ["--loader=css", "--minify"], { input, encoding: "utf8" });
 }
