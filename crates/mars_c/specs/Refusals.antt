@@ -81,19 +81,23 @@ IsWrong p cells entrants index fault = (ws : List WarriorValue) × (rest : List 
     × Reads p cells (take index entrants) ws rest × (one.length ≤ length rest) × (fault ≢ entrant.OutOfMemory)
     × IsNoEntrant p (take one.length rest) one.start fault
 
+-- The lengths of the warriors do not add up to the number of cells.
+abbrev pub LengthsDiffer : List MarsCell → List MarsWarrior → Type 0
+LengthsDiffer cells entrants = sum_by (λ (one : MarsWarrior). one.length) entrants ≢ length cells
+
 -- A setting is out of its range, or the lengths of the warriors do not add up to the number of cells. The position must fit
 -- battles of `warriors` warriors.
 abbrev pub IsOutside : MarsSettings → ℕ → List MarsCell → List MarsWarrior → SettingsFault → Type 0
 IsOutside s warriors cells entrants Rounds = AreRounds s.rounds → ⊥
 IsOutside s warriors cells entrants Seed = IsSeed s.seed → ⊥
 IsOutside s warriors cells entrants Position = (p : Parameters) × (checked_parameters (parameters_in s) ≡ Ok p) × (FitsTwo p warriors (position_of s.position) → ⊥)
-IsOutside s warriors cells entrants Lengths = sum_by (λ (one : MarsWarrior). one.length) entrants ≢ length cells
+IsOutside s warriors cells entrants Lengths = LengthsDiffer cells entrants
 IsOutside s warriors cells entrants other = ⊥
 
 -- `refusal` is the error of the parameters or the warriors.
 abbrev pub RefusesWarriors : MarsSettings → List MarsCell → List MarsWarrior → CallRefusal → Type 0
 RefusesWarriors s cells entrants OutOfMemory = ⊤
-RefusesWarriors s cells entrants (Settings Lengths) = sum_by (λ (one : MarsWarrior). one.length) entrants ≢ length cells
+RefusesWarriors s cells entrants (Settings Lengths) = LengthsDiffer cells entrants
 RefusesWarriors s cells entrants (OfParameters fault) = checked_parameters (parameters_in s) ≡ Err fault
 RefusesWarriors s cells entrants (Warrior index fault) = (p : Parameters) × (checked_parameters (parameters_in s) ≡ Ok p) × IsWrong p cells entrants index fault
 RefusesWarriors s cells entrants other = ⊥

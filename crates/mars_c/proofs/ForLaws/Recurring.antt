@@ -2,15 +2,15 @@
 use Rattle.std.proofs.Common.{◌≡◌, ◌≢◌, ◌<◌, ◌≤◌, ◌⊎◌, refl, ap, sym, subst, ◌∙◌, arith, ℕ, zero, suc, List, [], ◌∷◌, length, map, take, drop, None, Option, Some, Result, Ok, Err, inl, inr}
 use Rattle.std.specs.Prelude.{All, codes, slice_get, sum_by}
 use Rattle.std.proofs.lemmas.List.{length-map, length-take-le}
-use Rattle.std.proofs.lemmas.List.Elements.{All-head, All-tail}
-use Rattle.std.proofs.lemmas.Option.{same_Some}
+use Rattle.std.proofs.lemmas.List.Elements.{All-get_or, All-head, All-tail}
+use Rattle.std.proofs.lemmas.Option.{get_or_from_slice_get, same_Some, slice_get_within}
 use Rattle.mars_cell.specs.Cells.{FitsCore}
 use Rattle.mars_cell.specs.ParameterFaults.{checked_parameters}
 use Rattle.mars_cell.specs.Parameters.{Parameters}
 use Rattle.mars_cell.specs.Warriors.{WarriorValue}
 use Rattle.mars_cell.specs.declared.instruction.Cell.{Cell}
-use Rattle.mars_match.specs.Placement.{FitsTwo}
 use Rattle.mars_core.specs.Limits.{max_warriors}
+use Rattle.mars_match.specs.Placement.{FitsTwo}
 use Rattle.mars_match.specs.declared.fates.Fate.{Fate}
 use Rattle.mars_match.specs.declared.fault.MatchFault.{MatchFault}
 use Rattle.mars_match.specs.declared.setup.Setup.{Setup}
@@ -142,9 +142,7 @@ module _ (s : MarsSettings) (text : List ℕ) (cells : List MarsCell) (entrants 
 -- ---- Lineups
 
 all_at : {X : Type 0} (P : X → Type 0) (xs : List X) (i : ℕ) (x : X) → All P xs → slice_get xs i ≡ Some x → P x
-all_at P [] i x all at = absurd (let none : None ≡ Some x = at in cc)
-all_at P (y ∷ ys) zero x all at = subst P (same_Some y x at) (All-head P y ys all)
-all_at P (y ∷ ys) (suc i) x all at = all_at P ys i x (All-tail P y ys all) at
+all_at P xs i x all at = subst P (get_or_from_slice_get xs i x x at) (All-get_or P xs i x (slice_get_within xs i x at) all)
 
 right_lineup : (count : ℕ) (lineup : MarsLineup) (f : LineupFault) → IsLineup count lineup → IsNoLineup count lineup f → ⊥
 right_lineup count lineup lineup_fault.Count is broken = broken is.warriors
