@@ -15,6 +15,7 @@ import subprocess
 import sys
 from collections.abc import Callable, Iterator, Sequence
 from concurrent.futures import ThreadPoolExecutor
+from itertools import permutations
 from pathlib import Path
 from typing import Any
 
@@ -253,6 +254,20 @@ def test_populations() -> None:
             sums.append(corewar.Row(*map(sum, zip(*(vars(row).values() for row in rows)))))
         assert corewar.population(warriors[:3], warriors[3:7], rounds=5, seed=7, position=position) == sums
     assert corewar.population(warriors[:2], []) == [corewar.Row(0, 0, 0, 0)] * 2
+
+
+def test_sums_of_populations() -> None:
+    """Only the whole sum of a candidate has to fit in 64 bits, so the order of the opponents changes nothing."""
+    imp, dead = corewar.assemble("MOV 0, 1"), corewar.assemble("DAT 0, 0")
+    # Half of what does not fit: for a tie, and less than nothing for a win.
+    half = 2**62
+
+    def points(*opponents: corewar.Warrior) -> int:
+        return corewar.population([imp], opponents, formula=f"(2*S-3)*{half}")[0].points
+
+    assert {points(*opponents) for opponents in permutations([imp, imp, dead])} == {half}
+    with pytest.raises(corewar.MarsError, match="9 Range"):
+        points(imp, imp)
 
 
 MOVES = st.one_of(

@@ -87,7 +87,7 @@ from_one ws i a h e = drop_more ws i a h ∙ ap (λ x. x ∷ drop (i + 1) ws) (s
 -- After replacing the second warrior, the lineup has warrior `i` and the other one.
 pub lined_up : (ws before after : List WarriorValue) (i : ℕ) (a b : WarriorValue) → i < length ws → a ≡ get_or ws i a → take 1 before ≡ take 1 (drop i ws) → after ≡ take 1 before ++ b ∷ []
     → after ≡ a ∷ b ∷ []
-lined_up ws before after i a b h e first told = told ∙ rw (first, from_one ws i a h e) refl
+lined_up ws before after i a b h e first replaced = replaced ∙ rw (first, from_one ws i a h e) refl
 
 module _ (p : Parameters) (f : Scanned) (fixed : Option ℕ) (n seed : ℕ) where
   pub match_err : (ws : List WarriorValue) (i j : ℕ) (a b : WarriorValue) (ts : List Tally) (x : MatchFault) → i < length ws → j < length ws → a ≡ get_or ws i a → b ≡ get_or ws j b →

@@ -19,26 +19,35 @@ no_matches = record { points = pos 0; wins = 0; ties = 0; losses = 0 }
 abbrev pub plus : Sum → RowValue → Sum
 plus sum row = record { points = sum.points +ℤ row.points; wins = sum.wins + row.wins; ties = sum.ties + row.ties; losses = sum.losses + row.losses }
 
--- The numbers of the sum fit 64 bits.
+-- A sum with the candidate's row of a match added, which is the first of two.
+abbrev pub with_match : Sum → List RowValue → Sum
+with_match sum [] = sum
+with_match sum (row ∷ rows) = plus sum row
+
+-- The numbers of a sum fit 64 bits.
 abbrev pub fits : Sum → Bool
 fits sum = fits_in_64 sum.points && nat_lt sum.wins (2 ^ 64) && nat_lt sum.ties (2 ^ 64) && nat_lt sum.losses (2 ^ 64)
 
--- A sum with the first row of a match added, if the result fits 64 bits. The table of a match has two rows, and the
--- candidate's is the first one.
-abbrev pub with_match : Sum → List RowValue → Result Sum MatchFault
-with_match sum [] = Ok sum
-with_match sum (row ∷ rows) = if fits (plus sum row) then Ok (plus sum row) else Err (Score Range)
+-- A sum whose numbers fit 64 bits.
+abbrev pub checked_sum : Sum → Result Sum MatchFault
+checked_sum sum = if fits sum then Ok sum else Err (Score Range)
 
--- A sum with the results of a candidate's matches with the opponents added, one after another. Each match has `n` rounds
--- and begins with `seed`. The error is that of the first match that has one, or whose sum does not fit.
+-- A sum with the results of a candidate's matches with the opponents added, or the error of the first match that has
+-- one. Each match has `n` rounds and begins with `seed`.
 abbrev pub sum_from : Parameters → Scanned → Option ℕ → ℕ → ℕ → WarriorValue → Sum → List WarriorValue → Result Sum MatchFault
 sum_from p formula fixed n seed candidate sum [] = Ok sum
 sum_from p formula fixed n seed candidate sum (opponent ∷ opponents) =
-    table_of p (candidate ∷ opponent ∷ []) formula fixed n seed >>= with_match sum >>= λ more. sum_from p formula fixed n seed candidate more opponents
+    table_of p (candidate ∷ opponent ∷ []) formula fixed n seed >>= λ table.
+    sum_from p formula fixed n seed candidate (with_match sum table) opponents
+
+-- The sum of a candidate's matches with the opponents, or its error: that of the first match that has one, or that the
+-- whole sum does not fit 64 bits.
+abbrev pub candidate_sum : Parameters → Scanned → Option ℕ → ℕ → ℕ → List WarriorValue → WarriorValue → Result Sum MatchFault
+candidate_sum p formula fixed n seed opponents candidate = sum_from p formula fixed n seed candidate no_matches opponents >>= checked_sum
 
 -- The sums of the candidates, in order, or the error of the first candidate that has one.
 abbrev pub population_of : Parameters → Scanned → Option ℕ → ℕ → ℕ → List WarriorValue → List WarriorValue → Result (List Sum) MatchFault
 population_of p formula fixed n seed opponents [] = Ok []
 population_of p formula fixed n seed opponents (candidate ∷ candidates) =
-    sum_from p formula fixed n seed candidate no_matches opponents >>= λ sum.
+    candidate_sum p formula fixed n seed opponents candidate >>= λ sum.
     population_of p formula fixed n seed opponents candidates >>= λ sums. Ok (sum ∷ sums)

@@ -193,6 +193,7 @@ impl Matches {
             → IsResult (λ (both : Tally × Tally). row_with first both.0 ∷ row_with second both.1 ∷ [])
             (table_of setup.now.params (first ∷ second ∷ []) plan.formula plan.fixed plan.rounds plan.seed) result }
         ensures bounds { IfOk result (λ both. IsOf max_rounds both.0 × IsOf max_rounds both.1) }
+        ensures points { IfOk result (λ both. fits_in_64 both.0.points ≡ true) }
         ensures kept { IfOk result (λ _. IsKept setup.now (length lineup.now) self.new) }
     {
         let mut tallies = [no_rounds(), no_rounds()];

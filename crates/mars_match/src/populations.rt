@@ -1,11 +1,12 @@
 //! Populations, in which each candidate plays a match with each opponent.
-ghost use Rattle.std.specs.Prelude.{◌≡◌, IfOk, MatchOption, Vec, false, length, true, vec_len};
+ghost use Rattle.std.specs.Prelude.{◌≡◌, ◌+◌, ◌<◌, ◌^◌, IfOk, MatchOption, Vec, false, length, true, vec_len};
 ghost use Rattle.std.specs.Global.{Global};
 ghost use Rattle.mars_match.specs.CallResults.{IsResult};
 ghost use Rattle.mars_match.specs.Code.Keeping.{IsKept};
-ghost use Rattle.mars_match.specs.Code.Tallies.{IsOf, max_rounds, summed};
+ghost use Rattle.mars_match.specs.Code.Tallies.{IsOf, IsSumOf, max_rounds, summed};
 ghost use Rattle.mars_match.specs.Placement.{FitsTwo};
-ghost use Rattle.mars_match.specs.Populations.{fits, no_matches as spec_no_matches, population_of, sum_from};
+ghost use Rattle.mars_match.specs.Populations.{candidate_sum, fits, no_matches as spec_no_matches, population_of};
+ghost use Rattle.mars_match.specs.Rounds.{fits_in_64};
 ghost use Rattle.mars_match.specs.declared.table.Sum.{Sum as SumNumbers};
 
 use crate::fault::MatchFault;
@@ -16,12 +17,32 @@ use crate::table::{Sum, Tally};
 use mars_cell::Warrior;
 use redcode_text::ExprFault;
 use std::alloc::Global;
+use std::marker::Model;
 
-/// Returns the sum of no matches.
-fn no_matches() -> Sum
-    ensures { result ≡ spec_no_matches }
+/// The results of a candidate in the matches so far. The numbers have 128 bits, so that they stay exact for as many
+/// opponents as a slice has.
+#[derive(Drop)]
+struct Total {
+    points: i128,
+    wins: u128,
+    ties: u128,
+    losses: u128,
+}
+
+impl Model for Total {
+    ghost use Rattle.mars_match.specs.declared.table.Sum.{Sum};
+
+    ghost Value = { Sum };
+
+    ghost view = { λ t. record { points = t.points; wins = t.wins; ties = t.ties; losses = t.losses } };
+}
+
+/// Returns the total of no matches.
+fn no_matches() -> Total
+    ensures sum { result ≡ spec_no_matches }
+    ensures bounds { IsSumOf 0 result }
 {
-    Sum {
+    Total {
         points: 0,
         wins: 0,
         ties: 0,
@@ -29,19 +50,32 @@ fn no_matches() -> Sum
     }
 }
 
-/// Adds the tally of a match to a sum, or returns `None` if the result doesn't fit 64 bits.
-fn added(sum: Sum, tally: Tally) -> Option<Sum>
-    requires { IsOf max_rounds tally }
-    ensures { MatchOption result (fits (summed sum tally) ≡ false) (λ more. (fits (summed sum tally) ≡ true) × (more ≡ summed sum tally)) }
+/// Adds the tally of a match to the total of the `matches` matches before it.
+fn added(total: Total, matches: usize, tally: Tally) -> Total
+    requires before { IsSumOf matches total }
+    requires few { matches + 1 < 2 ^ 64 }
+    requires rounds { IsOf max_rounds tally }
+    requires points { fits_in_64 tally.points ≡ true }
+    ensures sum { result ≡ summed total tally }
+    ensures bounds { IsSumOf (matches + 1) result }
 {
-    let Some(points) = fitting(i128::from(sum.points) + tally.points) else {
-        return None;
-    };
+    Total {
+        points: total.points + tally.points,
+        wins: total.wins + u128::from(tally.wins),
+        ties: total.ties + u128::from(tally.ties),
+        losses: total.losses + u128::from(tally.losses),
+    }
+}
+
+/// Returns the sum of all matches, if its numbers fit 64 bits.
+fn fitting_sum(total: Total) -> Option<Sum>
+    ensures { MatchOption result (fits total ≡ false) (λ sum. (fits total ≡ true) × (sum ≡ total)) }
+{
     Some(Sum {
-        points,
-        wins: sum.wins.checked_add(tally.wins)?,
-        ties: sum.ties.checked_add(tally.ties)?,
-        losses: sum.losses.checked_add(tally.losses)?,
+        points: fitting(total.points)?,
+        wins: u64::try_from(total.wins).ok()?,
+        ties: u64::try_from(total.ties).ok()?,
+        losses: u64::try_from(total.losses).ok()?,
     })
 }
 
@@ -55,20 +89,20 @@ impl Matches {
     ) -> Result<Sum, MatchFault>
         requires kept { IsKept setup.now 2 self.old }
         ensures sum { let plan = setup.now.plan in IsResult (λ (sum : SumNumbers). sum)
-            (sum_from setup.now.params plan.formula plan.fixed plan.rounds plan.seed candidate.now spec_no_matches opponents.now) result }
+            (candidate_sum setup.now.params plan.formula plan.fixed plan.rounds plan.seed opponents.now candidate.now) result }
         ensures kept { IfOk result (λ _. IsKept setup.now 2 self.new) }
     {
         let mut lineup = Lineup::twice(self.alloc, candidate)?;
-        let mut sum = no_matches();
-        for opponent in opponents {
+        let mut total = no_matches();
+        for (i, opponent) in opponents.iter().enumerate() {
             lineup.replace_second(opponent)?;
             let (own, _others) = self.play_pair(setup, &lineup)?;
-            let Some(more) = added(sum, own) else {
-                return Err(MatchFault::Score(ExprFault::Range));
-            };
-            sum = more;
+            total = added(total, i, own);
         }
-        Ok(sum)
+        match fitting_sum(total) {
+            Some(sum) => Ok(sum),
+            None => Err(MatchFault::Score(ExprFault::Range)),
+        }
     }
 }
 
@@ -79,8 +113,8 @@ impl Matches {
 ///
 /// # Errors
 ///
-/// Returns the first error of a match, or an error if a sum doesn't fit 64 bits, candidate by candidate. `OutOfMemory` is
-/// returned if an allocation fails.
+/// Returns the error of the first candidate that has one: the first error of its matches, or an error if its whole sum
+/// doesn't fit 64 bits. `OutOfMemory` is returned if an allocation fails.
 pub fn population(
     alloc: Global,
     setup: &Setup,

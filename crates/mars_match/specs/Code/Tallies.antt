@@ -78,3 +78,11 @@ rows_with (w ∷ warriors) (t ∷ tallies) = row_with w t ∷ rows_with warriors
 -- The sum of a candidate, with the tally of one more match added.
 abbrev pub summed : Sum → Tally → Sum
 summed sum t = record { points = sum.points +ℤ t.points; wins = sum.wins + t.wins; ties = sum.ties + t.ties; losses = sum.losses + t.losses }
+
+-- The sum is one of at most `k` matches, the points of each of which fit 64 bits.
+pub record IsSumOf (k : ℕ) (sum : Sum) : Type 0 where
+  pub low : neg_ℤ (pos (k * 2 ^ 63)) ≤ℤ sum.points
+  pub high : sum.points ≤ℤ pos (k * 2 ^ 63)
+  pub wins : sum.wins ≤ k * max_rounds
+  pub ties : sum.ties ≤ k * max_rounds
+  pub losses : sum.losses ≤ k * max_rounds

@@ -40,11 +40,17 @@ candidates_are_summed = refl
 
 -- The first candidate loses to the first opponent, and its match with the second opponent has an error. So has the match
 -- of the second candidate with the first opponent, in which both survive, but that match comes later.
-pub first_match_is_told : sums_by (codes "1/(S-2)") (stay ∷ too_far ∷ []) (dead ∷ stay ∷ []) ≡ Err (fault.Battle FieldOutside)
+pub first_match_is_reported : sums_by (codes "1/(S-2)") (stay ∷ too_far ∷ []) (dead ∷ stay ∷ []) ≡ Err (fault.Battle FieldOutside)
 unfolding table_of starts_of drawn next_seed survivors_of_round end_of start_state overlap scanned value_of tree_within turn_of executed accepted execution_of effect_of evaluated direct_operand address_after fold advanced ends
-first_match_is_told = refl
+first_match_is_reported = refl
 
--- Each row fits 64 bits, but the sum of two rows does not.
+-- Each row fits 64 bits, but the sum of both rows does not.
 pub sums_are_judged : sums_by (codes "4611686018427387904") (stay ∷ stay ∷ []) (stay ∷ []) ≡ Err (fault.Score Range)
 unfolding table_of starts_of drawn next_seed survivors_of_round end_of start_state overlap scanned value_of tree_within turn_of executed accepted execution_of effect_of evaluated direct_operand address_after fold advanced ends
 sums_are_judged = refl
+
+-- The sum of the first two rows does not fit 64 bits, but that of all three does.
+pub only_whole_sums_are_judged : sums_by (codes "4611686018427387904*(3-2*S)") (dead ∷ dead ∷ stay ∷ []) (stay ∷ [])
+    ≡ Ok (record { points = pos 4611686018427387904; wins = 2; ties = 1; losses = 0 } ∷ [])
+unfolding table_of starts_of drawn next_seed survivors_of_round end_of start_state overlap scanned value_of tree_within turn_of executed accepted execution_of effect_of evaluated direct_operand address_after fold advanced ends
+only_whole_sums_are_judged = refl
