@@ -48,8 +48,8 @@ formula_fails f e defined checks is = subst (λ (g : FormulaFault). Checks (Err 
 module _ (words : List (List ℕ)) (known : List ℕ → Option (List ℕ)) (old : StreamsValue) where
   pub options_refused : (o : Options) (f : RunFault) → IsRefused (value_of o) f → Ask words (value_of o) → RunFails words known old old f
   options_refused o f (inl memory) said = starved memory (Keeps-refl old.unread, Keeps-refl old.written)
-  options_refused o f (inr (inl (e, is, told))) said = not_allowed (value_of o) said e is told (Keeps-refl old.unread, Keeps-refl old.written)
-  options_refused o f (inr (inr (p, allowed, e, is, told))) said = not_scored (value_of o) said p allowed e is told (Keeps-refl old.unread, Keeps-refl old.written)
+  options_refused o f (inr (inl (e, is, held))) said = not_allowed (value_of o) said e is held (Keeps-refl old.unread, Keeps-refl old.written)
+  options_refused o f (inr (inr (p, allowed, e, is, held))) said = not_scored (value_of o) said p allowed e is held (Keeps-refl old.unread, Keeps-refl old.written)
 
 -- ---- What is done with the options, whatever the arguments were that said so
 

@@ -68,29 +68,29 @@ pub settings_are_parameters : parameters_in (record { core = 8000; processes = 6
 settings_are_parameters = refl
 
 -- The caller gets the number of the wrong line of a load file, here 3.
-pub load_file_is_told : fault_of (Load (Syntax 3)) ≡ record { code = 6; number = 1; problem = 0; expression = 0; line = 3; warrior = 0 }
-load_file_is_told = refl
+pub load_file_is_reported : fault_of (Load (Syntax 3)) ≡ record { code = 6; number = 1; problem = 0; expression = 0; line = 3; warrior = 0 }
+load_file_is_reported = refl
 
 -- Cell 4 of the second warrior has a number outside the core; the third warrior has a wrong start.
-pub warriors_are_told : (fault_of (Warrior 1 (entrant.Field 4)) ≡ record { code = 13; number = 4; problem = 0; expression = 0; line = 4; warrior = 1 })
+pub warriors_are_reported : (fault_of (Warrior 1 (entrant.Field 4)) ≡ record { code = 13; number = 4; problem = 0; expression = 0; line = 4; warrior = 1 })
     × (fault_of (Warrior 2 entrant.Start) ≡ record { code = 13; number = 2; problem = 0; expression = 0; line = 0; warrior = 2 })
-warriors_are_told = (refl, refl)
+warriors_are_reported = (refl, refl)
 
 -- The third lineup has an index that no warrior has.
-pub lineup_is_told : fault_of (Lineup 2 lineup.Index) ≡ record { code = 14; number = 2; problem = 0; expression = 0; line = 0; warrior = 2 }
-lineup_is_told = refl
+pub lineup_is_reported : fault_of (Lineup 2 lineup.Index) ≡ record { code = 14; number = 2; problem = 0; expression = 0; line = 0; warrior = 2 }
+lineup_is_reported = refl
 
 -- The debugger's history is setting number 6.
-pub history_is_told : block_fault_of blocks.History ≡ numbered 2 6
-history_is_told = refl
+pub history_is_reported : block_fault_of blocks.History ≡ numbered 2 6
+history_is_reported = refl
 
 -- The count of a loop in line 2 divides by zero.
-pub source_is_told : fault_of (Assembly (record { line = 2; problem = Text (Expression DivideByZero) })) ≡ record { code = 5; number = 1; problem = 10; expression = 3; line = 2; warrior = 0 }
-source_is_told = refl
+pub source_is_reported : fault_of (Assembly (record { line = 2; problem = Text (Expression DivideByZero) })) ≡ record { code = 5; number = 1; problem = 10; expression = 3; line = 2; warrior = 0 }
+source_is_reported = refl
 
 -- A number in an operand of line 4 exceeds 32 bits.
-pub operand_is_told : fault_of (Assembly (record { line = 4; problem = assembly.Expression Range })) ≡ record { code = 5; number = 4; problem = 0; expression = 4; line = 4; warrior = 0 }
-operand_is_told = refl
+pub operand_is_reported : fault_of (Assembly (record { line = 4; problem = assembly.Expression Range })) ≡ record { code = 5; number = 4; problem = 0; expression = 4; line = 4; warrior = 0 }
+operand_is_reported = refl
 
 -- The cell at address 7, the queue of warrior 2 and the minimum distance are wrong in a block.
 pub blocks_are_reported : (block_fault_of (blocks.Block (block.Cell 7)) ≡ record { code = 11; number = 5; problem = 0; expression = 0; line = 7; warrior = 0 })
@@ -137,9 +137,9 @@ unfolding the_machine touched
 touched_by_a_move = refl
 
 -- The first of two warriors has its turn, and then the second is next.
-pub next_is_told : (turn_row (battle_of of_eight (eight (imp ∷ [])) ((0 ∷ []) ∷ (4 ∷ []) ∷ []))).next ≡ 1
+pub next_is_reported : (turn_row (battle_of of_eight (eight (imp ∷ [])) ((0 ∷ []) ∷ (4 ∷ []) ∷ []))).next ≡ 1
 unfolding the_machine
-next_is_told = refl
+next_is_reported = refl
 
 -- A split writes nothing and queues two processes.
 pub row_of_a_split : turn_row (lone of_eight (eight (cell_of Spl B Direct 5 Immediate 0 ∷ [])) (0 ∷ 3 ∷ [])) ≡ record {
@@ -313,8 +313,8 @@ name_has_64_bytes = refl
 pub name_is_padded : named (plain_name (codes "Imp")) ≡ codes "Imp"
 name_is_padded = refl
 
-pub program_is_told : (plain_program (record { name = codes "Imp"; author = []; cells = imp ∷ imp ∷ []; start = 1 })).warrior ≡ of_length 2 1
-program_is_told = refl
+pub program_is_reported : (plain_program (record { name = codes "Imp"; author = []; cells = imp ∷ imp ∷ []; start = 1 })).warrior ≡ of_length 2 1
+program_is_reported = refl
 
 -- Every kind of failed allocation in a match is the same refusal, `OutOfMemory`.
 pub fights_are_refused : (fight_refusal (fight.Place NoRoom) ≡ Placement NoRoom) × (fight_refusal (fight.Battle FieldOutside) ≡ Battle FieldOutside)

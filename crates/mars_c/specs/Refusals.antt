@@ -71,8 +71,8 @@ RefusesWriting s cells program (Warrior index fault) = (p : Parameters) × (chec
 RefusesWriting s cells program other = ⊥
 
 -- The error is that of a refusal for which `Refuses` holds.
-abbrev pub Tells : (CallRefusal → Type 0) → MarsFault → Type 0
-Tells Refuses fault = (refusal : CallRefusal) × (fault ≡ fault_of refusal) × Refuses refusal
+abbrev pub HasCause : (CallRefusal → Type 0) → MarsFault → Type 0
+HasCause Refuses fault = (refusal : CallRefusal) × (fault ≡ fault_of refusal) × Refuses refusal
 
 -- The warrior at this index is the first wrong one, with this error, which is not `OutOfMemory`: the cells of those before it are
 -- read.

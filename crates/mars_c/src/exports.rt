@@ -6,7 +6,7 @@ ghost use Rattle.mars_c.specs.Cells.{plain_cell};
 ghost use Rattle.mars_c.specs.Contests.{HoldsLeague, HoldsMatch, HoldsSums};
 ghost use Rattle.mars_c.specs.Outcomes.{HoldsOutcomes, RefusesOutcomes};
 ghost use Rattle.mars_c.specs.Programs.{AreLines, BeginsWith, HoldsProgram, HoldsText, IsAssembled, IsLoadFile, IsLoaded, Overflows, OverflowsProgram, OverflowsText};
-ghost use Rattle.mars_c.specs.Refusals.{RefusesLeague, RefusesLoad, RefusesMatch, RefusesPopulation, RefusesSource, RefusesWriting, Tells};
+ghost use Rattle.mars_c.specs.Refusals.{HasCause, RefusesLeague, RefusesLoad, RefusesMatch, RefusesPopulation, RefusesSource, RefusesWriting};
 
 mod blocks;
 
@@ -86,7 +86,7 @@ pub extern "C" fn mars_assemble(
 ) -> u32
     ensures code { result ≡ fault.new.code }
     ensures done { result ≡ 0 → HoldsProgram (IsAssembled settings.now warriors source.now) program.new cells.old cells.new }
-    ensures refused { result ≢ 0 → result ≢ 10 → Tells (RefusesSource settings.now warriors source.now) fault.new }
+    ensures refused { result ≢ 0 → result ≢ 10 → HasCause (RefusesSource settings.now warriors source.now) fault.new }
     ensures room { result ≡ 10 → OverflowsProgram (IsAssembled settings.now warriors source.now) program.new cells.old }
     ensures kept { result ≢ 0 → cells.new ≡ cells.old }
     ensures unread { result ≢ 0 → result ≢ 10 → program.new ≡ program.old }
@@ -110,7 +110,7 @@ pub extern "C" fn mars_lines(
 ) -> u32
     ensures code { result ≡ fault.new.code }
     ensures done { result ≡ 0 → HoldsText (AreLines settings.now warriors source.now) length.new buffer.old buffer.new }
-    ensures refused { result ≢ 0 → result ≢ 10 → Tells (RefusesSource settings.now warriors source.now) fault.new }
+    ensures refused { result ≢ 0 → result ≢ 10 → HasCause (RefusesSource settings.now warriors source.now) fault.new }
     ensures room { result ≡ 10 → OverflowsText (AreLines settings.now warriors source.now) length.new buffer.old }
     ensures kept { result ≢ 0 → buffer.new ≡ buffer.old }
 {
@@ -132,7 +132,7 @@ pub extern "C" fn mars_read_load(
 ) -> u32
     ensures code { result ≡ fault.new.code }
     ensures done { result ≡ 0 → HoldsProgram (IsLoaded settings.now load.now) program.new cells.old cells.new }
-    ensures refused { result ≢ 0 → result ≢ 10 → Tells (RefusesLoad settings.now load.now) fault.new }
+    ensures refused { result ≢ 0 → result ≢ 10 → HasCause (RefusesLoad settings.now load.now) fault.new }
     ensures room { result ≡ 10 → OverflowsProgram (IsLoaded settings.now load.now) program.new cells.old }
     ensures kept { result ≢ 0 → cells.new ≡ cells.old }
     ensures unread { result ≢ 0 → result ≢ 10 → program.new ≡ program.old }
@@ -156,7 +156,7 @@ pub extern "C" fn mars_write_load(
 ) -> u32
     ensures code { result ≡ fault.new.code }
     ensures done { result ≡ 0 → HoldsText (IsLoadFile settings.now cells.now program.now) length.new buffer.old buffer.new }
-    ensures refused { result ≢ 0 → result ≢ 10 → Tells (RefusesWriting settings.now cells.now program.now) fault.new }
+    ensures refused { result ≢ 0 → result ≢ 10 → HasCause (RefusesWriting settings.now cells.now program.now) fault.new }
     ensures room { result ≡ 10 → OverflowsText (IsLoadFile settings.now cells.now program.now) length.new buffer.old }
     ensures kept { result ≢ 0 → buffer.new ≡ buffer.old }
 {
@@ -178,7 +178,7 @@ pub extern "C" fn mars_match(
     fault: &mut MarsFault,
 ) -> u32
     ensures code { result ≡ fault.new.code }
-    ensures refused { result ≢ 0 → Tells (RefusesMatch settings.now formula.now cells.now warriors.now (length rows.old)) fault.new }
+    ensures refused { result ≢ 0 → HasCause (RefusesMatch settings.now formula.now cells.now warriors.now (length rows.old)) fault.new }
     ensures done { result ≡ 0 → HoldsMatch settings.now formula.now cells.now warriors.now rows.new }
     ensures kept { result ≢ 0 → rows.new ≡ rows.old }
 {
@@ -200,7 +200,7 @@ pub extern "C" fn mars_league(
     fault: &mut MarsFault,
 ) -> u32
     ensures code { result ≡ fault.new.code }
-    ensures refused { result ≢ 0 → Tells (RefusesLeague settings.now formula.now cells.now warriors.now (length rows.old)) fault.new }
+    ensures refused { result ≢ 0 → HasCause (RefusesLeague settings.now formula.now cells.now warriors.now (length rows.old)) fault.new }
     ensures done { result ≡ 0 → HoldsLeague settings.now formula.now cells.now warriors.now rows.new }
     ensures kept { result ≢ 0 → rows.new ≡ rows.old }
 {
@@ -224,7 +224,7 @@ pub extern "C" fn mars_population(
     fault: &mut MarsFault,
 ) -> u32
     ensures code { result ≡ fault.new.code }
-    ensures refused { result ≢ 0 → Tells (RefusesPopulation settings.now formula.now cells.now warriors.now (length rows.old)) fault.new }
+    ensures refused { result ≢ 0 → HasCause (RefusesPopulation settings.now formula.now cells.now warriors.now (length rows.old)) fault.new }
     ensures done { result ≡ 0 → HoldsSums settings.now formula.now cells.now warriors.now rows.new }
     ensures kept { result ≢ 0 → rows.new ≡ rows.old }
 {
@@ -246,7 +246,7 @@ pub extern "C" fn mars_outcomes(
     fault: &mut MarsFault,
 ) -> u32
     ensures code { result ≡ fault.new.code }
-    ensures refused { result ≢ 0 → Tells (RefusesOutcomes settings.now cells.now warriors.now lineups.now (length outcomes.old)) fault.new }
+    ensures refused { result ≢ 0 → HasCause (RefusesOutcomes settings.now cells.now warriors.now lineups.now (length outcomes.old)) fault.new }
     ensures done { result ≡ 0 → HoldsOutcomes settings.now cells.now warriors.now lineups.now outcomes.new }
     ensures kept { result ≢ 0 → outcomes.new ≡ outcomes.old }
 {

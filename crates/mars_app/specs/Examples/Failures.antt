@@ -49,7 +49,7 @@ pub a_match_without_a_result : (e : MatchFault) (f : RunFault) (new : List ℕ) 
 a_match_without_a_result e f new output memory (inl (inl cut)) = absurd (output cut.0)
 a_match_without_a_result e f new output memory (inl (inr starved)) = absurd (memory starved.0)
 a_match_without_a_result e f new output memory (inr (inl (other, same, is, listed))) = (is ∙ ap fault_of (one_error same), listed)
-a_match_without_a_result e f new output memory (inr (inr (rows, same, told, cut))) =
+a_match_without_a_result e f new output memory (inr (inr (rows, same, held, cut))) =
     let both : ◌≡◌ {A = Result (List RowValue) MatchFault} (Err e) (Ok rows) = same in absurd cc
 
 -- A round that cannot start has its own error, too.

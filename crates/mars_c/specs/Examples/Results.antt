@@ -35,7 +35,7 @@ use Rattle.mars_c.specs.Examples.{nano}
 use Rattle.mars_c.specs.Examples.Wrong.{no_mark, no_round_3}
 use Rattle.mars_c.specs.Outcomes.{AreChosen, FailsLineup, IsLineup, IsNoLineup, IsWrongLineup, RefusesLineup, indices_of}
 use Rattle.mars_c.specs.Programs.{AreLines, BeginsWith, HoldsProgram, HoldsText, IsAssembled, IsLoadFile, IsLoaded, OverflowsProgram, OverflowsText}
-use Rattle.mars_c.specs.Refusals.{AreWarriors, Fails, IsOutOfRange, RefusesLoad, RefusesSource, RefusesWriting, Tells, fight_refusal}
+use Rattle.mars_c.specs.Refusals.{AreWarriors, Fails, HasCause, IsOutOfRange, RefusesLoad, RefusesSource, RefusesWriting, fight_refusal}
 use Rattle.mars_c.specs.Settings.{parameters_in}
 use Rattle.mars_c.specs.declared.cells.MarsCell.{MarsCell}
 use Rattle.mars_c.specs.declared.edits.MarsEdit.{MarsEdit}
@@ -56,10 +56,10 @@ use Rattle.mars_c.specs.declared.warriors.MarsWarrior.{MarsWarrior}
 -- ---- Errors
 
 -- The error that is reported is that of the refusal, and the refusal holds.
-pub what_is_told : (f : MarsFault)
-    → (Tells (λ r. r ≡ call.OutOfMemory) f → f ≡ fault_of call.OutOfMemory)
+pub what_is_reported : (f : MarsFault)
+    → (HasCause (λ r. r ≡ call.OutOfMemory) f → f ≡ fault_of call.OutOfMemory)
     × (Reports (λ r. r ≡ refused.OutOfMemory) f → f ≡ block_fault_of refused.OutOfMemory)
-what_is_told f = (λ t. t.1 ∙ ap fault_of t.2, λ t. t.1 ∙ ap block_fault_of t.2)
+what_is_reported f = (λ t. t.1 ∙ ap fault_of t.2, λ t. t.1 ∙ ap block_fault_of t.2)
 
 -- A number in its range is no error, and one out of its range has no other error.
 pub ranges : (IsOutOfRange Rows ⊤ (call.Settings Rows) → ⊥) × (IsOutOfRange Rows ⊥ call.OutOfMemory → ⊥)
@@ -68,10 +68,10 @@ ranges = (λ o. o.1 tt, λ o. let e : ◌≡◌ {A = CallRefusal} call.OutOfMemo
 -- A match that fails is refused with its own error.
 pub the_error_of_a_match : (s : MarsSettings) (text : List ℕ) (cells : List MarsCell) (entrants : List MarsWarrior) (refusal : CallRefusal)
     → Fails {X = ℕ} s text cells entrants (λ a ws. Err fight.OutOfMemory) refusal → refusal ≡ call.OutOfMemory
-the_error_of_a_match s text cells entrants refusal (a, ws, fault, made, are, is, told) =
+the_error_of_a_match s text cells entrants refusal (a, ws, fault, made, are, is, held) =
     let fails : ◌≡◌ {A = Result ℕ MatchFault} (Err fight.OutOfMemory) (Err fault) = is in
     let same : fight.OutOfMemory ≡ fault = cc in
-    told ∙ sym (ap fight_refusal same)
+    held ∙ sym (ap fight_refusal same)
 
 -- ---- Sources and load files
 

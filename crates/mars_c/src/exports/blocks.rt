@@ -9,7 +9,7 @@ ghost use Rattle.mars_c.specs.Blocks.{HoldsEdited, HoldsStart, IsPlayable, IsWri
 ghost use Rattle.mars_c.specs.Debugging.{Debugs, RefusesDebugging};
 ghost use Rattle.mars_c.specs.Programs.{HoldsText, OverflowsText};
 ghost use Rattle.mars_c.specs.Records.{turn_row};
-ghost use Rattle.mars_c.specs.Refusals.{AreWarriors, Tells};
+ghost use Rattle.mars_c.specs.Refusals.{AreWarriors, HasCause};
 ghost use Rattle.mars_c.specs.Settings.{parameters_in};
 ghost use Rattle.mars_c.specs.Touches.{touched_row};
 
@@ -49,7 +49,7 @@ pub extern "C" fn mars_start(
     fault: &mut MarsFault,
 ) -> u32
     ensures code { result ≡ fault.new.code }
-    ensures refused { result ≢ 0 → result ≢ 10 → Tells (RefusesStart settings.now cells.now warriors.now round) fault.new }
+    ensures refused { result ≢ 0 → result ≢ 10 → HasCause (RefusesStart settings.now cells.now warriors.now round) fault.new }
     ensures done { result ≡ 0 → HoldsStart settings.now cells.now warriors.now round battle.old battle.new }
     ensures room { result ≡ 10 → OverflowsStart settings.now cells.now warriors.now round battle.old }
     ensures kept { result ≢ 0 → battle.new ≡ battle.old }
