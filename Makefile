@@ -88,7 +88,7 @@ install: $(PROGRAM) $(LIBRARY) $(SITE) man completion editors
 	install -D -m 644 build/completion/corewar.bash $(bash)/corewar
 	install -D -m 644 -t $(zsh) packaging/completion/_mars build/completion/_corewar
 	set -e; for file in $$(find build/share -type f -printf '%P\n'); do install -D -m 644 build/share/$$file $(to)/share/$$file; done
-	$(call copy,.,$(documents),--exclude=mars.1 README.md CHANGELOG.md docs examples)
+	$(call copy,.,$(documents),--exclude=mars.1 README.md CONTRIBUTING.md CHANGELOG.md docs examples)
 
 uninstall:
 	rm -f $(to)/bin/mars $(to)/bin/corewar $(to)/lib/libmars.so $(to)/lib/libmars.so.2 $(to)/lib/libmars.a

@@ -101,7 +101,7 @@ enum {
     MARS_EXPRESSION_SYNTAX = 1,
     MARS_EXPRESSION_UNKNOWN, /* a name that is not defined */
     MARS_EXPRESSION_DIVIDE_BY_ZERO,
-    MARS_EXPRESSION_RANGE,   /* a number does not fit in 64 bits, or in 32 bits in a source */
+    MARS_EXPRESSION_RANGE,   /* a value does not fit in 64 bits */
     MARS_EXPRESSION_DEPTH
 };
 enum {

@@ -14,7 +14,7 @@ from ..model.printing import printable
 from .history import BY_HAND, History
 from .origins import Origins
 
-# Copies are traced, which takes about a second and 50 MB for this number of turns. After it only a cell
+# Copies are traced, which takes some 3 seconds and 50 MB for this number of turns. After it only a cell
 # that has not changed since it was loaded has a line.
 MAX_TRACED_TURNS = 1_000_000
 
