@@ -430,7 +430,7 @@ uint32_t mars_edit(uint32_t *battle, size_t words, const MarsEdit *edit, MarsFau
 uint32_t mars_check(const uint32_t *battle, size_t words, MarsFault *fault);
 
 /* Debugs a battle, which stays as it is: `lines` has the debugger's commands, and the buffer gets its replies. `history` is the size of
- * the history in places, 1 to 1000000; 160 bytes for each place are allocated at once, and touched as turns are executed. *length is the
+ * the history in places, 1 to 1000000; 144 bytes for each place are allocated at once, and touched as turns are executed. *length is the
  * length of the replies, also if the call returns MARS_ROOM. Returns MARS_SETTINGS if `history` is out of its range, then MARS_BLOCK. */
 uint32_t mars_debug(const uint32_t *battle, size_t words, uint32_t history, const uint8_t *lines, size_t lines_length,
                     uint8_t *buffer, size_t buffer_length, size_t *length, MarsFault *fault);
