@@ -83,11 +83,16 @@ def assemble(
     - `file`: the name that the warrior has if its source gives none
 
     Raises `MarsError` with the line of an error in the source, or if the settings are invalid or memory runs out. There
-    is no limit of time and memory: use `Assembler` of `corewar.engine.sources` for the sources of strangers.
+    is no limit of time and memory: use an `Assembler` for the sources of strangers.
     """
-    data = source.encode() if isinstance(source, str) else source
+    data = encode_source(source)
     result = program("mars_assemble", settings, rounds, [clamp(warriors)], data)
     return replace(result, file=os.fspath(file), source=data)
+
+
+def encode_source(source: str | bytes) -> bytes:
+    """Returns the bytes of a source; those that are not UTF-8 may be in a text as `surrogateescape` decodes them."""
+    return source.encode(errors="surrogateescape") if isinstance(source, str) else bytes(memoryview(source))
 
 
 def source_lines(
@@ -189,6 +194,6 @@ def rows(
 ) -> list[Row]:
     """Returns the rows of a call, whose numbers are rounds, seed and position."""
     given, result = settings_of(settings), array("MarsRow", count)
-    words = settings_struct(given, *numbers), *slice_of("uint8_t", formula.encode())
+    words = settings_struct(given, *numbers), *slice_of("uint8_t", encode_source(formula))
     call(name, *words, *warrior_arrays(warriors, given.core), *slice_of("MarsRow", result))
     return [Row(*row) for row in result.tolist()]
