@@ -55,9 +55,9 @@ def open_library() -> tuple[Any, Any]:
     ffi, source = types()
     try:
         calls: Any = ffi.dlopen(shared)
-    except OSError as fault:
+        given, wanted = calls.mars_version(), calls.MARS_VERSION
+    except (OSError, AttributeError) as fault:
         raise NoLibrary(f"{shared}: {fault}") from None
-    given, wanted = calls.mars_version(), calls.MARS_VERSION
     if given // 1000 != wanted // 1000 or given < wanted:
         raise NoLibrary(f"{shared} has version {given}, but {source} has {wanted}; rebuild it with scripts/library")
     return ffi, calls
