@@ -139,6 +139,11 @@ def test_an_assembler_is_as_the_call() -> None:
         for source in sources:
             found = [result_of(call, source, **words) for call in (corewar.assemble, assembler.assemble)]
             assert found[0] == found[1], source
+        for name in ("rounds", "warriors"):
+            for value in (-1, 2**32):
+                for call in (corewar.assemble, assembler.assemble):
+                    found = result_of(call, "DAT ROUNDS, WARRIORS", **{name: value})
+                    assert found == (CorewarError, f"expected a number from 0 to 4294967295, not {value}")
         with pytest.raises(ValueError, match="expected settings or one of"):
             assembler.assemble("MOV 0, 1", settings="micro")
     for limit in ((0, 1000), (10, -1)):
@@ -150,7 +155,7 @@ def result_of(call: Any, *given: Any, **words: Any) -> Any:
     """Returns the result of a call, or the kind and the text of its error."""
     try:
         return call(*given, **words)
-    except (MarsError, TypeError) as error:
+    except (CorewarError, TypeError) as error:
         return type(error), str(error)
 
 

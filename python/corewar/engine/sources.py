@@ -91,7 +91,7 @@ class Assembler:
             except (EOFError, OSError):
                 raise self._overrun() from None
         if isinstance(result, Warrior):
-            return replace(result, file=os.fspath(file), source=data)
+            return replace(result, file=os.fsdecode(file), source=data)
         if isinstance(result, MarsError) and result.code == MEMORY:
             raise Overrun(f"assembling takes more than {self.limit.megabytes} MB of memory")
         raise result
@@ -160,7 +160,7 @@ def assemble_or_error(source: bytes, given: dict[str, Any]) -> Warrior | Excepti
     """Returns the warrior of a source, without it, or its error."""
     try:
         return replace(assemble(source, **given), source=None)
-    except (MarsError, TypeError) as fault:
+    except (CorewarError, TypeError) as fault:
         return fault
     except MemoryError:
         return MarsError(MEMORY)
@@ -237,4 +237,4 @@ def read(
     Raises `FileError` if the file cannot be read or has an error, and `MarsError` if the settings are invalid. There is
     no limit of time and memory.
     """
-    return read_warrior(assemble, os.fspath(path), settings_of(settings), rounds, warriors)
+    return read_warrior(assemble, os.fsdecode(path), settings_of(settings), rounds, warriors)
