@@ -9,12 +9,16 @@ round. The table has the greatest mean reward of each behaviour. It requires the
 """
 from __future__ import annotations
 
+import argparse
 import os
 import random
 import sys
 
 sys.path.insert(0, os.path.join(os.path.dirname(os.path.realpath(__file__)), "..", "python"))
-import corewar  # noqa: E402
+try:
+    import corewar
+except ImportError as fault:
+    sys.exit(f"elites: {fault}; install the dependencies of corewar with scripts/setup")
 
 NANO, SIZE, ROUNDS = corewar.HILLS["nano"], 100, 20
 OPPONENTS = [
@@ -34,8 +38,20 @@ def child(dice: random.Random, parent: corewar.Warrior) -> corewar.Warrior:
     return corewar.Warrior.from_cells(cells, settings=NANO)
 
 
-def main(generations: int) -> None:
-    dice = random.Random(1)
+def given() -> int:
+    """Returns the number of generations of the arguments."""
+    parser = argparse.ArgumentParser(
+        description=__doc__, formatter_class=argparse.RawDescriptionHelpFormatter, usage=argparse.SUPPRESS
+    )
+    parser.add_argument("generations", nargs="?", type=int, default=100, help=argparse.SUPPRESS)
+    generations: int = parser.parse_args().generations
+    if generations < 1:
+        parser.error("expected 1 or more generations")
+    return generations
+
+
+def main() -> None:
+    generations, dice = given(), random.Random(1)
     elites: dict[tuple[int, int], tuple[float, corewar.Warrior]] = {}
     warriors = [corewar.Warrior.from_cells([cell(dice) for _ in range(5)], settings=NANO) for _ in range(SIZE)]
     lineups = [[place, SIZE, SIZE + 1, SIZE + 2] for place in range(SIZE)]
@@ -56,4 +72,9 @@ def main(generations: int) -> None:
         print(f"{1 << power >> 1:>7}" + f"{'':9}" + "".join(f"{one[0]:6.2f}" if one else "     -" for one in best))
 
 
-main(int(sys.argv[1]) if len(sys.argv) > 1 else 100)
+try:
+    main()
+except (OSError, corewar.CorewarError) as fault:
+    sys.exit(f"elites: {fault}")
+except KeyboardInterrupt:
+    sys.exit("elites: stopped")

@@ -9,6 +9,7 @@ a generation.
 """
 from __future__ import annotations
 
+import argparse
 import os
 import random
 import sys
@@ -88,21 +89,19 @@ def measure(cells: list[Cell], opponents: list[corewar.Warrior]) -> float:
     return row.points / (2000 * len(opponents))
 
 
-def given() -> tuple[int, int]:
-    """Returns the seconds and the seed of the arguments."""
-    words = sys.argv[1:]
-    if {"-h", "--help"} & set(words):
-        sys.exit(print(__doc__.strip()))
-    if len(words) > 2 or not all(word.isdigit() for word in words):
-        print("usage: examples/evolver.py [SECONDS [SEED]]", file=sys.stderr)
-        sys.exit(2)
-    seconds, seed = [int(word) for word in words] + [60, 1][len(words) :]
-    return seconds, seed
+def given() -> argparse.Namespace:
+    """Returns the arguments."""
+    parser = argparse.ArgumentParser(
+        description=__doc__, formatter_class=argparse.RawDescriptionHelpFormatter, usage=argparse.SUPPRESS
+    )
+    parser.add_argument("seconds", nargs="?", type=int, default=60, help=argparse.SUPPRESS)
+    parser.add_argument("seed", nargs="?", type=int, default=1, help=argparse.SUPPRESS)
+    return parser.parse_args()
 
 
 def main() -> None:
-    seconds, seed = given()
-    dice, end = random.Random(seed), time.monotonic() + seconds
+    words = given()
+    dice, end = random.Random(words.seed), time.monotonic() + words.seconds
     opponents = [corewar.assemble(text, settings=NANO) for text in OPPONENTS]
     candidates, count = [Candidate([cell(dice) for _ in range(5)], []) for _ in range(SIZE)], 0
     while time.monotonic() < end:

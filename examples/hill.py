@@ -93,11 +93,12 @@ def given() -> argparse.Namespace:
 
 def main() -> None:
     words = given()
-    hill = {"settings": words.settings, "rounds": words.rounds, "size": words.size, "challenges": 0, "warriors": []}
+    new = {"settings": words.settings, "rounds": words.rounds, "size": words.size, "challenges": 0, "warriors": []}
+    hill: Hill = new
     if os.path.exists(words.state):
         with open(words.state) as file:
             hill = json.load(file)
-        if not isinstance(hill, dict) or "challenges" not in hill:
+        if not isinstance(hill, dict) or not hill.keys() >= new.keys():
             sys.exit(f"hill: {words.state} is not a hill")
     for path in words.files:
         pushed_off = challenge(hill, corewar.read(path, settings=hill["settings"], rounds=hill["rounds"]))
@@ -115,3 +116,5 @@ try:
     main()
 except (OSError, ValueError, corewar.CorewarError) as fault:
     sys.exit(f"hill: {fault}")
+except KeyboardInterrupt:
+    sys.exit("hill: stopped")

@@ -102,7 +102,7 @@ def test_ends(start: Start, scheduler: tuple[str, Any]) -> None:
         time.sleep(4)
         (process if status == 130 else scheduler[1]).send_signal(signal.SIGINT if status == 130 else signal.SIGKILL)
         output, errors = process.communicate(timeout=120)
-        assert (process.returncode, output, errors.removeprefix(ABSENT).count("\n")) == (status, "", 1)
+        assert (process.returncode, output, errors.removeprefix(ABSENT).strip().count("\n")) == (status, "", 0)
 
 
 def test_a_worker_without_the_package(run: Run, start: Start, scheduler: tuple[str, Any]) -> None:
@@ -134,4 +134,4 @@ def test_no_scheduler_and_no_package(run: Run) -> None:
     hidden = "import sys; sys.modules['distributed'] = None; from corewar.cli.main import main; main()"
     command = [sys.executable, "-c", hidden, "league", "--scheduler", "127.0.0.1:9", "imp.red", "dwarf.red"]
     done = subprocess.run(command, cwd=EXAMPLES, env=ENVIRONMENT, capture_output=True, text=True)
-    assert done.returncode == 1 and done.stderr.endswith("apt-get install python3-distributed\n")
+    assert done.returncode == 1 and "install Debian's python3-distributed, or with pip corewar[cluster]" in done.stderr

@@ -189,6 +189,15 @@ def test_help_describes_each_command() -> None:
         execute(session, "quit")
 
 
+def test_words_are_separated_by_any_whitespace() -> None:
+    session = session_of("dwarf", "imp")
+    assert execute(session, "edit\t5  jmp  0") == ["5: DAT.F $0, $0 -> JMP.B $0, $0"]
+    assert len(execute(session, "list 0  2")) == 2
+    assert execute(session, "spawn imp  100") == ["Imp: 1305 100"]
+    assert execute(session, "move  imp  1  200") == ["Imp: 1305 200"]
+    assert execute(session, "kill imp  1") == ["Imp: 1305"]
+
+
 def test_over_a_pipe(run: Run) -> None:
     done = run("debug", "@dwarf", "@imp", input="step\n\nbad\nundo\nlog kept\nstep 2\nlog\nquit\nstep\n")
     lines = done.stdout.splitlines()
@@ -235,6 +244,7 @@ def test_files_of_lines(run: Run, tmp_path: Path) -> None:
     assert run("debug", "@imp", input="source self\n").stdout.splitlines()[-2].startswith("turn 8: ")
     lines = run("debug", "@imp", input="lo kept\nstep\nso kept\nlog\nlog a\0b\nsource a\0b\n").stdout.splitlines()
     assert lines[2].startswith("turn 2: ") and lines[4:] == ["a?b: embedded null byte", "a?b: cannot read"]
+    assert run("debug", "@imp", input="source\n").stdout == "expected the name of a file\n"
     assert (tmp_path / "kept").read_text() == "step\nstep\n"
 
 

@@ -1,6 +1,7 @@
 """explain: the causes of errors, what pMARS reads differently, and sources that are fixed."""
 from __future__ import annotations
 
+import os
 import re
 import subprocess
 import time
@@ -268,6 +269,8 @@ def test_files(run: Run, tmp_path: Path) -> None:
     assert run("explain", "bad.load").stdout.startswith(
         "bad.load: line 1: load 1 Syntax\n>    1 | MOV 0\nThis line is not valid in a load file"
     )
+    other = run("explain", os.fsdecode(b"MOV 0, \xff"))
+    assert other.returncode == 1 and other.stdout.startswith("MOV 0, ?: 1 Text 1 NotAscii\n")
     missing = run("explain", "none.red")
     assert (missing.returncode, missing.stderr) == (1, "corewar: none.red: No such file or directory\n")
 

@@ -6,9 +6,11 @@ import hashlib
 import io
 import json
 import os
+import resource
 import signal
 import sqlite3
 import subprocess
+import sys
 import time
 from concurrent.futures import Future
 from pathlib import Path
@@ -246,7 +248,8 @@ def test_errors_of_files(run: Run, folder: Path) -> None:
         ("-s 199", 1, "corewar: placement 1 NoRoom"),
         ("--score 1/(S-1)", 1, "corewar: score 3 DivideByZero"),
         ("--score 9223372036854775807 same.red", 1, "corewar: score 4 Range"),
-        ("--jobs 0", 2, "expected a number of 1 or more, not `0`"),
+        ("--jobs 0", 2, "expected a number from 1 to 1000, not `0`"),
+        ("--jobs 1001", 2, "expected a number from 1 to 1000, not `1001`"),
         ("--results none/file", 1, "corewar: none: no such folder"),
         ("-o none/file", 1, "corewar: none: no such folder"),
         ("--picture m.gif", 2, "expected a name that ends in .png, .svg or .pdf"),
@@ -261,6 +264,53 @@ def test_errors_of_files(run: Run, folder: Path) -> None:
 def test_errors_of_arguments(run: Run, folder: Path, words: str, status: int, error: str) -> None:
     done = run("league", *words.split(), "stay.red", "dead.red")
     assert (done.returncode, done.stdout) == (status, "") and error in done.stderr and "Traceback" not in done.stderr
+
+
+def test_a_wrong_formula_is_reported_before_matches(run: Run, folder: Path) -> None:
+    """Also if no warrior survives, so that it would never be evaluated; and if it is not text."""
+    long, files = ["-c", 10_000_000, "-r", 100_000], ["stay.red", "same.red", "late.red"]
+    for command in ("league --results kept", "challenge", "challenge --old late.red", "melee --size 2"):
+        for formula in (b"W+", b"W\xff"):
+            done = run(*command.split(), "--score", os.fsdecode(formula), *long, *files, timeout=20)
+            assert (done.returncode, done.stdout) == (2, "") and "corewar: formula 1 Expression 1 Syntax" in done.stderr
+    done = run("challenge", "--old", "dead.red", "--score", "W+", "dead.red", "dead.red")
+    assert (done.returncode, done.stdout) == (2, "")
+
+
+def test_an_error_does_not_wait_for_matches(run: Run, folder: Path) -> None:
+    """The match of Stay and Same takes hours."""
+    words = ["--jobs", 2, "-c", 10_000_000, "-r", 100_000, "--score", "1/(S-1)"]
+    done = run("league", *words, "stay.red", "same.red", "dead.red", timeout=60)
+    assert (done.returncode, done.stdout) == (1, "") and "corewar: score 3 DivideByZero" in done.stderr
+
+
+def test_refused_threads_are_reported(run: Run, folder: Path) -> None:
+    many = ["--jobs", 1000, "-r", 100, *["stay.red"] * 46]
+
+    def bound() -> None:
+        resource.setrlimit(resource.RLIMIT_AS, (2 << 30, 2 << 30))
+
+    for words in (["league", *many], ["melee", "--lineups", 2000, *many]):
+        done = run(*words, preexec_fn=bound, timeout=60)
+        assert (done.returncode, done.stdout) == (1, "")
+        assert done.stderr == "corewar: can't start new thread; use fewer jobs\n"
+
+
+def test_what_is_missing_is_reported_before_matches(run: Run, folder: Path) -> None:
+    """The site, a module, and the folder for a file; the settings are those of a match that takes hours."""
+    long = ["-c", 8_000_000, "-r", 100_000, "stay.red", "same.red"]
+    (folder / "file").write_text("")
+    for words, error in (
+        (["--pages", "file/pages", *long], "corewar: file/pages: Not a directory"),
+        (["--pages", "pages", *long[2:], "-c", 8_000_001], "a page shows battles of at most 8000000 cycles"),
+    ):
+        done = run("league", *words, timeout=20)
+        assert (done.returncode, done.stdout) == (1, "") and error in done.stderr
+    hidden = "import sys; sys.modules['matplotlib'] = None; from corewar.cli.main import main; main()"
+    command = [sys.executable, "-c", hidden, "league", "--picture", "a.png", *map(str, long)]
+    done = subprocess.run(command, cwd=folder, env=ENVIRONMENT, capture_output=True, text=True, timeout=20)
+    missing = "corewar: import of matplotlib halted; None in sys.modules; install the dependencies of corewar with "
+    assert (done.returncode, done.stderr) == (1, f"{missing}scripts/setup\n")
 
 
 def test_two_files_are_required(run: Run, folder: Path) -> None:

@@ -161,6 +161,28 @@ def test_names_of_files_that_are_no_text(run: Run, tmp_path: Path) -> None:
     assert "a??[31m.red by Anonymous" in (tmp_path / "league" / "index.html").read_text()
 
 
+def test_arguments_are_printed_safely(run: Run, tmp_path: Path) -> None:
+    """Names of strangers' files may begin with a dash, and have any character."""
+    for words in (["league", "-\x1b[2J.red", "a.red"], ["fight", "--\x1b[2J", "a.red"], ["fight", "-r", "\x1b[2J"]):
+        done = run(*words)
+        assert done.returncode == 2 and "?" in done.stderr and "\x1b" not in done.stderr
+    for command in ("picture", "page"):
+        done = run(command, "-o", "\x1b[2J.svg", "@imp", "@gate")
+        assert done.returncode == 0 and done.stdout.startswith("?[2J.svg: ")
+
+
+def test_a_library_that_is_none_is_reported(run: Run, tmp_path: Path) -> None:
+    """Another library, and another header."""
+    (tmp_path / "other.h").write_text("int other;\n")
+    for name, path, error in (
+        ("MARS_LIBRARY", "libc.so.6", "corewar: libc.so.6: "),
+        ("MARS_LIBRARY", "other.h", "corewar: other.h: "),
+        ("MARS_HEADER", "other.h", "corewar: other.h is not the header of this version: it has no MARS_"),
+    ):
+        done = run("fight", "@imp", env={**ENVIRONMENT, name: path})
+        assert done.returncode == 1 and done.stderr.startswith(error) and done.stderr.count("\n") == 1
+
+
 def test_names_are_no_formulas(run: Run, tmp_path: Path) -> None:
     """`$` and `_` have a meaning in matplotlib."""
     (tmp_path / "odd.red").write_text(";name _a$x^$\n;author $\\frac$\nmov 0, 1\n")
@@ -382,6 +404,9 @@ def test_study(run: Run, tmp_path: Path) -> None:
     assert "It writes to 2 of 8000 cells:" in run("study", "dat.red").stdout
     none = run("study", "none.red")
     assert (none.returncode, none.stderr) == (1, "corewar: none.red: No such file or directory\n")
+    # The source is that of a match of two, and so are its lines.
+    (tmp_path / "two.red").write_text(";assert WARRIORS == 2\nloop MOV 0, 1\n")
+    assert " 2: loop MOV 0, 1\n" in run("study", "two.red").stdout
     # No more turns are run than those in which lines are known.
     assert "survives 1000000 turns." in run("study", "-c", 5_000_000, "@gate").stdout
     assert all(len(run("study", file).stdout.splitlines()) < 24 for file in sorted(EXAMPLES.glob("*.red")))

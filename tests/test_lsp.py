@@ -333,6 +333,7 @@ def test_renames_are_refused() -> None:
         (1, 0, "i", "already used in line 3"),
         (1, 0, "2x", "not a valid name"),
         (1, 0, "a&i", "not a valid name"),
+        (1, 0, "new\n", "not a valid name"),
         (1, 0, "mov", "not a valid name"),
         (1, 0, "VERSION", "would change the warrior"),
         (2, 0, "I", "already used in line 4"),

@@ -140,7 +140,7 @@ def test_it_can_be_stopped() -> None:
     time.sleep(2 * (time.monotonic() - start_time))
     started.send_signal(signal.SIGINT)
     _, errors = started.communicate(timeout=20)
-    assert (started.returncode, errors) == (130, "corewar: stopped\n")
+    assert (started.returncode, errors) == (130, "\ncorewar: stopped\n")
 
 
 def test_it_reports_its_progress(monkeypatch: pytest.MonkeyPatch) -> None:

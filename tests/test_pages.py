@@ -6,6 +6,7 @@ import json
 import re
 import resource
 import sys
+import time
 import zlib
 from pathlib import Path
 from typing import Any
@@ -18,6 +19,7 @@ from corewar.battle.history import History
 from corewar.engine.calls import Match
 from corewar.engine.sources import read
 from corewar.model.settings import Settings
+from corewar.pages.site import MAX_TURNS
 
 if not (TOP / "build" / "site").is_dir():
     skip("pages", "the site is not built; `make site` builds it", "esbuild")
@@ -53,7 +55,7 @@ def test_a_page_is_written(run: Run, tmp_path: Path) -> None:
     """It has the sources, the settings, a turn and edits, and is not overwritten without --force."""
     words = ["--round", 2, "-r", 5, "--seed", 9, "-c", 5000, "--score", "W", "--turn", 300]
     words += ["--edit", "100 edit 3 mov 0, 1", "--edit", "200 fill 5 6 dat <1, #2", "--edit", "200 move 0 0 7"]
-    done = run("page", *words, "--edit", "250 kill 1 0", "--edit", "250 spawn 0 9", "@dwarf", "@imp")
+    done = run("page", *words, "--edit", "200 kill 1 0", "--edit", "200 spawn 0 9", "@dwarf", "@imp")
     assert (done.returncode, done.stdout) == (0, "battle.html: Dwarf against Imp\n"), done.stderr
     fight = unpacked((tmp_path / "battle.html").read_text())
     assert [name for name, _ in fight["w"]] == ["dwarf.red", "imp.red"]
@@ -67,7 +69,7 @@ def test_a_page_is_written(run: Run, tmp_path: Path) -> None:
         300,
     )
     texts = ["edit 3 MOV.I $0, $1", "fill 5 6 DAT.F <1, #2", "move 0 0 7", "kill 1 0", "spawn 0 9"]
-    assert fight["e"] == [[turn, text] for turn, text in zip((100, 200, 200, 250, 250), texts)]
+    assert fight["e"] == [[turn, text] for turn, text in zip((100, 200, 200, 200, 200), texts)]
     again = run("page", "@dwarf", "@imp")
     assert (again.returncode, again.stderr) == (
         1,
@@ -92,6 +94,36 @@ def test_wrong_edits(run: Run, tmp_path: Path, edit: str, why: str) -> None:
     assert done.returncode == 2 and why in done.stderr and not (tmp_path / "battle.html").exists()
 
 
+@pytest.mark.parametrize(
+    "edits, why",
+    [
+        (["1 kill 9 0"], "`1 kill 9 0` is impossible: refused 4 NoSuchWarrior"),
+        (["5 kill 0 0", "3 kill 0 0"], "`5 kill 0 0` is impossible: the battle has turns 0 to 3"),
+        (["160001 edit 3 jmp 0"], "is impossible: the battle has turns 0 to 160000"),
+        (["1 edit 3 jmp \udcff"], "is not an instruction: line 1: 1 Text 1 NotAscii"),
+    ],
+)
+def test_impossible_edits(run: Run, tmp_path: Path, edits: list[str], why: str) -> None:
+    """Each edit is checked in the battle, after those of earlier turns."""
+    done = run("page", *(word for edit in edits for word in ("--edit", edit)), "@imp", "@gate")
+    assert done.returncode == 2 and why in done.stderr and not (tmp_path / "battle.html").exists()
+
+
+def test_edits_are_in_the_order_of_their_turns(run: Run, tmp_path: Path) -> None:
+    assert run("page", "--edit", "9 edit 3 jmp 0", "--edit", "5 spawn 0 7", "@imp", "@gate").returncode == 0
+    fight = unpacked((tmp_path / "battle.html").read_text())
+    assert fight["e"] == [[5, "spawn 0 7"], [9, "edit 3 JMP.B $0, $0"]]
+
+
+def test_battles_that_the_site_does_not_show(run: Run, tmp_path: Path) -> None:
+    long = ["-c", 8_000_001, "@imp", "@imp"]
+    for words in (["page", *long], ["rounds", "--pages", "pages", *long]):
+        done = run(*words)
+        assert done.returncode == 1 and "a page shows battles of at most 8000000 cycles of 2 warriors" in done.stderr
+    limits = (TOP / "site" / "src" / "model" / "settings.js").read_text()
+    assert f"MAX_TURNS = {MAX_TURNS:_};" in limits
+
+
 def test_texts_of_strangers_are_no_html(run: Run, tmp_path: Path) -> None:
     source = ";redcode\n;name <script>alert(1)</script>\n;author </script><b>x\nDAT 0, 0\n"
     run("page", "-", "@imp", input=source)
@@ -108,6 +140,15 @@ def test_pictures_of_each_kind(run: Run, tmp_path: Path) -> None:
         assert (done.returncode, done.stdout) == (0, f"fight.{ending}: 23543 turns\n")
         assert (tmp_path / f"fight.{ending}").read_bytes().startswith(begin)
     assert "expected A-B with addresses from 0 to 7999" in run("picture", "--cells", "9-8000", "@dwarf", "@imp").stderr
+
+
+def test_a_picture_is_the_same_each_time(run: Run, tmp_path: Path) -> None:
+    """Also if it is drawn at another time, by another process."""
+    for ending in ("png", "svg", "pdf"):
+        for name in ("a", "b"):
+            run("picture", "-o", f"{name}.{ending}", "--rows", 5, "--columns", 5, "@imp", "@gate")
+            time.sleep(1.1 if name == "a" and ending == "pdf" else 0)
+        assert (tmp_path / f"a.{ending}").read_bytes() == (tmp_path / f"b.{ending}").read_bytes(), ending
 
 
 def test_the_points_of_a_picture() -> None:

@@ -77,7 +77,8 @@ def test_errors_of_a_hill(tmp_path: Path, words: list[object], status: int, erro
 
 
 def test_files_that_are_no_hill(tmp_path: Path) -> None:
-    for text, error in (("[]", "hill: hill.json is not a hill\n"), ("{", "hill: Expecting")):
+    none = "hill: hill.json is not a hill\n"
+    for text, error in (("[]", none), ('{"challenges": 1}', none), ("{", "hill: Expecting")):
         (tmp_path / "hill.json").write_text(text)
         done = run("hill.py", "hill.json", FILES[0], cwd=tmp_path)
         assert done.returncode == 1 and done.stderr.startswith(error) and (tmp_path / "hill.json").read_text() == text
@@ -96,3 +97,13 @@ def test_elites(tmp_path: Path) -> None:
     for row, better in zip(rows, more):
         for one, other in zip(row.split()[1:], better):
             assert one == "-" or float(other) >= float(one)
+
+
+@pytest.mark.parametrize("script", ["elites.py", "evolver.py", "hill.py"])
+def test_arguments(tmp_path: Path, script: str) -> None:
+    """The help, and wrong arguments."""
+    assert run(script, "--help", cwd=tmp_path).stdout.splitlines()[2].startswith(f"usage: examples/{script} [")
+    wrong = {"elites.py": ["0"], "evolver.py": ["\u00b2"], "hill.py": []}[script]
+    for words in (["--none"], wrong):
+        done = run(script, *words, cwd=tmp_path)
+        assert (done.returncode, done.stdout) == (2, "") and "error: " in done.stderr

@@ -1,6 +1,7 @@
 """Warriors as values, and their outcomes in many matches."""
 from __future__ import annotations
 
+import os
 import pickle
 import random
 import re
@@ -116,6 +117,48 @@ def test_wrong_cells(cell: Any) -> None:
         corewar.Battle(Match([Warrior.from_cells([CELL])])).edit(Edit.set(0, cell))
 
 
+@pytest.mark.parametrize("text", ["", "MOV 0, 1", "MOV.I $0, $1\n", "MOV.I $" + "1" * 5000 + ", $1", "MOV.I $٣, $1"])
+def test_texts_that_are_no_cells(text: str) -> None:
+    with pytest.raises(CorewarError, match="expected a cell such as `MOV.I [$]0, [$]1`, not "):
+        corewar.cell_of(text, 8000)
+
+
+def test_a_core_without_cells() -> None:
+    for core in (0, -1):
+        with pytest.raises(CorewarError, match=f"expected a core size of 1 or more, not {core}"):
+            corewar.cell_of("MOV.I $0, $1", core)
+        with pytest.raises(CorewarError):
+            corewar.cell_text(CELL, core)
+
+
+def test_an_assembler_is_as_the_call() -> None:
+    """It returns the same warriors and raises the same errors, and continues after an error."""
+    sources: list[Any] = ["DAT WARRIORS", b"DAT 0 ; \xff", os.fsdecode(b"DAT 0 ; \xff"), "FOO 1", "MOV 0, 1", 5]
+    words: dict[str, Any] = {"settings": "nano", "rounds": 3, "warriors": 4, "file": Path("a.red")}
+    with corewar.Assembler(corewar.Limit(5, 500)) as assembler:
+        for source in sources:
+            found = [result_of(call, source, **words) for call in (corewar.assemble, assembler.assemble)]
+            assert found[0] == found[1], source
+        for name in ("rounds", "warriors"):
+            for value in (-1, 2**32):
+                for call in (corewar.assemble, assembler.assemble):
+                    found = result_of(call, "DAT ROUNDS, WARRIORS", **{name: value})
+                    assert found == (CorewarError, f"expected a number from 0 to 4294967295, not {value}")
+        with pytest.raises(ValueError, match="expected settings or one of"):
+            assembler.assemble("MOV 0, 1", settings="micro")
+    for limit in ((0, 1000), (10, -1)):
+        with pytest.raises(CorewarError, match="expected 1 or more seconds and megabytes, not "):
+            corewar.Limit(*limit)
+
+
+def result_of(call: Any, *given: Any, **words: Any) -> Any:
+    """Returns the result of a call, or the kind and the text of its error."""
+    try:
+        return call(*given, **words)
+    except (CorewarError, TypeError) as error:
+        return type(error), str(error)
+
+
 SMALL = Settings(core=400, processes=20, cycles=150, longest=10, distance=10)
 
 
@@ -210,13 +253,16 @@ def test_lineups() -> None:
         ([[0, 1, 2]], {"position": 400}, "settings 3 Position"),
         ([[-1, 0]], {}, "index 0: lineup 2 Index"),
         (pairs, {"seeds": [1, -1, 2**40]}, "settings 2 Seed"),
+        ([[0, 2**70]], {}, "index 0: lineup 2 Index"),
+        (pairs, {"seeds": np.array([1, 0, 1], np.uint8)}, "settings 2 Seed"),
     ]
     for lineups, words, fault in faulty:
         with pytest.raises(MarsError) as found:
             corewar.outcomes(warriors, lineups, **words)
         assert str(found.value) == fault
     uneven: list[tuple[Any, dict[str, Any]]] = [([[0, 1], [2]], {}), ([0, 1], {}), (pairs, {"seeds": [1, 2]})]
-    for lineups, words in uneven:
+    fractions: list[tuple[Any, dict[str, Any]]] = [([[0, 1.5]], {}), ([["0", "1"]], {}), (pairs, {"seeds": 1.5})]
+    for lineups, words in [*uneven, *fractions]:
         with pytest.raises(ValueError):
             corewar.outcomes(warriors, lineups, **words)
     with pytest.raises(CorewarError, match="a match has at most 16 warriors, not 17"):

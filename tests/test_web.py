@@ -122,7 +122,7 @@ def test_its_port_is_the_same_each_time(tmp_path: Path) -> None:
         port = taken.getsockname()[1]
         with begin("web", "--no-browser", "--port", port, tmp_path) as process:
             assert process.stdout
-            assert process.stdout.readline().startswith(f"Port {port} is taken.")
+            assert process.stdout.readline().startswith(f"Port {port}: Address already in use. ")
             assert "at http://127.0.0.1:" in process.stdout.readline()
             process.send_signal(signal.SIGINT)
             process.wait(WAIT)
@@ -183,6 +183,15 @@ def test_sources_are_saved_to_their_files(site: Site) -> None:
     assert status == 400 and answer["fault"].endswith(": File name too long")
     assert site.save("new.red", "DAT 0, 0\n", "")[0] == 200
     assert (site.folder / "new.red").read_text() == "DAT 0, 0\n"
+
+
+def test_a_new_source_does_not_change_the_key_of_the_folder(tmp_path: Path) -> None:
+    """A browser keeps unsaved texts by it."""
+    (tmp_path / "imp.red").write_text("MOV 0, 1\n")
+    for site in served("--port", 0, tmp_path / "imp.red"):
+        key = re.search(rb'data-key="\w+"', site.ask("")[1])
+        assert key and site.save("new.red", "NOP 0\n", "")[0] == 200 and "new.red" in site.sources()
+        assert key[0] in site.ask("")[1]
 
 
 def test_of_two_saves_at_once_one_is_refused(site: Site) -> None:

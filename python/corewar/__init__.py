@@ -14,7 +14,7 @@ from .battle.history import History
 from .engine.battles import Battle
 from .engine.calls import Match, Row, assemble, league, match, population
 from .engine.outcomes import outcomes, shares
-from .engine.sources import Limit, read
+from .engine.sources import Assembler, Limit, Overrun, read
 from .engine.warriors import Warrior
 from .model.cells import cell_of, cell_text
 from .model.edits import Edit
@@ -30,6 +30,7 @@ Fault = MarsError
 FileFault = FileError
 
 __all__ = [
-    "HILLS", "Battle", "CorewarError", "Edit", "FileError", "History", "Limit", "MarsError", "Match", "Row", "Settings",
-    "Warrior", "assemble", "cell_of", "cell_text", "league", "match", "outcomes", "population", "read", "shares",
+    "HILLS", "Assembler", "Battle", "CorewarError", "Edit", "FileError", "History", "Limit", "MarsError", "Match",
+    "Overrun", "Row", "Settings", "Warrior", "assemble", "cell_of", "cell_text", "league", "match", "outcomes",
+    "population", "read", "shares",
 ]  # fmt: skip

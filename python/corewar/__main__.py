@@ -8,6 +8,8 @@ if __name__ == "__main__":
         signal.signal(signal.SIGINT, signal.SIG_DFL)
     try:
         from corewar.cli.main import main
+    except ModuleNotFoundError as error:
+        sys.exit(f"corewar: {error}; install the dependencies of corewar with scripts/setup")
     except ImportError as error:
         sys.exit(f"corewar: {error}")
 

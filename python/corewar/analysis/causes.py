@@ -2,6 +2,7 @@
 from __future__ import annotations
 
 from collections.abc import Iterator
+from itertools import islice
 
 from ..battle.conditions import Condition, last_change, search
 from ..battle.history import History
@@ -31,9 +32,9 @@ def describe_cause(formatter: BattleFormatter, address: int, turn: int) -> list[
     history = formatter.history
     found, became = last_change(history, address, turn), last_change(history, address, turn, "becomes")
     by_hand, lines = history.by_hand(address, turn), describe_change(formatter, address, turn)
-    if found is not None and became not in (None, found) and (by_hand is None or by_hand[0] < (became or 0)):
+    if became is not None and became != found and (by_hand is None or by_hand[0] < became):
         opcode = OPCODES[history.block(turn).cell(address, turn)["op"]]
-        lines += [f"It became a {opcode} in turn {became}:", *formatter.lines(became or 0)]
+        lines += [f"It became a {opcode} in turn {became}:", *formatter.lines(became)]
     return lines
 
 
@@ -78,7 +79,7 @@ def describe_death(formatter: BattleFormatter, warrior: int, count: int) -> Iter
     if line:
         yield f"    {line}"
     yield from describe_cause(formatter, int(history.record(death)["address"]), death - 1)
-    turns = [turn for turn, _ in zip(own_turns(history, warrior, death - 1), range(count + EXTRA_TURNS))]
+    turns = [*islice(own_turns(history, warrior, death - 1), count + EXTRA_TURNS)]
     if turns:
         yield "Its turns before that:"
     shown: set[tuple[int, int]] = set()

@@ -20,6 +20,8 @@ Numbers = NDArray[np.int64]
 COMPARING = [OPCODES.index(name) for name in ("SEQ", "SNE", "SLT", "JMZ", "JMN", "DJN")]
 # The most lines of a table, the most strides of a line, and the least share of a stride that is shown.
 MAX_ROWS, MAX_STRIDES, MIN_SHARE = 8, 2, 0.2
+# The value of WARRIORS in the source, which is written for matches of two.
+WARRIORS = 2
 # No turn touches more cells.
 MAX_TOUCHED_CELLS = 8
 
@@ -43,7 +45,7 @@ class Study:
     """A battle of one warrior."""
 
     def __init__(self, history: History) -> None:
-        self.history, self.sources = history, Sources(history)
+        self.history, self.sources = history, Sources(history, WARRIORS)
         self.formatter, self.origins = BattleFormatter(history, self.sources), Origins(history)
         start = history.state(0)
         self.is_loaded, self.opcodes = history.owners(0) != NOBODY, start.cells["op"].copy()

@@ -19,6 +19,7 @@ from numpy.typing import NDArray
 
 from ..engine.battles import Battle, battle_of_mark
 from ..engine.calls import Match
+from ..model.cells import Records
 from ..model.edits import Edit
 from ..model.errors import CorewarError
 from ..model.settings import whole
@@ -90,9 +91,10 @@ class History:
     - `fight`: the match
     - `round`: the round, from 0
 
-    Turns are numbered from 1; "after turn 0" is the start. Warriors are numbered from 0 in the order of their turns,
-    and `names` has their names, made distinct. A history never changes: an edit returns another history, which shares
-    the turns before it. The constructor runs the whole battle; it raises `MarsError` if the match is invalid.
+    Turns are numbered from 1; "after turn 0" is the start. Warriors are numbered from 0 in the order of their turns, in
+    which `warriors` has them, and `names` their names, made distinct. A history never changes: an edit returns another
+    history, which shares the turns before it. The constructor runs the whole battle; it raises `MarsError` if the match
+    is invalid, and `CorewarError` if it has more than 16 warriors.
     """
 
     def __init__(self, fight: Match, round: int = 0) -> None:
@@ -214,10 +216,10 @@ class History:
         return self.segments[-1].run.ending.copy()
 
     @property
-    def _deaths(self) -> NDArray[np.void]:
+    def _deaths(self) -> Records:
         return self.segments[-1].run.ending.deaths
 
-    def deaths(self, turn: int) -> NDArray[np.void]:
+    def deaths(self, turn: int) -> Records:
         """Returns the deaths up to a turn, in order, as an array with the fields warrior and turns."""
         return self._deaths[self._deaths["turns"] <= turn]
 

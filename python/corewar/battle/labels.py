@@ -8,7 +8,8 @@ from functools import cached_property
 from weakref import WeakKeyDictionary
 
 from ..engine.battles import Battle
-from ..engine.calls import source_lines
+from ..engine.calls import Match, source_lines
+from ..engine.warriors import Warrior
 from ..model.errors import CorewarError, MarsError
 from ..model.printing import printable
 from .history import BY_HAND, History
@@ -32,10 +33,12 @@ class Line:
 
 class Sources:
     """The lines and labels of the cells where the warriors were loaded, and the lines of all cells that were copied.
-    Load files have neither.
+    Load files have neither, and neither has a source that makes other cells here.
+
+    - `count`: the value of WARRIORS for which the sources were assembled; by default the number of warriors
     """
 
-    def __init__(self, history: History) -> None:
+    def __init__(self, history: History, count: int | None = None) -> None:
         self.lines: dict[int, Line] = {}
         self._labels: list[tuple[int, str, int]] = []
         start = Battle(history.fight, history.round)
@@ -43,7 +46,7 @@ class Sources:
         for number, warrior in enumerate(history.warriors):
             first = int(start.queues[number][0]) - warrior.start
             texts = (warrior.source or b"").decode("latin-1").split("\n")
-            for place, (line, labels) in enumerate(self._read(history, number)):
+            for place, (line, labels) in enumerate(read_lines(warrior, history.fight, count)):
                 address = (first + place) % history.core
                 # Control characters are whitespace of the language, but a terminal would obey them.
                 words = re.findall(r"[^\0- ]+", texts[line - 1].partition(";")[0])
@@ -70,16 +73,6 @@ class Sources:
         name = "" if line.warrior == known else f"{history.names[line.warrior]} "
         return f"; {name}{line.number}: {line.text}"
 
-    @staticmethod
-    def _read(history: History, number: int) -> list[tuple[int, list[str]]]:
-        source = history.warriors[number].source
-        if source is None:
-            return []
-        try:
-            return source_lines(source, history.fight.settings, history.fight.rounds, len(history.warriors))
-        except MarsError:
-            return []
-
     @cached_property
     def addresses(self) -> dict[str, int]:
         """The addresses of labels: `0.bomb` for that of warrior 0, also `bomb` if only one warrior has it."""
@@ -97,3 +90,14 @@ class Sources:
     def labels(self) -> dict[int, str]:
         """The label of each address that has one, in its shortest form."""
         return {address: label for label, address in reversed(self.addresses.items())}
+
+
+def read_lines(warrior: Warrior, fight: Match, count: int | None) -> list[tuple[int, list[str]]]:
+    """Returns the number of the line and the labels of each cell of a warrior, or nothing if they are not known."""
+    if warrior.source is None:
+        return []
+    try:
+        found = source_lines(warrior.source, fight.settings, fight.rounds, count or len(fight.warriors))
+    except MarsError:
+        return []
+    return found if len(found) == len(warrior) else []

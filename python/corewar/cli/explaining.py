@@ -8,6 +8,7 @@ from collections.abc import Callable, Iterator, Sequence
 
 import click
 
+from ..engine.calls import encode_source
 from ..engine.sources import Assembler, Overrun, read_file, read_warriors
 from ..engine.warriors import Warrior
 from ..explain import CHECKED_ROWS, errors_of, excerpt, explain_error, explain_kind, fix, pmars_differences, read_faults
@@ -99,7 +100,7 @@ def explain_instruction(options: BattleOptions, line: Line) -> int:
             if line.word in MEANINGS and not line.labels + line.operands:
                 write([f"{line.text}: {MEANINGS[line.word]}"])
                 return 0
-            write([f"{line.text}: {kind_of(fault)}", *explain_kind(kind_of(fault), 1, line.text.encode())])
+            write([f"{line.text}: {kind_of(fault)}", *explain_kind(kind_of(fault), 1, encode_source(line.text))])
             return 1
     return 0
 

@@ -42,13 +42,15 @@ def check_address(context: click.Context, param: click.Parameter, given: str | N
 
 
 FILE = Output(dir_okay=False, writable=True)
+# Each job is a thread, of which a process cannot have any number.
+MAX_JOBS = 1000
 JOBS = click.option(
     "--jobs",
     cls=Option,
     group=EXECUTION,
-    type=Number(1),
+    type=Number(1, MAX_JOBS),
     default=len(os.sched_getaffinity(0)),
-    help="Number of parallel matches, 1 or more  [default: number of CPUs]",
+    help=f"Number of parallel matches, 1 to {MAX_JOBS}  [default: number of CPUs]",
 )
 EXECUTION_OPTIONS = [
     click.option(
@@ -80,18 +82,17 @@ class MatchRunner:
 
     def fight(self, matches: Matches) -> None:
         """Runs all matches that are not stored yet, with a bar on a terminal."""
+        if not self.results:
+            self._fight(matches, lambda rows: None)
+            return
         try:
-            if not self.results:
-                self._fight(matches, lambda rows: None)
-                return
             with Results(self.results, matches) as stored:
                 reversed_count = stored.find()
                 if reversed_count:
                     report(REVERSED_ORDER.format(reversed_count, len(matches)))
                 self._fight(matches, stored.keep)
         except KeyboardInterrupt:
-            done = f"{matches.is_fought.sum()} of {len(matches)} matches stored; run the same command to continue"
-            report(done if self.results else "stopped")
+            report(f"{matches.is_fought.sum()} of {len(matches)} matches stored; run the same command to continue")
             # A match that is under way isn't waited for.
             os._exit(130)
 
@@ -126,10 +127,12 @@ def contest_of(options: BattleOptions) -> Contest:
     )
 
 
-def entrants_of(options: BattleOptions) -> tuple[Contest, list[Warrior], list[FileError]]:
-    """The contest, the warriors of the files, and the errors of the files without one, which are reported."""
+def entrants_of(options: BattleOptions, count: int = 2) -> tuple[Contest, list[Warrior], list[FileError]]:
+    """The contest, the warriors of the files for matches of `count`, and the errors of the other files, which are
+    reported.
+    """
     contest = contest_of(options)
-    warriors, faults = read_entrants(contest, options.files, options.limit)
+    warriors, faults = read_entrants(contest, options.files, options.limit, count)
     for fault in faults:
         report_error(fault)
     return contest, warriors, faults
@@ -195,6 +198,13 @@ def league(options: BattleOptions, runner: MatchRunner, order: str, form: str, *
 
     The first warrior of a match is the one whose file is given earlier. A file with an error is reported and left out.
     """
+    # What is missing for its files is reported before hours of matches.
+    if files["picture"]:
+        from ..pictures.matrix import draw
+    if files["pages"]:
+        from ..pages.league import begin_pages, write_pages
+
+        begin_pages(Path(files["pages"]), options.settings)
     contest, warriors, faults = entrants_of(options)
     if not warriors:
         return 1
@@ -203,13 +213,9 @@ def league(options: BattleOptions, runner: MatchRunner, order: str, form: str, *
     result = League(matches, order == "points")
     write_results(FORMATS[form](result), form, files["output"])
     if files["picture"]:
-        from ..pictures.matrix import draw
-
         ranks = [result.ranks[number] for number in result.order]
         draw(result.titles(), ranks, result.balances(), files["picture"])
     if files["pages"]:
-        from ..pages.league import write_pages
-
         write_pages(Path(files["pages"]), result)
     return 1 if faults else 0
 
@@ -267,13 +273,8 @@ def print_change(options: BattleOptions, runner: MatchRunner, only_sum: bool, ol
             advance(part.shape[1])
         return parts
 
-    try:
-        with progress(len(opponents), "opponents") as advance:
-            parts = run_in_thread(lambda: run(advance))
-    except KeyboardInterrupt:
-        report("stopped")
-        # Matches that are under way aren't waited for.
-        os._exit(130)
+    with progress(len(opponents), "opponents") as advance:
+        parts = run_in_thread(lambda: run(advance))
     comparison = Comparison(contest, warriors[:2], opponents, np.concatenate(parts, axis=1), only_sum)
     write_results(CHANGE_FORMATS[form](comparison), form)
     return 1 if faults else 0

@@ -8,7 +8,7 @@ import click
 from ..analysis.causes import describe_change, describe_death
 from ..analysis.endings import describe_survivor
 from ..analysis.losses import Death, Tie, describe_losses, describe_ties, fates_of
-from ..analysis.study import Study
+from ..analysis.study import WARRIORS, Study
 from ..analysis.formatting import BattleFormatter
 from ..battle.history import History
 from ..battle.labels import MAX_TRACED_TURNS, Sources
@@ -154,7 +154,7 @@ def study(file: str, settings: Settings, limit: Limit) -> None:
     For each line that writes or compares cells, prints how often it does so, how many cells it reaches and by which
     turn, and the stride from one to the next. Also finds the first turn in which the warrior hits its own code.
     """
-    warriors = read_warriors([file], settings, limit=limit, warriors=2)
+    warriors = read_warriors([file], settings, limit=limit, warriors=WARRIORS)
     # Lines are known up to this turn.
     settings = replace(settings, cycles=min(settings.cycles, MAX_TRACED_TURNS))
     show(map(printable, Study(History(Match(warriors, settings=settings))).describe()))

@@ -11,6 +11,7 @@ import click
 
 from .. import __version__
 from ..model.errors import FORMULA, PARAMETERS, SETTINGS, CorewarError, MarsError
+from ..model.printing import printable
 from .layout import Command
 from .options import HELP
 from .reporting import report, report_error
@@ -32,6 +33,8 @@ GROUPS = {
     "Editors": {"lsp": "editing"},
 }
 COMMANDS = {name: module for group in GROUPS.values() for name, module in group.items()}
+# What to do about a missing module.
+SETUP = "; install the dependencies of corewar with scripts/setup"
 # Errors of the library that are usage errors, as in `mars`.
 USAGE = (SETTINGS, PARAMETERS, FORMULA)
 
@@ -96,20 +99,24 @@ def main() -> None:
         sys.stdout.flush()
         sys.exit(status or 0)
     except click.ClickException as fault:
+        fault.message = "\n".join(map(printable, fault.message.split("\n")))
         fault.show()
-        sys.exit(fault.exit_code)
+        status = fault.exit_code
     except (click.Abort, KeyboardInterrupt):
         report("stopped")
-        sys.exit(130)
+        status = 130
     except CorewarError as fault:
         report_error(fault)
-        sys.exit(2 if isinstance(fault, MarsError) and fault.code in USAGE else 1)
+        status = 2 if isinstance(fault, MarsError) and fault.code in USAGE else 1
     except MemoryError:
         report("out of memory")
-        sys.exit(1)
+        status = 1
+    except ImportError as fault:
+        report(f"{fault}{SETUP}" if isinstance(fault, ModuleNotFoundError) else str(fault))
+        status = 1
     except OSError as fault:
         if not isinstance(fault, BrokenPipeError):
             report(": ".join(str(part) for part in (fault.filename, fault.strerror) if part is not None))
-        # What standard output didn't accept isn't written again at the end.
-        os.dup2(os.open(os.devnull, os.O_WRONLY), sys.stdout.fileno())
-        sys.exit(1)
+        status = 1
+    # Matches that are under way aren't waited for, and what standard output did not accept is not written again.
+    os._exit(status)

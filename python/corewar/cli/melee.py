@@ -1,19 +1,16 @@
 """`melee`: matches of several warriors in random lineups."""
 from __future__ import annotations
 
-import os
-
 import click
 
-from ..contests.contest import read_entrants
 from ..contests.melee import melee as run
 from ..contests.melee import records_of, table_of
 from ..contests.scores import HEAD, NAMES, RATES, csv_text, json_text
 from ..model.settings import MAX_WARRIORS
 from .layout import Command, Number
-from .league import JOBS, LEFT_OUT, contest_of, format_option, write_results
+from .league import JOBS, LEFT_OUT, entrants_of, format_option, write_results
 from .options import BattleOptions, battle_options
-from .reporting import report, report_error
+from .reporting import report
 from .waiting import progress, run_in_thread
 
 
@@ -44,20 +41,12 @@ def melee(options: BattleOptions, size: int, lineups: int, form: str, jobs: int)
     if len(options.files) < size:
         wanted = f"expected at least {size} files for matches of {size}"
         raise click.UsageError(f"{wanted}, not {len(options.files)}; see --size")
-    contest = contest_of(options)
-    warriors, faults = read_entrants(contest, options.files, options.limit, size)
-    for fault in faults:
-        report_error(fault)
+    contest, warriors, faults = entrants_of(options, size)
     if len(warriors) < size:
         report(f"{len(warriors)} warriors are left, but a match has {size}")
         return 1
-    try:
-        with progress(lineups, "matches") as advance:
-            table = run_in_thread(lambda: run(contest, warriors, size, lineups, jobs, advance))
-    except KeyboardInterrupt:
-        report("stopped")
-        # Matches that are under way aren't waited for.
-        os._exit(130)
+    with progress(lineups, "matches") as advance:
+        table = run_in_thread(lambda: run(contest, warriors, size, lineups, jobs, advance))
     if form == "table":
         text = table_of(table)
     elif form == "csv":

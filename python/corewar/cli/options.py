@@ -45,13 +45,16 @@ class BattleOptions:
 
 
 class Output(click.Path):
-    """A file or a folder to write. Its name isn't empty, and the folder of a file exists."""
+    """A file or a folder to write. Its name isn't empty, and the folder of a file exists and accepts a new one."""
 
     def convert(self, value: Any, param: click.Parameter | None, context: click.Context | None) -> Any:
         if not value:
             self.fail("expected a name, not an empty argument", param, context)
-        if self.file_okay and not Path(value).absolute().parent.is_dir():
-            raise FileError(str(Path(value).parent), "no such folder")
+        folder = Path(value).parent
+        if self.file_okay and not folder.is_dir():
+            raise FileError(str(folder), "no such folder")
+        if self.file_okay and not os.path.exists(value) and not os.access(folder, os.W_OK):
+            raise FileError(str(folder), "this folder accepts no new file")
         return super().convert(value, param, context)
 
 

@@ -3,21 +3,22 @@ from __future__ import annotations
 
 import os
 import re
+from collections.abc import Sequence
+from operator import itemgetter
 from pathlib import Path
 
 import click
 
 from ..battle.frames import part_ends
 from ..battle.history import History
-from ..engine.calls import assemble
+from ..engine.calls import Match, assemble
 from ..model.cells import Cell
 from ..model.edits import Edit
-from ..model.errors import FileError, MarsError
+from ..model.errors import CorewarError, FileError, MarsError
 from ..model.settings import whole
 from ..model.printing import printable
 from .layout import Command, Number
 from .options import BattleOptions, Decorator, Output, Picture, battle_options, with_options
-
 
 # What follows the word of an edit: numbers, and a line of source.
 NUMBER, LINE, NOTHING = r"(\d{1,7})", r"(?P<line>\S*\D.*)", r"(?!)"
@@ -91,7 +92,7 @@ def picture(
     history = History(options.fight(), options.round)
     shown = cells_of(cells, history.core)
     draw(history, View(frame_ends(history, first, turns, rows), shown, min(columns, len(shown))), output)
-    click.echo(f"{output}: {history.end} turns")
+    click.echo(printable(f"{output}: {history.end} turns"))
 
 
 def cells_of(text: str | None, core: int) -> range:
@@ -131,13 +132,26 @@ def page(options: BattleOptions, turn: int, edits: tuple[str, ...], output: str 
     can be shown, and edited.
     """
     from ..pages.render import write_page
-    from ..pages.site import page_of
+    from ..pages.site import check_page, page_of
 
-    fight = options.fight()
-    turns_and_edits = [edit_of(text, options) for text in edits]
     output = output_file(output, "battle.html", force)
-    write_page(Path(output), page_of(fight, options.formula, options.round, turn, turns_and_edits))
-    click.echo(f"{output}: {' against '.join(printable(warrior.called) for warrior in fight.warriors)}")
+    check_page(options.settings, len(options.files))
+    fight = options.fight()
+    given = edits_of(edits, options, fight) if edits else ()
+    write_page(Path(output), page_of(fight, options.formula, options.round, turn, given))
+    click.echo(printable(f"{output}: {' against '.join(warrior.called for warrior in fight.warriors)}"))
+
+
+def edits_of(texts: Sequence[str], options: BattleOptions, fight: Match) -> tuple[tuple[int, Edit], ...]:
+    """The edits of the battle in the order of their turns. Each has to be possible after the ones before it."""
+    history = History(fight, options.round)
+    given = [(*edit_of(text, options), text) for text in texts]
+    for turn, edit, text in sorted(given, key=itemgetter(0)):
+        try:
+            history = history.edited(turn, edit)
+        except CorewarError as fault:
+            raise click.BadParameter(f"`{text}` is impossible: {fault}", param_hint="--edit") from None
+    return history.edits
 
 
 def edit_of(text: str, options: BattleOptions) -> tuple[int, Edit]:

@@ -27,7 +27,7 @@ PORT = 8094
     "--port",
     type=Number(0, 65535),
     default=PORT,
-    help=f"Port to serve on, 0 to 65535; if it is taken, a free one  [default: {PORT}]",
+    help=f"Port to serve on, 0 to 65535; if that cannot be used, a free one  [default: {PORT}]",
 )
 @click.option("--browser/--no-browser", default=True, show_default=True, help="Open the browser, or only serve")
 @click.option(

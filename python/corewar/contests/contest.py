@@ -29,13 +29,19 @@ TINY = Settings(core=100, cycles=2, longest=1, distance=1)
 
 @dataclass(frozen=True, kw_only=True)
 class Contest:
-    """The settings of all matches. They determine the result of a match of two warriors in a given order."""
+    """The settings of all matches. They determine the result of a match of two warriors in a given order. Raises
+    `MarsError` for a formula that is not an expression in W and S.
+    """
 
     settings: Settings = Settings()
     rounds: int = 1
     seed: int = 1
     position: int | None = None
     formula: str = FORMULA
+
+    def __post_init__(self) -> None:
+        # It has a value only if a warrior survives, but is refused before hours of matches.
+        score_of(self.formula, 2, 0)
 
     @property
     def words(self) -> list[str]:
@@ -53,8 +59,6 @@ def fight(contest: Contest, warriors: Mapping[int, Warrior], pairs: Pairs) -> Co
     survived = run_lineups(fighters, table, contest.settings, contest.rounds, contest.position)["survived"].astype(bool)
     ties = survived.all(axis=2).sum(axis=1)
     wins = survived.sum(axis=1) - ties[:, None]
-    # A formula is refused even if no warrior survives, but has a value only if one does.
-    score_of(contest.formula, 2, 0)
     losses = contest.rounds - wins[:, 0] - ties
     points = points_of(contest.formula, wins, ties)
     if any(not fits(one) for one in points.ravel()):

@@ -70,19 +70,20 @@ def melee(
     lineups = lineups_of(len(warriors), size, count, dice)
     seeds = [dice.randint(1, NUMBERS["seed"].maximum) for _ in lineups]
     numbers: dict[str, Any] = {"settings": contest.settings, "rounds": contest.rounds, "position": contest.position}
-    step, parts = jobs * max(1, CYCLES // (contest.rounds * contest.settings.cycles)), list[NDArray[Any]]()
+    step, parts = jobs * max(1, CYCLES // (contest.rounds * contest.settings.cycles)), list[NDArray[np.bool_]]()
     for at in range(0, count, step):
         part = slice(at, at + step)
-        parts.append(outcomes(warriors, lineups[part], seeds=seeds[part], jobs=jobs, **numbers))
+        # A copy, since a field of an array keeps all others.
+        parts.append(outcomes(warriors, lineups[part], seeds=seeds[part], jobs=jobs, **numbers)["survived"].copy())
         advance(len(parts[-1]))
-    results = np.concatenate(parts)
-    places = np.broadcast_to(np.array(lineups)[:, None, :], results.shape)
+    survived = np.concatenate(parts)
+    places = np.broadcast_to(np.array(lineups)[:, None, :], survived.shape)
     # In how many rounds each warrior was one of 0, 1, 2 .. survivors.
     lives = np.zeros((len(warriors), size + 1), np.int64)
-    survivors = np.broadcast_to(results["survived"].sum(axis=-1, keepdims=True), results.shape)
-    np.add.at(lives, (places, survivors), results["survived"])
+    survivors = np.broadcast_to(survived.sum(axis=-1, keepdims=True), survived.shape)
+    np.add.at(lives, (places, survivors), survived)
     values = [score_of(contest.formula, size, left) if lives[:, left].any() else 0 for left in range(size + 1)]
-    matches = (results["survived"] * np.array(values, float)[survivors]).sum(axis=1)
+    matches = (survived * np.array(values, float)[survivors]).sum(axis=1)
     errors = errors_of(np.array(lineups).ravel(), matches.ravel(), len(warriors))
     rounds = np.bincount(places[:, 0].ravel(), minlength=len(warriors)) * contest.rounds
     return ranked(warriors, rounds.tolist(), lives.tolist(), values, errors / contest.rounds)

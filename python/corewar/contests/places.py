@@ -4,7 +4,7 @@ from __future__ import annotations
 import logging
 import sys
 from collections.abc import Callable, Iterator
-from concurrent.futures import FIRST_COMPLETED, CancelledError, Future, ThreadPoolExecutor, wait
+from concurrent.futures import FIRST_COMPLETED, CancelledError, Future, wait
 from contextlib import contextmanager
 from dataclasses import dataclass, replace
 from itertools import islice
@@ -13,6 +13,7 @@ from typing import Any
 import numpy as np
 
 from ..engine.binding import library
+from ..engine.outcomes import Threads
 from ..model.errors import CorewarError
 from ..engine.warriors import Warrior
 from .contest import Contest, Counts, Matches, Pairs, Rows, check_counts, fight
@@ -25,7 +26,10 @@ WORKER_CYCLES = 50_000_000
 SCHEDULED_BUNDLES = 500
 # The seconds without a result after which the cluster is checked for workers.
 CHECK_SECONDS = 5
-NO_PACKAGE = f"--scheduler: {sys.executable} cannot import distributed; run apt-get install python3-distributed"
+NO_PACKAGE = (
+    f"--scheduler: {sys.executable} cannot import distributed; install Debian's python3-distributed, or with pip "
+    "corewar[cluster]"
+)
 
 
 @dataclass(frozen=True)
@@ -66,9 +70,9 @@ class Executor:
 @contextmanager
 def threads(matches: Matches, jobs: int) -> Iterator[Executor]:
     """Runs `jobs` matches at a time here. Matches that have not begun at the end are dropped."""
-    pool = ThreadPoolExecutor(jobs)
+    pool = Threads(jobs)
 
-    def submit(rows: Rows) -> Future[Counts]:
+    def submit(rows: Rows) -> Future[Any]:
         return pool.submit(fight, matches.contest, matches.warriors, matches.pairs[rows])
 
     try:

@@ -57,6 +57,12 @@ def command(usage: str, summary: str, *short: str, repeats: bool = False) -> Cal
     return register
 
 
+def split_line(line: str) -> tuple[str, str]:
+    """Returns the first word of a line, and the rest; both are empty if it has none."""
+    word, rest = [*line.strip().split(None, 1), "", ""][:2]
+    return word, rest
+
+
 def find_command(word: str) -> Command:
     """Finds a command by its name, a short name, or the first letters of its name. Raises CorewarError."""
     found = [one for one in COMMANDS.values() if word == one.name or word in one.short]
@@ -199,11 +205,11 @@ def undo_or_redo(session: Session, act: Callable[[], None]) -> Iterator[str]:
 
 @command("edit A LINE", "set the cell at A to a line of source, as in `edit 3 jmp bomb`", "e")
 def edit(session: Session, rest: str) -> Iterator[str]:
-    first, _, line = rest.partition(" ")
-    if not line.strip():
+    words = rest.split(None, 1)
+    if len(words) != 2:
         raise CorewarError("expected an address and a line of source")
-    address = session.address(first)
-    cell = session.cell(address, line.strip())
+    address = session.address(words[0])
+    cell = session.cell(address, words[1])
     old = session.formatter.cell(session.history.block(session.turn).cell(address, session.turn))
     session.edit(Edit.set(address, cell))
     yield f"{session.formatter.where(address)}: {old} -> {session.formatter.cell(cell)}"
@@ -237,21 +243,21 @@ def move(session: Session, rest: str) -> Iterator[str]:
 
 @command("kill W I", "remove process I of warrior W")
 def kill(session: Session, rest: str) -> Iterator[str]:
-    name, _, index = rest.rpartition(" ")
-    if not name:
+    words = rest.rsplit(None, 1)
+    if len(words) != 2:
         raise CorewarError("expected a warrior and the index of a process")
-    warrior = session.warrior(name)
-    process = session.process(warrior, index)
+    warrior = session.warrior(words[0])
+    process = session.process(warrior, words[1])
     session.edit(Edit.kill(warrior, process))
     yield session.formatter.queue(session.turn, warrior, process)
 
 
 @command("spawn W A", "add a process of warrior W at A")
 def spawn(session: Session, rest: str) -> Iterator[str]:
-    name, _, where = rest.rpartition(" ")
-    if not name:
+    words = rest.rsplit(None, 1)
+    if len(words) != 2:
         raise CorewarError("expected a warrior and an address")
-    warrior, address = session.warrior(name), session.address(where)
+    warrior, address = session.warrior(words[0]), session.address(words[1])
     count = len(session.history.block(session.turn).queue(warrior, session.turn))
     if not 0 < count < session.history.fight.settings.processes:
         why = f"has {pluralize(count, 'process')}, the maximum" if count else "is dead"
@@ -279,8 +285,8 @@ def futures(session: Session, rest: str) -> Iterator[str]:
 def list_cells(session: Session, rest: str) -> Iterator[str]:
     core, formatter, turn = session.history.core, session.formatter, session.turn
     if rest:
-        first, _, count = rest.partition(" ")
-        length = session.number(count, "a number of cells") if count else CELLS
+        first, count = [*rest.split(None, 1), str(CELLS)][:2]
+        length = session.number(count, "a number of cells")
         yield from formatter.cells(turn, session.address(first), min(length, core))
         return
     for number in range(len(session.names)):
@@ -366,5 +372,5 @@ def quit_debugger(session: Session, _: str) -> NoReturn:
 
 def execute(session: Session, line: str) -> list[str]:
     """Executes the command of a line and returns the lines to show. Raises CorewarError, and QuitDebugger."""
-    word, _, rest = line.strip().partition(" ")
-    return list(find_command(word).act(session, rest.strip()))
+    word, rest = split_line(line)
+    return list(find_command(word).act(session, rest))

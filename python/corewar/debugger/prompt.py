@@ -22,7 +22,7 @@ from ..battle.conditions import CELL_CONDITIONS, WARRIOR_CONDITIONS
 from ..engine.sources import read_file
 from ..model.errors import CorewarError
 from ..model.printing import lines_for, printable
-from .commands import COMMANDS, Command, QuitDebugger, execute, find_command
+from .commands import COMMANDS, Command, QuitDebugger, execute, find_command, split_line
 from .session import Session
 
 # The colours of warriors, as a terminal numbers them.
@@ -95,7 +95,7 @@ class Runner:
 
     def execute_line(self, line: str) -> None:
         """Executes a line and shows the result. Raises QuitDebugger."""
-        word, _, file = line.strip().partition(" ")
+        word, file = split_line(line)
         try:
             name = find_command(word).name if word else ""
             if name == "log":
@@ -114,7 +114,7 @@ class Runner:
         if log:
             log.close()
         try:
-            self.log = open(file, "x") if file else None
+            self.log = open(file, "x", encoding="utf-8") if file else None
         except (OSError, ValueError) as fault:
             raise CorewarError(f"{file}: {fault.strerror if isinstance(fault, OSError) else fault}") from None
 
@@ -130,6 +130,8 @@ class Runner:
 
     def execute_file(self, file: str) -> None:
         """Executes the lines of a file, which may contain `source` again."""
+        if not file:
+            raise CorewarError("expected the name of a file")
         if self.depth == MAX_DEPTH:
             raise CorewarError(f"{file}: `source` is nested more than {MAX_DEPTH} deep")
         self.depth += 1

@@ -162,9 +162,8 @@ class Session:
 
     def process(self, warrior: int, text: str) -> int:
         """Returns the index of a process of a warrior; the next one is 0."""
-        index, count = self.number(text, "the index of a process"), len(
-            self.history.block(self.turn).queue(warrior, self.turn)
-        )
+        index = self.number(text, "the index of a process")
+        count = len(self.history.block(self.turn).queue(warrior, self.turn))
         if index >= count:
             raise CorewarError(f"{self.names[warrior]} has no process {index}; its number of processes is {count}")
         return index

@@ -53,7 +53,9 @@ class Battle:
         return self._words[: self._head["words"]].tobytes()
 
     def __eq__(self, other: object) -> bool:
-        return isinstance(other, Battle) and bytes(self) == bytes(other)
+        if not isinstance(other, Battle):
+            return NotImplemented
+        return bytes(self) == bytes(other)
 
     def __repr__(self) -> str:
         return f"<Battle of {self._head['warriors']} warriors after {self.turns} turns>"
@@ -101,9 +103,9 @@ class Battle:
         return np.split(self._words[HEADER + 3 * head["core"] : head["words"]], np.cumsum(counts)[:-1])
 
     @property
-    def deaths(self) -> NDArray[Any]:
+    def deaths(self) -> Records:
         """The deaths in their order, an array with the fields warrior and turns."""
-        deaths: NDArray[Any] = self._head["death"][: self._head["deaths"]]
+        deaths: Records = self._head["death"][: self._head["deaths"]]
         return deaths
 
     def copy(self) -> Battle:

@@ -23,7 +23,8 @@ from ..model.settings import Settings
 
 # The result of a call whose buffer is too short, which is not an error.
 ROOM = numbers()["ROOM"]
-# The greatest number of 32 bits. No argument of the library has it in its range, except for a number of turns.
+# The greatest number of 32 bits. No argument of the library has it in its range, except for a number of turns and the
+# values of ROUNDS and WARRIORS in a source.
 MAX_UINT32 = (1 << 32) - 1
 # The numbers that are None if they are not given.
 OPTIONAL = ("read_limit", "write_limit", "position")
@@ -55,9 +56,9 @@ def open_library() -> tuple[Any, Any]:
     ffi, source = types()
     try:
         calls: Any = ffi.dlopen(shared)
-    except OSError as fault:
+        given, wanted = calls.mars_version(), calls.MARS_VERSION
+    except (OSError, AttributeError) as fault:
         raise NoLibrary(f"{shared}: {fault}") from None
-    given, wanted = calls.mars_version(), calls.MARS_VERSION
     if given // 1000 != wanted // 1000 or given < wanted:
         raise NoLibrary(f"{shared} has version {given}, but {source} has {wanted}; rebuild it with scripts/library")
     return ffi, calls
@@ -109,7 +110,9 @@ def clamp(value: int, maximum: int = MAX_UINT32) -> int:
 
 
 def check_size(value: int) -> int:
-    """Returns a number of turns, records or bytes. Raises CorewarError if no argument of the library can be that."""
+    """Returns a number of turns or records, or a value of ROUNDS or WARRIORS. Raises CorewarError if no argument of the
+    library can be that.
+    """
     if not 0 <= value <= MAX_UINT32:
         raise CorewarError(f"expected a number from 0 to {MAX_UINT32}, not {value}")
     return value

@@ -10,7 +10,7 @@ import numpy as np
 
 from ..model.errors import CorewarError, MarsError
 from ..model.settings import FORMULA, MAX_WARRIORS, Settings, settings_of
-from .binding import array, call, clamp, read_text, settings_struct, slice_of
+from .binding import array, call, check_size, clamp, read_text, settings_struct, slice_of
 from .warriors import Warrior, program
 
 
@@ -79,22 +79,28 @@ def assemble(
     - `source`: Redcode as text or bytes
     - `settings`: the parameters of the core, or the name of a hill; predefined names and the maximum length depend on
       them
-    - `rounds`, `warriors`: the values of the predefined names ROUNDS and WARRIORS
+    - `rounds`, `warriors`: the values of the predefined names ROUNDS and WARRIORS, 0 to 4,294,967,295
     - `file`: the name that the warrior has if its source gives none
 
-    Raises `MarsError` with the line of an error in the source, or if the settings are invalid or memory runs out. There
-    is no limit of time and memory: use `Assembler` of `corewar.engine.sources` for the sources of strangers.
+    Raises `MarsError` with the line of an error in the source, or if the settings are invalid or memory runs out, and
+    `CorewarError` for other values of ROUNDS and WARRIORS. There is no limit of time and memory: use an `Assembler` for
+    the sources of strangers.
     """
-    data = source.encode() if isinstance(source, str) else source
-    result = program("mars_assemble", settings, rounds, [clamp(warriors)], data)
-    return replace(result, file=os.fspath(file), source=data)
+    data = encode_source(source)
+    result = program("mars_assemble", settings, check_size(rounds), [check_size(warriors)], data)
+    return replace(result, file=os.fsdecode(file), source=data)
+
+
+def encode_source(source: str | bytes) -> bytes:
+    """Returns the bytes of a source; those that are not UTF-8 may be in a text as `surrogateescape` decodes them."""
+    return source.encode(errors="surrogateescape") if isinstance(source, str) else bytes(memoryview(source))
 
 
 def source_lines(
     source: bytes, settings: Settings = Settings(), rounds: int = 1, warriors: int = 2
 ) -> list[tuple[int, list[str]]]:
     """Returns the number of the line, from 1, and the labels of each instruction of a source. Raises `MarsError`."""
-    given = [settings_struct(settings, rounds), clamp(warriors), *slice_of("uint8_t", source)]
+    given = [settings_struct(settings, check_size(rounds)), check_size(warriors), *slice_of("uint8_t", source)]
     result = read_text(4096, lambda *room: call("mars_lines", *given, *room)).decode("latin-1")
     return [(int(words[0]), words[1:]) for words in map(str.split, result.splitlines())]
 
@@ -189,6 +195,6 @@ def rows(
 ) -> list[Row]:
     """Returns the rows of a call, whose numbers are rounds, seed and position."""
     given, result = settings_of(settings), array("MarsRow", count)
-    words = settings_struct(given, *numbers), *slice_of("uint8_t", formula.encode())
+    words = settings_struct(given, *numbers), *slice_of("uint8_t", encode_source(formula))
     call(name, *words, *warrior_arrays(warriors, given.core), *slice_of("MarsRow", result))
     return [Row(*row) for row in result.tolist()]

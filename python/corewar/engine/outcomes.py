@@ -2,7 +2,7 @@
 from __future__ import annotations
 
 from collections.abc import Sequence
-from concurrent.futures import ThreadPoolExecutor
+from concurrent.futures import Future, ThreadPoolExecutor
 from typing import Any
 
 import numpy as np
@@ -23,13 +23,23 @@ COUNTED = np.dtype([*OUTCOME.descr, *((name, "u4") for name in COUNTS)])
 PARTS = 4
 
 
+class Threads(ThreadPoolExecutor):
+    """A pool of threads that raises CorewarError if the system refuses one."""
+
+    def submit(self, *given: Any, **named: Any) -> Future[Any]:
+        try:
+            return super().submit(*given, **named)
+        except RuntimeError as fault:
+            raise CorewarError(f"{fault}; use fewer jobs") from None
+
+
 def outcomes(
     warriors: Sequence[Warrior],
     lineups: ArrayLike | None = None,
     *,
     settings: Settings | str = "94nop",
     rounds: int = 1,
-    seeds: int | Sequence[int] = 1,
+    seeds: ArrayLike = 1,
     position: int | None = None,
     counts: bool = False,
     jobs: int = 1,
@@ -60,9 +70,10 @@ def outcomes(
     - `touched`: the number of cells that it executed, read or wrote; operands count as read even if the opcode
       does not use them
 
-    The sums over the rounds are the rows of `match`. Raises ValueError for lineups of different lengths and for more or
-    fewer seeds than lineups, `CorewarError` for more than 16 warriors in a match or no thread, and `MarsError` if a
-    number, a lineup or a warrior is invalid, if the core is too small, or if memory runs out.
+    The sums over the rounds are the rows of `match`. Raises ValueError for lineups of different lengths, for more or
+    fewer seeds than lineups, and for numbers that are not whole; `CorewarError` for more than 16 warriors in a match or
+    no thread; and `MarsError` if a number, a lineup or a warrior is invalid, if the core is too small, or if memory
+    runs out.
     """
     if jobs < 1:
         raise CorewarError(f"expected 1 or more jobs, not {jobs}")
@@ -113,17 +124,14 @@ def run_lineups(
     if jobs == 1:
         rows = run(0)
     else:
-        with ThreadPoolExecutor(jobs) as pool:
+        with Threads(jobs) as pool:
             rows = np.concatenate([*pool.map(run, range(0, max(1, len(table)), size))])
     return rows.reshape(len(table), rounds, count)
 
 
-def table_of(lineups: ArrayLike, seeds: int | Sequence[int]) -> NDArray[Any]:
+def table_of(lineups: ArrayLike, seeds: ArrayLike) -> NDArray[Any]:
     """Returns lineups in the form that the library expects. Raises ValueError."""
-    try:
-        indices = np.asarray(lineups, np.int64)
-    except (ValueError, TypeError):
-        raise ValueError("expected lineups of whole numbers, all of the same length") from None
+    indices = clamped(lineups, "lineups of whole numbers, all of the same length")
     # An empty list has one dimension, and stands for no lineups.
     if indices.shape == (0,):
         indices = indices.reshape(0, 0)
@@ -131,15 +139,22 @@ def table_of(lineups: ArrayLike, seeds: int | Sequence[int]) -> NDArray[Any]:
         raise ValueError(f"expected an array of lineups, with 2 dimensions and not {indices.ndim}")
     check_count(indices.shape[1])
     table = array("MarsLineup", len(indices))
-    table["count"], table["warrior"][:, : indices.shape[1]] = indices.shape[1], clamped(indices)
-    table["seed"] = clamped(np.asarray(seeds))
+    table["count"], table["warrior"][:, : indices.shape[1]] = indices.shape[1], indices
+    table["seed"] = clamped(seeds, "whole numbers as seeds")
     return table
 
 
-def clamped(numbers: NDArray[Any]) -> NDArray[np.int64]:
-    """Returns numbers as the library takes them; it refuses those that do not fit."""
-    fits = (numbers >= 0) & (numbers <= MAX_UINT32)
-    return np.where(fits, numbers, MAX_UINT32).astype(np.int64)
+def clamped(given: ArrayLike, wanted: str) -> NDArray[np.int64]:
+    """Returns whole numbers as the library takes them; it refuses those that do not fit. Raises ValueError."""
+    try:
+        numbers = np.asarray(given)
+        fits = (numbers >= 0) & (numbers <= MAX_UINT32)
+    except (ValueError, TypeError):
+        raise ValueError(f"expected {wanted}") from None
+    # An empty list has no whole numbers, and numbers of more than 64 bits are objects.
+    if numbers.size and numbers.dtype.kind not in "biuO":
+        raise ValueError(f"expected {wanted}")
+    return np.where(fits, numbers, np.int64(MAX_UINT32)).astype(np.int64)
 
 
 def cycles_of(turns: NDArray[np.uint32], survived: NDArray[np.bool_], limit: int) -> NDArray[np.int64]:

@@ -16,16 +16,22 @@ from typing import Any
 from ..model.errors import ASSEMBLY, LOAD, MEMORY, CorewarError, FileError, MarsError
 from ..model.settings import MAX_FILE_SIZE, Settings, settings_of
 from .binding import library
-from .calls import assemble
+from .calls import assemble, encode_source
 from .warriors import Warrior, read_load
 
 
 @dataclass(frozen=True)
 class Limit:
-    """The limits for assembling one source: `seconds` of CPU time, and `megabytes` of memory."""
+    """The limits for assembling one source: `seconds` of CPU time, and `megabytes` of memory, 1 or more of each. Raises
+    `CorewarError` for less.
+    """
 
     seconds: int = 10
     megabytes: int = 1000
+
+    def __post_init__(self) -> None:
+        if self.seconds < 1 or self.megabytes < 1:
+            raise CorewarError(f"expected 1 or more seconds and megabytes, not {self.seconds} and {self.megabytes}")
 
 
 class Overrun(CorewarError):
@@ -33,8 +39,11 @@ class Overrun(CorewarError):
 
 
 class Assembler:
-    """A process that assembles sources, one after the other. It is started for the first one, and again after a limit
-    has ended it.
+    """A process that assembles sources within limits, one after the other. It is started for the first one, and again
+    after a limit has ended it. `with Assembler() as assembler:` ends it. If the program has threads, the process is a
+    new one of Python, which imports the program's main module again.
+
+    - `limit`: the limits for each source
     """
 
     def __init__(self, limit: Limit = Limit()) -> None:
@@ -59,23 +68,31 @@ class Assembler:
             self._process = None
 
     def assemble(
-        self, source: bytes, *, settings: Settings = Settings(), rounds: int = 1, warriors: int = 2
+        self,
+        source: str | bytes,
+        *,
+        settings: Settings | str = "94nop",
+        rounds: int = 1,
+        warriors: int = 2,
+        file: str | os.PathLike[str] = "",
     ) -> Warrior:
-        """Returns the warrior of a source, without file and source. Raises `MarsError`, and Overrun if it takes more
-        than a limit.
+        """Assembles a source as `corewar.assemble` does, and returns the warrior. Raises `MarsError`, and `Overrun` if
+        it takes more than a limit. Several threads may call at once.
         """
+        data = encode_source(source)
+        given = {"settings": settings_of(settings), "rounds": rounds, "warriors": warriors}
         with self._lock:
             if self._process is None:
                 self._begin()
             assert self._pipe is not None
             try:
-                self._pipe.send((source, {"settings": settings, "rounds": rounds, "warriors": warriors}))
-                result: Warrior | MarsError = self._pipe.recv()
+                self._pipe.send((data, given))
+                result: Warrior | Exception = self._pipe.recv()
             except (EOFError, OSError):
                 raise self._overrun() from None
         if isinstance(result, Warrior):
-            return result
-        if result.code == MEMORY:
+            return replace(result, file=os.fsdecode(file), source=data)
+        if isinstance(result, MarsError) and result.code == MEMORY:
             raise Overrun(f"assembling takes more than {self.limit.megabytes} MB of memory")
         raise result
 
@@ -139,11 +156,11 @@ def end_with_parent() -> None:
         os._exit(1)
 
 
-def assemble_or_error(source: bytes, given: dict[str, Any]) -> Warrior | MarsError:
+def assemble_or_error(source: bytes, given: dict[str, Any]) -> Warrior | Exception:
     """Returns the warrior of a source, without it, or its error."""
     try:
         return replace(assemble(source, **given), source=None)
-    except MarsError as fault:
+    except (CorewarError, TypeError) as fault:
         return fault
     except MemoryError:
         return MarsError(MEMORY)
@@ -185,8 +202,7 @@ def read_warrior(
     try:
         if path.endswith(".load"):
             return read_load(text, settings, path)
-        result = assemble(text, settings=settings, rounds=rounds, warriors=warriors)
-        return replace(result, file=path, source=text)
+        return assemble(text, settings=settings, rounds=rounds, warriors=warriors, file=path)
     except Overrun as overrun:
         raise FileError(path, str(overrun), text) from None
     except MarsError as fault:
@@ -221,4 +237,4 @@ def read(
     Raises `FileError` if the file cannot be read or has an error, and `MarsError` if the settings are invalid. There is
     no limit of time and memory.
     """
-    return read_warrior(assemble, os.fspath(path), settings_of(settings), rounds, warriors)
+    return read_warrior(assemble, os.fsdecode(path), settings_of(settings), rounds, warriors)

@@ -7,6 +7,7 @@ from collections.abc import Callable
 from dataclasses import dataclass
 from importlib.resources import files
 
+from ..engine.calls import encode_source
 from ..engine.warriors import Warrior
 from ..model.cells import TEXT, cell_text
 from .source import MODIFIERS, NAME, OPCODES, PREDEFINED, TOKEN, Line, parse_line
@@ -104,10 +105,10 @@ def describe_line(line: Line, load: Callable[[bytes], Warrior], core: int) -> li
     """
     names = [word for word in line.operands if NAME.match(word) and word not in [*PREDEFINED, *line.labels]]
     source = "".join(f"{name} EQU 0\n" for name in dict.fromkeys(names)) + f"{line.text}\n"
-    found = TEXT.fullmatch(cell_text(load(source.encode()).cells[-1], core))
+    found = TEXT.fullmatch(cell_text(load(encode_source(source)).cells[-1], core))
     assert found is not None
     opcode, modifier, a_mode, a, b_mode, b = found.groups()
-    code = re.split(r"\.\s*\w+" if line.rest[:1] == ["."] else rf"(?i)\b{line.operation}\b", line.code, 1)[-1]
+    code = re.split(r"\.\s*\w+" if line.rest[:1] == ["."] else rf"(?i)\b{line.operation}\b", line.code, maxsplit=1)[-1]
     texts = [" ".join(text.strip(" \t#$@*{}<>").split()) for text in code.split(",")]
     # A DAT with a single operand has it as B.
     texts = ["", *texts] if opcode == "DAT" and len(texts) == 1 else [*texts, ""]

@@ -17,7 +17,7 @@ OPERATIONS = [*words.OPCODES, *words.DIRECTIVES]
 ELSEWHERE = "LDP STP PIN XCH PCT STS".split()
 # A name with its joins, a number, or punctuation, also such as the language does not have; bytes up to 32 are spaces.
 TOKEN = re.compile(r"(?:\w|&(?=[A-Za-z_]))+|==|!=|<=|>=|&&|\|\||[^\0- ]", re.ASCII)
-NAME = re.compile(r"[A-Za-z_][\w&]*$", re.ASCII)
+NAME = re.compile(r"[A-Za-z_][\w&]*\Z", re.ASCII)
 # How many names are compared with a word; a comparison takes 10 to 20 microseconds for each letter.
 MAX_CHOICES = 1000
 # How many words of a line are compared with the names of operations.

@@ -9,12 +9,11 @@ from numpy.typing import NDArray
 
 from .errors import CorewarError
 from .header import characters, enumeration
+from .settings import MAX_DIGITS
 
 OPCODES, MODIFIERS, MODES = [*enumeration("DAT")], [*enumeration("A")], characters()
-TEXT = re.compile(
-    rf"({'|'.join(OPCODES)})\.({'|'.join(MODIFIERS)}) ([{re.escape(MODES)}])(-?\d+), ([{re.escape(MODES)}])(-?\d+)",
-    re.ASCII,
-)
+OPERAND = rf"([{re.escape(MODES)}])(-?\d{{1,{MAX_DIGITS}}})"
+TEXT = re.compile(rf"({'|'.join(OPCODES)})\.({'|'.join(MODIFIERS)}) {OPERAND}, {OPERAND}", re.ASCII)
 # The numbers of a cell: opcode, modifier, modes and numbers of A and B.
 Cell = tuple[int, int, int, int, int, int]
 # Arrays of cells, and of records of turns or deaths, with the fields of the header.
@@ -42,10 +41,12 @@ def cell_text(cell: Cell | np.void, core: int) -> str:
 
 
 def cell_of(text: str, core: int) -> Cell:
-    """Returns the numbers of a cell that is written as `cell_text` returns it. Raises `CorewarError` for any other
-    text.
+    """Returns the numbers of a cell that is written as `cell_text` returns it, in a core of a size. Raises
+    `CorewarError` for any other text, and for a core without cells.
     """
     found = TEXT.fullmatch(text)
+    if core < 1:
+        raise CorewarError(f"expected a core size of 1 or more, not {core}")
     if found is None:
         raise CorewarError(f"expected a cell such as `MOV.I $0, $1`, not `{text}`")
     op, modifier, a_mode, a, b_mode, b = found.groups()

@@ -59,8 +59,11 @@ def enumerations() -> list[dict[str, int]]:
 
 
 def enumeration(first: str) -> dict[str, int]:
-    """Returns the enumeration that begins with this name."""
-    return next(one for one in enumerations() if next(iter(one)) == first)
+    """Returns the enumeration that begins with this name. Raises ImportError if the header has none."""
+    for one in enumerations():
+        if next(iter(one)) == first:
+            return one
+    raise ImportError(f"{header()} is not the header of this version: it has no MARS_{first}")
 
 
 @lru_cache(maxsize=None)

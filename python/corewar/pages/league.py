@@ -7,25 +7,30 @@ from typing import Any
 from ..analysis.formatting import pluralize
 from ..engine.calls import Match
 from ..contests.table import League
-from ..model.settings import label
+from ..model.settings import Settings, label
 from ..pictures.shades import mix_colours
 from .render import render, write_page
-from .site import page_of
+from .site import check_page, page_of
 
 # A browser cannot show the matrix of more warriors.
 MAX_MATRIX_SIZE = 250
 PAGE = "battles.html"
 
 
-def write_pages(folder: Path, league: League) -> None:
-    """Writes the page of a league, index.html, and the page of its battles unless it has too many warriors. Raises
-    CorewarError if the site is not built.
+def begin_pages(folder: Path, settings: Settings) -> None:
+    """Makes the folder for the pages of a league. Raises CorewarError if the site is not built or cannot show battles
+    with these settings.
     """
+    check_page(settings, 2)
+    folder.mkdir(parents=True, exist_ok=True)
+
+
+def write_pages(folder: Path, league: League) -> None:
+    """Writes the page of a league, index.html, and the page of its battles unless it has too many warriors."""
     contest, warriors = league.matches.contest, tuple(league.warriors)
     has_matrix = len(warriors) <= MAX_MATRIX_SIZE
     given: dict[str, Any] = {"rounds": contest.rounds, "seed": contest.seed, "position": contest.position}
     match = Match(warriors, settings=contest.settings, **given)
-    battles = page_of(match, contest.formula) if has_matrix else ""
     numbers = {**vars(contest.settings), **given}
     texts = [f"{label(name)} {value:,}" for name, value in numbers.items() if value]
     page = render(
@@ -34,9 +39,8 @@ def write_pages(folder: Path, league: League) -> None:
         settings=[*texts, f"score {contest.formula}"],
         lines=lines_of(league) if has_matrix else [],
     )
-    folder.mkdir(parents=True, exist_ok=True)
     if has_matrix:
-        write_page(folder / PAGE, battles)
+        write_page(folder / PAGE, page_of(match, contest.formula))
     write_page(folder / "index.html", page)
 
 

@@ -24,6 +24,8 @@ INSTALLED, BUILT = Path(__file__).with_name("site"), CHECKOUT / "build" / "site"
 # The place for a fight.
 FIGHT = re.compile(r'(<script id="page-fight" type="text/plain">)[^<]*(?=</script>)')
 VERSION = 1
+# The maximum number of turns of a battle that the site shows.
+MAX_TURNS = 16_000_000
 # What the settings with two words are called in JavaScript.
 NAMES = {"read_limit": "readLimit", "write_limit": "writeLimit"}
 
@@ -34,6 +36,14 @@ def site_folder() -> Path:
         if (folder / "one.html").is_file():
             return folder
     raise CorewarError("the site is not built; run `make site`")
+
+
+def check_page(settings: Settings, warriors: int) -> None:
+    """Raises CorewarError if the site is not built, or shows no battles that are so long."""
+    site_folder()
+    if settings.cycles * warriors > MAX_TURNS:
+        most = MAX_TURNS // warriors
+        raise CorewarError(f"a page shows battles of at most {most} cycles of {warriors} warriors; set `-c`")
 
 
 def source_of(warrior: Warrior) -> tuple[str, str]:

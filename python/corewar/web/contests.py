@@ -4,7 +4,6 @@ from __future__ import annotations
 import os
 from collections.abc import Generator
 from contextlib import ExitStack
-from dataclasses import replace
 from typing import Any
 
 import numpy as np
@@ -17,7 +16,6 @@ from ..contests.results import Results
 from ..model.errors import CorewarError, MarsError
 from ..model.settings import Settings
 from ..engine.warriors import Warrior
-from .folder import encode_source
 
 JOBS = len(os.sched_getaffinity(0))
 # The names of settings in the messages of the page, in which 0 is the core size for a limit, and no position.
@@ -44,12 +42,11 @@ def contest_of(given: dict[str, Any]) -> Contest:
 
 def warrior_of(assembler: Assembler, source: dict[str, str], contest: Contest) -> Warrior:
     """Returns the warrior of a source. Raises CorewarError."""
-    text = encode_source(source["text"])
+    text, name = source["text"], source["name"]
     try:
-        warrior = assembler.assemble(text, settings=contest.settings, rounds=contest.rounds)
-        return replace(warrior, file=source["name"], source=text)
+        return assembler.assemble(text, settings=contest.settings, rounds=contest.rounds, file=name)
     except (MarsError, Overrun) as fault:
-        raise CorewarError(f"{source['name']}: {fault}") from None
+        raise CorewarError(f"{name}: {fault}") from None
 
 
 def league(assembler: Assembler, given: dict[str, Any], results: str | None) -> Generator[list[list[int]], None, None]:

@@ -5,9 +5,11 @@ import hashlib
 import threading
 from collections.abc import Iterable
 from dataclasses import dataclass, field
+from functools import cached_property
 from pathlib import Path
 from typing import Any
 
+from ..engine.calls import encode_source
 from ..engine.files import replace_file
 from ..model.errors import CorewarError, FileError
 from ..model.settings import MAX_FILE_SIZE
@@ -19,11 +21,6 @@ class ChangedOnDisk(CorewarError):
     def __init__(self, name: str, seen: str) -> None:
         super().__init__(f"{name} has changed on disk; not overwritten")
         self.seen = seen
-
-
-def encode_source(text: str) -> bytes:
-    """Returns the bytes of a source. Invalid UTF-8 survives reading and saving."""
-    return text.encode("utf-8", "surrogateescape")
 
 
 def digest(data: bytes) -> str:
@@ -56,9 +53,9 @@ class Folder:
     examples: dict[str, Path]
     _lock: threading.Lock = field(default_factory=threading.Lock, repr=False, compare=False)
 
-    @property
+    @cached_property
     def key(self) -> str:
-        """A name for what a browser keeps of this folder."""
+        """A name for what a browser keeps of this folder. A new source does not change it."""
         return digest("\n".join(str(path.resolve()) for path in self.paths).encode("utf-8", "surrogateescape"))[:16]
 
     def all(self) -> list[dict[str, Any]]:
@@ -75,6 +72,7 @@ class Folder:
 
         Raises ChangedOnDisk, `FileError` and CorewarError.
         """
+        # Invalid UTF-8 survives reading and saving.
         data = encode_source(text)
         if len(data) > MAX_FILE_SIZE:
             raise CorewarError(f"{name} has more than {MAX_FILE_SIZE} bytes; not saved")

@@ -154,15 +154,16 @@ class Handler(BaseHTTPRequestHandler):
 
 
 class Server(ThreadingHTTPServer):
-    """The server, on a free port if the wanted one is taken."""
+    """The server, on a free port if the wanted one cannot be used; `refusal` is the reason for that, or ""."""
 
     daemon_threads = True
 
     def __init__(self, served: ServedSite, port: int) -> None:
-        handler = type("Handler", (Handler,), {"served": served, "protocol_version": "HTTP/1.1"})
+        handler, self.refusal = type("Handler", (Handler,), {"served": served, "protocol_version": "HTTP/1.1"}), ""
         try:
             super().__init__((HOST, port), handler)
-        except OSError:
+        except OSError as fault:
+            self.refusal = fault.strerror or "error"
             super().__init__((HOST, 0), handler)
 
     def handle_error(self, *_: object) -> None:
@@ -172,10 +173,9 @@ class Server(ThreadingHTTPServer):
 def serve(served: ServedSite, port: int, opens_browser: bool, say: Callable[[str], object]) -> None:
     """Serves until it is stopped."""
     with Server(served, port) as server:
-        taken = server.server_address[1]
-        if port not in (0, taken):
-            say(f"Port {port} is taken. Browsers store unsaved texts by port, so those of port {port} are not shown.")
-        address = f"http://{HOST}:{taken}/{served.token}/"
+        if server.refusal:
+            say(f"Port {port}: {server.refusal}. Browsers store unsaved texts by port; those of {port} are not shown.")
+        address = f"http://{HOST}:{server.server_address[1]}/{served.token}/"
         say(f"The site is at {address} (press Ctrl-C to stop)")
         with open_browser(address) if opens_browser else nullcontext(), served.assembler:
             server.serve_forever()
