@@ -1,5 +1,5 @@
 /** The bench: the source in the editor against each opponent, fought again whenever it changes. */
-import { MarsError } from "../engine/mars.js";
+import { MarsError } from "../model/errors.js";
 import { number, pluralize } from "../words/battle.js";
 import { changeOf, isSure, verdict } from "../words/comparison.js";
 import { debounce, element, make, onClick, refill, typed, withCode } from "./dom.js";

@@ -1,5 +1,5 @@
 /** What the sheets of the page ask of it, and what they share. */
-import { MarsError } from "../engine/mars.js";
+import { MarsError } from "../model/errors.js";
 import * as results from "../model/layout.js";
 import { explain } from "../words/errors.js";
 

@@ -1,5 +1,5 @@
 /** The league: a match of every two sources. The table and the wins of each pair grow as matches end. */
-import { MarsError } from "../engine/mars.js";
+import { MarsError } from "../model/errors.js";
 import { number, pluralize } from "../words/battle.js";
 import { debounce, element, make, onClick, refill, typed, withCode } from "./dom.js";
 import { errorWords } from "./host.js";

@@ -1,5 +1,5 @@
 /** The sources: a list, of which one is in the editor, and those that are marked fight. */
-import { MarsError } from "../engine/mars.js";
+import { MarsError } from "../model/errors.js";
 import { cellText } from "../model/cells.js";
 import { MAX_SOURCE_SIZE } from "../model/settings.js";
 import { errorsOf } from "../words/errors.js";

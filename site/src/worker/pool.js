@@ -1,5 +1,5 @@
 /** Workers: one for the battle that is shown, and several for everything that is fought beside it. */
-import { MarsError } from "../engine/mars.js";
+import { MarsError } from "../model/errors.js";
 
 /** @typedef {import("./desk.js").Desk} Desk */
 /** @typedef {import("./jobs.js").Jobs} Jobs */
@@ -33,7 +33,7 @@ class WorkerClient {
       this.#waiting.delete(data.id);
       if (!("error" in data)) request?.done(data.value);
       else if (typeof data.error === "string") request?.failed(new Error(data.error));
-      else request?.failed(new MarsError(data.error.code, data.error));
+      else request?.failed(new MarsError(data.error.message, data.error));
     };
     this.worker.onerror = (event) => this.#fail(new Error(event.message || "A worker does not start."));
     /** @type {Promise<unknown>} */
