@@ -1,5 +1,5 @@
 /** The editor: Redcode in colours, errors at their words, each line in words under the pointer. */
-import CodeMirror from "codemirror";
+import { CodeMirror, Doc, defineMode } from "codemirror";
 import { pluralize } from "../words/battle.js";
 import { instructionWords } from "../words/instruction.js";
 import { DIRECTIVES, OPCODES } from "../words/source.js";
@@ -25,7 +25,7 @@ const TOKENS = [
   [/^[#$@*<>{}]/, "operator"],
 ];
 
-CodeMirror.defineMode("redcode", () => ({
+defineMode("redcode", () => ({
   token(stream) {
     if (stream.eatSpace()) return null;
     const found = TOKENS.find(([pattern]) => stream.match(pattern));
@@ -35,7 +35,7 @@ CodeMirror.defineMode("redcode", () => ({
 }));
 
 /** @param {string} text */
-export const newDocument = (text) => CodeMirror.Doc(text, "redcode");
+export const newDocument = (text) => new Doc(text, "redcode");
 
 export class Editor {
   /** @type {{clear(): void}[]} */
