@@ -35,6 +35,10 @@ export function pluralize(value, what) {
   return `${number(value)} ${what}${value === 1 ? "" : ending}`;
 }
 
+/** @param {{wins: number, ties: number, losses: number}} counts */
+export const countWords = ({ wins, ties, losses }) =>
+  `${pluralize(wins, "win")}, ${pluralize(ties, "tie")}, ${pluralize(losses, "loss")}`;
+
 /** @param {string[]} names */
 export const joinNames = (names) =>
   names.length > 1 ? `${names.slice(0, -1).join(", ")} and ${names[names.length - 1]}` : (names[0] ?? "");
@@ -106,6 +110,15 @@ export function outcome({ names, deaths }) {
 }
 
 /**
+ * Returns how the battle ends for a warrior that survives.
+ * @param {Known} known
+ */
+export function fateWords({ names, deaths }) {
+  if (names.length === 1) return "survives";
+  return names.length - deaths.length === 1 ? "wins" : "ties";
+}
+
+/**
  * Returns a turn in some sentences.
  * @param {Move} move
  * @param {Known} known
@@ -117,7 +130,7 @@ export function moveWords(move, known) {
   const sentences = [`${name} executed ${executed} at ${place(move.address, known)}.`];
   for (const write of move.writes) sentences.push(writeWords(write, move.warrior, known));
   if (move.reads.length) {
-    const cells = move.reads.slice(0, 4).map((address) => place(address, known));
+    const cells = move.reads.map((address) => place(address, known));
     sentences.push(`It read cell${cells.length > 1 ? "s" : ""} ${joinNames(cells)}.`);
   }
   sentences.push(endWords(move, known));
