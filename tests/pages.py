@@ -735,6 +735,14 @@ def test_a_narrow_page_shows_lessons(narrow: Browser) -> None:
     narrow.until(f"{place}.top > -1 && {place}.bottom <= desk.getBoundingClientRect().top")
 
 
+def test_a_narrow_page_begins_with_its_battle(narrow: Browser, site: str) -> None:
+    """Also if the editor was open before, which is below it."""
+    narrow.run("corewar.showDesk(true)")
+    narrow.open(f"{site}?narrow")
+    narrow.until("window.corewar?.session.view")
+    assert narrow.value("[scrollY, document.getElementById('desk').hidden]") == [0, False]
+
+
 def test_a_narrow_page_shows_answers(narrow: Browser) -> None:
     """These are visible: why a warrior died, the clicked round, errors, both futures, and the change of a version."""
     narrow.run("document.getElementById('why-now').click()")

@@ -112,6 +112,8 @@ class Page {
     shelf.show(shown);
     if (server) element("download").textContent = "Save";
     if (stored.desk) this.showDesk(true);
+    // On a narrow page the editor is below the battle.
+    scrollTo(0, 0);
   }
 
   /**
