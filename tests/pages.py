@@ -495,9 +495,12 @@ def test_what_is_scrolled_and_opened_keeps_its_keys(page: Browser) -> None:
 
 
 def test_a_new_source_fights(page: Browser) -> None:
-    """It is marked in place of the source that was shown."""
+    """It is selected in place of the source that was shown, and so is one that is opened."""
     page.run("document.getElementById('new').click(); document.getElementById('fight').click()")
     page.until("document.title === 'Imp against My first warrior · Core War'")
+    page.run("await corewar.shelf.take([new File([';name Mine\\nMOV 0, 1'], 'mine.txt')])")
+    page.run("document.getElementById('fight').click()")
+    page.until("document.title === 'Imp against Mine · Core War'")
 
 
 def test_files_are_opened(page: Browser) -> None:

@@ -153,9 +153,7 @@ export class Shelf {
     const large = files.filter(({ size }) => size > MAX_SOURCE_SIZE).map(({ name }) => name);
     for (const file of files) {
       if (large.includes(file.name)) continue;
-      const entry = this.add({ name: file.name, text: await textOf(file) });
-      entry.fights = this.fighters.length < 2;
-      this.show(entry);
+      this.#enter({ name: file.name, text: await textOf(file) });
     }
     this.#store();
     this.host.reveal();
@@ -167,10 +165,17 @@ export class Shelf {
     this.sign();
   }
 
-  #create() {
-    // It fights in the place of the source that was shown.
+  /**
+   * Adds a source and shows it. It fights in the place of the one that was shown.
+   * @param {{name: string, text: string, saved?: string}} source
+   */
+  #enter(source) {
     if (this.shown) this.shown.fights = false;
-    this.show(this.add({ name: "warrior.red", saved: "", text: NEW.join("\n"), fights: true }));
+    this.show(this.add({ ...source, fights: true }));
+  }
+
+  #create() {
+    this.#enter({ name: "warrior.red", saved: "", text: NEW.join("\n") });
     this.#store();
     this.editor.mirror.focus();
     this.editor.mirror.setCursor(1, NEW[1].length);
