@@ -534,6 +534,10 @@ def test_rounds_are_those_of_the_program(page: Browser) -> None:
     assert len({*reasons}) == len(reasons) > 1
     page.click("#strip button:nth-child(8)")
     page.until("corewar.session.fight.round === 7 && document.querySelectorAll('#strip [aria-current]').length === 1")
+    # They stay if the battle is edited, also after the shelf has named the sources of a link.
+    page.run("corewar.session.rename(corewar.session.fight.warriors.map(({text}, at) => ({name: `${at}.red`, text})))")
+    answer(page, "edit 3 jmp 0")
+    assert page.value("document.querySelectorAll('#strip button').length") == 100
 
 
 def test_the_bench_is_the_program(page: Browser) -> None:

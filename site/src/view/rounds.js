@@ -46,7 +46,8 @@ export class Rounds {
   #open() {
     const { fight } = this.session;
     if (!fight) return;
-    const match = JSON.stringify([fight.warriors, fight.settings, fight.seed, fight.position]);
+    const texts = fight.warriors.map(({ text }) => text);
+    const match = JSON.stringify([texts, fight.settings, fight.seed, fight.position]);
     if (match !== this.#match) {
       this.pool.drop("rounds");
       this.#match = match;
