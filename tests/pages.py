@@ -230,7 +230,7 @@ def test_a_message_stays_until_the_turn_changes(page: Browser) -> None:
 def test_a_cell_in_view_while_it_plays(page: Browser) -> None:
     """Its text is that of a turn that is shown."""
     page.run("corewar.session.jump(0); corewar.session.pin(3)")
-    text = "document.querySelector('#listing .focus .text').textContent"
+    text = "document.querySelector('#listing .focus .text')?.textContent"
     page.until(f"{text} === 'DAT.F #0, #0'")
     page.run("corewar.session.setRate(600); corewar.session.play(1)")
     page.until(f"corewar.session.way === 1 && {text} !== 'DAT.F #0, #0'")

@@ -251,6 +251,8 @@ def test_the_page_saves_to_the_folder(page: Browser, site: Site) -> None:
     page.run("corewar.shelf.editor.mirror.setValue('mov 0, 1\\n')")
     page.click("#download")
     page.until("document.querySelector('#saved button')")
+    # The message stays when the text is stored in the browser, a moment after it was typed.
+    page.run("await new Promise(done => setTimeout(done, 600))")
     assert page.text("saved") == "own.red has changed on disk; not overwritten. Overwrite or Reload"
     assert (site.folder / "own.red").read_text() == "nop 0\n"
     page.click("#saved button")

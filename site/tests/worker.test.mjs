@@ -7,7 +7,7 @@ import { test } from "node:test";
 
 import { Mars } from "../src/engine/mars.js";
 import { DEFAULTS } from "../src/model/settings.js";
-import { fateWords, moveWords } from "../src/words/battle.js";
+import { fateWords, moveWords, writtenWords } from "../src/words/battle.js";
 import { Desk } from "../src/worker/desk.js";
 import { Jobs } from "../src/worker/jobs.js";
 
@@ -51,6 +51,16 @@ test("a turn in words names all cells that it read", () => {
   const move = desk.move(0, 1);
   assert.deepEqual(move.reads, [10, 20]);
   assert.match(moveWords({ ...move, reads: [1, 2, 3, 4, 5, 6] }, known(["Lace"])), /cells 1, 2, 3, 4, 5 and 6\./);
+});
+
+test("a cell that is edited at the start is not loaded", () => {
+  const desk = new Desk(mars);
+  desk.open(fightOf(["JMP 0\n"]));
+  const { future } = desk.edit(0, 0, { kind: "cell", address: 5, last: 5, cell: desk.cellOf("NOP 0") });
+  const { owner, written } = desk.turn(future, 1);
+  const words = [0, 5, 6].map((address) => writtenWords(owner[address], written[address], known(["Lace"])));
+  assert.deepEqual(words, ["Loaded with Lace", "Edited after turn 0", "Never written"]);
+  assert.equal(writtenWords(0, 7, known(["Lace"])), "Written by Lace in turn 7");
 });
 
 test("the winner is found by who lives, whatever it is called", () => {

@@ -1,6 +1,6 @@
 /** The cells around the one that is looked at: their texts, which can be edited, and who changed that one when. */
 import { cellText, readCell } from "../model/cells.js";
-import { number, ownerName } from "../words/battle.js";
+import { number, writtenWords } from "../words/battle.js";
 import { instructionWords } from "../words/instruction.js";
 import { buttons, element, make, onClick, refill, throttle, withCode } from "./dom.js";
 import { swatch } from "./palette.js";
@@ -145,11 +145,8 @@ export class Cells {
       const code = make("code", {}, cellText(readCell(before, 0), known.core));
       return make("li", {}, link(to, `Turn ${number(turn)}`), `: ${known.names[warrior]} (was `, code, ")");
     });
-    const owner = view.owner[focus];
-    const loaded = owner < known.names.length ? `Loaded with ${ownerName(owner, known)}, and not changed since.` : "";
-    const when = view.written[focus];
-    const unchanged = when ? `Edited after turn ${number(when)}.` : loaded || "Not changed since the start.";
-    if (!lines.length) lines.push(make("li", {}, unchanged));
+    const written = writtenWords(view.owner[focus], view.written[focus], known);
+    if (!lines.length) lines.push(make("li", {}, `${written}; not changed since.`));
     if (next !== null) lines.push(make("li", {}, "Next change in ", link(next, `turn ${number(next)}`)));
     const source = make("li", {}, this.side.lineLink(focus));
     refill(element("past"), ...lines, source.childNodes.length ? source : null);

@@ -160,8 +160,11 @@ export class Shelf {
     if (large.length) this.#showMessage(`${large.join(", ")}: too large; a source has at most 1 MB`);
   }
 
+  /** Stores the sources, and says so if the browser has begun or ceased to let it. */
   #store() {
-    this.#isStored = this.host.store();
+    const isStored = this.host.store();
+    if (isStored === this.#isStored) return;
+    this.#isStored = isStored;
     this.sign();
   }
 
@@ -213,6 +216,7 @@ export class Shelf {
     shown.saved = text;
     shown.isExample = false;
     this.list();
+    this.sign();
     this.#store();
     if (folder) this.#showMessage("Saved");
   }

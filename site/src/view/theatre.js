@@ -1,6 +1,6 @@
 /** The core, the strip of time and the controls: what moves. */
 import { CELL_WORDS, NOBODY, cellText, isEmpty, readCell } from "../model/cells.js";
-import { captionWords, number, outcome, ownerName, place, standingWords } from "../words/battle.js";
+import { captionWords, number, outcome, place, standingWords, writtenWords } from "../words/battle.js";
 import { instructionWords } from "../words/instruction.js";
 import { Core } from "./core.js";
 import { buttons, element, isNarrow, make, onClick, placeTip, refill, typed } from "./dom.js";
@@ -308,8 +308,7 @@ export class Theatre {
     const [cell, owner, when] = [readCell(view.cells, address), view.owner[address], view.written[address]];
     const isFree = owner === NOBODY && isEmpty(view.cells, address);
     const words = isFree ? EMPTY : instructionWords(cell, { core: known.core, address });
-    const loaded = owner === NOBODY ? "Never written" : `Loaded with ${ownerName(owner, known)}`;
-    const by = when ? `Written by ${ownerName(owner, known)} in turn ${number(when)}` : loaded;
+    const by = writtenWords(owner, when, known);
     const code = make("code", {}, cellText(cell, known.core));
     const head = make("p", {}, make("b", {}, place(address, known)), " ", code);
     const standing = standingOn(view, (one) => one === address).get(address);

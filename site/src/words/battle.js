@@ -1,5 +1,5 @@
 /** Turns, events and outcomes in plain English. */
-import { BY_HAND, cellText, readCell } from "../model/cells.js";
+import { BY_HAND, NOBODY, cellText, readCell } from "../model/cells.js";
 
 /** @typedef {import("../battle/overview.js").Event} Event */
 /**
@@ -95,7 +95,19 @@ export const place = (address, { labels }) =>
  * @param {number} owner
  * @param {Known} known
  */
-export const ownerName = (owner, { names }) => names[owner] ?? (owner === BY_HAND ? "you" : "no warrior");
+const ownerName = (owner, { names }) => names[owner] ?? "no warrior";
+
+/**
+ * Returns who wrote a cell last, and when. An edit is made after a turn, also after turn 0.
+ * @param {number} owner
+ * @param {number} turn
+ * @param {Known} known
+ */
+export function writtenWords(owner, turn, known) {
+  if (owner === BY_HAND) return `Edited after turn ${number(turn)}`;
+  if (turn) return `Written by ${ownerName(owner, known)} in turn ${number(turn)}`;
+  return owner === NOBODY ? "Never written" : `Loaded with ${ownerName(owner, known)}`;
+}
 
 /**
  * Returns who won.
