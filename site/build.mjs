@@ -22,16 +22,27 @@ const filesOf = (place, ending) => fs.readdirSync(place).filter((name) => name.e
 /** Bundles a module with everything that it imports. */
 function bundle(from, name, banner) {
   const words = [inside("src", from), "--bundle", "--minify", "--format=iife", "--target=es2022", "--charset=utf8"];
-  const editor = path.join(codemirror, "src", "codemirror.js");
-  words.push("--log-level=warning", `--alias:codemirror=${editor}`, `--banner:js=${banner}`);
-  words.push(`--outfile=${output(name)}`);
+  words.push(`--alias:codemirror=${inside("tools", "codemirror.mjs")}`);
+  words.push(`--alias:codemirror-src=${path.join(codemirror, "src")}`);
+  words.push("--log-level=warning", `--banner:js=${banner}`, `--outfile=${output(name)}`);
   execFileSync("esbuild", words);
 }
 
-/** The style sheets in one, without those of the editor's Vim mode, theme and addons, which the site lacks. */
+/** Styles of what the site lacks of the editor: Vim mode, theme, addons, wrapped lines, widgets, searches. */
+const UNUSED = [
+  /^\.cm-fat-cursor [^]*(?=^\.cm-tab )/m,
+  /^\.CodeMirror-rulers [^]*\/\* STOP \*\//m,
+  /^\.CodeMirror-wrap [^]*(?=^\.CodeMirror-linebackground )/m,
+  /^\.CodeMirror-linewidget [^]*(?=^\.CodeMirror-code )/m,
+  /^\.cm-searching [^]*(?=^\/\* Used to force )/m,
+  /^span\.CodeMirror-selectedtext .*/m,
+  /^.*::-moz-selection .*/gm,
+];
+
+/** The style sheets in one. */
 function style() {
-  const unused = /^\.cm-fat-cursor [^]*(?=^\.cm-tab )|^\.CodeMirror-rulers [^]*\/\* STOP \*\//gm;
-  const editor = read(path.join(codemirror, "lib", "codemirror.css")).replace(unused, "");
+  const whole = read(path.join(codemirror, "lib", "codemirror.css"));
+  const editor = UNUSED.reduce((text, unused) => text.replace(unused, ""), whole);
   const input = editor + read(inside("static", "site.css"));
   return execFileSync("esbuild", ["--loader=css", "--minify"], { input, encoding: "utf8" });
 }

@@ -185,6 +185,59 @@ def test_edits_make_futures(page: Browser) -> None:
     page.until("document.getElementById('other').hidden")
 
 
+def test_keys_that_are_pressed_quickly(page: Browser) -> None:
+    """Each press counts: leaps, undo and redo, and rounds, of which only the last one is opened."""
+    fight(page, "silk", "paper")
+    code = "await Promise.all(given[0].map(word => corewar.session.leap([{word, first: -1}], true)))"
+    page.run(code, ["splits"] * 3)
+    third = page.value("corewar.session.turn")
+    page.run("corewar.session.jump(0)")
+    for _ in range(3):
+        page.run(code, ["splits"])
+    assert page.value("corewar.session.turn") == third > 0
+    for address in (7000, 7001):
+        answer(page, f"edit {address} jmp 0")
+    page.run("const {session} = corewar; await Promise.all([session.undo(), session.undo()])")
+    assert page.value("[corewar.session.future, corewar.session.canUndo]") == [0, False]
+    page.run("const {session} = corewar; await Promise.all([session.redo(), session.redo()])")
+    assert page.value("corewar.session.future") == 2
+    page.run("document.activeElement.blur()")
+    page.press("]", "]", "]", "]")
+    page.until("corewar.session.fight.round === 4 && corewar.session.view")
+    # An edit of a battle is none of the next one.
+    code = """const {session} = corewar, opening = session.open({...session.fight, round: 5, edits: []});
+      await corewar.console.run("edit 3 jmp 0");
+      await opening;
+      return document.querySelector("#answers").lastChild.textContent;"""
+    assert page.run(code).endswith(": another battle has been opened")
+    assert page.value("[corewar.session.fight.round, corewar.session.futures.length]") == [5, 1]
+
+
+def test_a_message_stays_until_the_turn_changes(page: Browser) -> None:
+    """It stays if the battle was playing, and if the pointer moves."""
+    page.run("corewar.session.jump(7700); corewar.session.setRate(20); corewar.session.play(1)")
+    page.press("s")
+    caption = "document.getElementById('caption').textContent"
+    page.until(f"{caption}.startsWith('There is no split after turn 7,7')")
+    point = page.value("corewar.theatre.core.pointOf(4000)")
+    page.mouse(point["x"], point["y"])
+    page.until("!document.getElementById('tip').hidden")
+    assert page.value(caption).startswith("There is no split")
+    page.press("Left")
+    page.until(f"!{caption}.startsWith('There is no split')")
+
+
+def test_a_cell_in_view_while_it_plays(page: Browser) -> None:
+    """Its text is that of a turn that is shown."""
+    page.run("corewar.session.jump(0); corewar.session.pin(3)")
+    text = "document.querySelector('#listing .focus .text')?.textContent"
+    page.until(f"{text} === 'DAT.F #0, #0'")
+    page.run("corewar.session.setRate(600); corewar.session.play(1)")
+    page.until(f"corewar.session.way === 1 && {text} !== 'DAT.F #0, #0'")
+    first = page.value(text)
+    page.until(f"corewar.session.way === 1 && {text} !== '{first}'")
+
+
 def test_an_edit_while_it_plays(page: Browser) -> None:
     """It is made in the turn that is shown when the line is entered, although the assembler takes some time."""
     turns = page.run(
@@ -342,10 +395,17 @@ def test_a_source_that_takes_minutes(page: Browser) -> None:
     page.until(f"corewar.session.turn !== {turn}")
     page.run("corewar.shelf.show(corewar.shelf.find('dwarf.red'))")
     page.until("document.getElementById('fault').textContent.includes('Dwarf: 4 of 100 cells')")
+    go_to_turn(page, 7798)
+    answer(page, "edit 3 dat 0, 0")
+    page.run("corewar.session.undo()")
     page.run("corewar.fight([{name: 'slow.red', text: given[0]}])", slow())
     page.until("document.getElementById('complaint').textContent === 'This takes too long and was stopped.'")
+    go_to_turn(page, 7797)
     go_to_turn(page, 7798)
     assert "Imp is dead" in page.text("turn-words")
+    # The futures of the battle are still there.
+    page.run("await corewar.session.redo()")
+    assert page.value("[corewar.session.future, corewar.session.view.cells[9]]") == [1, 0x1010400]
 
 
 def test_sources_are_checked_in_turn(page: Browser) -> None:
@@ -363,10 +423,84 @@ def test_sources_are_checked_in_turn(page: Browser) -> None:
     assert page.text("fault") == "Dwarf: 4 of 100 cells"
 
 
+# Terms whose minimum distance is less than the maximum length.
+INVALID = {
+    "settings": {"core": 8000, "processes": 8, "cycles": 80, "longest": 100, "distance": 1},
+    "seed": 1,
+    "rounds": 100,
+    "position": 0,
+    "formula": "W",
+}
+
+
+def test_a_source_with_errors_has_no_cells(page: Browser) -> None:
+    """Nothing of the source before is shown for it, and settings that are not valid are no error of a line."""
+    page.press("e")
+    page.until("document.getElementById('load').textContent.startsWith(';load')")
+    page.run("corewar.shelf.show(corewar.shelf.add({name: 'broken.red', text: 'MVO 0, 1'}))")
+    page.until("document.getElementById('fault').textContent.includes('did you mean MOV?')")
+    assert page.text("load") == ""
+    line = page.value("document.querySelector('.CodeMirror-line').getBoundingClientRect()")
+    page.mouse(line["x"] + 20, line["y"] + 5)
+    page.run("await new Promise(done => setTimeout(done, 100))")
+    assert page.value("document.getElementById('line-tip').hidden")
+    page.run("corewar.shelf.show(corewar.shelf.find('dwarf.red')); corewar.terms.value = given[0]", INVALID)
+    page.run("await corewar.shelf.lint()")
+    assert page.text("fault").endswith("cannot be assembled. These core settings are not valid together.")
+
+
+def test_a_page_shows_a_battle_whatever_is_stored(page: Browser, site: str) -> None:
+    page.run("localStorage.setItem('corewar', JSON.stringify({terms: given[0]}))", INVALID)
+    page.open(f"{site}?invalid")
+    page.until("window.corewar?.session.view && !document.getElementById('complaint').hidden")
+    assert page.text("complaint") == "These core settings are not valid together."
+    assert page.value("document.title") == "Dwarf against Imp · Core War"
+    assert page.value("hill.value") == "94nop"
+
+
+def test_a_browser_that_stores_nothing(page: Browser) -> None:
+    """The page works, and doesn't claim that sources are stored."""
+    page.press("e")
+    page.run("corewar.shelf.show(corewar.shelf.find('silk.red'))")
+    code = "const {mirror} = corewar.shelf.editor; mirror.setValue(mirror.getValue() + '; more\\n')"
+    page.run(code)
+    page.until("document.getElementById('saved').textContent.startsWith('Stored in this browser')")
+    page.run(f"Storage.prototype.setItem = () => {{ throw new Error('full') }}; {code}")
+    page.until("document.getElementById('saved').textContent.startsWith('Not stored in this browser')")
+
+
+def test_control_and_enter_start_one_battle(page: Browser) -> None:
+    page.press("e")
+    page.run(
+        """window.opened = 0;
+        const open = corewar.session.open.bind(corewar.session);
+        corewar.session.open = (...given) => { window.opened++; return open(...given); };"""
+    )
+    page.press("Enter", held="Control")
+    page.until("corewar.session.turn > 0")
+    assert page.value("[window.opened, corewar.shelf.shown.doc.isClean()]") == [1, True]
+
+
+def test_what_is_scrolled_and_opened_keeps_its_keys(page: Browser) -> None:
+    page.press(" ")
+    page.run("document.querySelectorAll('#lessons .lesson button')[2].click()")
+    page.until("document.querySelector('#lesson-box summary') && corewar.session.way === 1")
+    page.run("document.querySelector('#lesson-box summary').focus()")
+    page.press(" ")
+    assert page.value("[document.querySelector('#lesson-box details').open, corewar.session.way]") == [True, 1]
+    rate = page.value("corewar.session.rate")
+    page.run("document.getElementById('answers').focus()")
+    page.press("Up")
+    assert page.value("corewar.session.rate") == rate
+
+
 def test_a_new_source_fights(page: Browser) -> None:
-    """It is marked in place of the source that was shown."""
+    """It is selected in place of the source that was shown, and so is one that is opened."""
     page.run("document.getElementById('new').click(); document.getElementById('fight').click()")
     page.until("document.title === 'Imp against My first warrior · Core War'")
+    page.run("await corewar.shelf.take([new File([';name Mine\\nMOV 0, 1'], 'mine.txt')])")
+    page.run("document.getElementById('fight').click()")
+    page.until("document.title === 'Imp against Mine · Core War'")
 
 
 def test_files_are_opened(page: Browser) -> None:
@@ -396,8 +530,14 @@ def test_rounds_are_those_of_the_program(page: Browser) -> None:
     rows = table("-r", 100, *files("scanner", "bomber"))
     assert [[*map(int, one)] for one in found] == [row[1:] for row in rows]
     assert re.search(r"\d+× Lookout died on its line \d+, hit by line \d+ of Hail", page.text("why"))
+    reasons = page.value("[...document.querySelectorAll('#why li')].map(one => one.textContent.split('×')[1])")
+    assert len({*reasons}) == len(reasons) > 1
     page.click("#strip button:nth-child(8)")
     page.until("corewar.session.fight.round === 7 && document.querySelectorAll('#strip [aria-current]').length === 1")
+    # They stay if the battle is edited, also after the shelf has named the sources of a link.
+    page.run("corewar.session.rename(corewar.session.fight.warriors.map(({text}, at) => ({name: `${at}.red`, text})))")
+    answer(page, "edit 3 jmp 0")
+    assert page.value("document.querySelectorAll('#strip button').length") == 100
 
 
 def test_the_bench_is_the_program(page: Browser) -> None:
@@ -461,6 +601,23 @@ def test_the_league_is_the_program(page: Browser) -> None:
     assert [int(text.replace(",", "")) for text in texts] == points
 
 
+def test_a_league_that_fails_says_why(page: Browser) -> None:
+    page.run("corewar.terms.value = {...corewar.terms.value, rounds: 1, formula: 'W/'}")
+    page.run("corewar.show('league'); await corewar.league.hold()")
+    note = page.text("league-note")
+    assert re.fullmatch(r"0 of \d+ matches, 1 round each, in 0\.0 s; error: The score formula is not valid\.", note)
+    assert page.value("document.getElementById('league-stop').hidden && document.getElementById('league-done').hidden")
+
+
+def test_a_match_of_the_league_is_watched(page: Browser) -> None:
+    """Its first round is that of the league, also if the seed has changed since."""
+    page.run("corewar.terms.value = {...corewar.terms.value, seed: 7, rounds: 2}; corewar.show('league')")
+    page.run("await corewar.league.hold(); corewar.terms.value = {...corewar.terms.value, seed: 8}")
+    page.run("document.querySelector('#league-table button').click()")
+    page.until("corewar.session.fight.seed === 7 && !document.getElementById('battle').hidden")
+    assert page.value("document.getElementById('seed').value") == "7"
+
+
 def test_fields_show_what_is_used(page: Browser) -> None:
     code = """const field = document.getElementById(given[0]);
       field.value = given[1];
@@ -483,6 +640,35 @@ def test_own_settings(page: Browser) -> None:
     )
     page.run("document.querySelector('#own-form .main').click()")
     page.until("document.getElementById('complaint').textContent === 'These core settings are not valid together.'")
+
+
+def test_own_settings_are_opened_again(page: Browser) -> None:
+    """The list has a line that opens their dialog, also while they are used."""
+    page.run("hill.value = 'edit'; hill.dispatchEvent(new Event('change'))")
+    page.run("document.getElementById('own-cycles').value = '50'; document.querySelector('#own-form .main').click()")
+    page.until("corewar.session.end === 100 && hill.value === ''")
+    page.run("hill.value = 'edit'; hill.dispatchEvent(new Event('change'))")
+    assert page.value("[own.open, document.getElementById('own-cycles').value]") == [True, "50"]
+    page.press("Escape")
+    page.until("!own.open && hill.value === ''")
+
+
+@pytest.mark.parametrize("core", [1, 2, 5, 1_048_576])
+def test_cores_of_all_sizes(page: Browser, core: int) -> None:
+    """All cells of the core are visible, and the list has only cells of the core."""
+    code = """const settings = {...corewar.terms.value.settings, core: given[0], longest: 1, distance: 1, cycles: 3};
+      await corewar.fight([{name: "jump.red", text: "JMP 0"}], false, {...corewar.terms.value, settings});"""
+    page.run(code, core)
+    listed = "[...document.querySelectorAll('#listing .address')].map(one => one.textContent)"
+    page.until(f"corewar.session.isSettled && {listed}.length === {min(9, core)}")
+    assert {*page.value(listed)} == {f"{address % core:,}" for address in range(-4, 5)}
+    boxes = "['stage', 'core'].map(id => document.getElementById(id).getBoundingClientRect())"
+    stage, canvas = page.value(boxes)
+    assert canvas["left"] >= stage["left"] - 1 and canvas["right"] <= stage["right"] + 1
+    assert canvas["top"] >= stage["top"] - 1 and canvas["bottom"] <= stage["bottom"] + 1
+    code = """const {core} = corewar.theatre, {x, y} = core.pointOf(given[0]);
+      return core.addressAt({clientX: x, clientY: y});"""
+    assert page.run(code, core - 1) == core - 1
 
 
 def test_many_warriors(page: Browser) -> None:
@@ -554,6 +740,14 @@ def test_a_narrow_page_shows_lessons(narrow: Browser) -> None:
     narrow.until(f"{place}.bottom <= innerHeight + 1")
     narrow.run("document.querySelectorAll('#lessons .lesson')[3].querySelector('button').click()")
     narrow.until(f"{place}.top > -1 && {place}.bottom <= desk.getBoundingClientRect().top")
+
+
+def test_a_narrow_page_begins_with_its_battle(narrow: Browser, site: str) -> None:
+    """Also if the editor was open before, which is below it."""
+    narrow.run("corewar.showDesk(true)")
+    narrow.open(f"{site}?narrow")
+    narrow.until("window.corewar?.session.view")
+    assert narrow.value("[scrollY, document.getElementById('desk').hidden]") == [0, False]
 
 
 def test_a_narrow_page_shows_answers(narrow: Browser) -> None:

@@ -260,6 +260,8 @@ def test_the_page_saves_to_the_folder(page: Browser, site: Site) -> None:
     page.run("corewar.shelf.editor.mirror.setValue('mov 0, 1\\n')")
     page.click("#download")
     page.until("document.querySelector('#saved button')")
+    # The message stays when the text is stored in the browser, a moment after it was typed.
+    page.run("await new Promise(done => setTimeout(done, 600))")
     assert page.text("saved") == "own.red has changed on disk; not overwritten. Overwrite or Reload"
     assert (site.folder / "own.red").read_text() == "nop 0\n"
     page.click("#saved button")
@@ -291,12 +293,32 @@ def test_drafts_are_found_again(page: Browser, site: Site) -> None:
     assert (site.folder / "imp.red").read_text() != "MOV 0, 1 ; mine"
 
 
+def test_a_file_is_saved_under_its_own_name(browser: Browser, tmp_path: Path) -> None:
+    """Its name need not end in .red; unsaved changes of it are found again."""
+    (tmp_path / "first.txt").write_text("MOV 0, 1\n")
+    for site in served("--port", 0, tmp_path / "first.txt"):
+        for address in (site.address, site.address + "?again"):
+            browser.open(address)
+            browser.until("window.corewar?.session.view")
+            assert browser.value("corewar.session.fight.warriors[0].name") == "first.txt"
+            browser.run("corewar.shelf.editor.mirror.setValue('MOV 0, 1 ; mine\\n')")
+            browser.run("await new Promise(done => setTimeout(done, 600))")
+        assert browser.value("corewar.shelf.sources.filter(({name}) => name.startsWith('first')).length") == 1
+        browser.run("await corewar.shelf.save(false)")
+        assert browser.text("saved") == "Saved"
+    assert (tmp_path / "first.txt").read_text() == "MOV 0, 1 ; mine\n"
+    assert not (tmp_path / "first.red").exists()
+
+
 def test_the_page_runs_leagues_by_the_server(page: Browser, site: Site) -> None:
     page.run("rounds.value = '5'; corewar.show('league'); await corewar.league.hold()")
     total = page.value("corewar.league.total")
     assert page.value("corewar.league.done") == total and (site.folder / "kept").stat().st_size > 0
     page.run("await corewar.league.hold()")
     assert page.value("corewar.league.done") == total
+    # An error of the server is not one of a source.
+    page.run('fetch = async () => new Response(\'{"fault": "no room"}\', {status: 400}); await corewar.league.hold()')
+    assert page.text("league-note") == f"0 of {total} matches, 5 rounds each, in 0.0 s; error: no room"
 
 
 def test_pipes_and_devices_are_not_read(site: Site) -> None:

@@ -200,7 +200,7 @@ def test_its_errors_have_the_texts_of_python() -> None:
     errors = [MarsError(*fields) for fields in numbers]
     fields = ("code", "number", "problem", "expression", "line", "warrior")
     given = json.dumps([{field: getattr(error, field) for field in fields} for error in errors])
-    script = f"""import {{ errorText }} from {json.dumps(str(SITE / "src" / "model" / "errors.js"))};
+    script = f"""import {{ errorText }} from {json.dumps(str(SITE / "src" / "engine" / "errors.js"))};
         console.log(JSON.stringify({given}.map(errorText)));"""
     assert json.loads(run("node", "--input-type=module", "--eval", script).stdout) == [str(error) for error in errors]
 

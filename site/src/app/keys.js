@@ -9,13 +9,13 @@ import { element, typed } from "../view/dom.js";
  */
 
 const SPEED_FACTOR = 1.6;
-/** Fields keep their keys; the slider of time shares the page's. */
-const FIELDS = "input:not([type='range']), select, textarea, .CodeMirror, dialog";
+/** What keeps its keys: fields, but not the slider of time, and what is opened or scrolled by them. */
+const FIELDS = "input:not([type='range']), select, textarea, summary, :not(canvas)[tabindex='0'], .CodeMirror, dialog";
 
 /**
  * Returns what each key does. `far` is ten with shift, otherwise one.
  * @param {Acts} acts
- * @returns {Record<string, (far: number, isShift: boolean) => void>}
+ * @returns {Record<string, (far: number, isShift: boolean) => unknown>}
  */
 function keysOf({ session, theatre, another, round, edit }) {
   const { track } = theatre;
@@ -43,10 +43,7 @@ function keysOf({ session, theatre, another, round, edit }) {
     e: edit,
     n: another,
     ":": () => element("line").focus(),
-    t: () => {
-      document.body.classList.toggle("alone");
-      theatre.fit();
-    },
+    t: () => document.body.classList.toggle("alone"),
     "?": () => typed("helping", HTMLDialogElement).showModal(),
     Escape: () => {
       document.body.classList.remove("alone");
@@ -74,7 +71,7 @@ export function listenToKeys(acts) {
   addEventListener("keydown", (event) => {
     const { key, ctrlKey, metaKey, altKey, shiftKey } = event;
     const target = event.target instanceof HTMLElement ? event.target : document.body;
-    if ((ctrlKey || metaKey) && key === "Enter") {
+    if ((ctrlKey || metaKey) && key === "Enter" && !target.closest("dialog")) {
       event.preventDefault();
       acts.fight();
       return;

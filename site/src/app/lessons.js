@@ -70,6 +70,7 @@ export class Lessons {
     const begin = make("button", { onclick: () => this.begin(lesson) }, lesson.start ? "Begin" : "Watch");
     const judge = make("button", { className: isDone ? "" : "main" }, "Check");
     judge.onclick = async () => {
+      verdict.textContent = "Checking …";
       const { isDone: isPassed, text, watch } = await this.judge(lesson);
       refill(verdict, withCode(text), watch && " ", watch);
       card.classList.toggle("done", isPassed);
@@ -150,8 +151,8 @@ export class Lessons {
    */
   #judgeBattle(lesson) {
     const { session } = this.host;
-    const names = this.#opponents(lesson).map(({ text }) => text);
-    const isShown = session.fight?.warriors.every(({ text }) => names.includes(text)) ?? false;
+    const texts = this.#opponents(lesson).map(({ text }) => text);
+    const isShown = session.fight?.warriors.every(({ text }) => texts.includes(text)) ?? false;
     if (!isShown) return { isDone: false, text: "Watch the battle of this lesson first." };
     const { turn, end, known } = session;
     if (lesson.judge === "end") {

@@ -1,7 +1,7 @@
 /** A fight as a text, for addresses and pages: sources, settings, edits, the turn, and the cell in view. */
 import { editText, parseEdit } from "../model/fight.js";
 import { MAX_FORMULA, MAX_ROUNDS, MAX_SEED, MAX_WARRIORS } from "../model/layout.js";
-import { DEFAULTS, FORMULA, HILLS, MAX_SOURCE_SIZE, MAX_TURNS, RANGES, SETTINGS, hillOf } from "../model/settings.js";
+import { DEFAULTS, FORMULA, HILLS, MAX_SOURCE_SIZE, RANGES, SETTINGS, hillOf } from "../model/settings.js";
 
 /** @typedef {import("../model/fight.js").Fight} Fight */
 /** @typedef {import("../model/settings.js").Settings} Settings */
@@ -21,9 +21,15 @@ const LAST_TURN = 1e9;
  * @param {Uint8Array} bytes
  * @param {CompressionStream | DecompressionStream} stream
  */
-async function through(bytes, stream) {
+export async function through(bytes, stream) {
   return new Uint8Array(await new Response(new Blob([bytes]).stream().pipeThrough(stream)).arrayBuffer());
 }
+
+/**
+ * Returns the bytes of a text in base64.
+ * @param {string} text
+ */
+export const bytesOf = (text) => Uint8Array.from(atob(text), (letter) => letter.charCodeAt(0));
 
 /** @param {Uint8Array} bytes */
 function base64(bytes) {
@@ -115,8 +121,7 @@ function readEdits(given, core) {
  */
 async function inflate(text) {
   try {
-    const code = atob(text.replaceAll("-", "+").replaceAll("_", "/"));
-    const bytes = Uint8Array.from(code, (letter) => letter.charCodeAt(0));
+    const bytes = bytesOf(text.replaceAll("-", "+").replaceAll("_", "/"));
     return JSON.parse(new TextDecoder().decode(await through(bytes, new DecompressionStream("deflate-raw"))));
   } catch {
     throw new Error("It is damaged or incomplete.");
@@ -124,7 +129,7 @@ async function inflate(text) {
 }
 
 /**
- * Returns the fight of a text, of which `selection` selects a part. Throws if it is damaged, or too long for this page.
+ * Returns the fight of a text, of which `selection` selects a part. Throws if it is damaged.
  * @param {string} text
  * @param {Selection} selection
  * @returns {Promise<Shared>}
@@ -136,7 +141,6 @@ export async function unpack(text, selection = {}) {
   const all = readSources(short.w);
   const warriors = (selection.warriors ?? [...all.keys()]).flatMap((index) => all[index] ?? []);
   if (warriors.length < 1 || warriors.length > MAX_WARRIORS) throw new Error("It has too many warriors, or none.");
-  if (settings.cycles * warriors.length > MAX_TURNS) throw new Error("Its battle is too long for this page.");
   const rounds = whole(short.n, 1, MAX_ROUNDS, 100);
   const round = Math.min(selection.round ?? whole(short.r, 0, rounds - 1, 0), rounds - 1);
   const formula = typeof short.f === "string" ? short.f.slice(0, MAX_FORMULA) : FORMULA;

@@ -24,6 +24,7 @@ import { Terms } from "./terms.js";
 
 /** @typedef {import("../model/fight.js").Source} Source */
 /** @typedef {import("./parts.js").Data} Data */
+/** @typedef {import("../view/host.js").MatchTerms} MatchTerms */
 
 /** The examples that a newcomer sees first. */
 const FIRST = ["dwarf.red", "imp.red"];
@@ -51,9 +52,9 @@ class Page {
       folder: server,
       meanings,
       terms: () => this.terms.value,
-      changed: () => this.#keepSources(),
+      store: () => this.#keepSources(),
       checked: () => this.bench.checked(),
-      fight: () => this.fightMarked(),
+      reveal: () => this.showDesk(true),
       isStale: (name, text) => this.#isStale(name, text),
     });
     const host = {
@@ -97,7 +98,9 @@ class Page {
     const other = FIRST.find((name) => name !== files[0]?.name);
     files.forEach(({ name, text }, index) => {
       const draft = drafts.find((one) => one.name === name);
-      shelf.add({ name, text: draft?.text ?? text, saved: text, fights: index === 0 || name === other });
+      const entry = shelf.add({ name, text: draft?.text ?? text, saved: text, fights: index === 0 || name === other });
+      // A file is saved under its own name.
+      entry.name = name;
     });
     for (const draft of drafts) if (!shelf.find(draft.name)) shelf.add({ ...draft, saved: server ? "" : draft.saved });
     const first = files.length ? [other] : own.length ? [] : FIRST;
@@ -109,8 +112,14 @@ class Page {
     shelf.show(shown);
     if (server) element("download").textContent = "Save";
     if (stored.desk) this.showDesk(true);
+    // On a narrow page the editor is below the battle.
+    scrollTo(0, 0);
   }
 
+  /**
+   * Stores the sources. Returns whether the browser lets it.
+   * @returns {boolean}
+   */
   #keepSources() {
     const sources = this.shelf.sources.map(({ name, doc, saved, isExample, fights }) => ({
       name,
@@ -119,7 +128,16 @@ class Page {
       isExample,
       fights,
     }));
-    keep({ sources, shown: this.shelf.shown?.name });
+    return keep({ sources, shown: this.shelf.shown?.name });
+  }
+
+  /**
+   * Shows terms in the fields, where the editor, the bench and the league have them from.
+   * @param {MatchTerms} terms
+   */
+  #showTerms(terms) {
+    this.terms.value = terms;
+    this.shelf.lint();
   }
 
   /** @param {boolean} isShown */
@@ -132,13 +150,18 @@ class Page {
   }
 
   /**
-   * Marks the line that is executed next, if the battle is stopped.
+   * Shows in the editor whether the battle has its text, and the line that is executed next if the battle is stopped.
+   * A battle that is hidden does not play.
    * @param {import("../view/session.js").Change} change
    * @param {Side} side
    */
   #follow(change, side) {
     const { session, shelf } = this;
-    if (change === "battle") shelf.sign();
+    if (change === "battle") {
+      this.complain("");
+      shelf.sign();
+    }
+    if (session.way && element("battle").hidden) session.stop();
     if (change !== "turn") return;
     const head = session.way === 0 ? (session.view?.head ?? null) : null;
     const line = head === null ? null : side.lineOf(head);
@@ -152,17 +175,17 @@ class Page {
   }
 
   /**
-   * Fights a round of a match, the first one unless the terms say otherwise, and shows it.
+   * Fights a round of a match, the first one unless the terms say otherwise, and shows it. The fields show the terms.
    * @param {Source[]} warriors
    * @param {boolean} plays
-   * @param {object} terms
+   * @param {Partial<MatchTerms> & {round?: number}} terms
    */
   async fight(warriors, plays = true, terms = {}) {
-    this.complain("");
     document.body.classList.add("busy");
     try {
       const isMatch = warriors.length >= 1 && warriors.length <= MAX_WARRIORS;
       if (!isMatch) throw new Error(`A match has 1 to ${MAX_WARRIORS} warriors; select them in the list of sources.`);
+      if (terms.settings) this.#showTerms({ ...this.terms.value, ...terms });
       await this.session.open({ ...this.terms.value, round: 0, ...terms, warriors, edits: [] }, { plays });
       document.body.classList.add("running");
       if (location.hash) history.replaceState(null, "", location.pathname + location.search);
@@ -197,10 +220,10 @@ class Page {
    * @param {number} by
    */
   round(by) {
-    const { fight } = this.session;
-    if (!fight) return;
-    const round = (fight.round + by + fight.rounds) % fight.rounds;
-    this.session.open({ ...fight, edits: [], round });
+    const { latest } = this.session;
+    if (!latest) return;
+    const round = (latest.round + by + latest.rounds) % latest.rounds;
+    this.session.open({ ...latest, edits: [], round });
   }
 
   /** @param {string} view battle, bench, league or learn */
@@ -249,14 +272,14 @@ class Page {
     const { text, selection } = readAddress(location.hash);
     const carried = text || ownFight();
     if (carried) await this.openLink(carried, selection);
-    if (this.session.opened) return;
+    if (this.session.latest) return;
     const complaint = element("complaint").textContent ?? "";
-    const isStill = matchMedia("(prefers-reduced-motion: reduce)").matches;
     const { fighters } = this.shelf;
-    await this.fight(fighters.length ? fighters.slice(0, MAX_WARRIORS) : [this.shelf.all[0]], !isStill);
+    await this.fight(fighters.length ? fighters.slice(0, MAX_WARRIORS) : [this.shelf.all[0]], !isStill());
     const faults = [complaint, ...(this.server?.faults ?? []), element("complaint").textContent ?? ""];
-    // A page shows a battle, also if the sources that are marked have errors.
-    if (!this.session.opened) await this.fight(this.examples.filter(({ name }) => FIRST.includes(name)), !isStill);
+    // A page shows a battle, also if the sources that are marked or the terms have errors.
+    const first = this.examples.filter(({ name }) => FIRST.includes(name));
+    if (!this.session.latest) await this.fight(first, !isStill(), DEFAULT_TERMS);
     this.complain(faults.join(" ").trim());
   }
 
@@ -265,14 +288,13 @@ class Page {
    * @param {import("./link.js").Selection} selection
    */
   async openLink(text, selection) {
-    this.complain("");
     /** @type {Source[]} */
     let warriors = [];
     try {
       const { fight, turn, pinned } = await unpack(text, selection);
       warriors = fight.warriors;
-      await this.session.open(fight, { turn, pinned, plays: turn === 0 });
-      this.terms.value = fight;
+      await this.session.open(fight, { turn, pinned, plays: turn === 0 && !isStill() });
+      this.#showTerms(fight);
       this.session.rename(this.shelf.mark(warriors));
       document.body.classList.add("running");
     } catch (error) {
@@ -310,10 +332,15 @@ class Page {
     addEventListener("hashchange", () => {
       const { text, selection } = readAddress(location.hash);
       const carried = text || (Object.values(selection).some((one) => one !== undefined) ? ownFight() : "");
-      if (carried) this.openLink(carried, selection);
+      if (carried) this.show("battle").openLink(carried, selection);
     });
+    // Errors that no part reports.
+    addEventListener("unhandledrejection", ({ reason }) => this.complain(errorWords(reason, [], this.meanings)));
   }
 }
+
+/** Whether the user wants no movement. */
+const isStill = () => matchMedia("(prefers-reduced-motion: reduce)").matches;
 
 function changeTheme() {
   const { dataset } = document.documentElement;
@@ -329,8 +356,8 @@ async function main() {
   const server = await Server.find();
   const page = new Page(workerParts, desk, server, data());
   await workerParts.module;
-  await page.begin();
   page.listen();
+  await page.begin();
   // For tests, and for the curious.
   Object.assign(window, { corewar: page, pageWith, shared });
 }

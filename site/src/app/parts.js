@@ -1,4 +1,5 @@
 /** What the page is made of: the machine, the script of its workers, and its data; beside the page, or inside it. */
+import { bytesOf, through } from "./link.js";
 
 /** @typedef {import("../model/fight.js").Source} Source */
 /** @typedef {import("../worker/pool.js").Parts} Parts */
@@ -11,12 +12,6 @@ const FIGHT = /(<script id="page-fight" type="text\/plain">)[^<]*(<\/script>)/;
 /** @param {string} id */
 const textOf = (id) => document.getElementById(id)?.textContent?.trim() ?? "";
 
-/** @param {string} text */
-async function inflated(text) {
-  const bytes = Uint8Array.from(atob(text), (letter) => letter.charCodeAt(0));
-  return new Response(new Blob([bytes]).stream().pipeThrough(new DecompressionStream("gzip"))).arrayBuffer();
-}
-
 /** Returns the examples, the lessons and what errors mean. */
 export function data() {
   return /** @type {Data} */ (JSON.parse(textOf("data")));
@@ -27,7 +22,7 @@ export const ownFight = () => textOf("page-fight");
 
 async function compiled() {
   const machine = textOf("mars-code");
-  if (machine) return WebAssembly.compile(await inflated(machine));
+  if (machine) return WebAssembly.compile(await through(bytesOf(machine), new DecompressionStream("gzip")));
   const answer = await fetch("mars.wasm");
   if (!answer.ok) throw new Error(`mars.wasm: ${answer.status} ${answer.statusText}`);
   return WebAssembly.compile(await answer.arrayBuffer());

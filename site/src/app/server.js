@@ -83,14 +83,19 @@ export class Server {
     if (!answer.ok || !answer.body) throw new Error((await answer.json()).fault);
     const reader = answer.body.pipeThrough(new TextDecoderStream()).getReader();
     let rest = "";
-    for (let part = await reader.read(); !part.done; part = await reader.read()) {
-      const lines = (rest + part.value).split("\n");
-      rest = lines.pop() ?? "";
-      for (const line of lines) {
-        const message = JSON.parse(line);
-        if ("fault" in message) throw new Error(message.fault);
-        yield message.map(resultOf);
+    try {
+      for (let part = await reader.read(); !part.done; part = await reader.read()) {
+        const lines = (rest + part.value).split("\n");
+        rest = lines.pop() ?? "";
+        for (const line of lines) {
+          const message = JSON.parse(line);
+          if ("fault" in message) throw new Error(message.fault);
+          yield message.map(resultOf);
+        }
       }
+    } finally {
+      // If no more results are wanted, the server ends the league.
+      await reader.cancel();
     }
   }
 }

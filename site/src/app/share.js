@@ -24,6 +24,8 @@ export function listenToShare(session) {
   const note = (/** @type {string} */ text) => (element("link-note").textContent = text);
   onClick("share", async () => {
     session.stop();
+    // The link leads to the turn at which the battle stops.
+    await session.go(session.wanted);
     const link = `${location.href.split("#")[0]}#f=${await shared(session)}`;
     const field = typed("link", HTMLInputElement);
     field.value = link;

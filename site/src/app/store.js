@@ -25,12 +25,17 @@ function read() {
 
 export const stored = read();
 
-/** @param {Kept} changes */
+/**
+ * Returns whether the browser lets the page keep something: it may forbid that, or be full.
+ * @param {Kept} changes
+ */
 export function keep(changes) {
   Object.assign(stored, changes);
   try {
-    localStorage.setItem(NAME, JSON.stringify(stored));
+    // Another window may have changed the rest.
+    localStorage.setItem(NAME, JSON.stringify({ ...read(), ...changes }));
+    return true;
   } catch {
-    // The browser doesn't let the page, or it is full: the page works without.
+    return false;
   }
 }

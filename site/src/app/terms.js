@@ -6,8 +6,9 @@ import { clamp, element, make, onClick, typed } from "../view/dom.js";
 /** @typedef {import("../model/settings.js").Settings} Settings */
 /** @typedef {import("../view/host.js").MatchTerms} MatchTerms */
 
-/** The choice of custom settings. */
+/** The value of the list while the settings are custom ones, and of its line that opens their dialog. */
 const OWN = "";
+const EDIT = "edit";
 
 export class Terms {
   #settings = DEFAULTS;
@@ -25,7 +26,9 @@ export class Terms {
     this.rounds.max = String(MAX_ROUNDS);
     this.changed = changed;
     this.hill.append(...Object.keys(HILLS).map((name) => make("option", { value: name }, name)));
-    this.hill.append(make("option", { value: OWN }, "custom"));
+    // A list reports no choice of the line that it shows.
+    this.hill.append(make("option", { value: OWN, hidden: true }, "custom"));
+    this.hill.append(make("option", { value: EDIT }, "custom …"));
     element("terms").addEventListener("submit", (event) => event.preventDefault());
     this.hill.onchange = () => this.#choose();
     const take = (/** @type {boolean} */ isShown) => {
@@ -59,7 +62,7 @@ export class Terms {
   }
 
   #choose() {
-    if (this.hill.value === OWN) {
+    if (!Object.hasOwn(HILLS, this.hill.value)) {
       this.#fill();
       typed("own", HTMLDialogElement).showModal();
       return;

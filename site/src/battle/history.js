@@ -30,7 +30,8 @@ import { Place, RECORD_WORDS, changesOf } from "./place.js";
 const STRIDE = 4096;
 const MAX_MARK_BYTES = 76 << 20;
 /** The maximum number of moments of an overview. */
-export const MOMENTS = 1200;
+const MOMENTS = 1200;
+const TOO_LONG = `The battle is too long: the site shows at most ${MAX_TURNS.toLocaleString("en")} turns.`;
 
 /** A battle from its start, or from an edit, to its end. */
 class Run {
@@ -54,7 +55,7 @@ class Run {
     for (;;) {
       start.play(mars, this.stride, origins, chronicle);
       if (start.battle.over) break;
-      if (start.turn > MAX_TURNS) throw new Error(`The battle is too long: the site shows at most ${MAX_TURNS} turns.`);
+      if (start.turn > MAX_TURNS) throw new Error(TOO_LONG);
       this.marks.push(start.copy());
       if (this.marks.length > maxMarks) this.#thin();
     }

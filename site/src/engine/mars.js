@@ -27,7 +27,9 @@ import {
 import { Battle } from "./battle.js";
 import { DEFAULTS, FORMULA } from "../model/settings.js";
 import { CELL_WORDS, writeCell } from "../model/cells.js";
-import { errorText } from "../model/errors.js";
+import { errorOf } from "./errors.js";
+
+export { MarsError } from "../model/errors.js";
 
 /** @typedef {import("../model/settings.js").Settings} Settings */
 /** @typedef {import("../model/cells.js").Cell} Cell */
@@ -53,27 +55,6 @@ const KINDS = { cell: SET_CELL, move: MOVE_PROCESS, kill: KILL_PROCESS, add: ADD
 const CELLS = 128;
 const encoder = new TextEncoder();
 const decoder = new TextDecoder();
-
-/**
- * An error of a call, with the text that `mars` prints after the name of the file. `code` is a result of
- * include/mars.h, the others are the fields of MarsFault.
- */
-export class MarsError extends Error {
-  /**
-   * @param {number} code
-   * @param {{number?: number, problem?: number, expression?: number, line?: number, warrior?: number}} details
-   */
-  constructor(code, { number = 0, problem = 0, expression = 0, line = 0, warrior = 0 } = {}) {
-    super(errorText({ code, number, problem, expression, line, warrior }));
-    this.name = "MarsError";
-    this.code = code;
-    this.number = number;
-    this.problem = problem;
-    this.expression = expression;
-    this.line = line;
-    this.warrior = warrior;
-  }
-}
 
 export class Mars {
   /** @type {bigint[]} */
@@ -310,7 +291,7 @@ export class Mars {
    */
   #allocate(size) {
     const block = this.#exports.mars_alloc(BigInt(Math.max(1, size)));
-    if (!block) throw new MarsError(OUT_OF_MEMORY);
+    if (!block) throw errorOf(OUT_OF_MEMORY);
     this.#blocks.push(block);
     return block;
   }
@@ -404,7 +385,7 @@ export class Mars {
     if (result === DONE || result === allowed) return result;
     const view = this.#view(fault);
     const word = (/** @type {number} */ offset) => view.getUint32(offset, true);
-    throw new MarsError(result, {
+    throw errorOf(result, {
       number: word(MarsFault.number),
       problem: word(MarsFault.problem),
       expression: word(MarsFault.expression),

@@ -1,6 +1,6 @@
 /** What is shown of a warrior. */
-import { MarsError } from "./mars.js";
 import { CELL_WORDS, readCell } from "../model/cells.js";
+import { MarsError } from "../model/errors.js";
 
 /** @typedef {import("./mars.js").Mars} Mars */
 /** @typedef {import("./mars.js").Warrior} Warrior */

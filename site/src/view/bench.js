@@ -1,21 +1,20 @@
 /** The bench: the source in the editor against each opponent, fought again whenever it changes. */
-import { MarsError } from "../engine/mars.js";
-import { number, pluralize } from "../words/battle.js";
+import { MarsError } from "../model/errors.js";
+import { countWords, number, pluralize } from "../words/battle.js";
 import { changeOf, isSure, verdict } from "../words/comparison.js";
-import { debounce, element, make, onClick, refill, typed, withCode } from "./dom.js";
-import { errorWords, mean } from "./host.js";
+import { Stopped } from "../worker/pool.js";
+import { clamp, debounce, element, make, onClick, refill, throttle, typed, withCode } from "./dom.js";
+import { errorWords } from "./host.js";
 
 /** @typedef {import("./host.js").Host} Host */
 /** @typedef {import("./host.js").MatchTerms} MatchTerms */
-/** @typedef {import("./host.js").Row} Row */
+/** @typedef {import("../engine/mars.js").Row} Row */
 /** @typedef {import("./host.js").Source} Source */
 /** @typedef {import("../engine/warrior.js").Warrior} Warrior */
 /** @typedef {import("../words/comparison.js").Change} Change */
 /** @typedef {import("../worker/jobs.js").Scored} Scored */
 /** @typedef {{source: Source, rows: Map<string, Scored>}} Base a version, and its rows by opponents and terms */
 
-/** What a win is worth against one opponent, the right end of the scale. */
-const WIN = 3;
 const STALE = "The source has an error; the results below are from before it.";
 
 /** @param {number} value */
@@ -42,10 +41,11 @@ export class Bench {
   #names = new Map();
   /** @type {Map<string, string>} */
   #faults = new Map();
+  #began = 0;
   #took = 0;
   #run = 0;
   #fought = "";
-  #later = debounce(() => this.#draw(), 40);
+  #later = throttle(() => this.#draw(), 100);
   /** The source in the editor has changed. */
   checked = debounce(() => {
     if (this.isOpen && this.host.shelf.isBroken) element("bench-note").textContent = STALE;
@@ -82,16 +82,12 @@ export class Bench {
     pool.drop("bench");
     this.#begin(own, opponents, terms, key);
     const run = ++this.#run;
-    const then = performance.now();
     try {
       const [{ warrior, name }] = await pool.ask("warriors", [[own], terms], "bench", 2);
       const before = await this.#before(terms);
+      if (run !== this.#run) return;
       this.#title = name || own.name;
-      const fights = opponents.map(async (opponent) => {
-        await this.#meet(warrior, before, opponent, run);
-        this.#took = performance.now() - then;
-      });
-      await Promise.allSettled(fights);
+      await Promise.all(opponents.map((opponent) => this.#meet(warrior, before, opponent, run)));
     } catch (error) {
       if (run === this.#run) this.#fault = errorWords(error, [own], this.host.meanings);
     }
@@ -117,14 +113,15 @@ export class Bench {
   }
 
   /**
-   * Returns the version with which the source is compared, or null if there is none for these terms.
+   * Returns the version with which the source is compared, assembled for these terms, or null if there is none.
    * @param {MatchTerms} terms
    */
   async #before(terms) {
-    if (!this.#base) return null;
+    const base = this.#base;
+    if (!base) return null;
     try {
-      const [{ warrior }] = await this.host.pool.ask("warriors", [[this.#base.source], terms], "bench", 2);
-      return warrior;
+      const [{ warrior }] = await this.host.pool.ask("warriors", [[base.source], terms], "bench", 2);
+      return { base, warrior };
     } catch (error) {
       if (error instanceof MarsError) return null;
       throw error;
@@ -145,35 +142,39 @@ export class Bench {
     this.#opponents = opponents;
     this.#fought = key;
     this.#fault = "";
+    this.#began = performance.now();
     this.rows = new Map();
     this.#faults = new Map();
     this.#draw();
   }
 
   /**
-   * Fights a match with an opponent, if no other run has begun, and one of the version before if it has none.
+   * Fights a match with an opponent, and one of the version before if it has none. Both are ignored if another run has
+   * begun.
    * @param {Warrior} own
-   * @param {Warrior | null} before
+   * @param {{base: Base, warrior: Warrior} | null} before
    * @param {Source} opponent
    * @param {number} run
    */
   async #meet(own, before, opponent, run) {
-    const [{ pool, meanings }, terms, base, key] = [this.host, this.#terms, this.#base, this.#key(opponent)];
+    const [{ pool, meanings }, terms, key] = [this.host, this.#terms, this.#key(opponent)];
     if (!terms) return;
     try {
       const [{ warrior, name }] = await pool.ask("warriors", [[opponent], terms], "bench", 2);
       const row = await pool.ask("scores", [[own, warrior], terms], "bench", 2);
-      if (before && base && !base.rows.has(key)) {
-        base.rows.set(key, await pool.ask("scores", [[before, warrior], terms], "bench", 2));
+      if (before && !before.base.rows.has(key)) {
+        before.base.rows.set(key, await pool.ask("scores", [[before.warrior, warrior], terms], "bench", 2));
       }
       if (run !== this.#run) return;
       this.#names.set(opponent.name, name || opponent.name);
       this.rows.set(opponent.name, row);
+      // The baseline can be set before all of its matches are fought.
+      if (this.#base?.source === this.#own) this.#base?.rows.set(key, row);
     } catch (error) {
-      if (run === this.#run && error instanceof MarsError) {
-        this.#faults.set(opponent.name, errorWords(error, [opponent], meanings));
-      }
+      if (run !== this.#run || error instanceof Stopped) return;
+      this.#faults.set(opponent.name, errorWords(error, [opponent], meanings));
     }
+    this.#took = performance.now() - this.#began;
     this.#later();
   }
 
@@ -181,10 +182,12 @@ export class Bench {
     element("bench-title").textContent = this.#title;
     const done = this.rows.size + this.#faults.size;
     const against = pluralize(this.#opponents.length, "opponent");
-    const rounds = pluralize(this.host.terms().rounds, "round");
+    const rounds = pluralize(this.#terms?.rounds ?? 0, "round");
     const whole = `${against}, ${rounds} each, in ${number(Math.round(this.#took))} ms`;
     const note = done < this.#opponents.length ? `${done} of ${against} …` : whole;
     refill(element("bench-note"), withCode(this.#fault || note));
+    const [row] = this.rows.values();
+    if (row) element("bench-best").textContent = String(bestOf(row));
     refill(element("bench-total"), ...this.#total());
     refill(element("bench-change"), ...this.#change());
     refill(element("bench-rows"), ...this.#opponents.map((opponent) => this.#line(opponent)));
@@ -192,10 +195,10 @@ export class Bench {
 
   /** Returns the mean over all opponents. */
   #total() {
-    /** @type {Row[]} */
     const rows = [...this.rows.values()];
     if (!rows.length) return [];
     const sum = rows.reduce((one, other) => ({
+      ...one,
       points: one.points + other.points,
       wins: one.wins + other.wins,
       ties: one.ties + other.ties,
@@ -236,6 +239,7 @@ export class Bench {
     }
     const { points, far } = mean(row);
     const change = this.#changeOf([opponent]);
+    const before = change ? points - change.change : undefined;
     const rounds = row.wins + row.ties + row.losses;
     const shares = [row.wins, row.ties, row.losses].map((count) => Math.round((100 * count) / rounds)).join(" · ");
     const show = () => this.#own && this.host.fight([this.#own, opponent]);
@@ -244,13 +248,32 @@ export class Bench {
       {},
       make("td", {}, make("button", { className: "link", title: "Watch the first round", onclick: show }, title)),
       make("td", { className: "shares" }, stack(row)),
-      make("td", { className: "mean" }, scale(points, far, change ? points - change.change : undefined)),
+      make("td", { className: "mean" }, scale(points, far, before, bestOf(row))),
       make("td", {}, `${fixed(points)} ± ${fixed(far)}`),
       make("td", {}, ...(change ? described(change) : [])),
       make("td", { className: "soft counts" }, shares),
     );
   }
 }
+
+/**
+ * Returns the points per round, and how far from them the true value is at most, 19 times of 20. For that a round of
+ * each outcome is added: a warrior that has lost all of 100 may win some of the next.
+ * @param {Scored} row
+ */
+function mean({ points, wins, ties, losses, values }) {
+  const rounds = wins + ties + losses;
+  const counts = [losses, wins, ties].map((count) => count + 1);
+  const moment = (/** @type {number} */ power) =>
+    counts.reduce((sum, count, index) => sum + count * values[index] ** power, 0) / (rounds + 3);
+  return { points: points / rounds, far: 1.96 * Math.sqrt((moment(2) - moment(1) ** 2) / rounds) };
+}
+
+/**
+ * Returns what the best outcome of a round is worth.
+ * @param {Scored} row
+ */
+const bestOf = ({ values }) => Math.max(1, ...values);
 
 /**
  * Returns a change with its standard error, if that is known.
@@ -267,11 +290,11 @@ function described({ change, error }) {
  * Returns a bar with the shares of wins, ties and losses.
  * @param {Row} row
  */
-function stack({ wins, ties, losses }) {
-  const title = `${pluralize(wins, "win")}, ${pluralize(ties, "tie")}, ${pluralize(losses, "loss")}`;
+function stack(row) {
+  const title = countWords(row);
   const part = (/** @type {string} */ className, /** @type {number} */ value) =>
     make("i", { className, style: `flex:${value}` });
-  const parts = [part("win", wins), part("tie", ties), part("loss", losses)];
+  const parts = [part("win", row.wins), part("tie", row.ties), part("loss", row.losses)];
   return make("span", { className: "stack", role: "img", "aria-label": title, title }, ...parts);
 }
 
@@ -280,9 +303,10 @@ function stack({ wins, ties, losses }) {
  * @param {number} points
  * @param {number} far
  * @param {number | undefined} base
+ * @param {number} best the right end of the scale
  */
-function scale(points, far, base) {
-  const share = (/** @type {number} */ value) => (100 * Math.max(0, Math.min(WIN, value))) / WIN;
+function scale(points, far, base, best) {
+  const share = (/** @type {number} */ value) => (100 * clamp(value, 0, best)) / best;
   const interval = `left:${share(points - far)}%;right:${100 - share(points + far)}%`;
   return make(
     "span",

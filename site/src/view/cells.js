@@ -1,9 +1,10 @@
 /** The cells around the one that is looked at: their texts, which can be edited, and who changed that one when. */
 import { cellText, readCell } from "../model/cells.js";
-import { number, ownerName } from "../words/battle.js";
+import { number, writtenWords } from "../words/battle.js";
 import { instructionWords } from "../words/instruction.js";
-import { buttons, debounce, element, make, onClick, refill, withCode } from "./dom.js";
+import { buttons, element, make, onClick, refill, throttle, withCode } from "./dom.js";
 import { swatch } from "./palette.js";
+import { standingNames, standingOn, timesWords } from "./standing.js";
 
 /** @typedef {import("../battle/conditions.js").Word} Word */
 /** @typedef {import("../worker/desk.js").View} View */
@@ -18,6 +19,9 @@ const NOT_A_LINE = "This is not an instruction; expected a line of source such a
 export class Cells {
   #isEditing = false;
   #request = "";
+  /** What is said below the list in place of what the cell does, until something else is shown. */
+  #notice = "";
+  #listed = "";
 
   /**
    * @param {Session} session
@@ -26,13 +30,14 @@ export class Cells {
   constructor(session, side) {
     this.session = session;
     this.side = side;
-    this.look = debounce(() => this.#list(), 40);
+    this.look = throttle(() => this.#list(), 40);
     onClick("release", () => session.pin(null));
     for (const button of buttons("#seek button")) {
       button.onclick = () => this.#seek(button, /** @type {keyof typeof DONE} */ (button.dataset.word));
     }
     session.listen((change) => {
       element("cell-box").hidden = session.way !== 0 && session.pinned === null;
+      if (change !== "play") this.#notice = "";
       if (change !== "play" || session.way === 0) this.look();
     });
   }
@@ -47,13 +52,11 @@ export class Cells {
     const { pinned } = session;
     if (pinned === null) return;
     const forward = button.dataset.way === "on";
-    button.disabled = true;
     const found = await session.leap([{ word, first: pinned }], forward);
-    button.disabled = false;
-    button.focus();
     if (found) return;
     const when = `${forward ? "after" : "before"} turn ${number(session.turn)}`;
-    element("cell-words").textContent = `Cell ${number(pinned)} is not ${DONE[word]} ${when}.`;
+    this.#notice = `Cell ${number(pinned)} is not ${DONE[word]} ${when}.`;
+    this.look();
   }
 
   /** The address that is looked at. */
@@ -69,45 +72,26 @@ export class Cells {
     const next = `Next: ${known.names[view.next]} at ${number(focus)}`;
     element("where").textContent = pinned !== null ? `Cell ${number(pinned)}` : view.head === null ? "The end" : next;
     element("release").hidden = element("seek").hidden = pinned === null;
-    const standing = this.#standing(view);
     const count = Math.min(2 * AROUND + 1, known.core);
-    const lines = Array.from({ length: count }, (_, index) => {
-      const address = (focus - AROUND + index + known.core) % known.core;
-      return this.#line(view, address, standing.get(address) ?? []);
-    });
-    refill(element("listing"), ...lines);
+    const first = focus - Math.min(AROUND, known.core) + known.core;
+    const addresses = Array.from({ length: count }, (_, index) => (first + index) % known.core);
+    const standing = standingOn(view, (address) => addresses.includes(address));
+    const lines = addresses.map((address) => this.#line(view, address, standing.get(address) ?? []));
+    // A line that is pressed stays in its place while the battle plays, unless it changes.
+    const listed = lines.map((line) => line.outerHTML).join("");
+    if (listed !== this.#listed) refill(element("listing"), ...lines);
+    this.#listed = listed;
     // The turn is announced already; so is a cell that is kept in view.
-    element("cell-words").setAttribute("aria-live", pinned === null ? "off" : "polite");
-    element("cell-words").textContent = instructionWords(readCell(view.cells, focus), { core: known.core });
+    element("cell-words").setAttribute("aria-live", pinned === null || way ? "off" : "polite");
+    const words = this.#notice || instructionWords(readCell(view.cells, focus), { core: known.core });
+    element("cell-words").textContent = words;
     if (!way) this.#listChanges(view);
-  }
-
-  /**
-   * Returns the warriors with processes on the cells of the list, and how many.
-   * @param {View} view
-   */
-  #standing({ queues, processes }) {
-    const { core } = this.session.known;
-    /** @type {Map<number, {who: number, many: number}[]>} */
-    const found = new Map();
-    let first = 0;
-    processes.forEach((count, who) => {
-      for (const address of queues.subarray(first, first + count)) {
-        if ((address - this.focus + AROUND + core) % core > 2 * AROUND) continue;
-        const here = found.get(address) ?? [];
-        const own = here.find((one) => one.who === who);
-        if (own) own.many++;
-        else found.set(address, [...here, { who, many: 1 }]);
-      }
-      first += count;
-    });
-    return found;
   }
 
   /**
    * @param {View} view
    * @param {number} address
-   * @param {{who: number, many: number}[]} standing
+   * @param {import("./standing.js").Standing} standing
    */
   #line(view, address, standing) {
     const { session, side } = this;
@@ -123,10 +107,10 @@ export class Cells {
     const button = make("button", { className: "bare text", title: `${sentence} Click to edit.` }, text);
     button.onclick = () => this.#edit(address, text, button);
     const look = { className: "bare address", title: "Select this cell", onclick: () => session.pin(address) };
-    const names = standing.map(({ who, many }) => known.names[who] + (many > 1 ? ` ×${many}` : "")).join(", ");
+    const names = standingNames(standing, known.names);
     const chips = standing.flatMap(({ who, many }) => [
       make("i", { className: "chip", style: colour(who) }),
-      many > 1 ? `×${number(many)}` : "",
+      timesWords(many),
     ]);
     return make(
       "li",
@@ -161,11 +145,8 @@ export class Cells {
       const code = make("code", {}, cellText(readCell(before, 0), known.core));
       return make("li", {}, link(to, `Turn ${number(turn)}`), `: ${known.names[warrior]} (was `, code, ")");
     });
-    const owner = view.owner[focus];
-    const loaded = owner < known.names.length ? `Loaded with ${ownerName(owner, known)}, and not changed since.` : "";
-    const when = view.written[focus];
-    const unchanged = when ? `Edited after turn ${number(when)}.` : loaded || "Not changed since the start.";
-    if (!lines.length) lines.push(make("li", {}, unchanged));
+    const written = writtenWords(view.owner[focus], view.written[focus], known);
+    if (!lines.length) lines.push(make("li", {}, `${written}; not changed since.`));
     if (next !== null) lines.push(make("li", {}, "Next change in ", link(next, `turn ${number(next)}`)));
     const source = make("li", {}, this.side.lineLink(focus));
     refill(element("past"), ...lines, source.childNodes.length ? source : null);
@@ -210,9 +191,8 @@ export class Cells {
    */
   async #applyEdit(address, input) {
     try {
-      const cell = await this.session.cellOf(input.value, address);
-      input.onblur = null;
-      await this.session.edit({ kind: "cell", address, last: address, cell });
+      const cell = this.session.cellOf(input.value, address);
+      await this.session.edit(cell.then((made) => ({ kind: "cell", address, last: address, cell: made })));
       return true;
     } catch (error) {
       input.setAttribute("aria-invalid", "true");

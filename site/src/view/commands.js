@@ -1,8 +1,18 @@
 /** The debugger's line: commands over the battle that is shown, as `corewar debug` has them. */
 import { cellText, readCell } from "../model/cells.js";
 import { editText } from "../model/fight.js";
-import { eventWords, moveWords, number, place, sharedWords, standingWords } from "../words/battle.js";
+import { eventWords, moveWords, number, place, standingWords } from "../words/battle.js";
 import { instructionWords } from "../words/instruction.js";
+import {
+  CommandError,
+  readAddress,
+  readCellEdit,
+  readCondition,
+  readNumber,
+  readProcess,
+  readWarrior,
+  readWarriorAnd,
+} from "./arguments.js";
 
 /** @typedef {import("../battle/conditions.js").Condition} Condition */
 /** @typedef {import("../model/fight.js").Edit} Edit */
@@ -15,79 +25,12 @@ const CELLS = 11;
 /** The number of processes that `queue` lists at most. */
 const LISTED = 20;
 const WORDS = ["at", "changes", "reads", "splits", "ends", "dies"];
-const CONDITIONS = "expected a condition: at, changes or reads A[..B] [by W], or splits, ends or dies W";
-
-/** Why a command was not done. */
-export class CommandError extends Error {}
-
-/**
- * @param {string} text
- * @param {string} what
- */
-function readNumber(text, what) {
-  if (!/^\d{1,9}$/.test(text)) throw new CommandError(`expected ${what}, not \`${text}\``);
-  return Number(text);
-}
-
-/**
- * Returns a warrior by its number or its name.
- * @param {Session} session
- * @param {string} text
- */
-function readWarrior({ known: { names } }, text) {
-  if (/^\d+$/.test(text) && Number(text) < names.length) return Number(text);
-  const exact = names.indexOf(text);
-  const warrior = exact >= 0 ? exact : names.findIndex((name) => name.toLowerCase() === text.toLowerCase());
-  if (warrior >= 0) return warrior;
-  const listing = names.map((name, index) => `${index} ${name}`).join(", ");
-  throw new CommandError(`no warrior \`${text}\`; the warriors are ${listing}`);
-}
-
-/**
- * Returns an address: a number, a label, or `.`, the cell that is executed next, each with or without +N or -N.
- * @param {Session} session
- * @param {string} text
- */
-function readAddress({ known, view }, text) {
-  const { core, addresses } = known;
-  const found = /^(\.|[\w.]+?)((?:[+-]\d{1,9})*)$/.exec(text);
-  const base = found?.[1] ?? "";
-  const isOver = base === "." && view?.head === null;
-  if (isOver) throw new CommandError("`.` is the cell to execute next, but the battle is over");
-  const label = addresses.get(base);
-  const at = base === "." ? (view?.head ?? 0) : (label ?? (/^\d{1,9}$/.test(base) ? Number(base) : core));
-  const wanted = `a number below ${core}, a label or \`.\``;
-  const why = sharedWords(base, known) || `\`${text}\` is not an address: ${wanted}`;
-  if (!found || at >= core) throw new CommandError(why);
-  const added = (found[2].match(/[+-]\d+/g) ?? []).reduce((sum, part) => sum + Number(part), 0);
-  return (((at + added) % core) + core) % core;
-}
-
-/**
- * @param {Session} session
- * @param {string} text
- * @returns {Condition}
- */
-function readCondition(session, text) {
-  const [word, range, by, ...rest] = text.split(/\s+/);
-  if (word === "at" || word === "changes" || word === "reads") {
-    if (!range || (by !== undefined && (by !== "by" || !rest.length))) throw new CommandError(CONDITIONS);
-    const [from, to = from] = range.split("..");
-    /** @type {Condition} */
-    const cells = { word, first: readAddress(session, from), last: readAddress(session, to) };
-    return by === undefined ? cells : { ...cells, by: readWarrior(session, rest.join(" ")) };
-  }
-  if ((word === "splits" || word === "ends" || word === "dies") && range) {
-    return { word, first: readWarrior(session, text.slice(word.length).trim()) };
-  }
-  throw new CommandError(CONDITIONS);
-}
 
 /**
  * @param {Session} session
  * @param {Condition} condition
  */
-export function conditionWords({ known }, { word, first, last = first, by }) {
+function conditionWords({ known }, { word, first, last = first, by }) {
   if (word === "splits" || word === "ends" || word === "dies") return `${word} ${known.names[first]}`;
   const range = last === first ? place(first, known) : `${place(first, known)}..${place(last, known)}`;
   return `${word} ${range}${by === undefined ? "" : ` by ${known.names[by]}`}`;
@@ -179,34 +122,16 @@ function deleteBreak(session, rest) {
 }
 
 /**
- * Assembles a line of source for an address. Meanwhile the battle stays at the turn that is shown.
- * @param {Session} session
- * @param {string} line
- * @param {number} address
- */
-async function readCellLine(session, line, address) {
-  await session.jump(session.turn);
-  try {
-    return await session.cellOf(line, address);
-  } catch (error) {
-    throw new CommandError(/** @type {Error} */ (error).message || `\`${line}\` is not an instruction`);
-  }
-}
-
-/**
  * Edits, and says what was edited.
  * @param {Session} session
- * @param {Edit} edit
+ * @param {Edit | Promise<Edit>} edit
  */
 async function make(session, edit) {
   const { turn, known } = session;
-  try {
-    await session.edit(edit);
-  } catch (error) {
-    const { message } = /** @type {Error} */ (error);
-    throw new CommandError(`\`${editText(edit, known.core)}\`: ${message}`);
-  }
-  return [`after turn ${number(turn)}: ${editText(edit, known.core)}`];
+  const made = session.edit(edit).then(() => "", (/** @type {Error} */ { message }) => message);
+  const [text, why] = [editText(await edit, known.core), await made];
+  if (why) throw new CommandError(`\`${text}\`: ${why}`);
+  return [`after turn ${number(turn)}: ${text}`];
 }
 
 /** @type {Act} */
@@ -214,8 +139,7 @@ async function edit(session, rest) {
   const [where, ...line] = rest.split(/\s+/);
   if (!line.length) throw new CommandError("expected an address and a line of source");
   const address = readAddress(session, where);
-  const cell = await readCellLine(session, line.join(" "), address);
-  return make(session, { kind: "cell", address, last: address, cell });
+  return make(session, readCellEdit(session, line.join(" "), address, address));
 }
 
 /** @type {Act} */
@@ -224,50 +148,25 @@ async function fill(session, rest) {
   if (!line.length) throw new CommandError("expected two addresses and a line of source");
   const [address, last] = [readAddress(session, from), readAddress(session, to)];
   if (last < address) throw new CommandError(`cannot fill ${address} to ${last}: the first address is above the last`);
-  return make(session, { kind: "cell", address, last, cell: await readCellLine(session, line.join(" "), address) });
-}
-
-/**
- * Splits the rest of a line into the name of a warrior and some words after it.
- * @param {Session} session
- * @param {string} rest
- * @param {number} count
- */
-function split(session, rest, count) {
-  const words = rest.split(/\s+/);
-  if (words.length <= count) throw new CommandError("expected a warrior and other arguments; see `help`");
-  return { warrior: readWarrior(session, words.slice(0, -count).join(" ")), words: words.slice(-count) };
-}
-
-/**
- * Returns the index of a process of a warrior; the next one is 0.
- * @param {Session} session
- * @param {number} warrior
- * @param {string} text
- */
-function readProcess({ view, known }, warrior, text) {
-  const [index, count] = [readNumber(text, "the index of a process"), view?.processes[warrior] ?? 0];
-  const why = `${known.names[warrior]} has no process ${index}; its number of processes is ${count}`;
-  if (index >= count) throw new CommandError(why);
-  return index;
+  return make(session, readCellEdit(session, line.join(" "), address, last));
 }
 
 /** @type {Act} */
 async function move(session, rest) {
-  const { warrior, words } = split(session, rest, 2);
+  const { warrior, words } = readWarriorAnd(session, rest, 2);
   const place = readProcess(session, warrior, words[0]);
   return make(session, { kind: "move", warrior, place, address: readAddress(session, words[1]) });
 }
 
 /** @type {Act} */
 async function kill(session, rest) {
-  const { warrior, words } = split(session, rest, 1);
+  const { warrior, words } = readWarriorAnd(session, rest, 1);
   return make(session, { kind: "kill", warrior, place: readProcess(session, warrior, words[0]) });
 }
 
 /** @type {Act} */
 async function spawn(session, rest) {
-  const { warrior, words } = split(session, rest, 1);
+  const { warrior, words } = readWarriorAnd(session, rest, 1);
   return make(session, { kind: "add", warrior, address: readAddress(session, words[0]) });
 }
 

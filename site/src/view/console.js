@@ -1,5 +1,5 @@
 /** The debugger's line below the story: its answers, and the lines before. */
-import { element, make, typed, withCode } from "./dom.js";
+import { clamp, element, make, typed, withCode } from "./dom.js";
 import { completions, execute } from "./commands.js";
 
 /** @typedef {import("./session.js").Session} Session */
@@ -10,6 +10,7 @@ export class Console {
   /** @type {string[]} */
   #past = [];
   #at = 0;
+  #done = Promise.resolve();
   /** The text whose completions were listed last. */
   #listed = "";
 
@@ -27,7 +28,7 @@ export class Console {
       if (event.key === "Tab" && !event.shiftKey && this.#complete(field)) event.preventDefault();
       if (event.key !== "ArrowUp" && event.key !== "ArrowDown") return;
       event.preventDefault();
-      this.#at = Math.max(0, Math.min(this.#past.length, this.#at + (event.key === "ArrowUp" ? -1 : 1)));
+      this.#at = clamp(this.#at + (event.key === "ArrowUp" ? -1 : 1), 0, this.#past.length);
       field.value = this.#past[this.#at] ?? "";
     });
   }
@@ -36,11 +37,11 @@ export class Console {
    * Executes several lines that are pasted; a single one goes into the field.
    * @param {ClipboardEvent} event
    */
-  async #runAll(event) {
+  #runAll(event) {
     const lines = (event.clipboardData?.getData("text") ?? "").split("\n").filter((line) => line.trim());
     if (lines.length < 2) return;
     event.preventDefault();
-    for (const line of lines) await this.run(line);
+    for (const line of lines) this.run(line);
   }
 
   /**
@@ -63,8 +64,17 @@ export class Console {
     return true;
   }
 
-  /** @param {string} line an empty one repeats the last */
-  async run(line) {
+  /**
+   * Executes a line after those before it.
+   * @param {string} line an empty one repeats the last
+   */
+  run(line) {
+    this.#done = this.#done.then(() => this.#execute(line));
+    return this.#done;
+  }
+
+  /** @param {string} line */
+  async #execute(line) {
     const given = line.trim() || this.#past.at(-1);
     if (!given) return;
     if (given !== this.#past.at(-1)) this.#past.push(given);

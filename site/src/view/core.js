@@ -98,8 +98,10 @@ export class Core {
     const [wide, tall] = [this.#xs[columns], this.#ys[rows]];
     this.canvas.width = wide + 2 * margin;
     this.canvas.height = tall + 2 * margin;
-    this.canvas.style.width = `${this.canvas.width / ratio}px`;
-    this.canvas.style.height = `${this.canvas.height / ratio}px`;
+    // A cell has at least one pixel of the canvas. If there are more cells than pixels of the screen, it is shrunk.
+    const scale = ratio * Math.max(1, 1 / unit);
+    this.canvas.style.width = `${this.canvas.width / scale}px`;
+    this.canvas.style.height = `${this.canvas.height / scale}px`;
     this.#image = this.context.createImageData(wide, tall);
     this.#pixels = new Uint32Array(this.#image.data.buffer);
     this.#processOwners = new Uint8Array(size);
@@ -319,7 +321,7 @@ export class Core {
    */
   pointOf(address) {
     const box = this.canvas.getBoundingClientRect();
-    const { x, y } = this.#middle(address);
-    return { x: box.left + x / devicePixelRatio, y: box.top + y / devicePixelRatio };
+    const [{ x, y }, scale] = [this.#middle(address), box.width / this.canvas.width];
+    return { x: box.left + x * scale, y: box.top + y * scale };
   }
 }

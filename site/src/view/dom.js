@@ -86,6 +86,23 @@ export function debounce(act, wait) {
 }
 
 /**
+ * Returns a function that calls another one some milliseconds later, however often it is called until then.
+ * @param {() => void} act
+ * @param {number} wait
+ */
+export function throttle(act, wait) {
+  let isWaiting = false;
+  return () => {
+    if (isWaiting) return;
+    isWaiting = true;
+    setTimeout(() => {
+      isWaiting = false;
+      act();
+    }, wait);
+  };
+}
+
+/**
  * @param {number} value
  * @param {number} low
  * @param {number} high

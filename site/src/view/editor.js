@@ -1,5 +1,6 @@
 /** The editor: Redcode in colours, errors at their words, each line in words under the pointer. */
-import CodeMirror from "codemirror";
+import { CodeMirror, Doc, defineMode } from "codemirror";
+import { cellText } from "../model/cells.js";
 import { pluralize } from "../words/battle.js";
 import { instructionWords } from "../words/instruction.js";
 import { DIRECTIVES, OPCODES } from "../words/source.js";
@@ -9,7 +10,7 @@ import { element, make, placeTip, refill } from "./dom.js";
 /** @typedef {import("../model/cells.js").Cell} Cell */
 /** @typedef {import("../words/errors.js").Explained} Explained */
 /** @typedef {Map<number, {died: number, killed: number}>} Hits by lines */
-/** @typedef {{save: () => void, fight: () => void, leave: () => void, changed: () => void}} Acts */
+/** @typedef {{save: () => void, leave: () => void, changed: () => void}} Acts */
 
 /**
  * What the words of a line are, in the order in which they are looked for.
@@ -25,7 +26,7 @@ const TOKENS = [
   [/^[#$@*<>{}]/, "operator"],
 ];
 
-CodeMirror.defineMode("redcode", () => ({
+defineMode("redcode", () => ({
   token(stream) {
     if (stream.eatSpace()) return null;
     const found = TOKENS.find(([pattern]) => stream.match(pattern));
@@ -35,7 +36,7 @@ CodeMirror.defineMode("redcode", () => ({
 }));
 
 /** @param {string} text */
-export const newDocument = (text) => CodeMirror.Doc(text, "redcode");
+export const newDocument = (text) => new Doc(text, "redcode");
 
 export class Editor {
   /** @type {{clear(): void}[]} */
@@ -44,28 +45,22 @@ export class Editor {
   #moving = null;
   /**
    * The cells of each line.
-   * @type {Map<number, {cell: Cell, text: string}[]>}
+   * @type {Map<number, Cell[]>}
    */
   #made = new Map();
   #core = 1;
 
   /** @param {Acts} acts */
-  constructor({ save, fight, leave, changed }) {
+  constructor({ save, leave, changed }) {
     this.mirror = CodeMirror(element("editor"), {
       mode: "redcode",
       lineNumbers: true,
       tabSize: 8,
       indentUnit: 8,
       gutters: ["faults", "CodeMirror-linenumbers", "hits"],
-      extraKeys: {
-        "Ctrl-S": save,
-        "Cmd-S": save,
-        "Ctrl-Enter": fight,
-        "Cmd-Enter": fight,
-        Tab: "insertSoftTab",
-        "Shift-Tab": false,
-        Esc: leave,
-      },
+      // The page takes files that are dropped.
+      dragDrop: false,
+      extraKeys: { "Ctrl-S": save, "Cmd-S": save, Tab: "insertSoftTab", "Shift-Tab": false, Esc: leave },
     });
     const field = this.mirror.getInputField();
     field.setAttribute("aria-label", "Source. Escape leaves the editor; Control-Enter starts a battle.");
@@ -140,7 +135,7 @@ export class Editor {
 
   /**
    * Takes the cells that the document makes, by lines.
-   * @param {Map<number, {cell: Cell, text: string}[]>} made
+   * @param {Map<number, Cell[]>} made
    * @param {number} core
    */
   explain(made, core) {
@@ -157,17 +152,17 @@ export class Editor {
    * @param {MouseEvent} event
    */
   #hover({ clientX, clientY }) {
-    const { line } = this.mirror.coordsChar({ left: clientX, top: clientY }, "window");
+    const { line, outside } = this.mirror.coordsChar({ left: clientX, top: clientY }, "window");
     const cells = this.#made.get(line + 1);
-    if (!cells) {
+    if (!cells || outside) {
       this.#hideTip();
       return;
     }
     const tip = element("line-tip");
     tip.hidden = false;
     const more = cells.length > 1 ? ` and ${cells.length - 1} more` : "";
-    const head = make("p", { className: "head" }, make("code", {}, cells[0].text), more);
-    refill(tip, head, make("p", {}, instructionWords(cells[0].cell, { core: this.#core })));
+    const head = make("p", {}, make("code", {}, cellText(cells[0], this.#core)), more);
+    refill(tip, head, make("p", {}, instructionWords(cells[0], { core: this.#core })));
     placeTip(tip, { x: clientX, y: clientY + tip.offsetHeight });
   }
 }

@@ -1,9 +1,8 @@
 /** What the sheets of the page ask of it, and what they share. */
-import { MarsError } from "../engine/mars.js";
+import { MarsError } from "../model/errors.js";
 import * as results from "../model/layout.js";
 import { explain } from "../words/errors.js";
 
-/** @typedef {import("../engine/mars.js").Row} Row */
 /** @typedef {import("../model/fight.js").Source} Source */
 /** @typedef {import("../model/settings.js").Settings} Settings */
 /** @typedef {{settings: Settings, seed: number, rounds: number, position: number, formula: string}} MatchTerms */
@@ -26,11 +25,18 @@ const REASONS = {
   [results.SETTINGS]: "These settings are not valid.",
   [results.PARAMETERS]: "These core settings are not valid together.",
   [results.FORMULA]: "The score formula is not valid.",
-  [results.LOAD]: "This load file is not valid.",
   [results.PLACEMENT]: "The core has no room for these warriors at this minimum distance.",
   [results.BATTLE]: "The warriors cannot be loaded.",
   [results.SCORE]: "The score formula has no value in some round.",
 };
+
+/**
+ * Waits for answers. Throws what the first of them failed with, once all have come or failed.
+ * @param {Promise<unknown>[]} pending
+ */
+export async function allOf(pending) {
+  for (const answer of await Promise.allSettled(pending)) if (answer.status === "rejected") throw answer.reason;
+}
 
 /**
  * Returns why a call failed, in a sentence.
@@ -46,17 +52,4 @@ export function errorWords(error, sources, meanings) {
   }
   const { line, text } = explain(error, source.text, meanings);
   return `${source.name}, line ${line}: ${text}`;
-}
-
-/**
- * Returns the points a round, and how far from them the true value is at most, 19 times of 20. For that a round of each
- * outcome is added: a warrior that has lost all of 100 may win some of the next.
- * @param {Row} row
- */
-export function mean({ points, wins, ties, losses }) {
-  const rounds = wins + ties + losses;
-  const all = rounds + 3;
-  const middle = (3 * (wins + 1) + ties + 1) / all;
-  const squares = (9 * (wins + 1) + ties + 1) / all;
-  return { points: points / rounds, far: 1.96 * Math.sqrt((squares - middle * middle) / rounds) };
 }

@@ -1,13 +1,14 @@
 /** The league: a match of every two sources. The table and the wins of each pair grow as matches end. */
-import { MarsError } from "../engine/mars.js";
-import { number, pluralize } from "../words/battle.js";
-import { debounce, element, make, onClick, refill, typed, withCode } from "./dom.js";
-import { errorWords } from "./host.js";
+import { MarsError } from "../model/errors.js";
+import { countWords, number, pluralize } from "../words/battle.js";
+import { Stopped } from "../worker/pool.js";
+import { element, make, onClick, refill, throttle, typed, withCode } from "./dom.js";
+import { allOf, errorWords } from "./host.js";
 
 /** @typedef {import("../engine/warrior.js").Warrior} Warrior */
 /** @typedef {import("./host.js").Host} Host */
 /** @typedef {import("./host.js").MatchTerms} MatchTerms */
-/** @typedef {import("./host.js").Row} Row */
+/** @typedef {import("../engine/mars.js").Row} Row */
 /** @typedef {import("./host.js").Source} Source */
 /** @typedef {[number, number, Row, Row]} Result two sources, and their rows */
 /**
@@ -25,8 +26,13 @@ export class League {
   #sources = [];
   /** @type {string[]} */
   #names = [];
-  /** @type {string[]} */
+  /**
+   * Why sources were left out.
+   * @type {string[]}
+   */
   #faults = [];
+  /** Why matches are missing, or "". */
+  #problem = "";
   /**
    * The row of each source against each other one.
    * @type {(Row | null)[][]}
@@ -34,10 +40,13 @@ export class League {
   against = [];
   done = 0;
   total = 0;
+  /** @type {MatchTerms} */
+  #terms;
+  #isRunning = false;
   #run = 0;
   #began = 0;
   #took = 0;
-  #later = debounce(() => this.draw(), 60);
+  #later = throttle(() => this.draw(), 200);
 
   /**
    * @param {Host} host
@@ -46,14 +55,15 @@ export class League {
   constructor(host, runner) {
     this.host = host;
     this.runner = runner;
+    this.#terms = host.terms();
     onClick("hold", () => this.hold());
     onClick("league-stop", () => this.#stop());
   }
 
   #stop() {
     this.#run++;
+    this.#isRunning = false;
     this.host.pool.drop("league");
-    this.total = this.done;
     this.draw();
   }
 
@@ -61,19 +71,24 @@ export class League {
     const { pool, shelf } = this.host;
     const isAll = typed("league-of", HTMLSelectElement).value === "all";
     const sources = isAll ? shelf.all : shelf.fighters;
-    const run = ++this.#run;
-    pool.drop("league");
     if (sources.length < 2) {
       element("league-note").textContent = "A league needs at least two sources; select them in the list of sources.";
       return;
     }
-    const terms = this.host.terms();
+    const run = ++this.#run;
+    pool.drop("league");
+    this.#problem = "";
+    this.#isRunning = true;
     this.#began = performance.now();
-    const warriors = await this.#enter(sources, terms);
+    try {
+      const warriors = await this.#enter(sources, this.host.terms(), run);
+      if (this.runner && this.total) await this.#runElsewhere(this.runner, run);
+      else await this.#runHere(warriors, run);
+    } catch (error) {
+      if (run === this.#run) this.#problem = errorWords(error, [], this.host.meanings);
+    }
     if (run !== this.#run) return;
-    this.draw();
-    if (this.runner) await this.#runElsewhere(this.runner, terms, run);
-    else await this.#runHere(warriors, terms, run);
+    this.#isRunning = false;
     this.draw();
   }
 
@@ -81,58 +96,60 @@ export class League {
    * Assembles the sources. One with an error is left out.
    * @param {Source[]} sources
    * @param {MatchTerms} terms
+   * @param {number} run
    */
-  async #enter(sources, terms) {
-    /** @type {string[]} */
-    const faults = [];
+  async #enter(sources, terms, run) {
+    const { pool, meanings } = this.host;
+    /** @type {Set<string>} */
+    const faults = new Set();
     const pending = sources.map(async (source) => {
       try {
-        const [entrant] = await this.host.pool.ask("warriors", [[source], terms], "league", 2);
+        const [entrant] = await pool.ask("warriors", [[source], terms], "league", 2);
         return { source, ...entrant };
       } catch (error) {
-        if (!(error instanceof MarsError)) throw error;
-        faults.push(errorWords(error, [source], this.host.meanings));
+        if (error instanceof Stopped) throw error;
+        const words = errorWords(error, [source], meanings);
+        faults.add(error instanceof MarsError ? words : `${source.name}: ${words}`);
         return null;
       }
     });
     const entrants = (await Promise.all(pending)).flatMap((entrant) => entrant ?? []);
-    this.#faults = faults;
+    if (run !== this.#run) throw new Stopped("stopped");
+    this.#terms = terms;
+    this.#faults = [...faults];
     this.#sources = entrants.map(({ source }) => source);
     this.#names = entrants.map(({ source, name }) => name || source.name);
     this.against = entrants.map(() => entrants.map(() => null));
-    this.done = 0;
+    this.done = this.#took = 0;
     this.total = (entrants.length * (entrants.length - 1)) / 2;
+    this.draw();
     return entrants.map(({ warrior }) => warrior);
   }
 
   /**
    * @param {Warrior[]} warriors
-   * @param {MatchTerms} terms
    * @param {number} run
    */
-  async #runHere(warriors, terms, run) {
+  async #runHere(warriors, run) {
+    const [{ pool }, terms] = [this.host, this.#terms];
     const pairs = warriors.flatMap((_, one) => warriors.slice(one + 1).map((_, index) => [one, one + 1 + index]));
     const fights = pairs.map(async ([one, other]) => {
-      const rows = await this.host.pool.ask("match", [[warriors[one], warriors[other]], terms], "league");
+      const rows = await pool.ask("match", [[warriors[one], warriors[other]], terms], "league");
       if (run === this.#run) this.#addResults([[one, other, rows[0], rows[1]]]);
     });
-    await Promise.allSettled(fights);
+    await allOf(fights);
   }
 
   /**
    * @param {Runner} runner
-   * @param {MatchTerms} terms
    * @param {number} run
    */
-  async #runElsewhere(runner, terms, run) {
-    try {
-      for await (const results of runner(this.#sources, terms)) {
-        if (run !== this.#run) return;
-        this.#addResults(results);
-      }
-    } catch (error) {
-      this.#faults.push(String(/** @type {Error} */ (error).message));
+  async #runElsewhere(runner, run) {
+    for await (const results of runner(this.#sources, this.#terms)) {
+      if (run !== this.#run) return;
+      this.#addResults(results);
     }
+    if (this.done < this.total) throw new Error("the server has stopped");
   }
 
   /** @param {Result[]} results */
@@ -148,10 +165,9 @@ export class League {
 
   /** Draws the table, the most points first. Rows and columns have the ranks of the warriors. */
   draw() {
-    const { against, done, total } = this;
-    const sums = against.map((line) => sumOf(line));
+    const sums = this.against.map((line) => sumOf(line));
     const order = [...sums.keys()].sort((one, other) => sums[other][0] - sums[one][0]);
-    this.#drawProgress(done, total);
+    this.#drawProgress();
     const isPicture = order.length > MAX_TABLE_SIZE;
     element("league-picture").hidden = !isPicture;
     if (isPicture) this.#drawPicture(order);
@@ -167,22 +183,21 @@ export class League {
     refill(element("league-table"), ...(order.length ? [head, ...lines] : []));
   }
 
-  /**
-   * @param {number} done
-   * @param {number} total
-   */
-  #drawProgress(done, total) {
-    const isRunning = done < total;
-    const rounds = pluralize(this.host.terms().rounds, "round");
-    const out = this.#faults.length ? `; left out: ${this.#faults.join(" ")}` : "";
+  #drawProgress() {
+    const { done, total } = this;
+    const rounds = pluralize(this.#terms.rounds, "round");
     const time = (this.#took / 1000).toFixed(1);
-    const summary = `${number(done)} of ${pluralize(total, "match")}, ${rounds} each, in ${time} s${out}`;
-    refill(element("league-note"), withCode(total ? summary : this.#faults.join(" ")));
-    element("league-stop").hidden = !isRunning;
+    const parts = [
+      total && `${number(done)} of ${pluralize(total, "match")}, ${rounds} each, in ${time} s`,
+      this.#faults.length && `left out: ${this.#faults.join(" ")}`,
+      this.#problem && `error: ${this.#problem}`,
+    ];
+    refill(element("league-note"), withCode(parts.filter(Boolean).join("; ")));
+    element("league-stop").hidden = !this.#isRunning;
     const progress = typed("league-done", HTMLProgressElement);
     progress.max = Math.max(1, total);
     progress.value = done;
-    progress.hidden = !isRunning;
+    progress.hidden = !this.#isRunning;
   }
 
   /**
@@ -194,8 +209,8 @@ export class League {
     const row = this.against[who][other];
     if (!row) return make("td", { className: "match" }, who === other ? "·" : "");
     const [red, green, blue, share] = shade(row);
-    const counts = `${pluralize(row.wins, "win")}, ${pluralize(row.ties, "tie")}, ${pluralize(row.losses, "loss")}`;
-    const title = `${this.#names[who]} against ${this.#names[other]}: ${counts}. Click to watch the first round.`;
+    const names = `${this.#names[who]} against ${this.#names[other]}`;
+    const title = `${names}: ${countWords(row)}. Click to watch the first round.`;
     const button = make("button", { className: "bare", title, onclick: () => this.#show(who, other) }, row.wins);
     const style = `background:rgba(${red},${green},${blue},${share.toFixed(2)})`;
     return make("td", { className: "match", style }, button);
@@ -206,7 +221,8 @@ export class League {
    * @param {number} other
    */
   #show(who, other) {
-    return this.host.fight([Math.min(who, other), Math.max(who, other)].map((index) => this.#sources[index]));
+    const pair = [Math.min(who, other), Math.max(who, other)].map((index) => this.#sources[index]);
+    return this.host.fight(pair, this.#terms);
   }
 
   /**

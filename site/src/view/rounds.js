@@ -1,6 +1,8 @@
 /** All rounds of the match: who won each of them, and by which lines warriors died. */
-import { number, pluralize } from "../words/battle.js";
-import { debounce, element, make, onClick, refill } from "./dom.js";
+import { countWords, number, pluralize } from "../words/battle.js";
+import { Stopped } from "../worker/pool.js";
+import { element, make, onClick, refill, throttle } from "./dom.js";
+import { allOf } from "./host.js";
 import { swatch } from "./palette.js";
 
 /** @typedef {import("../worker/jobs.js").Round} Round */
@@ -13,15 +15,16 @@ import { swatch } from "./palette.js";
  */
 /** @typedef {Map<string, Map<number, {died: number, killed: number}>>} Hits by the name of a source and its line */
 
-/** The number of rounds that are fought if the match has fewer, and of reasons that are listed. */
+/** The number of rounds that are fought if the match has fewer, of squares, and of reasons that are listed. */
 const MIN_ROUNDS = 100;
+const MAX_SQUARES = 1000;
 const MAX_REASONS = 6;
 
 export class Rounds {
   /** @type {Round[]} */
   #rounds = [];
   #match = "";
-  #later = debounce(() => this.#draw(), 30);
+  #later = throttle(() => this.#draw(), 100);
 
   /**
    * @param {Session} session
@@ -43,7 +46,8 @@ export class Rounds {
   #open() {
     const { fight } = this.session;
     if (!fight) return;
-    const match = JSON.stringify([fight.warriors, fight.settings, fight.seed, fight.position]);
+    const texts = fight.warriors.map(({ text }) => text);
+    const match = JSON.stringify([texts, fight.settings, fight.seed, fight.position]);
     if (match !== this.#match) {
       this.pool.drop("rounds");
       this.#match = match;
@@ -57,6 +61,7 @@ export class Rounds {
     if (!fight) return;
     const match = this.#match;
     const rounds = Math.max(MIN_ROUNDS, fight.rounds);
+    this.pool.drop("rounds");
     this.#rounds = [];
     const pending = Array.from({ length: rounds }, async (_, round) => {
       const outcome = await this.pool.ask("round", [{ ...fight, rounds, round, edits: [] }], "rounds", 1);
@@ -64,7 +69,11 @@ export class Rounds {
       this.#rounds[round] = outcome;
       this.#later();
     });
-    await Promise.allSettled(pending);
+    try {
+      await allOf(pending);
+    } catch (error) {
+      if (!(error instanceof Stopped)) throw error;
+    }
     this.#draw();
   }
 
@@ -72,8 +81,10 @@ export class Rounds {
     const { fight, opened, known } = this.session;
     if (!fight || !opened) return;
     const names = fight.warriors.map((_, source) => known.names[opened.order.indexOf(source)]);
-    const squares = Array.from(this.#rounds, (round, index) => this.#square(round, index, names));
-    refill(element("strip"), ...squares);
+    const shown = this.#rounds.slice(0, MAX_SQUARES);
+    refill(element("strip"), ...Array.from(shown, (round, index) => this.#square(round, index, names)));
+    const which = shown.length < this.#rounds.length ? ` for the first ${number(MAX_SQUARES)}` : "";
+    element("strip-note").textContent = `One square per round${which}; click one to watch it`;
     const found = this.#rounds.filter(Boolean);
     element("tally").hidden = found.length === 0;
     refill(element("tally"), ...names.map((name, source) => tally(name, source, found)));
@@ -125,7 +136,8 @@ export class Rounds {
     const away = killer < 0 ? " in empty memory" : " outside its code";
     const where = line ? [" on its ", link(warrior, line)] : [away];
     const other = killer < 0 ? [] : [", hit by ", link(killer, by), ` of ${names[killer]}`];
-    const what = killer === warrior ? [", hit by itself"] : other;
+    const own = by ? [", hit by its own ", link(killer, by)] : [", hit by itself"];
+    const what = killer === warrior ? own : other;
     return make("li", {}, make("b", {}, `${number(count)}×`), ` ${names[warrior]} died`, ...where, ...what);
   }
 }
@@ -137,8 +149,7 @@ export class Rounds {
  */
 function tally(name, source, rounds) {
   const count = (/** @type {string} */ what) => rounds.filter(({ outcomes }) => outcomes[source] === what).length;
-  const losses = count("loss");
-  const words = `${pluralize(count("win"), "win")}, ${pluralize(count("tie"), "tie")}, ${pluralize(losses, "loss")}`;
+  const words = countWords({ wins: count("win"), ties: count("tie"), losses: count("loss") });
   return make("li", { style: swatch(source) }, make("i", { className: "chip" }), make("b", {}, name), ` ${words}`);
 }
 

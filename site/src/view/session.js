@@ -30,6 +30,11 @@ const LABEL = /(?<![\w.])(?:\d+\.)?[A-Za-z_]\w*/g;
 export class Session {
   /** @type {Fight | null} */
   fight = null;
+  /**
+   * The fight that is wanted, which is shown as soon as it is opened.
+   * @type {Fight | null}
+   */
+  latest = null;
   /** @type {Opened | null} */
   opened = null;
   /** @type {Known} */
@@ -78,8 +83,11 @@ export class Session {
   #wantedBeside = null;
   #exact = 0;
   #then = 0;
+  #frame = 0;
   /** @type {Promise<void> | null} */
   #going = null;
+  /** @type {Promise<unknown>} */
+  #done = Promise.resolve();
 
   /**
    * @param {RemoteDesk} desk
@@ -119,14 +127,48 @@ export class Session {
   }
 
   /**
-   * Fights, and shows the battle from a turn. Throws what the desk throws; then the battle before stays.
+   * Calls a function after those before it: they lead to another battle, future or turn.
+   * @template T
+   * @param {() => Promise<T>} act
+   * @returns {Promise<T>}
+   */
+  #inOrder(act) {
+    const done = this.#done.then(act);
+    this.#done = done.catch(() => {});
+    return done;
+  }
+
+  /**
+   * Fights, and shows the battle from a turn. Of several fights that are wanted meanwhile, the latest is opened. Throws
+   * what the desk throws; then the battle before stays.
    * @param {Fight} fight
    * @param {{turn?: number, pinned?: number | null, plays?: boolean}} shown
    */
   async open(fight, { turn = 0, pinned = null, plays = true } = {}) {
     this.stop();
-    const opened = await this.desk.open(fight);
+    this.latest = fight;
+    await this.#inOrder(async () => {
+      if (this.latest !== fight) return;
+      try {
+        this.#takeFight(fight, await this.desk.open(fight), pinned);
+      } catch (error) {
+        if (this.latest === fight) this.latest = this.fight;
+        throw error;
+      }
+    });
+    if (this.fight !== fight) return;
+    await this.go(turn);
+    if (plays && this.latest === fight) this.play(1);
+  }
+
+  /**
+   * @param {Fight} fight
+   * @param {Opened} opened
+   * @param {number | null} pinned
+   */
+  #takeFight(fight, opened, pinned) {
     const { edits } = fight;
+    this.stop();
     this.futures = [[], ...edits].map((_, index) => ({
       edits: edits.slice(0, index),
       end: opened.end,
@@ -140,8 +182,6 @@ export class Session {
     this.#compare(null);
     this.fight = fight;
     this.#setBattle(opened);
-    await this.go(turn);
-    if (plays) this.play(1);
   }
 
   /**
@@ -149,7 +189,10 @@ export class Session {
    * @param {import("../model/fight.js").Source[]} warriors
    */
   rename(warriors) {
-    if (this.fight) this.fight = { ...this.fight, warriors };
+    if (!this.fight) return;
+    const renamed = { ...this.fight, warriors };
+    if (this.latest === this.fight) this.latest = renamed;
+    this.fight = renamed;
   }
 
   /** @param {Opened} opened */
@@ -158,6 +201,7 @@ export class Session {
     this.opened = opened;
     this.future = future;
     this.futures[future].end = end;
+    if (this.#wantedBeside === this.futures[future]) this.#compare(null);
     this.view = this.move = this.origins = null;
     this.hasEnded = false;
     this.wanted = clamp(this.wanted, 0, end);
@@ -171,10 +215,11 @@ export class Session {
    * Shows a turn. While the desk prepares one, the latest wish counts. Resolves when that is shown.
    * @param {number} turn
    */
-  go(turn) {
+  async go(turn) {
+    if (!this.opened) return;
     this.wanted = clamp(Math.round(turn), 0, this.end);
     this.#going ??= this.#showWanted();
-    return this.#going;
+    await this.#going;
   }
 
   async #showWanted() {
@@ -254,15 +299,21 @@ export class Session {
    * @param {1 | -1} way
    */
   play(way) {
+    if (!this.opened) return;
     if (way > 0 && this.wanted >= this.end) this.wanted = 0;
     if (way < 0 && this.wanted <= 0) this.wanted = this.end;
-    const wasStopped = this.way === 0;
     this.way = way;
     this.hasEnded = false;
     this.#exact = this.wanted;
     this.#then = performance.now();
     this.#notify("play");
-    if (wasStopped) requestAnimationFrame((now) => this.#tick(now));
+    this.#requestTick();
+  }
+
+  /** Requests a tick, in place of one that is still to come. */
+  #requestTick() {
+    cancelAnimationFrame(this.#frame);
+    this.#frame = requestAnimationFrame((now) => this.#tick(now));
   }
 
   stop() {
@@ -282,7 +333,7 @@ export class Session {
     if (this.#exact === (this.way > 0 ? this.end : 0)) {
       this.hasEnded = this.way > 0;
       this.stop();
-    } else requestAnimationFrame((then) => this.#tick(then));
+    } else this.#requestTick();
   }
 
   /** @param {number} rate turns a second */
@@ -312,8 +363,13 @@ export class Session {
   async leap(conditions, forward) {
     this.hasEnded = false;
     this.stop();
-    const found = await this.desk.search(this.future, conditions, this.wanted, forward);
-    if (found) await this.go(found.turn);
+    const found = await this.#inOrder(async () => {
+      if (!this.opened) return null;
+      const place = await this.desk.search(this.future, conditions, this.wanted, forward);
+      this.wanted = place?.turn ?? this.wanted;
+      return place;
+    });
+    await this.go(this.wanted);
     return found;
   }
 
@@ -339,35 +395,52 @@ export class Session {
   }
 
   /**
-   * Edits the battle at the turn that is shown, and shows the future that this makes. Throws what the machine says.
-   * @param {Edit} edit
+   * Edits the battle at the turn that is shown, and shows the future that this makes. Throws what the machine says, and
+   * what the edit fails with if that is not known yet.
+   * @param {Edit | Promise<Edit>} edit
    */
   async edit(edit) {
     this.stop();
-    const { turn, future } = this;
-    const opened = await this.desk.edit(future, turn, edit);
-    if (opened.future === this.futures.length) {
-      // The edits after this turn belong to the future that is left.
-      let parent = future;
-      while (this.futures[parent].edits.length >= opened.edits.length) parent = this.futures[parent].parent;
-      this.futures.push({ edits: opened.edits, end: opened.end, parent, visited: -1 });
-      this.futures[parent].visited = opened.future;
-    }
-    this.#setBattle(opened);
+    const { turn, fight } = this;
+    const wanted = Promise.resolve(edit);
+    // It may fail before its turn has come.
+    wanted.catch(() => {});
+    await this.#inOrder(async () => {
+      if (fight !== this.fight) throw new Error("another battle has been opened");
+      const { future } = this;
+      const opened = await this.desk.edit(future, turn, await wanted);
+      if (opened.future === this.futures.length) {
+        // The edits after this turn belong to the future that is left.
+        let parent = future;
+        while (this.futures[parent].edits.length >= opened.edits.length) parent = this.futures[parent].parent;
+        this.futures.push({ edits: opened.edits, end: opened.end, parent, visited: -1 });
+        this.futures[parent].visited = opened.future;
+      }
+      this.#setBattle(opened);
+    });
     await this.go(turn);
   }
 
+  /** @param {number} future */
+  showFuture(future) {
+    return this.#switch(() => future);
+  }
+
   /**
-   * @param {number} future
+   * Shows the future that a function selects, or stays in this one if that is -1.
+   * @param {() => number} select
    */
-  async showFuture(future) {
-    this.stop();
-    const { parent } = this.futures[future];
-    if (parent >= 0) this.futures[parent].visited = future;
-    const turn = this.wanted;
-    if (this.#wantedBeside === this.futures[future]) this.#compare(null);
-    this.#setBattle(await this.desk.show(future));
-    await this.go(turn);
+  async #switch(select) {
+    const isOther = await this.#inOrder(async () => {
+      const future = select();
+      if (future < 0) return false;
+      this.stop();
+      const { parent } = this.futures[future];
+      if (parent >= 0) this.futures[parent].visited = future;
+      this.#setBattle(await this.desk.show(future));
+      return true;
+    });
+    if (isOther) await this.go(this.wanted);
   }
 
   /**
@@ -376,7 +449,7 @@ export class Session {
    */
   compare(future) {
     this.#compare(future === null ? null : this.futures[future]);
-    this.#notify("battle");
+    this.#notify("look");
     return this.go(this.wanted);
   }
 
@@ -386,22 +459,32 @@ export class Session {
     if (!future) this.beside = null;
   }
 
+  /** The future that undo leads to, or -1. */
+  get #parent() {
+    return this.futures[this.future]?.parent ?? -1;
+  }
+
+  /** The future that redo leads to, or -1. */
+  get #visited() {
+    return this.futures[this.future]?.visited ?? -1;
+  }
+
   get canUndo() {
-    return (this.futures[this.future]?.parent ?? -1) >= 0;
+    return this.#parent >= 0;
   }
 
   get canRedo() {
-    return (this.futures[this.future]?.visited ?? -1) >= 0;
+    return this.#visited >= 0;
   }
 
-  async undo() {
-    if (!this.canUndo) return;
-    const { parent } = this.futures[this.future];
-    this.futures[parent].visited = this.future;
-    await this.showFuture(parent);
+  undo() {
+    return this.#switch(() => {
+      if (this.canUndo) this.futures[this.#parent].visited = this.future;
+      return this.#parent;
+    });
   }
 
-  async redo() {
-    if (this.canRedo) await this.showFuture(this.futures[this.future].visited);
+  redo() {
+    return this.#switch(() => this.#visited);
   }
 }

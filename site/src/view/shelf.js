@@ -1,16 +1,20 @@
 /** The sources: a list, of which one is in the editor, and those that are marked fight. */
-import { MarsError } from "../engine/mars.js";
-import { cellText } from "../model/cells.js";
+import { MarsError } from "../model/errors.js";
+import { ASSEMBLY } from "../model/layout.js";
 import { MAX_SOURCE_SIZE } from "../model/settings.js";
 import { errorsOf } from "../words/errors.js";
-import { Stopped, TimedOut } from "../worker/pool.js";
+import { Stopped } from "../worker/pool.js";
 import { debounce, download, element, make, onClick, refill, withCode } from "./dom.js";
 import { Editor, newDocument } from "./editor.js";
+import { errorWords } from "./host.js";
 
 /** @typedef {import("codemirror").Document} Document */
+/** @typedef {import("../model/cells.js").Cell} Cell */
 /** @typedef {import("../model/fight.js").Source} Source */
 /** @typedef {import("../model/settings.js").Settings} Settings */
 /** @typedef {import("../worker/pool.js").Pool} Pool */
+/** @typedef {import("../words/errors.js").Explained} Explained */
+/** @typedef {ReturnType<import("../worker/jobs.js").Jobs["assemble"]>} Assembled */
 /** @typedef {import("./rounds.js").Hits} Hits */
 /** @typedef {{name: string, doc: Document, saved: string, isExample: boolean, fights: boolean}} OpenSource */
 /**
@@ -26,9 +30,9 @@ import { Editor, newDocument } from "./editor.js";
  * @property {Folder | null} folder
  * @property {Record<string, string>} meanings
  * @property {() => {settings: Settings, rounds: number}} terms
- * @property {() => void} changed the sources or which of them fight have changed
- * @property {() => void} checked the source in the editor was assembled
- * @property {() => void} fight
+ * @property {() => boolean} store stores the sources and which of them fight; returns whether the browser lets it
+ * @property {() => void} checked the source in the editor was assembled, or others fight
+ * @property {() => void} reveal shows the editor
  * @property {(name: string, text: string) => boolean} isStale whether the battle that is shown has another text of it
  */
 
@@ -42,22 +46,23 @@ export class Shelf {
   shown = null;
   /** Whether the source in the editor has an error. */
   isBroken = false;
+  #isStored = true;
+  #checks = 0;
   /** @type {Hits} */
   #hits = new Map();
 
   /** @param {Host} host */
   constructor(host) {
     this.host = host;
-    const [lint, keep] = [debounce(() => this.lint(), 250), debounce(() => host.changed(), 400)];
+    const [lint, store] = [debounce(() => this.lint(), 250), debounce(() => this.#store(), 400)];
     this.editor = new Editor({
       save: () => this.save(false),
-      fight: () => host.fight(),
       // What follows the editor; otherwise the Tab key would lead into it again.
       leave: () => element("load-head").focus(),
       changed: () => {
         this.sign();
         lint();
-        keep();
+        store();
       },
     });
     onClick("new", () => this.#create());
@@ -145,26 +150,36 @@ export class Shelf {
    * @param {File[]} files
    */
   async take(files) {
-    let last = null;
+    const large = files.filter(({ size }) => size > MAX_SOURCE_SIZE).map(({ name }) => name);
     for (const file of files) {
-      if (file.size > MAX_SOURCE_SIZE) {
-        this.#showMessage(`${file.name} is too large: a source has at most 1 MB.`);
-        continue;
-      }
-      last = this.add({ name: file.name, text: await textOf(file) });
-      last.fights = this.fighters.length < 2;
+      if (large.includes(file.name)) continue;
+      this.#enter({ name: file.name, text: await textOf(file) });
     }
-    if (last) this.show(last);
-    this.host.changed();
-    element("desk").hidden = false;
-    this.editor.mirror.refresh();
+    this.#store();
+    this.host.reveal();
+    if (large.length) this.#showMessage(`${large.join(", ")}: too large; a source has at most 1 MB`);
+  }
+
+  /** Stores the sources, and says so if the browser has begun or ceased to let it. */
+  #store() {
+    const isStored = this.host.store();
+    if (isStored === this.#isStored) return;
+    this.#isStored = isStored;
+    this.sign();
+  }
+
+  /**
+   * Adds a source and shows it. It fights in the place of the one that was shown.
+   * @param {{name: string, text: string, saved?: string}} source
+   */
+  #enter(source) {
+    if (this.shown) this.shown.fights = false;
+    this.show(this.add({ ...source, fights: true }));
   }
 
   #create() {
-    // It fights in the place of the source that was shown.
-    if (this.shown) this.shown.fights = false;
-    this.show(this.add({ name: "warrior.red", saved: "", text: NEW.join("\n"), fights: true }));
-    this.host.changed();
+    this.#enter({ name: "warrior.red", saved: "", text: NEW.join("\n") });
+    this.#store();
     this.editor.mirror.focus();
     this.editor.mirror.setCursor(1, NEW[1].length);
   }
@@ -176,7 +191,7 @@ export class Shelf {
     if (!shown.isExample && !confirm(`Remove ${shown.name} from the list? ${where}`)) return;
     this.sources = this.sources.filter((entry) => entry !== shown);
     this.show(this.sources[0]);
-    this.host.changed();
+    this.#store();
   }
 
   /**
@@ -202,7 +217,7 @@ export class Shelf {
     shown.isExample = false;
     this.list();
     this.sign();
-    this.host.changed();
+    this.#store();
     if (folder) this.#showMessage("Saved");
   }
 
@@ -212,7 +227,10 @@ export class Shelf {
    */
   async #reload(entry) {
     const text = await this.host.folder?.load(entry.name);
-    if (typeof text !== "string") return;
+    if (typeof text !== "string") {
+      this.#showMessage(`${entry.name} is no longer in the folder`);
+      return;
+    }
     entry.saved = text;
     entry.doc.setValue(text);
     this.list();
@@ -231,7 +249,8 @@ export class Shelf {
       const box = make("input", { type: "checkbox", checked: fights, "aria-label": `Select ${name}` });
       box.onchange = () => {
         entry.fights = box.checked;
-        this.host.changed();
+        this.#store();
+        this.host.checked();
       };
       const isShown = entry === this.shown;
       const show = { className: "bare", onclick: () => this.show(entry), "aria-current": String(isShown) };
@@ -275,7 +294,6 @@ export class Shelf {
   showLine(name, line) {
     const entry = this.find(name);
     if (!entry) return;
-    element("desk").hidden = false;
     if (entry !== this.shown) this.show(entry);
     this.editor.showLine(line);
   }
@@ -296,68 +314,72 @@ export class Shelf {
     const text = shown.doc.getValue();
     const button = element("names").querySelector(".shown button");
     if (button) button.textContent = titleOf(shown);
-    const unsaved = host.folder ? "Not saved" : "Stored in this browser; Download saves a file";
-    if (host.isStale(shown.name, text)) this.#showMessage("Changed since this battle; Ctrl-Enter starts a new one");
+    const stored = `${this.#isStored ? "Stored" : "Not stored"} in this browser; Download saves a file`;
+    const unsaved = host.folder ? "Not saved" : stored;
+    if (host.isStale(shown.name, text)) this.#showMessage("Changed since this battle; Fight starts a new one");
     else this.#showMessage(text === shown.saved ? "" : unsaved);
   }
 
-  /** Assembles the source in the editor, and shows its errors. */
+  /** Assembles the source in the editor, and shows its errors or what it makes. */
   async lint() {
     const { shown, host } = this;
     if (!shown) return;
     const text = shown.doc.getValue();
-    const terms = { ...host.terms(), warriors: 2 };
+    const { settings, rounds } = host.terms();
+    const check = ++this.#checks;
     host.pool.drop("lint");
-    const faults = await this.#faults(text, terms);
-    if (!faults || shown !== this.shown || text !== shown.doc.getValue()) return;
-    this.isBroken = faults.length > 0;
-    this.editor.showErrors(faults);
+    const found = await this.#check(text, { settings, rounds, warriors: 2 });
+    if (!found || check !== this.#checks || text !== shown.doc.getValue()) return;
+    const { errors, made } = found;
+    this.isBroken = errors.length > 0;
+    this.editor.showErrors(errors);
+    this.#showMade(made, settings);
     element("fault").classList.toggle("bad", this.isBroken);
-    const sorted = [...faults].sort((one, other) => one.line - other.line);
+    const sorted = [...errors].sort((one, other) => one.line - other.line);
     const messages = sorted.flatMap((one) => [make("b", {}, `Line ${one.line}: `), withCode(one.text), make("br")]);
-    if (this.isBroken) refill(element("fault"), ...messages);
+    const size = made && `${made.name || shown.name}: ${made.cells.length} of ${settings.longest} cells`;
+    refill(element("fault"), ...messages, size);
     host.checked();
   }
 
   /**
-   * Returns the errors of a source, or null if another one is checked in its place. If there are none, its cells are
-   * shown.
+   * Returns the errors of a source, and what it makes if it has none; null if another one is checked in its place.
    * @param {string} text
    * @param {{settings: Settings, rounds: number, warriors: number}} terms
+   * @returns {Promise<{errors: Explained[], made: Assembled | null} | null>}
    */
-  async #faults(text, terms) {
+  async #check(text, terms) {
     const { pool, meanings } = this.host;
+    /** @type {Assembled | null} */
+    let made = null;
     try {
-      return await errorsOf(text, meanings, async (source) => {
+      const errors = await errorsOf(text, meanings, async (source) => {
         try {
-          const made = await pool.ask("assemble", [source, terms], "lint", 3);
-          if (source === text && text === this.current?.text) this.#showMade(made, terms.settings);
+          const assembled = await pool.ask("assemble", [source, terms], "lint", 3);
+          if (source === text) made = assembled;
           return null;
         } catch (error) {
-          if (error instanceof MarsError) return error;
+          if (error instanceof MarsError && error.code === ASSEMBLY) return error;
           throw error;
         }
       });
+      return { errors, made };
     } catch (error) {
       if (error instanceof Stopped) return null;
-      const why = error instanceof TimedOut ? "it takes too long" : String(/** @type {Error} */ (error).message);
-      return [{ line: 1, from: 0, to: 0, text: `This source cannot be assembled: ${why}.` }];
+      const why = `This source cannot be assembled. ${errorWords(error, [], meanings)}`;
+      return { errors: [{ line: 1, from: 0, to: 0, text: why }], made };
     }
   }
 
   /**
-   * @param {ReturnType<import("../worker/jobs.js").Jobs["assemble"]>} made
+   * @param {Assembled | null} made
    * @param {Settings} settings
    */
-  #showMade({ name, cells, lines, load }, { core, longest }) {
-    const byLine = new Map();
-    cells.forEach((cell, index) => {
-      const { line } = lines[index];
-      byLine.set(line, [...(byLine.get(line) ?? []), { cell, text: cellText(cell, core) }]);
-    });
+  #showMade(made, { core }) {
+    const byLine = new Map(made?.lines.map(({ line }) => [line, /** @type {Cell[]} */ ([])]));
+    made?.cells.forEach((cell, index) => byLine.get(made.lines[index].line)?.push(cell));
     this.editor.explain(byLine, core);
-    element("load").textContent = load;
-    refill(element("fault"), `${name || this.shown?.name}: ${cells.length} of ${longest} cells`);
+    element("load").textContent = made?.load ?? "";
   }
 }
 

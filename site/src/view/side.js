@@ -1,7 +1,7 @@
 /** Beside the core: who fights, the story of the battle, the turn that is shown, and the futures. */
 import { cellText, readCell } from "../model/cells.js";
 import { editText } from "../model/fight.js";
-import { eventWords, joinNames, moveWords, number, outcome, place, pluralize } from "../words/battle.js";
+import { eventWords, fateWords, joinNames, moveWords, number, outcome, place, pluralize } from "../words/battle.js";
 import { instructionWords } from "../words/instruction.js";
 import { element, make, onClick, refill } from "./dom.js";
 import { swatch } from "./palette.js";
@@ -91,11 +91,10 @@ export class Side {
 
   #openFutures() {
     const { session } = this;
-    const { futures, future, beside, known } = session;
+    const { futures, future, known } = session;
     element("futures-box").hidden = futures.length < 2;
     element("undo").toggleAttribute("disabled", !session.canUndo);
     element("redo").toggleAttribute("disabled", !session.canRedo);
-    element("alone").hidden = beside === null;
     const lines = futures.map(({ edits, end }, index) => {
       const edited = edits.map(({ turn, edit }) => `turn ${number(turn)}: ${editText(edit, known.core)}`);
       const text = `${index}: ${edited.join("; ") || "no edits"} (${pluralize(end, "turn")})`;
@@ -149,8 +148,7 @@ export class Side {
     bar.style.width = `${(100 * view.owned[who]) / known.core}%`;
     const death = opened.deaths.find(({ warrior }) => warrior === who);
     if (death && death.turn <= view.turn) fate.textContent = `died in turn ${number(death.turn)}`;
-    else if (view.turn === opened.end && known.names.length === 1) fate.textContent = "survives";
-    else if (view.turn === opened.end) fate.textContent = outcome(known).startsWith("A tie") ? "ties" : "wins";
+    else if (view.turn === opened.end) fate.textContent = fateWords(known);
     else fate.textContent = opened.authors[who] ? `by ${opened.authors[who]}` : "";
   }
 

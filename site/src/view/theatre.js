@@ -1,10 +1,11 @@
 /** The core, the strip of time and the controls: what moves. */
-import { NOBODY, cellText, isEmpty, readCell } from "../model/cells.js";
-import { captionWords, number, outcome, ownerName, place, standingWords } from "../words/battle.js";
+import { CELL_WORDS, NOBODY, cellText, isEmpty, readCell } from "../model/cells.js";
+import { captionWords, number, outcome, place, standingWords, writtenWords } from "../words/battle.js";
 import { instructionWords } from "../words/instruction.js";
 import { Core } from "./core.js";
 import { buttons, element, isNarrow, make, onClick, placeTip, refill, typed } from "./dom.js";
 import { Palette } from "./palette.js";
+import { standingNames, standingOn } from "./standing.js";
 import { Track } from "./track.js";
 
 /** @typedef {import("../battle/conditions.js").Word} Word */
@@ -32,6 +33,8 @@ export class Theatre {
   #isAsked = false;
   #caption = "";
   #saidAt = 0;
+  /** What is said below the core in place of the caption, until another turn is shown. */
+  #notice = "";
 
   /** @param {Session} session */
   constructor(session) {
@@ -46,6 +49,7 @@ export class Theatre {
     this.#listenToTrack();
     this.#listenToCore();
     session.listen((change) => {
+      if (change === "turn") this.#notice = "";
       if (change === "battle") this.#open();
       if (change === "look") this.#recolour();
       if (change === "play") this.#showPlay();
@@ -82,7 +86,8 @@ export class Theatre {
     if (death && death.address >= 0) this.session.pin(death.address);
     if (found) return;
     const what = EVENTS[/** @type {keyof typeof EVENTS} */ (word)];
-    this.#announce(`There is no ${what} ${forward ? "after" : "before"} turn ${number(this.session.turn)}.`);
+    this.#notice = `There is no ${what} ${forward ? "after" : "before"} turn ${number(this.session.turn)}.`;
+    this.ask();
   }
 
   async #showDeath() {
@@ -124,15 +129,6 @@ export class Theatre {
     if (address === this.hovered) return;
     this.hovered = address;
     this.ask();
-  }
-
-  /**
-   * Says something below the core, until the turn changes.
-   * @param {string} text
-   */
-  #announce(text) {
-    element("caption").textContent = text;
-    this.#caption = text;
   }
 
   #open() {
@@ -235,8 +231,9 @@ export class Theatre {
     if (!view || !beside) return [];
     const [own, other] = [view.cells, beside.view.cells];
     const found = [];
-    for (let at = 0; at < own.length && found.length < MAX_DIFFERENCES; at += 3) {
-      if (own[at] !== other[at] || own[at + 1] !== other[at + 1] || own[at + 2] !== other[at + 2]) found.push(at / 3);
+    for (let at = 0; at < own.length && found.length < MAX_DIFFERENCES; at += CELL_WORDS) {
+      const isOther = own[at] !== other[at] || own[at + 1] !== other[at + 1] || own[at + 2] !== other[at + 2];
+      if (isOther) found.push(at / CELL_WORDS);
     }
     return found;
   }
@@ -289,13 +286,13 @@ export class Theatre {
   #drawCaption({ turn, processes, owned }) {
     const { opened, known, way } = this.session;
     if (!opened) return;
-    const caption = captionWords(turn, opened.events, known, { processes, cells: owned });
+    const caption = this.#notice || captionWords(turn, opened.events, known, { processes, cells: owned });
     const isNumber = caption.includes("%");
     const now = performance.now();
     if (caption === this.#caption || (way && isNumber && now - this.#saidAt < 500)) return;
     this.#saidAt = now;
     element("caption").setAttribute("aria-live", isNumber ? "off" : "polite");
-    this.#announce(caption);
+    element("caption").textContent = this.#caption = caption;
   }
 
   /**
@@ -311,26 +308,12 @@ export class Theatre {
     const [cell, owner, when] = [readCell(view.cells, address), view.owner[address], view.written[address]];
     const isFree = owner === NOBODY && isEmpty(view.cells, address);
     const words = isFree ? EMPTY : instructionWords(cell, { core: known.core, address });
-    const loaded = owner === NOBODY ? "Never written" : `Loaded with ${ownerName(owner, known)}`;
-    const by = when ? `Written by ${ownerName(owner, known)} in turn ${number(when)}` : loaded;
+    const by = writtenWords(owner, when, known);
     const code = make("code", {}, cellText(cell, known.core));
-    const head = make("p", { className: "head" }, make("b", {}, place(address, known)), " ", code);
-    refill(tip, head, make("p", {}, words), make("p", { className: "soft" }, by, this.#standing(view, address)));
+    const head = make("p", {}, make("b", {}, place(address, known)), " ", code);
+    const standing = standingOn(view, (one) => one === address).get(address);
+    const processes = standing ? `. Processes: ${standingNames(standing, known.names)}` : "";
+    refill(tip, head, make("p", {}, words), make("p", { className: "soft" }, by, processes));
     placeTip(tip, this.core.pointOf(address));
-  }
-
-  /**
-   * Names the warriors with processes on a cell.
-   * @param {View} view
-   * @param {number} address
-   */
-  #standing({ queues, processes }, address) {
-    let first = 0;
-    const found = processes.flatMap((count, who) => {
-      const many = queues.subarray(first, first + count).filter((one) => one === address).length;
-      first += count;
-      return many ? `${this.session.known.names[who]}${many > 1 ? ` ×${number(many)}` : ""}` : [];
-    });
-    return found.length ? `. Processes: ${found.join(", ")}` : "";
   }
 }

@@ -83,8 +83,12 @@ export class Track {
     this.last = Math.round(this.first + length);
     const request = ++this.#request;
     this.changed();
-    const overview = await this.ask(this.first, this.last);
-    if (request !== this.#request) return;
+    const overview = await this.ask(this.first, this.last).catch((error) => {
+      // If another battle has been opened meanwhile, it may not have these turns.
+      if (request === this.#request) throw error;
+      return null;
+    });
+    if (!overview || request !== this.#request) return;
     this.#overview = overview;
     this.changed();
   }

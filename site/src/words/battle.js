@@ -1,5 +1,5 @@
 /** Turns, events and outcomes in plain English. */
-import { BY_HAND, cellText, readCell } from "../model/cells.js";
+import { BY_HAND, NOBODY, cellText, readCell } from "../model/cells.js";
 
 /** @typedef {import("../battle/overview.js").Event} Event */
 /**
@@ -34,6 +34,10 @@ export function pluralize(value, what) {
   const ending = /(s|ch)$/.test(what) ? "es" : "s";
   return `${number(value)} ${what}${value === 1 ? "" : ending}`;
 }
+
+/** @param {{wins: number, ties: number, losses: number}} counts */
+export const countWords = ({ wins, ties, losses }) =>
+  `${pluralize(wins, "win")}, ${pluralize(ties, "tie")}, ${pluralize(losses, "loss")}`;
 
 /** @param {string[]} names */
 export const joinNames = (names) =>
@@ -91,7 +95,19 @@ export const place = (address, { labels }) =>
  * @param {number} owner
  * @param {Known} known
  */
-export const ownerName = (owner, { names }) => names[owner] ?? (owner === BY_HAND ? "you" : "no warrior");
+const ownerName = (owner, { names }) => names[owner] ?? "no warrior";
+
+/**
+ * Returns who wrote a cell last, and when. An edit is made after a turn, also after turn 0.
+ * @param {number} owner
+ * @param {number} turn
+ * @param {Known} known
+ */
+export function writtenWords(owner, turn, known) {
+  if (owner === BY_HAND) return `Edited after turn ${number(turn)}`;
+  if (turn) return `Written by ${ownerName(owner, known)} in turn ${number(turn)}`;
+  return owner === NOBODY ? "Never written" : `Loaded with ${ownerName(owner, known)}`;
+}
 
 /**
  * Returns who won.
@@ -106,6 +122,15 @@ export function outcome({ names, deaths }) {
 }
 
 /**
+ * Returns how the battle ends for a warrior that survives.
+ * @param {Known} known
+ */
+export function fateWords({ names, deaths }) {
+  if (names.length === 1) return "survives";
+  return names.length - deaths.length === 1 ? "wins" : "ties";
+}
+
+/**
  * Returns a turn in some sentences.
  * @param {Move} move
  * @param {Known} known
@@ -117,7 +142,7 @@ export function moveWords(move, known) {
   const sentences = [`${name} executed ${executed} at ${place(move.address, known)}.`];
   for (const write of move.writes) sentences.push(writeWords(write, move.warrior, known));
   if (move.reads.length) {
-    const cells = move.reads.slice(0, 4).map((address) => place(address, known));
+    const cells = move.reads.map((address) => place(address, known));
     sentences.push(`It read cell${cells.length > 1 ? "s" : ""} ${joinNames(cells)}.`);
   }
   sentences.push(endWords(move, known));

@@ -1,9 +1,8 @@
 /** What an error of a source means, where it is, and what to do: the sentences of `corewar explain`. */
-import { errorName } from "../model/errors.js";
 import { CAUSES } from "./causes.js";
 import { NAME, codeOf, labelsOf, readSource, wordOf } from "./source.js";
 
-/** @typedef {import("../model/errors.js").Numbers} Numbers */
+/** @typedef {import("../model/errors.js").MarsError} MarsError */
 /** @typedef {import("./causes.js").Cause} Cause */
 /** @typedef {import("./source.js").Line} Line */
 /** @typedef {import("./source.js").Source} Source */
@@ -43,14 +42,14 @@ function sentence({ inner, ...cause }, meanings) {
 
 /**
  * Explains an error of a source: by the causes that its text shows, or in general.
- * @param {Numbers} error
+ * @param {MarsError} error
  * @param {string} text
  * @param {Meanings} meanings
  * @returns {Explained}
  */
 export function explain(error, text, meanings) {
   const source = readSource(text);
-  const [name, line] = [errorName(error), source.lines[error.line - 1]];
+  const [name, line] = [error.what, source.lines[error.line - 1]];
   const causes = line ? (CAUSES[name]?.(source, line) ?? []).slice(0, MAX_CAUSES) : [];
   let number = error.line;
   if (causes[0]?.inner && causes[0].cause === "earlier") {
@@ -82,7 +81,7 @@ function columns(text, word) {
  * Finds the errors of a source. The assembler reports the first one, so it is asked again with that line replaced.
  * @param {string} text
  * @param {Meanings} meanings
- * @param {(source: string) => Promise<Numbers | null>} assemble returns the first error
+ * @param {(source: string) => Promise<MarsError | null>} assemble returns the first error
  */
 export async function errorsOf(text, meanings, assemble) {
   /** @type {Explained[]} */
@@ -97,8 +96,8 @@ export async function errorsOf(text, meanings, assemble) {
     // A line that is still wrong after it was replaced uses names that are wrong elsewhere.
     if (isNew) found.push(explained);
     const line = source.lines[explained.line - 1];
-    if (!isNew || !line || LAST.includes(errorName(error))) break;
-    if (errorName(error) === UNCLOSED) close(lines, source);
+    if (!isNew || !line || LAST.includes(error.what)) break;
+    if (error.what === UNCLOSED) close(lines, source);
     const misspelt = explained.misspelt?.word ?? "";
     lines[line.number - 1] = replaced(line, source, misspelt);
     if (explained.misspelt?.new === "EQU") correct(lines, source, misspelt);

@@ -69,18 +69,32 @@ export class Desk {
   }
 
   /**
-   * Opens a battle: a future for each of its edits, of which the last is returned. An error of a source has its index
-   * as `warrior`; then the battle that was open stays.
+   * Opens a battle: a future for each of its edits, of which the last is returned. If a source has an error, which has
+   * its index as `warrior`, or an edit is impossible, the battle that was open stays.
    * @param {Fight} fight
    */
   open(fight) {
     const warriors = assembleAll(this.mars, fight.warriors, fight.warriors.length, fight);
     const history = History.fight(this.mars, { ...fight, warriors });
+    const before = { fight: this.#fight, warriors: this.#warriors, histories: this.#histories, futures: this.#futures };
+    const futures = [[], ...fight.edits.map((_, index) => fight.edits.slice(0, index + 1))];
+    this.#take({ fight, warriors, histories: new Map([[0, history]]), futures });
+    try {
+      return this.show(futures.length - 1);
+    } catch (error) {
+      this.#take(before);
+      throw error;
+    }
+  }
+
+  /**
+   * @param {{fight: Fight | null, warriors: Warrior[], histories: Map<number, History>, futures: Made[][]}} battle
+   */
+  #take({ fight, warriors, histories, futures }) {
     this.#fight = fight;
     this.#warriors = warriors;
-    this.#histories = new Map([[0, history]]);
-    this.#futures = [[], ...fight.edits.map((_, index) => fight.edits.slice(0, index + 1))];
-    return this.show(this.#futures.length - 1);
+    this.#histories = histories;
+    this.#futures = futures;
   }
 
   get fight() {
@@ -296,12 +310,13 @@ export class Desk {
   }
 
   /**
-   * Assembles a line of source as a cell. Throws a MarsError.
+   * Assembles a line of source as a cell of this battle. Throws a MarsError.
    * @param {string} line
    * @returns {Cell}
    */
   cellOf(line) {
-    const { cells } = describe(this.mars.assemble(`${line}\n`, { settings: this.fight.settings }));
+    const terms = { ...this.fight, warriors: this.fight.warriors.length };
+    const { cells } = describe(this.mars.assemble(`${line}\n`, terms));
     if (cells.length !== 1) throw new Error("expected one instruction");
     return cells[0];
   }

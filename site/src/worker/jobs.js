@@ -6,7 +6,10 @@ import { HILLS } from "../model/settings.js";
 
 /** @typedef {import("../engine/mars.js").Mars} Mars */
 /** @typedef {import("../engine/mars.js").Row} Row */
-/** @typedef {Row & {scores: Float64Array}} Scored a row with the score of each round */
+/**
+ * A row with the score of each round, and what a loss, a win and a tie are worth.
+ * @typedef {Row & {scores: Float64Array, values: number[]}} Scored
+ */
 /** @typedef {import("../engine/warrior.js").Warrior} Warrior */
 /** @typedef {import("../model/fight.js").Fight} Fight */
 /** @typedef {import("../model/settings.js").Settings} Settings */
@@ -72,23 +75,29 @@ export class Jobs {
       const [own, other] = survived.subarray(2 * round);
       return own ? own + other : 0;
     });
-    const [losses, wins, ties] = [0, 1, 2].map((left) => ends.filter((end) => end === left).length);
-    // A formula needs no value for rounds that do not occur; if it is wrong, each of these matches says so.
-    const values = [losses, wins, ties].map((count, left) => (count ? this.#scoreOf(left, terms.formula) : 0));
+    const counts = [0, 1, 2].map((left) => ends.filter((end) => end === left).length);
+    const [losses, wins, ties] = counts;
+    const values = counts.map((count, left) => this.#scoreOf(left, terms.formula, count > 0));
     const scores = Float64Array.from(ends, (end) => values[end]);
-    return { points: wins * values[1] + ties * values[2], wins, ties, losses, scores };
+    return { points: wins * values[1] + ties * values[2], wins, ties, losses, scores, values };
   }
 
   /**
    * Returns the score of the first warrior of a match of two with this number of survivors, 0 if it dies.
    * @param {number} survivors
    * @param {string | undefined} formula
+   * @param {boolean} isNeeded whether there are such rounds; for others a formula may have no value
    */
-  #scoreOf(survivors, formula) {
+  #scoreOf(survivors, formula, isNeeded) {
     const terms = { settings: HILLS.nano, formula };
     const [lives, dies] = ["JMP 0", "DAT 0"].map((text) => this.mars.assemble(text, terms));
     const fighters = survivors ? [lives, survivors === 2 ? lives : dies] : [dies];
-    return this.mars.match(fighters, terms)[0].points;
+    try {
+      return this.mars.match(fighters, terms)[0].points;
+    } catch (error) {
+      if (isNeeded) throw error;
+      return 0;
+    }
   }
 
   /**

@@ -1,5 +1,5 @@
 /** Workers: one for the battle that is shown, and several for everything that is fought beside it. */
-import { MarsError } from "../engine/mars.js";
+import { MarsError } from "../model/errors.js";
 
 /** @typedef {import("./desk.js").Desk} Desk */
 /** @typedef {import("./jobs.js").Jobs} Jobs */
@@ -33,7 +33,7 @@ class WorkerClient {
       this.#waiting.delete(data.id);
       if (!("error" in data)) request?.done(data.value);
       else if (typeof data.error === "string") request?.failed(new Error(data.error));
-      else request?.failed(new MarsError(data.error.code, data.error));
+      else request?.failed(new MarsError(data.error.message, data.error));
     };
     this.worker.onerror = (event) => this.#fail(new Error(event.message || "A worker does not start."));
     /** @type {Promise<unknown>} */
@@ -97,11 +97,14 @@ const OPEN_TIMEOUT = 20_000;
 
 /**
  * The desk in a worker of its own. If a call takes too long, the worker is ended, and another one opens the last
- * battle.
+ * battle, with its futures.
  */
 export class RemoteDesk {
-  /** @type {unknown[] | null} */
-  #last = null;
+  /**
+   * The calls that opened the battle and made its futures.
+   * @type {{call: string, given: unknown[]}[]}
+   */
+  #made = [];
 
   /** @param {Parts} parts */
   constructor(parts) {
@@ -118,7 +121,8 @@ export class RemoteDesk {
     const { client } = this;
     try {
       const answer = await client.ask(call, given, OPEN_TIMEOUT);
-      if (call === "open") this.#last = given;
+      if (call === "open") this.#made = [];
+      if (call === "open" || call === "edit") this.#made.push({ call, given });
       return answer;
     } catch (error) {
       // The calls that waited for a worker that was ended are made again.
@@ -126,7 +130,7 @@ export class RemoteDesk {
       if (error instanceof TimedOut && client === this.client) {
         client.end();
         this.client = new WorkerClient(this.parts);
-        if (this.#last) await this.client.ask("open", this.#last, JOB_TIMEOUT);
+        await Promise.all(this.#made.map((one) => this.client.ask(one.call, one.given, JOB_TIMEOUT)));
       }
       throw error;
     }
@@ -177,9 +181,9 @@ export class Pool {
    */
   ask(call, given, group, urgency = 0) {
     return new Promise((done, failed) => {
-      const job = { call, given, urgency, group, done, failed };
-      const at = this.#jobs.findIndex((other) => other.urgency < urgency);
-      this.#jobs.splice(at < 0 ? this.#jobs.length : at, 0, job);
+      let at = this.#jobs.length;
+      while (at > 0 && this.#jobs[at - 1].urgency < urgency) at--;
+      this.#jobs.splice(at, 0, { call, given, urgency, group, done, failed });
       this.#next();
     });
   }

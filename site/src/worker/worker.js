@@ -1,13 +1,14 @@
 /** A worker: it has a machine of its own, and answers calls by messages. */
-import { Mars, MarsError } from "../engine/mars.js";
+import { Mars } from "../engine/mars.js";
+import { MarsError } from "../model/errors.js";
 import { Desk } from "./desk.js";
 import { Jobs } from "./jobs.js";
 
 /** @typedef {{id: number, call: string, given: unknown[]}} CallMessage */
 /** @typedef {Record<string, (...given: unknown[]) => unknown>} Calls */
 
-export const DESK_CALLS = "open show edit turn origins move overview search until cell cellOf memory".split(" ");
-export const JOB_CALLS = "assemble warriors match scores round".split(" ");
+const DESK_CALLS = "open show edit turn origins move overview search until cell cellOf memory".split(" ");
+const JOB_CALLS = "assemble warriors match scores round".split(" ");
 
 /**
  * What can be called, once the machine has started.
@@ -50,7 +51,7 @@ self.onmessage = async ({ data }) => {
     const value = await (await calls)[call](...given);
     postMessage({ id, value }, { transfer: buffersOf(value) });
   } catch (error) {
-    const reason = error instanceof MarsError ? { ...error } : String(/** @type {Error} */ (error).message ?? error);
-    postMessage({ id, error: reason });
+    const { message } = /** @type {Error} */ (error);
+    postMessage({ id, error: error instanceof MarsError ? { ...error, message } : String(message ?? error) });
   }
 };

@@ -1,0 +1,115 @@
+/** The arguments of the debugger's commands: numbers, warriors, addresses, conditions and lines of source. */
+import { sharedWords } from "../words/battle.js";
+
+/** @typedef {import("../battle/conditions.js").Condition} Condition */
+/** @typedef {import("../model/fight.js").Edit} Edit */
+/** @typedef {import("./session.js").Session} Session */
+
+const CONDITIONS = "expected a condition: at, changes or reads A[..B] [by W], or splits, ends or dies W";
+
+/** Why a command was not done. */
+export class CommandError extends Error {}
+
+/**
+ * @param {string} text
+ * @param {string} what
+ */
+export function readNumber(text, what) {
+  if (!/^\d{1,9}$/.test(text)) throw new CommandError(`expected ${what}, not \`${text}\``);
+  return Number(text);
+}
+
+/**
+ * Returns a warrior by its number or its name.
+ * @param {Session} session
+ * @param {string} text
+ */
+export function readWarrior({ known: { names } }, text) {
+  if (/^\d+$/.test(text) && Number(text) < names.length) return Number(text);
+  const exact = names.indexOf(text);
+  const warrior = exact >= 0 ? exact : names.findIndex((name) => name.toLowerCase() === text.toLowerCase());
+  if (warrior >= 0) return warrior;
+  const listing = names.map((name, index) => `${index} ${name}`).join(", ");
+  throw new CommandError(`no warrior \`${text}\`; the warriors are ${listing}`);
+}
+
+/**
+ * Returns an address: a number, a label, or `.`, the cell that is executed next, each with or without +N or -N.
+ * @param {Session} session
+ * @param {string} text
+ */
+export function readAddress({ known, view }, text) {
+  const { core, addresses } = known;
+  const found = /^(\.|[\w.]+?)((?:[+-]\d{1,9})*)$/.exec(text);
+  const base = found?.[1] ?? "";
+  const isOver = base === "." && view?.head === null;
+  if (isOver) throw new CommandError("`.` is the cell to execute next, but the battle is over");
+  const label = addresses.get(base);
+  const at = base === "." ? (view?.head ?? 0) : (label ?? (/^\d{1,9}$/.test(base) ? Number(base) : core));
+  const wanted = `a number below ${core}, a label or \`.\``;
+  const why = sharedWords(base, known) || `\`${text}\` is not an address: ${wanted}`;
+  if (!found || at >= core) throw new CommandError(why);
+  const added = (found[2].match(/[+-]\d+/g) ?? []).reduce((sum, part) => sum + Number(part), 0);
+  return (((at + added) % core) + core) % core;
+}
+
+/**
+ * @param {Session} session
+ * @param {string} text
+ * @returns {Condition}
+ */
+export function readCondition(session, text) {
+  const [word, range, by, ...rest] = text.split(/\s+/);
+  if (word === "at" || word === "changes" || word === "reads") {
+    if (!range || (by !== undefined && (by !== "by" || !rest.length))) throw new CommandError(CONDITIONS);
+    const [from, to = from] = range.split("..");
+    /** @type {Condition} */
+    const cells = { word, first: readAddress(session, from), last: readAddress(session, to) };
+    return by === undefined ? cells : { ...cells, by: readWarrior(session, rest.join(" ")) };
+  }
+  if ((word === "splits" || word === "ends" || word === "dies") && range) {
+    return { word, first: readWarrior(session, text.slice(word.length).trim()) };
+  }
+  throw new CommandError(CONDITIONS);
+}
+
+/**
+ * Splits the rest of a line into the name of a warrior and some words after it.
+ * @param {Session} session
+ * @param {string} rest
+ * @param {number} count
+ */
+export function readWarriorAnd(session, rest, count) {
+  const words = rest.split(/\s+/);
+  if (words.length <= count) throw new CommandError("expected a warrior and other arguments; see `help`");
+  return { warrior: readWarrior(session, words.slice(0, -count).join(" ")), words: words.slice(-count) };
+}
+
+/**
+ * Returns the index of a process of a warrior; the next one is 0.
+ * @param {Session} session
+ * @param {number} warrior
+ * @param {string} text
+ */
+export function readProcess({ view, known }, warrior, text) {
+  const [index, count] = [readNumber(text, "the index of a process"), view?.processes[warrior] ?? 0];
+  const why = `${known.names[warrior]} has no process ${index}; its number of processes is ${count}`;
+  if (index >= count) throw new CommandError(why);
+  return index;
+}
+
+/**
+ * Returns the edit that sets cells to a line of source, which is assembled for the first of them.
+ * @param {Session} session
+ * @param {string} line
+ * @param {number} address
+ * @param {number} last
+ * @returns {Promise<Edit>}
+ */
+export async function readCellEdit(session, line, address, last) {
+  try {
+    return { kind: "cell", address, last, cell: await session.cellOf(line, address) };
+  } catch (error) {
+    throw new CommandError(/** @type {Error} */ (error).message || `\`${line}\` is not an instruction`);
+  }
+}

@@ -1,0 +1,82 @@
+// What workers do: the desk, which has the battle that is shown, with the sentences about its turns, and jobs.
+//
+//     MARS_WASM=build/mars.wasm node --test site/tests/
+import assert from "node:assert/strict";
+import fs from "node:fs";
+import { test } from "node:test";
+
+import { Mars } from "../src/engine/mars.js";
+import { DEFAULTS } from "../src/model/settings.js";
+import { fateWords, moveWords, writtenWords } from "../src/words/battle.js";
+import { Desk } from "../src/worker/desk.js";
+import { Jobs } from "../src/worker/jobs.js";
+
+const mars = await Mars.load(fs.readFileSync(process.env.MARS_WASM));
+
+/** A fight of some sources, with edits. */
+function fightOf(texts, edits = []) {
+  const warriors = texts.map((text, index) => ({ name: `${index}.red`, text }));
+  return { settings: DEFAULTS, seed: 1, rounds: 1, round: 0, position: 0, formula: "", warriors, edits };
+}
+
+/** What moveWords has to know of a battle without labels. */
+const known = (names) => ({ names, core: 8000, end: 100, deaths: [], addresses: new Map(), labels: new Map() });
+
+test("a fight that cannot be opened leaves the battle that is open", () => {
+  const desk = new Desk(mars);
+  desk.open(fightOf(["MOV 0, 1\n"]));
+  const before = desk.turn(0, 100);
+  const wrong = [
+    fightOf(["JMP 0\n", "FOO 1\n"]),
+    fightOf(["JMP 0\n"], [{ turn: 0, edit: { kind: "kill", warrior: 5, place: 0 } }]),
+    fightOf(["DAT 0\n"], [{ turn: 7, edit: { kind: "add", warrior: 0, address: 0 } }]),
+  ];
+  for (const fight of wrong) {
+    assert.throws(() => desk.open(fight));
+    assert.deepEqual(desk.turn(0, 100), before);
+  }
+});
+
+test("a line of source has the numbers of the match", () => {
+  const desk = new Desk(mars);
+  desk.open({ ...fightOf(["JMP 0\n", "JMP 0\n", "JMP 0\n"]), rounds: 7 });
+  const { a, b } = desk.cellOf("DAT #ROUNDS, #WARRIORS");
+  assert.deepEqual([a, b], [7, 3]);
+  assert.throws(() => desk.cellOf("DAT 0\nDAT 0"), /one instruction/);
+});
+
+test("a turn in words names all cells that it read", () => {
+  const desk = new Desk(mars);
+  desk.open(fightOf(["SEQ *10, @20\n"]));
+  const move = desk.move(0, 1);
+  assert.deepEqual(move.reads, [10, 20]);
+  assert.match(moveWords({ ...move, reads: [1, 2, 3, 4, 5, 6] }, known(["Lace"])), /cells 1, 2, 3, 4, 5 and 6\./);
+});
+
+test("a cell that is edited at the start is not loaded", () => {
+  const desk = new Desk(mars);
+  desk.open(fightOf(["JMP 0\n"]));
+  const { future } = desk.edit(0, 0, { kind: "cell", address: 5, last: 5, cell: desk.cellOf("NOP 0") });
+  const { owner, written } = desk.turn(future, 1);
+  const words = [0, 5, 6].map((address) => writtenWords(owner[address], written[address], known(["Lace"])));
+  assert.deepEqual(words, ["Loaded with Lace", "Edited after turn 0", "Never written"]);
+  assert.equal(writtenWords(0, 7, known(["Lace"])), "Written by Lace in turn 7");
+});
+
+test("the winner is found by who lives, whatever it is called", () => {
+  const names = ["A tie", "Imp"];
+  assert.equal(fateWords({ ...known(names), deaths: [{ warrior: 1 }] }), "wins");
+  assert.equal(fateWords(known(names)), "ties");
+  assert.equal(fateWords(known(["A tie"])), "survives");
+});
+
+test("a score has the values of its formula, also of outcomes that do not occur", () => {
+  const jobs = new Jobs(mars);
+  const [lives, dies] = ["JMP 0\n", "DAT 0\n"].map((text) => mars.assemble(text));
+  const scores = (formula, own, other) => jobs.scores([own, other], { rounds: 3, formula });
+  assert.deepEqual(scores("10*W/S", lives, dies).values, [0, 20, 10]);
+  assert.deepEqual(scores("10*W/S", dies, lives).values, [0, 20, 10]);
+  const { points, wins, values } = scores("6/(2-S)", lives, dies);
+  assert.deepEqual([points, wins, values], [18, 3, [0, 6, 0]]);
+  assert.throws(() => scores("6/(2-S)", lives, lives), /SCORE|score/i);
+});

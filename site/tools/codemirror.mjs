@@ -1,0 +1,24 @@
+// CodeMirror 5 as its src/edit/main.js makes it, without the fields of forms, the extensions and the older names.
+// `codemirror-src` is its folder src.
+import { CodeMirror } from "codemirror-src/edit/CodeMirror.js";
+import addEditorMethods from "codemirror-src/edit/methods.js";
+import { defineOptions } from "codemirror-src/edit/options.js";
+import ContentEditableInput from "codemirror-src/input/ContentEditableInput.js";
+import TextareaInput from "codemirror-src/input/TextareaInput.js";
+import Doc from "codemirror-src/model/Doc.js";
+
+export { defineMode } from "codemirror-src/modes.js";
+export { CodeMirror, Doc };
+
+/** The methods of a document that an editor has not, or has as its own. */
+const OTHER = ["iter", "insert", "remove", "copy", "getEditor", "constructor"];
+
+defineOptions(CodeMirror);
+addEditorMethods(CodeMirror);
+CodeMirror.inputStyles = { textarea: TextareaInput, contenteditable: ContentEditableInput };
+for (const [name, method] of Object.entries(Doc.prototype)) {
+  if (OTHER.includes(name)) continue;
+  CodeMirror.prototype[name] = function (...given) {
+    return method.apply(this.doc, given);
+  };
+}
