@@ -300,12 +300,8 @@ def test_what_is_missing_is_reported_before_matches(run: Run, folder: Path) -> N
     """The site, a module, and the folder for a file; the settings are those of a match that takes hours."""
     long = ["-c", 8_000_000, "-r", 100_000, "stay.red", "same.red"]
     (folder / "file").write_text("")
-    for words, error in (
-        (["--pages", "file/pages", *long], "corewar: file/pages: Not a directory"),
-        (["--pages", "pages", *long[2:], "-c", 8_000_001], "a page shows battles of at most 8000000 cycles"),
-    ):
-        done = run("league", *words, timeout=20)
-        assert (done.returncode, done.stdout) == (1, "") and error in done.stderr
+    done = run("league", "--pages", "file/pages", *long, timeout=20)
+    assert (done.returncode, done.stdout, done.stderr) == (1, "", "corewar: file/pages: Not a directory\n")
     hidden = "import sys; sys.modules['matplotlib'] = None; from corewar.cli.main import main; main()"
     command = [sys.executable, "-c", hidden, "league", "--picture", "a.png", *map(str, long)]
     done = subprocess.run(command, cwd=folder, env=ENVIRONMENT, capture_output=True, text=True, timeout=20)

@@ -116,10 +116,11 @@ def test_edits_are_in_the_order_of_their_turns(run: Run, tmp_path: Path) -> None
 
 
 def test_battles_that_the_site_does_not_show(run: Run, tmp_path: Path) -> None:
-    long = ["-c", 8_000_001, "@imp", "@imp"]
-    for words in (["page", *long], ["rounds", "--pages", "pages", *long]):
-        done = run(*words)
-        assert done.returncode == 1 and "a page shows battles of at most 8000000 cycles of 2 warriors" in done.stderr
+    """Those that are too long. A short battle may have the most cycles."""
+    long = ["-c", 8_000_001]
+    done = run("page", *long, "@imp", "@imp")
+    assert done.returncode == 1 and "the battle has 16000002 turns, but a page shows at most 16000000" in done.stderr
+    assert run("page", *long, "@dwarf", "@imp").returncode == 0
     limits = (TOP / "site" / "src" / "model" / "settings.js").read_text()
     assert f"MAX_TURNS = {MAX_TURNS:_};" in limits
 

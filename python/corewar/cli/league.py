@@ -204,7 +204,7 @@ def league(options: BattleOptions, runner: MatchRunner, order: str, form: str, *
     if files["pages"]:
         from ..pages.league import begin_pages, write_pages
 
-        begin_pages(Path(files["pages"]), options.settings)
+        begin_pages(Path(files["pages"]))
     contest, warriors, faults = entrants_of(options)
     if not warriors:
         return 1

@@ -11,7 +11,7 @@ import click
 
 from ..battle.frames import part_ends
 from ..battle.history import History
-from ..engine.calls import Match, assemble
+from ..engine.calls import assemble
 from ..model.cells import Cell
 from ..model.edits import Edit
 from ..model.errors import CorewarError, FileError, MarsError
@@ -132,26 +132,26 @@ def page(options: BattleOptions, turn: int, edits: tuple[str, ...], output: str 
     can be shown, and edited.
     """
     from ..pages.render import write_page
-    from ..pages.site import check_page, page_of
+    from ..pages.site import check_length, page_of, site_folder
 
     output = output_file(output, "battle.html", force)
-    check_page(options.settings, len(options.files))
+    site_folder()
     fight = options.fight()
-    given = edits_of(edits, options, fight) if edits else ()
-    write_page(Path(output), page_of(fight, options.formula, options.round, turn, given))
+    history = edited(History(fight, options.round), edits, options)
+    check_length(history.end)
+    write_page(Path(output), page_of(fight, options.formula, options.round, turn, history.edits))
     click.echo(printable(f"{output}: {' against '.join(warrior.called for warrior in fight.warriors)}"))
 
 
-def edits_of(texts: Sequence[str], options: BattleOptions, fight: Match) -> tuple[tuple[int, Edit], ...]:
-    """The edits of the battle in the order of their turns. Each has to be possible after the ones before it."""
-    history = History(fight, options.round)
+def edited(history: History, texts: Sequence[str], options: BattleOptions) -> History:
+    """Makes the edits in the order of their turns. Each has to be possible after the ones before it."""
     given = [(*edit_of(text, options), text) for text in texts]
     for turn, edit, text in sorted(given, key=itemgetter(0)):
         try:
             history = history.edited(turn, edit)
         except CorewarError as fault:
             raise click.BadParameter(f"`{text}` is impossible: {fault}", param_hint="--edit") from None
-    return history.edits
+    return history
 
 
 def edit_of(text: str, options: BattleOptions) -> tuple[int, Edit]:

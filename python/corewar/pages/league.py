@@ -7,21 +7,19 @@ from typing import Any
 from ..analysis.formatting import pluralize
 from ..engine.calls import Match
 from ..contests.table import League
-from ..model.settings import Settings, label
+from ..model.settings import label
 from ..pictures.shades import mix_colours
 from .render import render, write_page
-from .site import check_page, page_of
+from .site import page_of, site_folder
 
 # A browser cannot show the matrix of more warriors.
 MAX_MATRIX_SIZE = 250
 PAGE = "battles.html"
 
 
-def begin_pages(folder: Path, settings: Settings) -> None:
-    """Makes the folder for the pages of a league. Raises CorewarError if the site is not built or cannot show battles
-    with these settings.
-    """
-    check_page(settings, 2)
+def begin_pages(folder: Path) -> None:
+    """Makes the folder for the pages of a league. Raises CorewarError if the site is not built."""
+    site_folder()
     folder.mkdir(parents=True, exist_ok=True)
 
 

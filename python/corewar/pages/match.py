@@ -8,20 +8,20 @@ from ..analysis.captions import command
 from ..battle.rounds import Round, count_outcomes
 from ..engine.calls import Match
 from .render import render, write_page
-from .site import check_page, page_of
+from .site import page_of, site_folder
 
 PAGE = "match.html"
 
 
 class Pages:
     """A folder with match.html, written at once, and index.html, written after the last round. Raises CorewarError if
-    the site is not built or cannot show the battles.
+    the site is not built.
     """
 
     def __init__(self, folder: str, fight: Match, formula: str) -> None:
         self.folder, self.fight = Path(folder), fight
         self.rounds: list[dict[str, Any]] = []
-        check_page(fight.settings, len(fight.warriors))
+        site_folder()
         self.folder.mkdir(parents=True, exist_ok=True)
         write_page(self.folder / PAGE, page_of(fight, formula))
 

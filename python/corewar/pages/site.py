@@ -38,12 +38,10 @@ def site_folder() -> Path:
     raise CorewarError("the site is not built; run `make site`")
 
 
-def check_page(settings: Settings, warriors: int) -> None:
-    """Raises CorewarError if the site is not built, or shows no battles that are so long."""
-    site_folder()
-    if settings.cycles * warriors > MAX_TURNS:
-        most = MAX_TURNS // warriors
-        raise CorewarError(f"a page shows battles of at most {most} cycles of {warriors} warriors; set `-c`")
+def check_length(turns: int) -> None:
+    """Raises CorewarError if the site does not show a battle of that many turns."""
+    if turns > MAX_TURNS:
+        raise CorewarError(f"the battle has {turns} turns, but a page shows at most {MAX_TURNS}; set `-c`")
 
 
 def source_of(warrior: Warrior) -> tuple[str, str]:
