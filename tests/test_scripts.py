@@ -103,7 +103,7 @@ def test_elites(tmp_path: Path) -> None:
 def test_arguments(tmp_path: Path, script: str) -> None:
     """The help, and wrong arguments."""
     assert run(script, "--help", cwd=tmp_path).stdout.splitlines()[2].startswith(f"usage: examples/{script} [")
-    wrong = {"elites.py": ["0"], "evolver.py": ["\u00b2"], "hill.py": []}[script]
-    for words in (["--none"], wrong):
+    wrong: dict[str, list[str]] = {"elites.py": ["0"], "evolver.py": ["\u00b2"], "hill.py": []}
+    for words in (["--none"], wrong[script]):
         done = run(script, *words, cwd=tmp_path)
         assert (done.returncode, done.stdout) == (2, "") and "error: " in done.stderr

@@ -142,8 +142,8 @@ def test_an_assembler_is_as_the_call() -> None:
         for name in ("rounds", "warriors"):
             for value in (-1, 2**32):
                 for call in (corewar.assemble, assembler.assemble):
-                    found = result_of(call, "DAT ROUNDS, WARRIORS", **{name: value})
-                    assert found == (CorewarError, f"expected a number from 0 to 4294967295, not {value}")
+                    error = result_of(call, "DAT ROUNDS, WARRIORS", **{name: value})
+                    assert error == (CorewarError, f"expected a number from 0 to 4294967295, not {value}")
         with pytest.raises(ValueError, match="expected settings or one of"):
             assembler.assemble("MOV 0, 1", settings="micro")
     for limit in ((0, 1000), (10, -1)):
