@@ -259,14 +259,14 @@ def test_populations() -> None:
 def test_sums_of_populations() -> None:
     """Only the whole sum of a candidate has to fit in 64 bits, so the order of the opponents changes nothing."""
     imp, dead = corewar.assemble("MOV 0, 1"), corewar.assemble("DAT 0, 0")
-    # Half of what does not fit: for a tie, and less than nothing for a win.
+    # A tie scores half of what does not fit, and a win as much less than nothing.
     half = 2**62
 
     def points(*opponents: corewar.Warrior) -> int:
         return corewar.population([imp], opponents, formula=f"(2*S-3)*{half}")[0].points
 
     assert {points(*opponents) for opponents in permutations([imp, imp, dead])} == {half}
-    with pytest.raises(corewar.MarsError, match="9 Range"):
+    with pytest.raises(corewar.MarsError, match="score 4 Range"):
         points(imp, imp)
 
 
