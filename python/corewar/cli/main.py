@@ -118,5 +118,6 @@ def main() -> None:
         if not isinstance(fault, BrokenPipeError):
             report(": ".join(str(part) for part in (fault.filename, fault.strerror) if part is not None))
         status = 1
-    # Matches that are under way aren't waited for, and what standard output did not accept is not written again.
+    # Matches that are under way aren't waited for. All output was flushed when it was written; what standard output did
+    # not accept is not written again.
     os._exit(status)
