@@ -659,9 +659,10 @@ def test_cores_of_all_sizes(page: Browser, core: int) -> None:
     code = """const settings = {...corewar.terms.value.settings, core: given[0], longest: 1, distance: 1, cycles: 3};
       await corewar.fight([{name: "jump.red", text: "JMP 0"}], false, {...corewar.terms.value, settings});"""
     page.run(code, core)
-    listed = "[...document.querySelectorAll('#listing .address')].map(one => one.textContent)"
-    page.until(f"corewar.session.isSettled && {listed}.length === {min(9, core)}")
-    assert {*page.value(listed)} == {f"{address % core:,}" for address in range(-4, 5)}
+    # The list is drawn after the turn.
+    listed = "[...document.querySelectorAll('#listing .address')].map(one => one.textContent).sort().join(' ')"
+    around = sorted({f"{address % core:,}" for address in range(-4, 5)})
+    page.until(f"corewar.session.isSettled && {listed} === '{' '.join(around)}'")
     boxes = "['stage', 'core'].map(id => document.getElementById(id).getBoundingClientRect())"
     stage, canvas = page.value(boxes)
     assert canvas["left"] >= stage["left"] - 1 and canvas["right"] <= stage["right"] + 1
