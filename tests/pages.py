@@ -653,6 +653,18 @@ def test_own_settings_are_opened_again(page: Browser) -> None:
     page.until("!own.open && hill.value === ''")
 
 
+def test_new_terms_of_a_hidden_battle(page: Browser) -> None:
+    """The battle is fought again when it is shown, and only if it has other terms."""
+    page.run("corewar.show('league'); seed.value = '9'; seed.dispatchEvent(new Event('change'))")
+    assert page.value("corewar.session.fight.seed") == 1
+    page.run("document.querySelector('[data-view=battle]').click()")
+    page.until("corewar.session.fight.seed === 9 && !document.body.classList.contains('busy')")
+    page.run("corewar.round(1)")
+    page.until("corewar.session.fight.round === 1")
+    page.run("for (const name of ['league', 'battle']) document.querySelector(`[data-view=${name}]`).click()")
+    assert page.value("[document.body.classList.contains('busy'), corewar.session.fight.round]") == [False, 1]
+
+
 @pytest.mark.parametrize("core", [1, 2, 5, 1_048_576])
 def test_cores_of_all_sizes(page: Browser, core: int) -> None:
     """All cells of the core are visible, and the list has only cells of the core."""

@@ -32,6 +32,9 @@ const DEFAULT_TERMS = { settings: DEFAULTS, seed: 1, rounds: 100, position: 0, f
 const MAX_WORKERS = 16;
 
 class Page {
+  /** Whether the terms have changed since the battle was fought. */
+  #hasNewTerms = false;
+
   /**
    * @param {import("../worker/pool.js").Parts} workerParts
    * @param {import("../view/session.js").RemoteDesk} desk
@@ -145,8 +148,14 @@ class Page {
     keep({ terms: this.terms.value });
     this.shelf.lint();
     if (this.bench.isOpen) this.bench.fight();
+    this.#hasNewTerms ||= isShown;
+    this.#renew();
+  }
+
+  /** Fights the battle again if the terms have changed. A hidden battle is fought again when it is shown. */
+  #renew() {
     const { fight } = this.session;
-    if (isShown && fight && !element("battle").hidden) this.fight(fight.warriors);
+    if (this.#hasNewTerms && fight && !element("battle").hidden) this.fight(fight.warriors);
   }
 
   /**
@@ -182,6 +191,7 @@ class Page {
    */
   async fight(warriors, plays = true, terms = {}) {
     document.body.classList.add("busy");
+    this.#hasNewTerms = false;
     try {
       const isMatch = warriors.length >= 1 && warriors.length <= MAX_WARRIORS;
       if (!isMatch) throw new Error(`A match has 1 to ${MAX_WARRIORS} warriors; select them in the list of sources.`);
@@ -294,6 +304,7 @@ class Page {
       const { fight, turn, pinned } = await unpack(text, selection);
       warriors = fight.warriors;
       await this.session.open(fight, { turn, pinned, plays: turn === 0 && !isStill() });
+      this.#hasNewTerms = false;
       this.#showTerms(fight);
       this.session.rename(this.shelf.mark(warriors));
       document.body.classList.add("running");
@@ -303,7 +314,9 @@ class Page {
   }
 
   listen() {
-    for (const button of buttons("#views button")) button.onclick = () => this.show(button.dataset.view ?? "battle");
+    for (const button of buttons("#views button")) {
+      button.onclick = () => this.show(button.dataset.view ?? "battle").#renew();
+    }
     onClick("sources", () => this.showDesk(element("desk").hidden));
     onClick("fight", () => this.fightMarked());
     onClick("fight-here", () => this.fightMarked());
