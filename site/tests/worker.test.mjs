@@ -6,7 +6,7 @@ import fs from "node:fs";
 import { test } from "node:test";
 
 import { Mars } from "../src/engine/mars.js";
-import { DEFAULTS } from "../src/model/settings.js";
+import { DEFAULTS, MAX_TURNS } from "../src/model/settings.js";
 import { fateWords, moveWords, writtenWords } from "../src/words/battle.js";
 import { Desk } from "../src/worker/desk.js";
 import { Jobs } from "../src/worker/jobs.js";
@@ -30,6 +30,7 @@ test("a fight that cannot be opened leaves the battle that is open", () => {
     fightOf(["JMP 0\n", "FOO 1\n"]),
     fightOf(["JMP 0\n"], [{ turn: 0, edit: { kind: "kill", warrior: 5, place: 0 } }]),
     fightOf(["DAT 0\n"], [{ turn: 7, edit: { kind: "add", warrior: 0, address: 0 } }]),
+    { ...fightOf(["JMP 0\n"]), settings: { ...DEFAULTS, cycles: MAX_TURNS + 1 } },
   ];
   for (const fight of wrong) {
     assert.throws(() => desk.open(fight));

@@ -38,13 +38,17 @@ class Run {
   stride = STRIDE;
 
   /**
-   * Plays a battle to its end.
+   * Plays a battle to its end. Throws an error if it has too many turns.
    * @param {Mars} mars
    * @param {Origins} origins
    * @param {Place} start
    * @param {{edit: Edit | null, dead: number}} before the edit before the start, and the number of deaths before that
    */
   constructor(mars, origins, start, { edit, dead }) {
+    // Without records this takes a small part of the time.
+    const trial = start.battle.copy();
+    mars.play(trial, MAX_TURNS - trial.turns);
+    if (!trial.over) throw new Error(TOO_LONG);
     this.first = start.turn;
     this.edit = edit;
     this.start = start.copy();
@@ -55,7 +59,6 @@ class Run {
     for (;;) {
       start.play(mars, this.stride, origins, chronicle);
       if (start.battle.over) break;
-      if (start.turn > MAX_TURNS) throw new Error(TOO_LONG);
       this.marks.push(start.copy());
       if (this.marks.length > maxMarks) this.#thin();
     }
