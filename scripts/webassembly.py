@@ -4,22 +4,19 @@ from __future__ import annotations
 
 import os
 import re
-import shutil
 import subprocess
 
 from program import TOP
 
 HEAP = os.path.join(TOP, "site", "src", "engine", "heap.c")
 HEADER = os.path.join(TOP, "include", "mars.h")
-# Keeps the largest module that it compiles, which is that of the library, with the arguments.
+# Keeps the largest module that it compiles, which is that of the library, and the code that it makes from it.
 KEEPING_CLANG = """#!/bin/sh
-for word in "$@"; do
-    if [ "$word" = module.bc ] && [ "$(stat -c %s module.bc)" -gt "$(stat -c %s '{kept}' 2>/dev/null || echo 0)" ]; then
-        cp module.bc '{kept}'
-        printf '%s\\n' "$@" >'{kept}.args'
-    fi
-done
-exec '{clang}' "$@"
+'{clang}' "$@" || exit
+size() {{ stat -c %s "$1" 2>/dev/null || echo 0; }}
+case " $* " in *" module.bc -o module.o "*)
+    if [ "$(size module.bc)" -gt "$(size '{kept}')" ]; then cp module.bc '{kept}' && cp module.o '{kept}.o'; fi
+esac
 """
 # wasm64 has pointers of 64 bits, as the native target has; the memory is lowered to 32 bits afterwards.
 TARGET = "wasm64-unknown-unknown"
@@ -52,7 +49,9 @@ class CannotBuild(Exception):
 
 
 def keeping_toolchain(toolchain: str, folder: str, kept: str) -> str:
-    """Makes a folder like that of the toolchain, whose clang keeps its module in the file `kept`."""
+    """Makes a folder like that of the toolchain, whose clang keeps its module in the file `kept`, and its code beside
+    that.
+    """
     os.makedirs(os.path.join(folder, "bin"))
     for name in os.listdir(toolchain):
         if name != "bin":
@@ -67,23 +66,17 @@ def keeping_toolchain(toolchain: str, folder: str, kept: str) -> str:
     return folder
 
 
-def run(*words: str, folder: str | None = None) -> str:
-    done = subprocess.run(words, cwd=folder, capture_output=True, text=True)
+def run(*words: str) -> str:
+    done = subprocess.run(words, capture_output=True, text=True)
     if done.returncode:
         raise CannotBuild(f"{os.path.basename(words[0])}: {(done.stderr or done.stdout).strip()[-600:]}")
     return done.stdout
 
 
-def check_module(module: str, archive: str, toolchain: str, room: str) -> None:
-    """Checks that the module is the one that the archive was compiled from: compiled again, it has the same bytes."""
-    with open(f"{module}.args") as file:
-        words = file.read().splitlines()
-    shutil.copy(module, os.path.join(room, "module.bc"))
-    words[words.index("-o") + 1] = "module.o"
-    run(os.path.join(toolchain, "bin", "clang"), *words, folder=room)
-    member = run("ar", "t", archive).split()
-    with open(os.path.join(room, "module.o"), "rb") as made:
-        if len(member) != 1 or made.read() != subprocess.run(["ar", "p", archive], capture_output=True).stdout:
+def check_module(module: str, archive: str) -> None:
+    """Checks that the archive has the code that was made from the module, and nothing else."""
+    with open(f"{module}.o", "rb") as made:
+        if made.read() != subprocess.run(["ar", "p", archive], capture_output=True).stdout:
             raise CannotBuild("the kept module is not that of the native library")
 
 
@@ -141,7 +134,7 @@ def compiled(module: str, toolchain: str, room: str) -> list[str]:
 
 def build_wasm(module: str, archive: str, toolchain: str, room: str, out: str) -> None:
     """Builds mars.wasm in the file `out`. Raises CannotBuild."""
-    check_module(module, archive, toolchain, room)
+    check_module(module, archive)
     objects, linked = compiled(module, toolchain, room), os.path.join(room, "mars.wasm")
     # LLVM's linker is one program, which links for WebAssembly if it is called by this name.
     linker = os.path.join(room, "wasm-ld")
