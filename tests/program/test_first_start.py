@@ -338,7 +338,7 @@ def test_terminal(place: Place) -> None:
     lines = os.read(mine, 100_000).decode().split("\r\n")
     first, last = lines[0], lines[-2]
     assert (
-        "the program is proved before it is built: 8 crates, 12 to 23 minutes on four processors" in first
+        "the program is proved before it is built: 8 crates, 11 to 23 minutes on four processors" in first
     ), "the first line has the expected time"
     assert last.rpartition("\r\033[K")[2].startswith(
         "mars: proved 8 crates in 0 min "
