@@ -135,7 +135,7 @@ def compiled(module: str, toolchain: str, room: str) -> list[str]:
 def build_wasm(module: str, archive: str, toolchain: str, room: str, out: str) -> None:
     """Builds mars.wasm in the file `out`. Raises CannotBuild."""
     check_module(module, archive)
-    objects, linked = compiled(module, toolchain, room), os.path.join(room, "mars.wasm")
+    objects, linked = compiled(module, toolchain, room), os.path.join(room, "linked.wasm")
     # LLVM's linker is one program, which links for WebAssembly if it is called by this name.
     linker = os.path.join(room, "wasm-ld")
     os.symlink(os.path.join(toolchain, "bin", "ld.lld"), linker)
