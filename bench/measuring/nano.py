@@ -1,9 +1,9 @@
-"""The machine instructions of a turn of random warriors that live long, in the settings of nano.
+"""The machine instructions of a turn of random warriors that live long, in the settings of nano, of `mars` and of
+pMARS.
 
 Random instructions are rarely among the most frequent ones of written warriors, for which the machine has shortcuts.
-The warriors have 1 to 5 cells, and a pair counts if both live 800 cycles in each of 21 rounds; most pairs don't. A
-figure is the count of 21 rounds minus that of one, divided by the turns in between. The warriors are the same in each
-run.
+The warriors have 1 to 5 cells, and a pair counts if both live 801 cycles; most pairs don't. A count is that of 801
+cycles minus that of one, divided by the turns in between. The warriors are the same in each run.
 """
 from __future__ import annotations
 
@@ -17,11 +17,11 @@ from itertools import islice
 from corewar.model.cells import MODIFIERS, OPCODES
 from program import find_program
 
-from .tools import instructions, run_well
+from .tools import find_pmars, instructions, run_well
 
 # In this order the warriors are always the same.
 MODES = "#$*@{}<>"
-CORE, CYCLES, ROUNDS, MAX_LENGTH = 80, 800, 20, 5
+CORE, CYCLES, MAX_LENGTH = 80, 800, 5
 
 
 def write_warrior(dice: random.Random, path: str) -> None:
@@ -33,32 +33,41 @@ def write_warrior(dice: random.Random, path: str) -> None:
         file.writelines(f"{line}\n" for line in lines)
 
 
-def match(program: str, rounds: int, position: int, files: list[str]) -> list[str]:
-    sizes = {"-s": CORE, "-p": CORE, "-c": CYCLES, "-l": MAX_LENGTH, "-d": MAX_LENGTH, "-F": position, "-r": rounds}
+def match(program: str, cycles: int, position: int, files: list[str]) -> list[str]:
+    sizes = {"-s": CORE, "-p": CORE, "-c": cycles, "-l": MAX_LENGTH, "-d": MAX_LENGTH, "-F": position}
     return [program, "-b", *(str(word) for option in sizes.items() for word in option), *files]
 
 
 def is_long(command: list[str]) -> bool:
-    """Whether each round of a match is a tie, which takes all its cycles."""
+    """Whether a match is a tie, which takes all its cycles."""
     rows = run_well(command).output.decode().splitlines()[1:]
-    return all(row.split()[1:4] == ["0", str(ROUNDS + 1), "0"] for row in rows)
+    return all(row.split()[1:4] == ["0", "1", "0"] for row in rows)
 
 
-def costs(program: str, place: str) -> Iterator[float]:
-    """Yields the machine instructions of a turn of one pair after the other that lives long."""
+def long_pairs(program: str, place: str) -> Iterator[tuple[int, list[str]]]:
+    """Yields pairs that live long: the position of the second warrior, and the files, which the next pair replaces."""
     dice = random.Random(5)
     files = [os.path.join(place, f"{name}.load") for name in "ab"]
     while True:
         for file in files:
             write_warrior(dice, file)
         position = dice.randint(MAX_LENGTH, CORE - MAX_LENGTH)
-        if is_long(match(program, ROUNDS + 1, position, files)):
-            one, all_rounds = (instructions(match(program, rounds, position, files))[0] for rounds in (1, ROUNDS + 1))
-            yield (all_rounds - one) / (ROUNDS * 2 * CYCLES)
+        if is_long(match(program, CYCLES + 1, position, files)):
+            yield position, files
+
+
+def cost(program: str, position: int, files: list[str]) -> float:
+    """Returns the machine instructions of a turn."""
+    short, long = (instructions(match(program, cycles, position, files))[0] for cycles in (1, CYCLES + 1))
+    return (long - short) / (2 * CYCLES)
 
 
 def measure(words: argparse.Namespace) -> None:
+    programs = {"mars": find_program(words.program), "pMARS": find_pmars()}
+    found = {name: program for name, program in programs.items() if program}
     with tempfile.TemporaryDirectory() as place:
-        found = [*islice(costs(find_program(words.program), place), words.count)]
-    mean = sum(found) / len(found)
-    print(f"{len(found)} pairs: {mean:.1f} machine instructions a turn, {min(found):.1f} to {max(found):.1f}")
+        pairs = islice(long_pairs(found["mars"], place), words.count)
+        rows = [[cost(program, *pair) for program in found.values()] for pair in pairs]
+    for name, costs in zip(found, zip(*rows)):
+        mean = sum(costs) / len(costs)
+        print(f"{name}: {mean:.1f} machine instructions a turn, {min(costs):.1f} to {max(costs):.1f}, {len(costs)} pairs")
