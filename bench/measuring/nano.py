@@ -69,5 +69,5 @@ def measure(words: argparse.Namespace) -> None:
         pairs = islice(long_pairs(found["mars"], place), words.count)
         rows = [[cost(program, *pair) for program in found.values()] for pair in pairs]
     for name, costs in zip(found, zip(*rows)):
-        mean = sum(costs) / len(costs)
-        print(f"{name}: {mean:.1f} machine instructions a turn, {min(costs):.1f} to {max(costs):.1f}, {len(costs)} pairs")
+        mean, extremes = sum(costs) / len(costs), f"{min(costs):.1f} to {max(costs):.1f}"
+        print(f"{name}: {mean:.1f} machine instructions a turn, {extremes}, {len(costs)} pairs")
