@@ -10,13 +10,15 @@ from program import TOP
 
 HEAP = os.path.join(TOP, "site", "src", "engine", "heap.c")
 HEADER = os.path.join(TOP, "include", "mars.h")
-# Keeps the largest module that it compiles, which is that of the library, and the code that it makes from it.
+# Keeps the largest module that it compiles, which is that of the library, and the code that it makes from it. If these
+# cannot be copied, the native library is built all the same.
 KEEPING_CLANG = """#!/bin/sh
 '{clang}' "$@" || exit
 size() {{ stat -c %s "$1" 2>/dev/null || echo 0; }}
 case " $* " in *" module.bc -o module.o "*)
     if [ "$(size module.bc)" -gt "$(size '{kept}')" ]; then cp module.bc '{kept}' && cp module.o '{kept}.o'; fi
 esac
+exit 0
 """
 # wasm64 has pointers of 64 bits, as the native target has; the memory is lowered to 32 bits afterwards.
 TARGET = "wasm64-unknown-unknown"

@@ -45,7 +45,7 @@ class Run {
    * @param {{edit: Edit | null, dead: number}} before the edit before the start, and the number of deaths before that
    */
   constructor(mars, origins, start, { edit, dead }) {
-    // Without records this takes a small part of the time.
+    // A battle that is too long is rejected soon: playing it without records takes a small part of the time.
     const trial = start.battle.copy();
     mars.play(trial, MAX_TURNS - trial.turns);
     if (!trial.over) throw new Error(TOO_LONG);
