@@ -347,6 +347,14 @@ def test_a_link_carries_the_fight(page: Browser, site: str) -> None:
         assert page.text("complaint") == f"This link cannot be opened. {why}"
 
 
+def test_a_link_that_only_this_machine_can_open(page: Browser) -> None:
+    """Share shows no address of this machine."""
+    page.click("#share")
+    page.until("document.getElementById('sharing').open")
+    assert page.value("document.getElementById('link').value.slice(0, 3)") == "#f="
+    assert "save it as a file" in page.text("link-note")
+
+
 def test_strangers_names_are_no_html(page: Browser, site: str) -> None:
     evil = "<img src=x onerror=alert(1)>"
     source = f";name {evil}\n;author {evil}\n{evil} MOV 0, 1\nx MOV 0, 1\n;{evil}\n"
@@ -456,6 +464,178 @@ def test_a_page_shows_a_battle_whatever_is_stored(page: Browser, site: str) -> N
     assert page.text("complaint") == "These core settings are not valid together."
     assert page.value("document.title") == "Dwarf against Imp · Core War"
     assert page.value("hill.value") == "94nop"
+
+
+@pytest.mark.parametrize(
+    "stored",
+    ["{", "null", "5", "[]", '{"sources":5}', '{"sources":[null,7]}', '{"terms":{"settings":7}}', '{"done":{}}'],
+)
+def test_damaged_storage_is_left_out(page: Browser, site: str, stored: str) -> None:
+    """The page starts whatever is stored, says if something is damaged, and deletes it on request."""
+    page.run("localStorage.clear(); localStorage.setItem('corewar', given[0])", stored)
+    page.run("localStorage.setItem('corewar: own.red', '{\"text\":7}')")
+    page.open(f"{site}?damaged{hash(stored)}")
+    page.until("window.corewar?.session.view")
+    assert page.text("complaint").startswith("Something that this browser had stored is damaged")
+    page.click("#complaint button")
+    page.until("window.corewar?.session.view && document.getElementById('complaint').hidden")
+    assert page.value("localStorage.getItem('corewar: own.red')") is None
+
+
+def test_sources_of_earlier_versions_are_found(page: Browser, site: str) -> None:
+    old = [
+        {"name": "dwarf.red", "text": "old", "saved": "old", "isExample": True, "fights": False},
+        {"name": "imp.red", "text": "MOV 0, 1 ; mine", "saved": "MOV 0, 1", "isExample": True, "fights": True},
+        {"name": "own.red", "text": "MOV 0, 1 ; own", "saved": "", "isExample": False, "fights": True},
+    ]
+    page.run("localStorage.clear(); localStorage.setItem('corewar', JSON.stringify({sources: given[0]}))", old)
+    page.open(f"{site}?earlier")
+    page.until("window.corewar?.session.view")
+    assert page.value("corewar.session.fight.warriors.map(({name}) => name)") == ["imp.red", "own.red"]
+    assert page.value("corewar.shelf.find('imp.red').doc.getValue()") == "MOV 0, 1 ; mine"
+    # Copies of examples that were not changed do not hide those of this version.
+    assert "Dwarf" in page.value("corewar.shelf.find('dwarf.red').doc.getValue()")
+
+
+@pytest.fixture
+def pair(browser: Browser, tmp_path: Path) -> Iterator[Browser]:
+    """Two windows of the page, as frames."""
+    for path in (TOP / "build" / "site").iterdir():
+        (tmp_path / path.name).symlink_to(path)
+    frames = "".join(f'<iframe src="index.html?{name}" width=1200 height=700></iframe>' for name in "ab")
+    (tmp_path / "pair.html").write_text(f'<!DOCTYPE html><link rel="icon" href="data:,">{frames}')
+    with served(tmp_path) as address:
+        browser.open(f"{address}/pair.html")
+        browser.until("[0, 1].every(one => frames[one].corewar?.session.view)")
+        yield browser
+        browser.open("about:blank")
+
+
+def test_two_windows_lose_nothing(pair: Browser) -> None:
+    """What one window stores stays if the other one stores something else, and appears there."""
+    page = pair
+    code = """const {shelf} = frames[given[0]].corewar;
+      shelf.show(shelf.find(given[1]));
+      shelf.editor.mirror.setValue(given[2]);"""
+    page.run("frames[0].document.getElementById('new').click()")
+    page.run(code, 0, "warrior.red", "MOV 0, 1 ; one")
+    page.until("frames[1].corewar.shelf.find('warrior.red')?.doc.getValue() === 'MOV 0, 1 ; one'")
+    page.run("frames[1].document.querySelector('#names input').click(); frames[1].corewar.another()")
+    page.run(code, 1, "silk.red", "MOV 0, 1 ; two")
+    page.until("frames[0].corewar.shelf.find('silk.red').doc.getValue() === 'MOV 0, 1 ; two'")
+    page.run(code, 1, "warrior.red", "MOV 0, 1 ; changed")
+    page.until("frames[0].corewar.shelf.find('warrior.red').doc.getValue() === 'MOV 0, 1 ; changed'")
+    # Of two changes of a source at once both stay.
+    for window, text in enumerate(("MOV 0, 2 ; here", "MOV 0, 3 ; there")):
+        page.run(code, window, "warrior.red", text)
+    texts = (
+        "frames[%d].corewar.shelf.sources.map(({doc}) => doc.getValue()).filter(text => / ; t?here/.test(text)).sort()"
+    )
+    page.until(f"[0, 1].every(one => one >= 0) && {texts % 0}.length === 2 && {texts % 1}.length >= 1")
+    page.run("await new Promise(done => setTimeout(done, 900)); location.reload()")
+    page.until("[0, 1].every(one => frames[one]?.corewar?.session.view)")
+    assert page.value(texts % 0) == ["MOV 0, 2 ; here", "MOV 0, 3 ; there"] == page.value(texts % 1)
+
+
+def test_what_a_link_brings_is_stored_once_it_is_changed(page: Browser, site: str) -> None:
+    """Neither its sources nor its terms are stored, except for what the user changes."""
+    fight = """const fight = {...corewar.session.fight, formula: given[0], rounds: 7, warriors: given[1]};
+      return shared({...corewar.session, fight, opened: {edits: []}, turn: 5, pinned: null});"""
+    sources = [{"name": f"{name}.red", "text": f";name {name}\nMOV 0, 1\n"} for name in ("Anna", "Bert")]
+    link = page.run(fight, "W*S", sources)
+    page.open(f"{site}?guests#f={link}")
+    page.until("document.title === 'Anna against Bert · Core War'")
+    names = "corewar.shelf.sources.map(({name}) => name).filter(name => /^(Anna|Bert)/.test(name))"
+    assert page.value(names) == ["Anna.red", "Bert.red"]
+    page.run("corewar.shelf.show(corewar.shelf.find('Bert.red'))")
+    page.run("corewar.shelf.editor.mirror.setValue(';name Bert\\nMOV 0, 1 ; mine\\n')")
+    page.run("seed.value = '9'; seed.dispatchEvent(new Event('change'))")
+    page.until("Object.keys(localStorage).includes('corewar: Bert.red')")
+    page.run("await corewar.another()")
+    assert page.value(names) == ["Bert.red"]
+    page.open(f"{site}?after")
+    page.until("window.corewar?.session.view")
+    assert page.value(names) == ["Bert.red"]
+    assert page.value("[corewar.terms.value.seed, corewar.terms.value.rounds]") == [9, 100]
+    assert page.value("corewar.terms.value.formula") == "(W*W-1)/S"
+    # A wrong formula is found before the battle is opened.
+    page.open(f"{site}?wrong#f={page.run(fight, 'W/', sources)}")
+    page.until("window.corewar?.session.view")
+    assert page.text("complaint") == "This link cannot be opened. The score formula is not valid."
+
+
+def test_a_lesson_leaves_the_list_as_it_was(page: Browser, site: str) -> None:
+    """The learner's source is found again in the lesson."""
+    names = "corewar.shelf.sources.map(({name}) => name).join()"
+    before = page.value(names)
+    begin = "await corewar.lessons.begin(corewar.lessons.lessons[given[0]])"
+    page.run(begin, 4)
+    assert page.value(names) != before
+    own = page.value("corewar.shelf.shown.name")
+    page.run("corewar.shelf.editor.mirror.setValue('MOV 0, 1 ; solved')")
+    page.until("localStorage.getItem(`corewar: ${given[0]}`)".replace("given[0]", f"'{own}'"))
+    page.run(begin, 1)
+    assert page.value(names) == before
+    page.open(f"{site}?lesson")
+    page.until("window.corewar?.session.view")
+    assert page.value(names) == before
+    page.run(begin, 4)
+    assert page.value("corewar.shelf.shown.doc.getValue()") == "MOV 0, 1 ; solved"
+
+
+def test_examples_are_restored(page: Browser, site: str) -> None:
+    page.press("e")
+    page.run("corewar.shelf.show(corewar.shelf.find('silk.red'))")
+    page.run("window.before = corewar.shelf.shown.doc.getValue(); corewar.shelf.editor.mirror.setValue('DAT 0')")
+    page.click("#restore")
+    assert page.value("corewar.shelf.shown.doc.getValue() === before")
+    page.click("#remove")
+    assert page.value("!corewar.shelf.find('silk.red')")
+    page.open(f"{site}?restore")
+    page.until("window.corewar?.session.view")
+    assert page.text("restore") == "Restore 1 example" and page.value("!corewar.shelf.find('silk.red')")
+    page.click("#restore")
+    assert page.value("document.getElementById('restore').hidden && !!corewar.shelf.find('silk.red')")
+
+
+def test_opening_a_battle_is_cancelled(page: Browser) -> None:
+    """The battle before stays, with its futures."""
+    answer(page, "edit 3 jmp 0")
+    page.run("window.opening = corewar.fight([{name: 'slow.red', text: given[0]}])", slow())
+    page.until("!document.getElementById('waiting').hidden")
+    page.click("#cancel")
+    page.run("await opening")
+    assert page.text("complaint") == "Cancelled." and page.value("document.getElementById('waiting').hidden")
+    go_to_turn(page, 100)
+    assert page.value("[corewar.session.futures.length, document.title]") == [2, "Dwarf against Imp · Core War"]
+
+
+def test_workers_that_are_blocked(page: Browser, site: str) -> None:
+    """The page says so, also if the script fails before anything is asked of a worker."""
+    code = """const script = URL.createObjectURL(new Blob(["throw 1"]));
+      const module = new Promise(done => setTimeout(done, 500));
+      const pool = new corewar.pool.constructor({script, module}, 1);
+      return pool.ask("assemble", ["", {}], "lint").then(() => "", ({message}) => message);"""
+    assert page.run(code)
+
+
+def test_a_surprise_has_a_seed_of_its_own(page: Browser) -> None:
+    seeds = page.run(
+        """const seeds = [];
+        for (let k = 0; k < 4; k++) {
+            await corewar.another();
+            seeds.push(corewar.session.fight.seed);
+        }
+        return [...seeds, Number(seed.value)];"""
+    )
+    assert len({*seeds}) > 1 and seeds[3] == seeds[4]
+
+
+def test_a_source_without_instructions(page: Browser) -> None:
+    page.press("e")
+    page.run("corewar.shelf.editor.mirror.setValue('; nothing')")
+    page.until("document.getElementById('fault').classList.contains('bad')")
+    assert not page.text("fault").startswith("Line")
 
 
 def test_a_browser_that_stores_nothing(page: Browser) -> None:

@@ -282,6 +282,26 @@ def test_the_page_saves_to_the_folder(page: Browser, site: Site) -> None:
     assert (site.folder / "warrior.red").read_text().startswith(";redcode-94\n")
 
 
+def test_the_folder_is_read_again(page: Browser, site: Site) -> None:
+    """When the window gets the focus it takes new and changed files; a text that was changed in the page stays."""
+    (site.folder / "own.red").write_text("mov 0, 1\n")
+    page.open(site.address + "?focus")
+    page.until("window.corewar?.session.view")
+    text = "corewar.shelf.find('%s')?.doc.getValue()"
+    page.run("const {shelf} = corewar; shelf.show(shelf.find('own.red')); shelf.editor.mirror.setValue('mov 0, 5\\n')")
+    for name in ("imp", "own", "late"):
+        (site.folder / f"{name}.red").write_text(f"mov 0, 1 ; {name} on disk\n")
+    page.run("dispatchEvent(new Event('focus'))")
+    page.until(f"{text % 'late.red'} === 'mov 0, 1 ; late on disk\\n'")
+    assert page.value(text % "imp.red") == "mov 0, 1 ; imp on disk\n"
+    assert page.value(text % "own.red") == "mov 0, 5\n"
+    page.run("await corewar.shelf.save(false)")
+    assert page.text("saved").startswith("own.red has changed on disk")
+    (site.folder / "late.red").unlink()
+    page.run("dispatchEvent(new Event('focus'))")
+    page.until("corewar.shelf.find('late.red').saved === ''")
+
+
 def test_drafts_are_found_again(page: Browser, site: Site) -> None:
     page.run(
         "corewar.shelf.show(corewar.shelf.find('imp.red')); corewar.shelf.editor.mirror.setValue('MOV 0, 1 ; mine')"

@@ -36,6 +36,23 @@ test("a link carries the whole fight", async () => {
   assert.deepEqual((await unpack(await pack({ fight: long, turn: 0, pinned: null }))).fight, long);
 });
 
+test("a link does not inflate without end", async () => {
+  // 100 kB of a link are 100 MB of text, of which 16 MB are read.
+  let read = 0;
+  const zeros = new ReadableStream({
+    pull(controller) {
+      read += 1 << 20;
+      if (read > 100 << 20) controller.close();
+      else controller.enqueue(new Uint8Array(1 << 20).fill(32));
+    },
+  });
+  const deflated = zeros.pipeThrough(new CompressionStream("deflate-raw"));
+  const text = Buffer.from(await new Response(deflated).arrayBuffer()).toString("base64url");
+  const before = process.memoryUsage().arrayBuffers;
+  await assert.rejects(unpack(text), /damaged or incomplete/);
+  assert.ok(process.memoryUsage().arrayBuffers - before < 60 << 20);
+});
+
 test("an address selects a part of a fight", async () => {
   const { text, selection } = readAddress(`#f=${await pack({ fight, turn: 12, pinned: 3 })}&w=1&r=7&t=100`);
   const found = await unpack(text, selection);

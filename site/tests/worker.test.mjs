@@ -38,6 +38,12 @@ test("a fight that cannot be opened leaves the battle that is open", () => {
   }
 });
 
+test("a score formula is checked", () => {
+  const jobs = new Jobs(mars);
+  for (const formula of ["W", "(W*W-1)/S", "1/(S-1)"]) jobs.checkFormula(formula);
+  for (const formula of ["", "W/", "X"]) assert.throws(() => jobs.checkFormula(formula), /1 |Syntax|formula|FORMULA/);
+});
+
 test("a line of source has the numbers of the match", () => {
   const desk = new Desk(mars);
   desk.open({ ...fightOf(["JMP 0\n", "JMP 0\n", "JMP 0\n"]), rounds: 7 });

@@ -31,7 +31,8 @@ const TERMS = { settings: HILLS["94nop"], seed: 1, rounds: ROUNDS, position: 0, 
 
 export class Lessons {
   /**
-   * @param {Host & {session: Session, edit: () => void, examples: Source[]}} host
+   * @param {Host & {session: Session, edit: () => void, examples: Source[],
+   *   written: (name: string) => string | undefined}} host `written` returns the learner's text of a source
    * @param {Lesson[]} lessons
    * @param {string[]} done the lessons that were done before
    * @param {(done: string[]) => void} keep
@@ -115,7 +116,9 @@ export class Lessons {
   begin(lesson) {
     const { shelf } = this.host;
     const name = `${lesson.id}.red`;
-    if (lesson.start && !shelf.find(name)) shelf.add({ name, text: lesson.start, saved: "" });
+    if (lesson.start && !shelf.find(name)) {
+      shelf.add({ name, text: this.host.written(name) ?? lesson.start, saved: lesson.start, kind: "lesson" });
+    }
     const own = this.#own(lesson);
     const sources = shelf.mark([...(own ? [own] : []), ...this.#opponents(lesson)]);
     const entry = shelf.find(name);

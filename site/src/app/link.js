@@ -16,6 +16,8 @@ const VERSION = 1;
 const MAX_NAME_LENGTH = 100;
 const MAX_EDITS = 1000;
 const LAST_TURN = 1e9;
+/** The maximum number of bytes of a link that was inflated: what the sources of a match have at most. */
+const MAX_INFLATED = MAX_WARRIORS * MAX_SOURCE_SIZE;
 
 /**
  * @param {Uint8Array} bytes
@@ -122,10 +124,30 @@ function readEdits(given, core) {
 async function inflate(text) {
   try {
     const bytes = bytesOf(text.replaceAll("-", "+").replaceAll("_", "/"));
-    return JSON.parse(new TextDecoder().decode(await through(bytes, new DecompressionStream("deflate-raw"))));
+    const inflated = new Blob([bytes]).stream().pipeThrough(new DecompressionStream("deflate-raw"));
+    return JSON.parse(await firstOf(inflated, MAX_INFLATED));
   } catch {
     throw new Error("It is damaged or incomplete.");
   }
+}
+
+/**
+ * Returns the text of a stream. Throws if it has more bytes than the maximum: some kilobytes can inflate to gigabytes.
+ * @param {ReadableStream<Uint8Array>} stream
+ * @param {number} maximum
+ */
+async function firstOf(stream, maximum) {
+  const [reader, decoder] = [stream.getReader(), new TextDecoder()];
+  let [text, size] = ["", 0];
+  for (let part = await reader.read(); !part.done; part = await reader.read()) {
+    size += part.value.length;
+    if (size > maximum) {
+      await reader.cancel();
+      throw new RangeError("too large");
+    }
+    text += decoder.decode(part.value, { stream: true });
+  }
+  return text + decoder.decode();
 }
 
 /**

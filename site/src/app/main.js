@@ -4,7 +4,7 @@ import { DEFAULTS, FORMULA } from "../model/settings.js";
 import { Bench } from "../view/bench.js";
 import { Cells } from "../view/cells.js";
 import { Console } from "../view/console.js";
-import { buttons, clamp, element, isNarrow, onClick, refill, typed, withCode } from "../view/dom.js";
+import { buttons, clamp, element, isNarrow, make, onClick, refill, typed, withCode } from "../view/dom.js";
 import { errorWords } from "../view/host.js";
 import { League } from "../view/league.js";
 import { Rounds } from "../view/rounds.js";
@@ -19,17 +19,18 @@ import { readAddress, unpack } from "./link.js";
 import { data, ownFight, pageWith, parts } from "./parts.js";
 import { Server } from "./server.js";
 import { listenToShare, shared } from "./share.js";
-import { keep, stored } from "./store.js";
+import { FIRST, Sources } from "./sources.js";
+import { keep, startAfresh, stored } from "./store.js";
 import { Terms } from "./terms.js";
 
 /** @typedef {import("../model/fight.js").Source} Source */
 /** @typedef {import("./parts.js").Data} Data */
 /** @typedef {import("../view/host.js").MatchTerms} MatchTerms */
 
-/** The examples that a newcomer sees first. */
-const FIRST = ["dwarf.red", "imp.red"];
 const DEFAULT_TERMS = { settings: DEFAULTS, seed: 1, rounds: 100, position: 0, formula: FORMULA };
 const MAX_WORKERS = 16;
+/** The greatest seed that "Surprise me" picks: the field shows all of it. */
+const MAX_DRAWN_SEED = 9999;
 
 class Page {
   /** Whether the terms have changed since the battle was fought. */
@@ -45,21 +46,13 @@ class Page {
     this.server = server;
     this.examples = examples;
     this.meanings = meanings;
-    this.isNew = !stored.sources;
-    this.pool = new Pool(workerParts, clamp(navigator.hardwareConcurrency || 4, 1, MAX_WORKERS));
+    // A processor is left for the page.
+    this.pool = new Pool(workerParts, clamp((navigator.hardwareConcurrency || 4) - 1, 1, MAX_WORKERS));
     this.session = new Session(desk, (text) => this.complain(text));
-    this.terms = new Terms((isShown) => this.#takeTerms(isShown));
+    this.terms = new Terms((changes, isShown) => this.#takeTerms(changes, isShown));
     this.terms.value = { ...DEFAULT_TERMS, ...stored.terms };
-    this.shelf = new Shelf({
-      pool: this.pool,
-      folder: server,
-      meanings,
-      terms: () => this.terms.value,
-      store: () => this.#keepSources(),
-      checked: () => this.bench.checked(),
-      reveal: () => this.showDesk(true),
-      isStale: (name, text) => this.#isStale(name, text),
-    });
+    this.shelf = this.#makeShelf();
+    this.sources = new Sources(this.shelf, server, examples);
     const host = {
       pool: this.pool,
       shelf: this.shelf,
@@ -76,10 +69,29 @@ class Page {
     this.cells = new Cells(this.session, side);
     this.rounds = new Rounds(this.session, this.pool, showLine, (hits) => this.shelf.takeHits(hits));
     this.console = new Console(this.session);
-    const learner = { ...host, session: this.session, examples, edit: () => this.showDesk(true) };
+    const written = (/** @type {string} */ name) => this.sources.written(name);
+    const learner = { ...host, session: this.session, examples, written, edit: () => this.showDesk(true) };
     this.lessons = new Lessons(learner, lessons, stored.done ?? [], (done) => keep({ done }));
     this.session.listen((change) => this.#follow(change, side));
-    this.#fillShelf();
+    this.sources.fill();
+    if (server) element("download").textContent = "Save";
+    if (stored.desk) this.showDesk(true);
+    // On a narrow page the editor is below the battle.
+    scrollTo(0, 0);
+  }
+
+  /** @returns {Shelf} */
+  #makeShelf() {
+    return new Shelf({
+      pool: this.pool,
+      folder: this.server,
+      meanings: this.meanings,
+      terms: () => this.terms.value,
+      store: () => this.sources.keep(),
+      checked: () => this.bench.checked(),
+      reveal: () => this.showDesk(true),
+      isStale: (name, text) => this.#isStale(name, text),
+    });
   }
 
   /**
@@ -91,49 +103,6 @@ class Page {
     return this.session.fight?.warriors.some((one) => one.name === name && one.text !== text) ?? false;
   }
 
-  /** Takes what was stored, or the files of the folder; then the examples. */
-  #fillShelf() {
-    const { server, shelf } = this;
-    const files = (server?.sources ?? []).filter(({ isExample }) => !isExample);
-    const own = stored.sources ?? [];
-    // What was not saved is found again; files are as they are now, and the first of them fights Dwarf, or else Imp.
-    const drafts = server ? own.filter(({ text, saved, isExample }) => text !== saved && !isExample) : own;
-    const other = FIRST.find((name) => name !== files[0]?.name);
-    files.forEach(({ name, text }, index) => {
-      const draft = drafts.find((one) => one.name === name);
-      const entry = shelf.add({ name, text: draft?.text ?? text, saved: text, fights: index === 0 || name === other });
-      // A file is saved under its own name.
-      entry.name = name;
-    });
-    for (const draft of drafts) if (!shelf.find(draft.name)) shelf.add({ ...draft, saved: server ? "" : draft.saved });
-    const first = files.length ? [other] : own.length ? [] : FIRST;
-    const missing = server || !own.length ? this.examples : [];
-    for (const example of missing) {
-      if (!shelf.find(example.name)) shelf.add({ ...example, isExample: true, fights: first.includes(example.name) });
-    }
-    const shown = shelf.find(stored.shown ?? "") ?? shelf.sources.find(({ fights }) => fights) ?? shelf.sources[0];
-    shelf.show(shown);
-    if (server) element("download").textContent = "Save";
-    if (stored.desk) this.showDesk(true);
-    // On a narrow page the editor is below the battle.
-    scrollTo(0, 0);
-  }
-
-  /**
-   * Stores the sources. Returns whether the browser lets it.
-   * @returns {boolean}
-   */
-  #keepSources() {
-    const sources = this.shelf.sources.map(({ name, doc, saved, isExample, fights }) => ({
-      name,
-      text: doc.getValue(),
-      saved,
-      isExample,
-      fights,
-    }));
-    return keep({ sources, shown: this.shelf.shown?.name });
-  }
-
   /**
    * Shows terms in the fields, where the editor, the bench and the league have them from.
    * @param {MatchTerms} terms
@@ -143,9 +112,13 @@ class Page {
     this.shelf.lint();
   }
 
-  /** @param {boolean} isShown */
-  #takeTerms(isShown) {
-    keep({ terms: this.terms.value });
+  /**
+   * Terms of a link or a lesson are not stored, only what the user changes.
+   * @param {Partial<MatchTerms>} changes
+   * @param {boolean} isShown
+   */
+  #takeTerms(changes, isShown) {
+    keep({ terms: changes });
     this.shelf.lint();
     if (this.bench.isOpen) this.bench.fight();
     this.#hasNewTerms ||= isShown;
@@ -214,15 +187,16 @@ class Page {
     return this.fight(fighters.length || !current ? fighters : [current]);
   }
 
-  /** Fights two examples, picked by chance. */
+  /** Fights two examples from places, all picked by chance. */
   another() {
     const { examples } = this;
-    const one = Math.floor(Math.random() * examples.length);
-    const other = (one + 1 + Math.floor(Math.random() * (examples.length - 1))) % examples.length;
+    const pick = (/** @type {number} */ count) => Math.floor(Math.random() * count);
+    const one = pick(examples.length);
+    const other = (one + 1 + pick(examples.length - 1)) % examples.length;
     this.show("battle");
     const marked = this.shelf.mark([examples[one], examples[other]]);
-    this.#keepSources();
-    return this.fight(marked);
+    this.sources.keep();
+    return this.fight(marked, true, { ...this.terms.value, seed: 1 + pick(MAX_DRAWN_SEED) });
   }
 
   /**
@@ -291,6 +265,14 @@ class Page {
     const first = this.examples.filter(({ name }) => FIRST.includes(name));
     if (!this.session.latest) await this.fight(first, !isStill(), DEFAULT_TERMS);
     this.complain(faults.join(" ").trim());
+    if (this.sources.isDamaged) this.#offerFreshStart();
+  }
+
+  /** Says that something that was stored is damaged. */
+  #offerFreshStart() {
+    const lost = "Something that this browser had stored is damaged and was left out. ";
+    this.complain(lost);
+    element("complaint").append(make("button", { className: "link", onclick: startAfresh }, "Delete what is stored"));
   }
 
   /**
@@ -303,6 +285,7 @@ class Page {
     try {
       const { fight, turn, pinned } = await unpack(text, selection);
       warriors = fight.warriors;
+      if (fight.formula !== FORMULA) await this.pool.ask("checkFormula", [fight.formula], "link", 3);
       await this.session.open(fight, { turn, pinned, plays: turn === 0 && !isStill() });
       this.#hasNewTerms = false;
       this.#showTerms(fight);
@@ -329,7 +312,7 @@ class Page {
       typed("helping", HTMLDialogElement).showModal();
       element("what").hidden = true;
     });
-    element("what").hidden = !this.isNew;
+    element("what").hidden = !this.sources.isNew;
     listenToShare(this.session);
     listenToKeys({
       session: this.session,
@@ -380,5 +363,9 @@ main().catch((error) => {
   const lacksFeatures = ["WebAssembly", "DecompressionStream"].some((name) => !(name in window));
   const isOld = lacksFeatures || /wasm|compile|memory/i.test(message);
   const what = isOld ? "This browser cannot run the simulator, a WebAssembly module" : "The page cannot start";
-  element("loading").textContent = `${what}: ${message}`;
+  refill(element("loading"), `${what}: ${message} `);
+  if (!isOld) {
+    const afresh = { className: "link", onclick: startAfresh };
+    element("loading").append(make("button", afresh, "Delete what is stored and start afresh"));
+  }
 });

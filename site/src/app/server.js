@@ -14,6 +14,8 @@
 const META = document.querySelector("meta[name=corewar-server]");
 /** The name of the folder for what the browser keeps of it, or "". */
 export const folderKey = META?.getAttribute("data-key") ?? "";
+/** Whether a server on this machine has the page: then its address has a secret in it. */
+export const isServed = META !== null;
 
 export class Server {
   /** @type {Map<string, string>} */
@@ -70,6 +72,29 @@ export class Server {
     const found = all.find((one) => one.name === name && one.text !== undefined);
     if (found) this.#seen.set(name, found.seen);
     return found?.text ?? null;
+  }
+
+  /**
+   * Returns the files that have changed since they were read. Those that are gone have no `seen`.
+   * @returns {Promise<Kept[]>}
+   */
+  async changed() {
+    const answer = await fetch(`${this.path}/sources`).catch(() => null);
+    if (!answer?.ok) return [];
+    const all = /** @type {(Kept | LeftOut)[]} */ (await answer.json());
+    const files = all.flatMap((one) => ("fault" in one || one.isExample ? [] : one));
+    const gone = [...this.#seen.keys()].filter((name) => !all.some((one) => one.name === name));
+    const lost = gone.map((name) => ({ name, text: "", seen: "", isExample: false }));
+    return [...files.filter(({ name, seen }) => this.#seen.get(name) !== seen), ...lost];
+  }
+
+  /**
+   * Notes that the page has this content of a file.
+   * @param {Kept} file
+   */
+  take({ name, seen }) {
+    if (seen) this.#seen.set(name, seen);
+    else this.#seen.delete(name);
   }
 
   /**

@@ -3,9 +3,14 @@ import { download, element, onClick, typed } from "../view/dom.js";
 import { number } from "../words/battle.js";
 import { pack } from "./link.js";
 import { pageWith } from "./parts.js";
+import { isServed } from "./server.js";
 
 /** @typedef {import("../view/session.js").Session} Session */
 
+/** Whether others can open the address of this page: it is not on this machine, and has no secret in it. */
+const isLocal = !location.protocol.startsWith("http") || /^(localhost|127\..*|\[::1\])$/.test(location.hostname);
+const isPublic = !isServed && !isLocal;
+const PRIVATE = "Only you can open this page: save it as a file, or put this text after the address of a public copy.";
 /** Some programs cut addresses that are longer. */
 const MAX_LINK_LENGTH = 8000;
 
@@ -26,12 +31,15 @@ export function listenToShare(session) {
     session.stop();
     // The link leads to the turn at which the battle stops.
     await session.go(session.wanted);
-    const link = `${location.href.split("#")[0]}#f=${await shared(session)}`;
+    const link = `${isPublic ? location.href.split("#")[0] : ""}#f=${await shared(session)}`;
     const field = typed("link", HTMLInputElement);
     field.value = link;
     const isLong = link.length > MAX_LINK_LENGTH;
     const size = `${number(link.length)} characters`;
-    note(isLong ? `The link has ${size}; some programs truncate it. A page has no limit.` : "");
+    const long = isLong ? `The link has ${size}; some programs truncate it. A page has no limit.` : "";
+    note(isPublic ? long : PRIVATE);
+    element("page").classList.toggle("main", !isPublic);
+    element("copy").classList.toggle("main", isPublic);
     typed("sharing", HTMLDialogElement).showModal();
     field.select();
   });

@@ -1,28 +1,151 @@
 /** What is kept in this browser, if it lets the page do that; of each folder by itself. */
+import { MAX_FORMULA } from "../model/layout.js";
+import { RANGES, SETTINGS } from "../model/settings.js";
 import { folderKey } from "./server.js";
 
-/** @typedef {{name: string, text: string, saved: string, isExample: boolean, fights: boolean}} KeptSource */
+/** @typedef {import("../view/host.js").MatchTerms} MatchTerms */
+/** @typedef {import("../view/shelf.js").Kind} Kind */
+/** @typedef {{text: string, saved: string, kind: Kind, made: number}} KeptSource `made` orders them */
 /**
  * @typedef {object} Kept
- * @property {KeptSource[]} [sources]
  * @property {string} [shown] the source in the editor
- * @property {import("../view/host.js").MatchTerms} [terms]
+ * @property {string[]} [marked] the sources that fight
+ * @property {string[]} [removed] examples
+ * @property {Partial<MatchTerms>} [terms]
  * @property {string} [theme] "light" or "dark"
  * @property {boolean} [desk] whether the editor is shown
  * @property {string[]} [done] lessons
  */
 
 const NAME = `corewar ${folderKey}`.trim();
+/** Each source has a key of its own, so that a window never writes over what another one has written. */
+const SOURCE = `${NAME}: `;
 
-/** @returns {Kept} */
-function read() {
+/** @typedef {(value: any) => boolean} Check */
+const isText = (/** @type {unknown} */ value) => typeof value === "string";
+const isTexts = (/** @type {unknown} */ value) => Array.isArray(value) && value.every(isText);
+const isNumber = (/** @type {unknown} */ value) => Number.isSafeInteger(value) && Number(value) >= 0;
+const isTruth = (/** @type {unknown} */ value) => typeof value === "boolean";
+
+/** @type {Check} */
+const areSettings = (value) =>
+  SETTINGS.every((name) => isNumber(value[name]) && value[name] <= RANGES[name].maximum) && value.core > 0;
+
+/** @type {Record<string, Check>} */
+const TERMS = {
+  settings: (value) => typeof value === "object" && value !== null && areSettings(value),
+  seed: isNumber,
+  rounds: isNumber,
+  position: isNumber,
+  formula: (value) => isText(value) && value.length <= MAX_FORMULA,
+};
+
+/** @type {Record<string, Check>} */
+const KEPT = {
+  shown: isText,
+  marked: isTexts,
+  removed: isTexts,
+  terms: (value) => isWhole(value, TERMS),
+  theme: (value) => value === "light" || value === "dark",
+  desk: isTruth,
+  done: isTexts,
+};
+
+/**
+ * Returns whether a value is an object whose known parts are right.
+ * @param {any} value
+ * @param {Record<string, Check>} checks
+ */
+const isWhole = (value, checks) =>
+  typeof value === "object" && value !== null && !Array.isArray(value) && Object.entries(value).every(holds(checks));
+
+/** @param {Record<string, Check>} checks */
+const holds =
+  (checks) =>
+  (/** @type {[string, unknown]} */ [name, value]) => !Object.hasOwn(checks, name) || checks[name](value);
+
+/** Whether something that was stored is damaged; it is left out. */
+let isDamaged = false;
+
+/** @param {string} key */
+function itemOf(key) {
   try {
-    return JSON.parse(localStorage.getItem(NAME) ?? "{}");
+    return localStorage.getItem(key);
   } catch {
-    return {};
+    return null;
   }
 }
 
+/** @param {string | null} text */
+function parsed(text) {
+  if (text === null) return undefined;
+  try {
+    return JSON.parse(text);
+  } catch {
+    isDamaged = true;
+    return undefined;
+  }
+}
+
+/** @returns {Kept & {sources?: unknown}} */
+function read() {
+  const found = parsed(itemOf(NAME)) ?? {};
+  if (typeof found !== "object" || Array.isArray(found)) isDamaged = true;
+  const entries = Object.entries(found);
+  const sound = entries.filter(holds(KEPT));
+  isDamaged ||= sound.length < entries.length;
+  return Object.fromEntries(sound);
+}
+
+/**
+ * Returns a source that was stored, or null if it is damaged or there is none.
+ * @param {string | null} text
+ * @returns {KeptSource | null}
+ */
+function sourceOf(text) {
+  const found = parsed(text);
+  const isSource = typeof found === "object" && isText(found?.text) && isText(found.saved) && isText(found.kind);
+  if (isSource) return { made: 0, ...found };
+  isDamaged ||= found !== undefined;
+  return null;
+}
+
+/** Gives each source of the form before version 2 a key of its own. An example that is not changed needs none. */
+function renew() {
+  const { sources, ...rest } = read();
+  if (sources === undefined) return;
+  const all = Array.isArray(sources) ? sources.filter((one) => isText(one?.name) && isText(one.text)) : [];
+  isDamaged ||= !Array.isArray(sources) || all.length < sources.length;
+  all.forEach(({ name, text, saved, isExample }, made) => {
+    if (isExample && text === saved) return;
+    keepSource(name, { text, saved: isText(saved) ? saved : "", kind: isExample ? "example" : "own", made });
+  });
+  const marked = all.filter(({ fights }) => fights === true).map(({ name }) => name);
+  set(NAME, JSON.stringify({ ...rest, marked }));
+}
+
+/**
+ * @param {string} key
+ * @param {string | null} text
+ */
+function set(key, text) {
+  try {
+    if (text === null) localStorage.removeItem(key);
+    else localStorage.setItem(key, text);
+    return true;
+  } catch {
+    return false;
+  }
+}
+
+/**
+ * Keeps a source, or no longer keeps it. Returns whether the browser lets the page do that.
+ * @param {string} name
+ * @param {KeptSource | null} source
+ */
+export const keepSource = (name, source) => set(SOURCE + name, source && JSON.stringify(source));
+
+renew();
 export const stored = read();
 
 /**
@@ -30,12 +153,53 @@ export const stored = read();
  * @param {Kept} changes
  */
 export function keep(changes) {
+  // Another window may have changed the rest.
+  const now = read();
+  if (changes.done) changes.done = [...new Set([...(now.done ?? []), ...changes.done])];
+  if (changes.terms) changes.terms = { ...now.terms, ...changes.terms };
   Object.assign(stored, changes);
+  return set(NAME, JSON.stringify({ ...now, ...changes }));
+}
+
+/**
+ * Returns what is stored of a source now, or null.
+ * @param {string} name
+ */
+export const keptSource = (name) => sourceOf(itemOf(SOURCE + name));
+
+const keys = () => {
   try {
-    // Another window may have changed the rest.
-    localStorage.setItem(NAME, JSON.stringify({ ...read(), ...changes }));
-    return true;
+    return Object.keys(localStorage);
   } catch {
-    return false;
+    return [];
   }
+};
+
+/** Returns the sources by their names, in the order in which they were made. */
+export function keptSources() {
+  const names = keys().flatMap((key) => (key.startsWith(SOURCE) ? key.slice(SOURCE.length) : []));
+  const found = names.flatMap((name) => {
+    const source = keptSource(name);
+    return source ? [/** @type {[string, KeptSource]} */ ([name, source])] : [];
+  });
+  return new Map(found.sort(([, one], [, other]) => one.made - other.made));
+}
+
+/** Returns whether something was damaged. */
+export const hasLoss = () => isDamaged;
+
+/**
+ * Calls a function when another window has stored or removed a source, with the source and the one before.
+ * @param {(name: string, now: KeptSource | null, before: KeptSource | null) => void} changed
+ */
+export function listenToSources(changed) {
+  addEventListener("storage", ({ key, newValue, oldValue }) => {
+    if (key?.startsWith(SOURCE)) changed(key.slice(SOURCE.length), sourceOf(newValue), sourceOf(oldValue));
+  });
+}
+
+/** Forgets everything that is kept for this folder, and loads the page again. */
+export function startAfresh() {
+  for (const key of keys()) if (key === NAME || key.startsWith(SOURCE)) set(key, null);
+  location.replace(location.pathname + location.search);
 }

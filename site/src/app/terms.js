@@ -16,7 +16,8 @@ export class Terms {
   #formula = FORMULA;
 
   /**
-   * @param {(isShown: boolean) => void} changed the terms have changed; `isShown`: so has the battle that is shown
+   * @param {(changes: Partial<MatchTerms>, isShown: boolean) => void} changed the user has changed terms; `isShown`: so
+   *   has the battle that is shown
    */
   constructor(changed) {
     this.hill = typed("hill", HTMLSelectElement);
@@ -31,13 +32,13 @@ export class Terms {
     this.hill.append(make("option", { value: EDIT }, "custom …"));
     element("terms").addEventListener("submit", (event) => event.preventDefault());
     this.hill.onchange = () => this.#choose();
-    const take = (/** @type {boolean} */ isShown) => {
+    const take = (/** @type {"seed" | "rounds"} */ name) => {
       // The fields show the numbers that are used.
       this.value = { ...this.value };
-      changed(isShown);
+      changed({ [name]: this.value[name] }, name === "seed");
     };
-    this.seed.onchange = () => take(true);
-    this.rounds.onchange = () => take(false);
+    this.seed.onchange = () => take("seed");
+    this.rounds.onchange = () => take("rounds");
     this.#openDialog();
   }
 
@@ -68,7 +69,7 @@ export class Terms {
       return;
     }
     this.#settings = HILLS[this.hill.value];
-    this.changed(true);
+    this.changed({ settings: this.#settings }, true);
   }
 
   #openDialog() {
@@ -96,6 +97,6 @@ export class Terms {
     this.#settings = /** @type {Settings} */ (Object.fromEntries(entries));
     this.#position = number("own-position");
     this.#formula = typed("own-formula", HTMLInputElement).value.trim() || FORMULA;
-    this.changed(true);
+    this.changed({ settings: this.#settings, position: this.#position, formula: this.#formula }, true);
   }
 }

@@ -51,5 +51,5 @@ export function errorWords(error, sources, meanings) {
     return REASONS[error.code] ?? error.message;
   }
   const { line, text } = explain(error, source.text, meanings);
-  return `${source.name}, line ${line}: ${text}`;
+  return `${source.name}${line ? `, line ${line}` : ""}: ${text}`;
 }

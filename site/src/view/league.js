@@ -18,8 +18,8 @@ import { allOf, errorWords } from "./host.js";
 
 /** The matrix of more warriors is a picture. */
 const MAX_TABLE_SIZE = 40;
-const WON = [10, 111, 184];
-const LOST = [213, 72, 10];
+const WON = [0, 150, 130];
+const LOST = [214, 40, 92];
 
 export class League {
   /** @type {Source[]} */

@@ -10,14 +10,14 @@ import { clamp } from "./dom.js";
 /** @typedef {import("../worker/desk.js").View} View */
 /** @typedef {import("../words/battle.js").Known} Known */
 /** @typedef {import("../words/battle.js").Move} Move */
-/** @typedef {import("../worker/pool.js").Later<import("../worker/desk.js").Desk>} RemoteDesk */
+/** @typedef {import("../worker/pool.js").Remote} RemoteDesk */
 /**
  * A future: its edits, and which one it branched from; `visited` is the one that redo leads to. -1 is none.
  * @typedef {{edits: Made[], end: number, parent: number, visited: number}} Future
  */
 /**
- * What has changed: the battle, the turn, how it plays, what is looked at.
- * @typedef {"battle" | "turn" | "play" | "look"} Change
+ * What has changed: the battle, the turn, how it plays, what is looked at, whether a battle is being opened.
+ * @typedef {"battle" | "turn" | "play" | "look" | "wait"} Change
  */
 
 /** About how long a battle plays, in seconds, and the speeds in turns a second. */
@@ -75,6 +75,8 @@ export class Session {
   chosen = -1;
   /** The number of turns that were shown. */
   frames = 0;
+  /** The number of battles and futures that are being opened, which `desk.cancel` stops. */
+  pending = 0;
   /** Whether the battle has played to its end, and nothing was done since. */
   hasEnded = false;
   /** @type {((change: Change) => void)[]} */
@@ -150,7 +152,7 @@ export class Session {
     await this.#inOrder(async () => {
       if (this.latest !== fight) return;
       try {
-        this.#takeFight(fight, await this.desk.open(fight), pinned);
+        this.#takeFight(fight, await this.#opened(this.desk.open(fight)), pinned);
       } catch (error) {
         if (this.latest === fight) this.latest = this.fight;
         throw error;
@@ -159,6 +161,21 @@ export class Session {
     if (this.fight !== fight) return;
     await this.go(turn);
     if (plays && this.latest === fight) this.play(1);
+  }
+
+  /**
+   * Returns a future once it is made.
+   * @param {Promise<Opened>} made
+   */
+  async #opened(made) {
+    this.pending++;
+    this.#notify("wait");
+    try {
+      return await made;
+    } finally {
+      this.pending--;
+      this.#notify("wait");
+    }
   }
 
   /**
@@ -408,7 +425,7 @@ export class Session {
     await this.#inOrder(async () => {
       if (fight !== this.fight) throw new Error("another battle has been opened");
       const { future } = this;
-      const opened = await this.desk.edit(future, turn, await wanted);
+      const opened = await this.#opened(this.desk.edit(future, turn, await wanted));
       if (opened.future === this.futures.length) {
         // The edits after this turn belong to the future that is left.
         let parent = future;

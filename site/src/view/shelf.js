@@ -2,6 +2,7 @@
 import { MarsError } from "../model/errors.js";
 import { ASSEMBLY } from "../model/layout.js";
 import { MAX_SOURCE_SIZE } from "../model/settings.js";
+import { pluralize } from "../words/battle.js";
 import { errorsOf } from "../words/errors.js";
 import { Stopped } from "../worker/pool.js";
 import { debounce, download, element, make, onClick, refill, withCode } from "./dom.js";
@@ -16,7 +17,14 @@ import { errorWords } from "./host.js";
 /** @typedef {import("../words/errors.js").Explained} Explained */
 /** @typedef {ReturnType<import("../worker/jobs.js").Jobs["assemble"]>} Assembled */
 /** @typedef {import("./rounds.js").Hits} Hits */
-/** @typedef {{name: string, doc: Document, saved: string, isExample: boolean, fights: boolean}} OpenSource */
+/**
+ * What a source is: the user's own, an example, one of a link, or the user's own for a lesson.
+ * @typedef {"own" | "example" | "guest" | "lesson"} Kind
+ */
+/**
+ * `made` is when it was made.
+ * @typedef {{name: string, doc: Document, saved: string, kind: Kind, fights: boolean, made: number}} OpenSource
+ */
 /**
  * Where sources are saved. `save` returns null, or why one was not; `isOther` is whether something else changed the
  * file. `load` returns the text of a file as it is now, or null if it is gone.
@@ -36,12 +44,23 @@ import { errorWords } from "./host.js";
  * @property {(name: string, text: string) => boolean} isStale whether the battle that is shown has another text of it
  */
 
+/**
+ * Sources that are in the list only while they fight: they are found again in their link or lesson.
+ * @type {Kind[]}
+ */
+const GUESTS = ["guest", "lesson"];
+const KINDS = { own: "", example: "example", guest: "from a link", lesson: "lesson" };
 const NEW = [";redcode-94", ";name My first warrior", ";author ", "; What does it do?", ""];
 NEW.push("start   MOV     0, 1            ; copies itself to the next cell", "        END     start", "");
 
 export class Shelf {
   /** @type {OpenSource[]} */
   sources = [];
+  /**
+   * Examples that the user has removed.
+   * @type {Source[]}
+   */
+  removed = [];
   /** @type {OpenSource | null} */
   shown = null;
   /** Whether the source in the editor has an error. */
@@ -60,6 +79,8 @@ export class Shelf {
       // What follows the editor; otherwise the Tab key would lead into it again.
       leave: () => element("load-head").focus(),
       changed: () => {
+        // What a stranger has written becomes the user's own as soon as it is changed.
+        if (this.shown?.kind === "guest" && this.shown.doc.getValue() !== this.shown.saved) this.shown.kind = "own";
         this.sign();
         lint();
         store();
@@ -67,6 +88,7 @@ export class Shelf {
     });
     onClick("new", () => this.#create());
     onClick("remove", () => this.#remove());
+    onClick("restore", () => this.#restore());
     onClick("download", () => this.save(false));
     onClick("import", () => element("file").click());
     this.#listenToFiles();
@@ -97,16 +119,16 @@ export class Shelf {
 
   /**
    * Adds a source. Its name gets a number if there is another one of that name.
-   * @param {{name: string, text: string, isExample?: boolean, saved?: string, fights?: boolean}} source
+   * @param {Source & {kind?: Kind, saved?: string, fights?: boolean, made?: number}} source
    */
-  add({ name, text, isExample = false, saved = text, fights = false }) {
-    const entry = { name: this.#freeName(name), doc: newDocument(text), saved, isExample, fights };
+  add({ name, text, kind = "own", saved = text, fights = false, made = Date.now() }) {
+    const entry = { name: this.freeName(name), doc: newDocument(text), saved, kind, fights, made };
     this.sources.push(entry);
     return entry;
   }
 
   /** @param {string} name */
-  #freeName(name) {
+  freeName(name) {
     const stem = name.replace(/\.(red|rc|txt)$/i, "");
     let made = `${stem}.red`;
     for (let count = 2; this.find(made); count++) made = `${stem}-${count}.red`;
@@ -133,13 +155,15 @@ export class Shelf {
   }
 
   /**
-   * Marks these sources and no others. A source is added unless there is one with the same text.
+   * Marks these sources and no others. A source is added as a guest unless there is one with the same text. Guests that
+   * fight no more leave the list.
    * @param {Source[]} sources
    */
   mark(sources) {
     const holding = (/** @type {string} */ text) => this.sources.find(({ doc }) => doc.getValue() === text);
-    const found = sources.map((source) => holding(source.text) ?? this.add(source));
+    const found = sources.map((source) => holding(source.text) ?? this.add({ ...source, kind: "guest" }));
     for (const entry of this.sources) entry.fights = found.includes(entry);
+    this.sources = this.sources.filter(({ kind, fights }) => fights || !GUESTS.includes(kind));
     this.list();
     if (!this.shown || !found.includes(this.shown)) this.show(found[0]);
     return found.map(sourceOf);
@@ -187,10 +211,31 @@ export class Shelf {
   #remove() {
     const { shown } = this;
     if (!shown || this.sources.length < 2) return;
-    const where = this.host.folder ? "The file stays in the folder." : "It is stored nowhere else.";
-    if (!shown.isExample && !confirm(`Remove ${shown.name} from the list? ${where}`)) return;
-    this.sources = this.sources.filter((entry) => entry !== shown);
-    this.show(this.sources[0]);
+    const text = shown.doc.getValue();
+    const isFree = text === shown.saved && shown.kind !== "own";
+    const where = this.host.folder && shown.saved ? "The file stays in the folder." : "It is stored nowhere else.";
+    if (!isFree && !confirm(`Remove ${shown.name} from the list? ${where}`)) return;
+    if (shown.kind === "example") this.removed.push({ name: shown.name, text: shown.saved });
+    this.drop(shown);
+    this.#store();
+  }
+
+  /**
+   * Takes a source out of the list.
+   * @param {OpenSource} entry
+   */
+  drop(entry) {
+    this.sources = this.sources.filter((one) => one !== entry);
+    if (entry === this.shown) this.show(this.sources[0]);
+  }
+
+  /** Takes back the examples that were removed, or the changes of the one in the editor. */
+  #restore() {
+    const { shown } = this;
+    if (shown && isEdited(shown)) shown.doc.setValue(shown.saved);
+    else for (const example of this.removed.splice(0)) this.add({ ...example, kind: "example" });
+    this.list();
+    this.sign();
     this.#store();
   }
 
@@ -213,8 +258,8 @@ export class Shelf {
         return;
       }
     }
-    shown.saved = text;
-    shown.isExample = false;
+    if (folder || shown.kind !== "example") shown.saved = text;
+    if (folder) shown.kind = "own";
     this.list();
     this.sign();
     this.#store();
@@ -245,7 +290,7 @@ export class Shelf {
   /** Draws the list. */
   list() {
     const lines = this.sources.map((entry) => {
-      const { name, isExample, fights } = entry;
+      const { name, kind, fights } = entry;
       const box = make("input", { type: "checkbox", checked: fights, "aria-label": `Select ${name}` });
       box.onchange = () => {
         entry.fights = box.checked;
@@ -256,8 +301,7 @@ export class Shelf {
       const show = { className: "bare", onclick: () => this.show(entry), "aria-current": String(isShown) };
       const button = make("button", show, titleOf(entry));
       const label = make("label", { title: "Select" }, box);
-      const kind = make("small", {}, isExample ? "example" : "");
-      return make("li", { className: isShown ? "shown" : "" }, label, button, kind);
+      return make("li", { className: isShown ? "shown" : "" }, label, button, make("small", {}, KINDS[kind]));
     });
     refill(element("names"), ...lines);
     element("names").querySelector(".shown")?.scrollIntoView({ block: "nearest" });
@@ -314,6 +358,10 @@ export class Shelf {
     const text = shown.doc.getValue();
     const button = element("names").querySelector(".shown button");
     if (button) button.textContent = titleOf(shown);
+    const isChanged = isEdited(shown);
+    const count = this.removed.length;
+    element("restore").hidden = !isChanged && count === 0;
+    element("restore").textContent = `Restore ${isChanged ? "the example" : pluralize(count, "example")}`;
     const stored = `${this.#isStored ? "Stored" : "Not stored"} in this browser; Download saves a file`;
     const unsaved = host.folder ? "Not saved" : stored;
     if (host.isStale(shown.name, text)) this.#showMessage("Changed since this battle; Fight starts a new one");
@@ -336,7 +384,9 @@ export class Shelf {
     this.#showMade(made, settings);
     element("fault").classList.toggle("bad", this.isBroken);
     const sorted = [...errors].sort((one, other) => one.line - other.line);
-    const messages = sorted.flatMap((one) => [make("b", {}, `Line ${one.line}: `), withCode(one.text), make("br")]);
+    // A source without an instruction has its error in no line.
+    const where = (/** @type {number} */ line) => (line ? make("b", {}, `Line ${line}: `) : "");
+    const messages = sorted.flatMap((one) => [where(one.line), withCode(one.text), make("br")]);
     const size = made && `${made.name || shown.name}: ${made.cells.length} of ${settings.longest} cells`;
     refill(element("fault"), ...messages, size);
     host.checked();
@@ -388,6 +438,9 @@ export class Shelf {
  * @returns {Source}
  */
 const sourceOf = ({ name, doc }) => ({ name, text: doc.getValue() });
+
+/** @param {OpenSource} entry */
+const isEdited = ({ kind, doc, saved }) => kind === "example" && doc.getValue() !== saved;
 
 /** @param {OpenSource} entry */
 const titleOf = ({ name, doc, saved }) => name.replace(/\.red$/, "") + (doc.getValue() === saved ? "" : " •");

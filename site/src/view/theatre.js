@@ -20,6 +20,8 @@ const BACKWARDS = "M12 2v12L2 8z";
 const FASTEST = 200_000;
 /** Below this speed the next instruction is marked while the battle plays. */
 const SLOW = 15;
+/** Milliseconds after which opening a battle takes long. */
+const PATIENCE = 700;
 /** The maximum number of marked cells that differ between two futures. */
 const MAX_DIFFERENCES = 2000;
 const EMPTY = "Empty memory. A process that executes it ends.";
@@ -31,6 +33,8 @@ export class Theatre {
   /** @type {number | null} */
   hovered = null;
   #isAsked = false;
+  /** @type {ReturnType<typeof setTimeout> | undefined} */
+  #wait;
   #caption = "";
   #saidAt = 0;
   /** What is said below the core in place of the caption, until another turn is shown. */
@@ -53,9 +57,18 @@ export class Theatre {
       if (change === "battle") this.#open();
       if (change === "look") this.#recolour();
       if (change === "play") this.#showPlay();
-      this.ask();
+      if (change === "wait") this.#showWait();
+      else this.ask();
     });
+    onClick("cancel", () => session.desk.cancel());
     new ResizeObserver(() => this.fit()).observe(element("stage"));
+  }
+
+  /** Offers to cancel what takes long to open. */
+  #showWait() {
+    element("waiting").hidden = true;
+    clearTimeout(this.#wait);
+    if (this.session.pending) this.#wait = setTimeout(() => (element("waiting").hidden = false), PATIENCE);
   }
 
   #listenToControls() {

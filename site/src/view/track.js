@@ -39,6 +39,11 @@ export class Track {
   #deaths = [];
   /** @type {number[]} */
   #edits = [];
+  /**
+   * The most processes of each warrior, and when it had them: samples may miss that.
+   * @type {{turn: number, count: number}[]}
+   */
+  #peaks = [];
   #request = 0;
   #film = document.createElement("canvas");
   /** @type {unknown[]} */
@@ -57,8 +62,12 @@ export class Track {
     this.changed = changed;
   }
 
-  /** @param {{overview: Overview, end: number, deaths: Death[], edits: {turn: number}[], order: number[]}} opened */
-  open({ overview, end, deaths, edits, order }) {
+  /**
+   * @param {{overview: Overview, end: number, deaths: Death[], edits: {turn: number}[], order: number[],
+   *   events: {turn: number, kind: string, count: number}[]}} opened
+   */
+  open({ overview, end, deaths, edits, order, events }) {
+    this.#peaks = events.filter(({ kind }) => kind === "most");
     this.#overview = overview;
     this.#end = this.last = end;
     this.#deaths = deaths;
@@ -174,7 +183,8 @@ export class Track {
     const drawing = { context, palette, overview, warriors: this.#warriors, width, middle, bottom, x };
     const maxCells = drawCells(drawing);
     drawTicks(drawing);
-    const maxProcesses = drawProcesses(drawing);
+    const shown = this.#peaks.filter(({ turn }) => turn >= this.first && turn <= this.last);
+    const maxProcesses = Math.max(drawProcesses(drawing), ...shown.map(({ count }) => count));
     this.#drawScale(drawing);
     drawLegend(drawing, maxCells, maxProcesses);
     this.#drawMoments(drawing);

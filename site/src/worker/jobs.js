@@ -2,6 +2,8 @@
 import { History } from "../battle/history.js";
 import { ADDRESS } from "../battle/place.js";
 import { assembleAll, describe } from "../engine/warrior.js";
+import { MarsError } from "../model/errors.js";
+import { FORMULA } from "../model/layout.js";
 import { HILLS } from "../model/settings.js";
 
 /** @typedef {import("../engine/mars.js").Mars} Mars */
@@ -97,6 +99,18 @@ export class Jobs {
     } catch (error) {
       if (isNeeded) throw error;
       return 0;
+    }
+  }
+
+  /**
+   * Throws a MarsError if a text is no score formula. It may have no value for some numbers.
+   * @param {string} formula
+   */
+  checkFormula(formula) {
+    try {
+      this.#scoreOf(1, formula, true);
+    } catch (error) {
+      if (!(error instanceof MarsError) || error.code === FORMULA) throw error;
     }
   }
 

@@ -8,7 +8,7 @@ import { MarsError } from "../model/errors.js";
  * @template T
  * @typedef {{[K in keyof T]: T[K] extends (...given: infer A) => infer R ? (...given: A) => Promise<R> : never}} Later
  */
-/** @typedef {Pick<Jobs, "assemble" | "warriors" | "match" | "scores" | "round">} Work */
+/** @typedef {Pick<Jobs, "assemble" | "warriors" | "match" | "scores" | "round" | "checkFormula">} Work */
 /**
  * Where the script of a worker is, and the machine.
  * @typedef {{script: string, module: Promise<WebAssembly.Module>}} Parts
@@ -19,11 +19,15 @@ import { MarsError } from "../model/errors.js";
 export class Stopped extends Error {}
 /** What a call that takes too long fails with; its worker is ended. */
 export class TimedOut extends Error {}
+/** What opening a battle fails with that the user does not wait for. */
+export class Cancelled extends Error {}
 
 class WorkerClient {
   /** @type {Map<number, Waiting>} */
   #waiting = new Map();
   #last = 0;
+  /** @type {Error | null} */
+  #fault = null;
 
   /** @param {Parts} parts */
   constructor({ script, module }) {
@@ -35,7 +39,11 @@ class WorkerClient {
       else if (typeof data.error === "string") request?.failed(new Error(data.error));
       else request?.failed(new MarsError(data.error.message, data.error));
     };
-    this.worker.onerror = (event) => this.#fail(new Error(event.message || "A worker does not start."));
+    this.worker.onerror = (event) => {
+      // What asks the worker says it.
+      event.preventDefault();
+      this.#fail(new Error(event.message || "A worker does not start."));
+    };
     /** @type {Promise<unknown>} */
     this.ready = module.then((compiled) => this.#send("start", [compiled]));
     this.ready.catch(() => {});
@@ -48,6 +56,7 @@ class WorkerClient {
    */
   #send(call, given) {
     return new Promise((done, failed) => {
+      if (this.#fault) throw this.#fault;
       this.#waiting.set(++this.#last, { done, failed });
       this.worker.postMessage({ id: this.#last, call, given });
     });
@@ -75,15 +84,20 @@ class WorkerClient {
     }
   }
 
-  /** @param {Error} error */
+  /**
+   * A worker can fail before anything waits for it: its script may be blocked.
+   * @param {Error} error
+   */
   #fail(error) {
+    this.#fault ??= error;
     for (const { failed } of this.#waiting.values()) failed(error);
     this.#waiting.clear();
   }
 
-  end() {
+  /** @param {Error} why */
+  end(why = new Stopped("stopped")) {
     this.worker.terminate();
-    this.#fail(new Stopped("stopped"));
+    this.#fail(why);
   }
 }
 
@@ -94,6 +108,8 @@ class WorkerClient {
 const JOB_TIMEOUT = 60_000;
 const LINT_TIMEOUT = 4_000;
 const OPEN_TIMEOUT = 20_000;
+/** The calls that make a future. */
+const OPENING = ["open", "edit"];
 
 /**
  * The desk in a worker of its own. If a call takes too long, the worker is ended, and another one opens the last
@@ -126,26 +142,38 @@ export class RemoteDesk {
       return answer;
     } catch (error) {
       // The calls that waited for a worker that was ended are made again.
-      if (error instanceof Stopped && client !== this.client) return this.ask(call, given);
-      if (error instanceof TimedOut && client === this.client) {
-        client.end();
-        this.client = new WorkerClient(this.parts);
-        await Promise.all(this.#made.map((one) => this.client.ask(one.call, one.given, JOB_TIMEOUT)));
-      }
+      const isEnded = error instanceof Stopped || (error instanceof Cancelled && !OPENING.includes(call));
+      if (isEnded && client !== this.client) return this.ask(call, given);
+      if (error instanceof TimedOut && client === this.client) await this.#restart(new Stopped("stopped"));
       throw error;
     }
   }
+
+  /** Stops opening a battle: the one before stays. */
+  cancel() {
+    return this.#restart(new Cancelled("Cancelled."));
+  }
+
+  /** @param {Error} why what the calls that wait fail with */
+  async #restart(why) {
+    const { client } = this;
+    this.client = new WorkerClient(this.parts);
+    client.end(why);
+    await Promise.all(this.#made.map((one) => this.client.ask(one.call, one.given, JOB_TIMEOUT)));
+  }
 }
 
+/** @typedef {Later<Desk> & {cancel: () => Promise<void>}} Remote */
+
 /**
- * Returns the calls of a desk in a worker.
+ * Returns the calls of a desk in a worker, and `cancel`.
  * @param {Parts} parts
- * @returns {Later<Desk>}
+ * @returns {Remote}
  */
 export function remoteDesk(parts) {
   const remote = new RemoteDesk(parts);
   const get = (/** @type {unknown} */ _, /** @type {string} */ call) =>
-    (/** @type {unknown[]} */ ...given) => remote.ask(call, given);
+    call === "cancel" ? () => remote.cancel() : (/** @type {unknown[]} */ ...given) => remote.ask(call, given);
   return /** @type {any} */ (new Proxy({}, { get }));
 }
 

@@ -8,7 +8,7 @@ import { Jobs } from "./jobs.js";
 /** @typedef {Record<string, (...given: unknown[]) => unknown>} Calls */
 
 const DESK_CALLS = "open show edit turn origins move overview search until cell cellOf memory".split(" ");
-const JOB_CALLS = "assemble warriors match scores round".split(" ");
+const JOB_CALLS = "assemble warriors match scores round checkFormula".split(" ");
 
 /**
  * What can be called, once the machine has started.
