@@ -347,6 +347,54 @@ def test_a_link_carries_the_fight(page: Browser, site: str) -> None:
         assert page.text("complaint") == f"This link cannot be opened. {why}"
 
 
+BACK = "history.back(); await new Promise(done => addEventListener('popstate', done, {once: true}))"
+
+
+def test_views_lessons_and_rounds_have_addresses(page: Browser, site: str) -> None:
+    """Going back leads to what was shown before, and an address opens what it names."""
+    place = "[location.hash, ['battle', 'bench', 'learn'].find(id => !document.getElementById(id).hidden)]"
+    go_to_turn(page, 4000)
+    page.click("[data-view=bench]")
+    page.click("[data-view=learn]")
+    assert page.value(place) == ["#learn", "learn"]
+    page.run(BACK)
+    assert page.value(place) == ["#bench", "bench"]
+    page.run(BACK)
+    assert page.value(place) == ["", "battle"] and page.value("corewar.session.turn") == 4000
+    page.run("corewar.round(1)")
+    page.until("location.hash === '#battle/1'")
+    page.run("await corewar.lessons.begin(corewar.lessons.lessons[4])")
+    assert page.value(place) == ["#learn/5", "battle"]
+    page.run(BACK)
+    page.until("corewar.session.fight.round === 1 && document.getElementById('lesson-box').hidden")
+    for hash, shown in (
+        ("#learn/5", "corewar.lessons.current === 5"),
+        ("#battle/3", "corewar.session.fight.round === 3"),
+    ):
+        page.open(f"{site}?{hash[1:]}{hash}")
+        page.until(f"window.corewar?.session.view && {shown}")
+        assert page.value(place) == [hash, "battle"]
+    page.open(f"{site}?view#bench")
+    page.until("window.corewar?.session.view")
+    assert page.value(place) == ["#bench", "bench"]
+
+
+def test_loading_again_keeps_the_place(page: Browser) -> None:
+    """The lesson, the battle with its edits, and the turn are those of before."""
+    page.run("await corewar.lessons.begin(corewar.lessons.lessons[2])")
+    go_to_turn(page, 500)
+    answer(page, "edit 3 jmp 0")
+    known = "[location.hash, corewar.lessons.current, corewar.session.turn, corewar.session.end, corewar.session.way]"
+    before = page.value(known)
+    names = page.value("corewar.session.known.names")
+    page.run("await new Promise(done => setTimeout(done, 600)); window.isOld = true; location.reload()")
+    page.until("!window.isOld && window.corewar?.session.isSettled")
+    assert page.value(known) == before and before[:3] == ["#learn/3", 3, 500]
+    assert page.value("corewar.session.known.names") == names
+    page.run("document.querySelector('#lesson-box > .link').click()")
+    assert page.value("location.hash") == ""
+
+
 def test_a_link_that_only_this_machine_can_open(page: Browser) -> None:
     """Share shows no address of this machine."""
     page.click("#share")

@@ -32,7 +32,8 @@ const TERMS = { settings: HILLS["94nop"], seed: 1, rounds: ROUNDS, position: 0, 
 export class Lessons {
   /**
    * @param {Host & {session: Session, edit: () => void, examples: Source[],
-   *   written: (name: string) => string | undefined}} host `written` returns the learner's text of a source
+   *   written: (name: string) => string | undefined, left: () => void}} host `written` returns the learner's text of
+   *   a source; `left` is called when a lesson is closed
    * @param {Lesson[]} lessons
    * @param {string[]} done the lessons that were done before
    * @param {(done: string[]) => void} keep
@@ -42,6 +43,8 @@ export class Lessons {
     this.done = new Set(done);
     this.keep = keep;
     this.lessons = lessons;
+    /** The number of the lesson that is open, from 1, or 0. */
+    this.current = 0;
     this.#list();
   }
 
@@ -51,12 +54,18 @@ export class Lessons {
 
   /**
    * Shows a lesson beside its battle, or none.
-   * @param {Lesson | null} lesson
+   * @param {number} number from 1, or 0
    */
-  #open(lesson) {
-    element("lesson-box").hidden = lesson === null;
+  show(number) {
+    const lesson = this.lessons[number - 1];
+    this.current = lesson ? number : 0;
+    element("lesson-box").hidden = !lesson;
     if (!lesson) return;
-    const close = make("button", { className: "link", onclick: () => this.#open(null) }, "Close lesson");
+    const leave = () => {
+      this.show(0);
+      this.host.left();
+    };
+    const close = make("button", { className: "link", onclick: leave }, "Close lesson");
     refill(element("lesson-box"), this.#card(lesson, "h2"), close);
   }
 
@@ -124,7 +133,7 @@ export class Lessons {
     const entry = shelf.find(name);
     if (entry) shelf.show(entry);
     if (entry) this.host.edit();
-    this.#open(lesson);
+    this.show(this.lessons.indexOf(lesson) + 1);
     const fought = this.host.fight(sources, TERMS);
     element("lesson-box").focus({ preventScroll: true });
     element("side").scrollTo(0, 0);

@@ -18,6 +18,7 @@ import { Lessons } from "./lessons.js";
 import { readAddress, unpack } from "./link.js";
 import { data, ownFight, pageWith, parts } from "./parts.js";
 import { Server } from "./server.js";
+import { Places, placeOf } from "./places.js";
 import { listenToShare, shared } from "./share.js";
 import { FIRST, Sources } from "./sources.js";
 import { keep, startAfresh, stored } from "./store.js";
@@ -70,8 +71,10 @@ class Page {
     this.rounds = new Rounds(this.session, this.pool, showLine, (hits) => this.shelf.takeHits(hits));
     this.console = new Console(this.session);
     const written = (/** @type {string} */ name) => this.sources.written(name);
-    const learner = { ...host, session: this.session, examples, written, edit: () => this.showDesk(true) };
+    const left = () => this.places.rename();
+    const learner = { ...host, session: this.session, examples, written, left, edit: () => this.showDesk(true) };
     this.lessons = new Lessons(learner, lessons, stored.done ?? [], (done) => keep({ done }));
+    this.places = new Places(this.session, () => this.lessons.current);
     this.session.listen((change) => this.#follow(change, side));
     this.sources.fill();
     if (server) element("download").textContent = "Save";
@@ -171,7 +174,6 @@ class Page {
       if (terms.settings) this.#showTerms({ ...this.terms.value, ...terms });
       await this.session.open({ ...this.terms.value, round: 0, ...terms, warriors, edits: [] }, { plays });
       document.body.classList.add("running");
-      if (location.hash) history.replaceState(null, "", location.pathname + location.search);
     } catch (error) {
       this.complain(errorWords(error, warriors, this.meanings));
       element("complaint").scrollIntoView({ block: "nearest" });
@@ -194,6 +196,7 @@ class Page {
     const one = pick(examples.length);
     const other = (one + 1 + pick(examples.length - 1)) % examples.length;
     this.show("battle");
+    this.lessons.show(0);
     const marked = this.shelf.mark([examples[one], examples[other]]);
     this.sources.keep();
     return this.fight(marked, true, { ...this.terms.value, seed: 1 + pick(MAX_DRAWN_SEED) });
@@ -251,21 +254,72 @@ class Page {
     if (isNarrow()) element("desk").scrollIntoView({ block: "start" });
   }
 
-  /** Begins with the fight of the address or of the page, or with the sources that are marked. */
+  /** Begins with what the address names, or with the sources that are marked. */
   async begin() {
-    const { text, selection } = readAddress(location.hash);
-    const carried = text || ownFight();
-    if (carried) await this.openLink(carried, selection);
-    if (this.session.latest) return;
-    const complaint = element("complaint").textContent ?? "";
-    const { fighters } = this.shelf;
-    await this.fight(fighters.length ? fighters.slice(0, MAX_WARRIORS) : [this.shelf.all[0]], !isStill());
-    const faults = [complaint, ...(this.server?.faults ?? []), element("complaint").textContent ?? ""];
-    // A page shows a battle, also if the sources that are marked or the terms have errors.
-    const first = this.examples.filter(({ name }) => FIRST.includes(name));
-    if (!this.session.latest) await this.fight(first, !isStill(), DEFAULT_TERMS);
-    this.complain(faults.join(" ").trim());
+    this.places.isArriving = true;
+    await this.#arrive(ownFight());
+    if (!this.session.latest) await this.#beginAnyway();
+    this.places.isArriving = false;
     if (this.sources.isDamaged) this.#offerFreshStart();
+  }
+
+  /**
+   * Shows what the address names: a view, a battle of the browser's history, a battle that the address or the page
+   * carries, a lesson, or a round.
+   * @param {string} carried the battle of the page, or ""
+   */
+  async #arrive(carried) {
+    const { text, selection } = readAddress(location.hash);
+    const place = placeOf(location.hash);
+    const isBattle = !place || place.view === "battle" || place.number !== null;
+    this.show(isBattle || !place ? "battle" : place.view);
+    this.lessons.show(place?.view === "learn" ? (place.number ?? 0) : 0);
+    const { fight, ...shown } = history.state ?? {};
+    if (fight && this.places.isShown(fight)) return;
+    if (fight) await this.#return(fight, shown, isBattle && (!place || this.lessons.current > 0));
+    else if (text || carried) await this.openLink(text || carried, selection);
+    else if (this.lessons.current) await this.lessons.begin(this.lessons.lessons[this.lessons.current - 1]);
+    else if (isBattle && place) await this.fight(this.#marked, !isStill(), { round: this.#roundOf(place) });
+  }
+
+  /**
+   * Shows a battle of the browser's history again.
+   * @param {import("../model/fight.js").Fight} fight
+   * @param {{turn?: number, pinned?: number | null, plays?: boolean}} shown
+   * @param {boolean} isGuest whether its sources may not be in the list
+   */
+  async #return(fight, shown, isGuest) {
+    try {
+      await this.session.open(fight, { ...shown, plays: shown.plays && !element("battle").hidden });
+      this.#hasNewTerms = false;
+      this.#showTerms(fight);
+      if (isGuest) this.session.rename(this.shelf.mark(fight.warriors));
+      document.body.classList.add("running");
+    } catch (error) {
+      this.complain(errorWords(error, fight.warriors, this.meanings));
+    }
+  }
+
+  /** The sources that are marked, as many as can fight. */
+  get #marked() {
+    const { fighters, all } = this.shelf;
+    return fighters.length ? fighters.slice(0, MAX_WARRIORS) : [all[0]];
+  }
+
+  /** @param {import("./places.js").Place} place */
+  #roundOf({ view, number }) {
+    return view === "battle" ? clamp(number ?? 0, 0, this.terms.value.rounds - 1) : 0;
+  }
+
+  /** A page shows a battle, also if its address, the sources that are marked or the terms have errors. */
+  async #beginAnyway() {
+    const isShown = !element("battle").hidden && !isStill();
+    const complaint = element("complaint").textContent ?? "";
+    await this.fight(this.#marked, isShown);
+    const faults = [complaint, ...(this.server?.faults ?? []), element("complaint").textContent ?? ""];
+    const first = this.examples.filter(({ name }) => FIRST.includes(name));
+    if (!this.session.latest) await this.fight(first, isShown, DEFAULT_TERMS);
+    this.complain([...new Set(faults)].join(" ").trim());
   }
 
   /** Says that something that was stored is damaged. */
@@ -298,7 +352,11 @@ class Page {
 
   listen() {
     for (const button of buttons("#views button")) {
-      button.onclick = () => this.show(button.dataset.view ?? "battle").#renew();
+      button.onclick = () => {
+        const { view = "battle" } = button.dataset;
+        this.places.visit(view);
+        this.show(view).#renew();
+      };
     }
     onClick("sources", () => this.showDesk(element("desk").hidden));
     onClick("fight", () => this.fightMarked());
@@ -325,10 +383,13 @@ class Page {
         if (!element("desk").hidden) this.shelf.editor.mirror.focus();
       },
     });
-    addEventListener("hashchange", () => {
+    addEventListener("popstate", async () => {
       const { text, selection } = readAddress(location.hash);
-      const carried = text || (Object.values(selection).some((one) => one !== undefined) ? ownFight() : "");
-      if (carried) this.show("battle").openLink(carried, selection);
+      const selects = Object.values(selection).some((one) => one !== undefined);
+      if (!placeOf(location.hash) && !text && !selects) return;
+      this.places.isArriving = true;
+      await this.#arrive(selects ? ownFight() : "");
+      this.places.isArriving = false;
     });
     // Errors that no part reports.
     addEventListener("unhandledrejection", ({ reason }) => this.complain(errorWords(reason, [], this.meanings)));

@@ -29,7 +29,7 @@ const isTruth = (/** @type {unknown} */ value) => typeof value === "boolean";
 
 /** @type {Check} */
 const areSettings = (value) =>
-  SETTINGS.every((name) => isNumber(value[name]) && value[name] <= RANGES[name].maximum) && value.core > 0;
+  SETTINGS.every((name) => !(name in value) || (isNumber(value[name]) && value[name] <= RANGES[name].maximum));
 
 /** @type {Record<string, Check>} */
 const TERMS = {

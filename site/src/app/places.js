@@ -1,0 +1,107 @@
+/**
+ * Where the page is: its address names the view, the lesson or the round, and the history of the browser has the
+ * battle, so that going back and loading the page again lead to what was shown.
+ */
+import { throttle } from "../view/dom.js";
+
+/** @typedef {import("../model/fight.js").Fight} Fight */
+/** @typedef {import("../view/session.js").Session} Session */
+/** @typedef {{view: string, number: number | null}} Place `number` is that of a lesson or a round */
+/** @typedef {{fight: Fight, turn: number, pinned: number | null, plays: boolean}} Battle as the history has it */
+
+/**
+ * Returns the place that an address names after its `#`, or null if it names another thing.
+ * @param {string} hash
+ * @returns {Place | null}
+ */
+export function placeOf(hash) {
+  const found = /^(?:#(battle|bench|league|learn)?(?:\/(\d{1,6}))?)?$/.exec(hash);
+  return found && { view: found[1] ?? "battle", number: found[2] === undefined ? null : Number(found[2]) };
+}
+
+export class Places {
+  /** Whether the page follows an address: then what it shows makes no entry of the history. */
+  isArriving = false;
+  /** The address of the battle that is shown, and what tells it from others. */
+  #battle = "";
+  #key = "";
+
+  /**
+   * @param {Session} session
+   * @param {() => number} lesson the number of the lesson that is open, from 1, or 0
+   */
+  constructor(session, lesson) {
+    this.session = session;
+    this.lesson = lesson;
+    // A page that is left can write no more.
+    const note = throttle(() => this.#write(location.hash, false), 400);
+    session.listen((change) => {
+      if (change === "battle") this.#follow();
+      note();
+    });
+  }
+
+  /** @param {Fight} fight */
+  keyOf({ settings, seed, round, rounds, position, warriors }) {
+    return JSON.stringify([this.lesson(), settings, seed, round, rounds, position, warriors.map(({ text }) => text)]);
+  }
+
+  /** @param {Fight} fight */
+  isShown(fight) {
+    return this.keyOf(fight) === this.#key;
+  }
+
+  #follow() {
+    const { fight } = this.session;
+    if (!fight || this.isShown(fight)) return;
+    this.#key = this.keyOf(fight);
+    this.#battle = this.isArriving && isBattle(location.hash) ? location.hash : this.#named;
+    if (!this.isArriving) this.#write(this.#battle, true);
+  }
+
+  get #named() {
+    const [lesson, round] = [this.lesson(), this.session.fight?.round];
+    return lesson ? `#learn/${lesson}` : round ? `#battle/${round}` : "";
+  }
+
+  /**
+   * Names a view that the user has chosen.
+   * @param {string} view
+   */
+  visit(view) {
+    const hash = view === "battle" ? this.#battle : `#${view}`;
+    if (hash !== location.hash) this.#write(hash, true);
+  }
+
+  /** Names the battle again, as its lesson has been closed. */
+  rename() {
+    const { fight } = this.session;
+    if (fight) this.#key = this.keyOf(fight);
+    this.#battle = this.#named;
+    this.#write(this.#battle, false);
+  }
+
+  /**
+   * Writes an address with the battle that is shown.
+   * @param {string} hash
+   * @param {boolean} isNew whether it is another entry of the history
+   */
+  #write(hash, isNew) {
+    const { fight, opened, turn, pinned, way } = this.session;
+    if (!fight || !opened) return;
+    const state = { fight: { ...fight, edits: opened.edits }, turn, pinned, plays: way > 0 };
+    const address = hash || location.pathname + location.search;
+    try {
+      if (isNew) history.pushState(state, "", address);
+      else history.replaceState(state, "", address);
+    } catch {
+      // Browsers limit how often that is done, and the size of a battle: then the address stays.
+    }
+  }
+}
+
+/** @param {string} hash */
+function isBattle(hash) {
+  const place = placeOf(hash);
+  return !place || place.view === "battle" || place.number !== null;
+}
