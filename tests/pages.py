@@ -148,12 +148,74 @@ def text_of(words: list[int]) -> str:
 
 
 def test_the_end_leads_to_the_death(page: Browser) -> None:
+    """Why? goes to the write that killed, draws it, lists the turns, and marks both lines of source."""
     page.run("corewar.session.jump(7700); corewar.session.setRate(400); corewar.session.play(1)")
     page.until("!document.getElementById('ending').hidden")
-    assert page.text("winner") == "Dwarf wins"
+    go_to_turn(page, 7700)
+    assert page.value("document.getElementById('ending').hidden")
+    # Also if the end was not played to.
+    page.press("End")
+    page.until("!document.getElementById('ending').hidden")
+    assert page.text("caption") == "Dwarf wins after 7,798 turns."
     page.click("#why-now")
-    page.until("corewar.session.pinned === 5203 && corewar.session.turn === 7798 && corewar.session.isSettled")
-    assert page.text("turn-words").startswith("Imp executed DAT.F #0, #-2800 at 5,203.")
+    page.until("corewar.session.pinned === 5203 && corewar.session.turn === 7797 && corewar.session.isSettled")
+    lines = page.value("[...document.querySelectorAll('#chain li')].map(one => one.textContent)")
+    assert [line[:5] for line in lines] == ["7,795", "7,796", "7,797", "7,798"]
+    assert lines[2].startswith("7,797Dwarf wrote DAT.F #0, #-2800 to 5,203.")
+    assert "MOV bomb, @bomb dwarf.red, line 10" in lines[2]
+    page.run("corewar.showDesk(true)")
+    for name, marked in (("dwarf", ["kills", "kills", "dies"]), ("imp", ["dies"])):
+        page.run("corewar.shelf.show(corewar.shelf.find(`${given[0]}.red`))", name)
+        found = page.value("[...document.querySelectorAll('#editor :is(.kills, .dies)')].map(one => one.className)")
+        assert [line.split()[0] for line in found] == marked
+    page.run("document.querySelectorAll('#chain button')[4].click()")
+    page.press("Escape")
+    page.run("corewar.session.play(1)")
+    assert page.value("corewar.session.chain") is None
+
+
+def test_breakpoints_stop_play(page: Browser) -> None:
+    """They are set beside a line or a cell and by a command, stop both ways of playing, and are marked."""
+    page.run("corewar.session.jump(0); corewar.showDesk(true)")
+    page.until("corewar.session.isSettled")
+    gutter = "[...document.querySelectorAll('.CodeMirror-linenumber')].find(one => one.textContent === '11')"
+    box = page.value(f"{gutter}.getBoundingClientRect()")
+    page.mouse(box["x"] + 4, box["y"] + 6, "pointerDown", "pointerUp")
+    page.until("document.querySelector('#editor .break')")
+    assert page.value("corewar.session.breaks") == [{"word": "at", "first": 2}]
+    play = "corewar.session.setRate(given[1]); corewar.session.play(given[0])"
+    page.run(play, 1, 3000)
+    page.until("corewar.session.way === 0 && corewar.session.turn === 4 && corewar.session.isSettled")
+    assert page.text("caption") == "Breakpoint: at 2."
+    page.run("corewar.session.toggleBreak({word: 'at', first: 2}); corewar.session.pin(5203)")
+    assert page.value("document.querySelector('#editor .break')") is None
+    page.until("document.querySelector('#listing .focus .break')")
+    page.click("#listing .focus .break")
+    page.until("document.querySelector('#listing .focus .break').getAttribute('aria-pressed') === 'true'")
+    page.run(play, 1, 20000)
+    page.until("corewar.session.way === 0 && corewar.session.turn === 7797 && corewar.session.isSettled")
+    page.run("corewar.session.jump(7798)")
+    page.run(play, -1, 20000)
+    page.until("corewar.session.way === 0 && corewar.session.turn === 7797")
+    answer(page, "break changes 103")
+    page.run(play, -1, 100000)
+    page.until("corewar.session.way === 0 && corewar.session.turn === 147")
+    answer(page, "delete all")
+    page.run(play, -1, 100000)
+    page.until("corewar.session.way === 0 && corewar.session.turn === 0")
+
+
+def test_the_battle_uses_its_room(page: Browser) -> None:
+    """The core fills the stage, what a turn did is visible, and nothing moves while it plays."""
+    boxes = "['stage', 'core', 'turn-box', 'controls'].map(id => document.getElementById(id).getBoundingClientRect())"
+    go_to_turn(page, 3000)
+    stage, core, words, controls = page.value(boxes)
+    assert core["width"] * core["height"] > 0.9 * stage["width"] * stage["height"]
+    assert words["bottom"] <= 800
+    page.run("corewar.session.jump(7798)")
+    page.until("!document.getElementById('ending').hidden")
+    after = page.value(boxes)
+    assert [after[0]["height"], after[3]["height"]] == [stage["height"], controls["height"]]
 
 
 def test_edits_make_futures(page: Browser) -> None:
@@ -964,8 +1026,26 @@ def narrow(page: Browser) -> Iterator[Browser]:
     page.resize(1280, 800)
 
 
+def test_a_narrow_page_has_tabs(narrow: Browser) -> None:
+    """The battle, the editor and the lesson are a tap apart, and a tap on a cell describes it below the core."""
+    go_to_turn(narrow, 900)
+    point = narrow.value("corewar.theatre.core.pointOf(3)")
+    narrow.mouse(point["x"], point["y"], "pointerDown", "pointerUp")
+    box = "document.getElementById('cell-box').getBoundingClientRect()"
+    narrow.until(f"corewar.session.pinned !== null && {box}.height > 100 && {box}.bottom <= innerHeight")
+    shown = "['battle', 'desk', 'lesson-box'].filter(id => document.getElementById(id).checkVisibility())"
+    assert narrow.value(shown) == ["battle"]
+    narrow.click("#tabs [data-tab=code]")
+    assert narrow.value(shown) == ["desk"]
+    assert narrow.value("!document.querySelector('#tabs [data-tab=lesson]').checkVisibility()")
+    narrow.run("await corewar.lessons.begin(corewar.lessons.lessons[4])")
+    assert narrow.value(shown) == ["lesson-box"]
+    narrow.click("#tabs [data-tab=battle]")
+    assert narrow.value(shown) == ["battle"]
+
+
 def test_a_narrow_page_shows_lessons(narrow: Browser) -> None:
-    """The text of the next lesson is below the battle and above the editor, and help begins with its first line."""
+    """The text of the next lesson is visible, and help begins with its first line."""
     narrow.press("?")
     assert narrow.value("helping.open && !helping.scrollTop")
     narrow.press("Escape")
@@ -979,23 +1059,21 @@ def test_a_narrow_page_shows_lessons(narrow: Browser) -> None:
     place = "document.getElementById('lesson-box').getBoundingClientRect()"
     narrow.until(f"document.querySelector('#lesson-box h2').textContent.startsWith('2') && {place}.top >= 0")
     narrow.until(f"{place}.bottom <= innerHeight + 1")
-    narrow.run("document.querySelectorAll('#lessons .lesson')[3].querySelector('button').click()")
-    narrow.until(f"{place}.top > -1 && {place}.bottom <= desk.getBoundingClientRect().top")
 
 
 def test_a_narrow_page_begins_with_its_battle(narrow: Browser, site: str) -> None:
-    """Also if the editor was open before, which is below it."""
+    """Also if the editor was open before."""
     narrow.run("corewar.showDesk(true)")
     narrow.open(f"{site}?narrow")
     narrow.until("window.corewar?.session.view")
-    assert narrow.value("[scrollY, document.getElementById('desk').hidden]") == [0, False]
+    assert narrow.value("[scrollY, document.getElementById('battle').checkVisibility()]") == [0, True]
 
 
 def test_a_narrow_page_shows_answers(narrow: Browser) -> None:
     """These are visible: why a warrior died, the clicked round, errors, both futures, and the change of a version."""
     narrow.run("document.getElementById('why-now').click()")
-    words = "document.getElementById('turn-words').getBoundingClientRect()"
-    narrow.until(f"corewar.session.turn === 7798 && {words}.top >= 0 && {words}.bottom <= innerHeight + 1")
+    words = "document.getElementById('chain-box').getBoundingClientRect()"
+    narrow.until(f"corewar.session.turn === 7797 && {words}.top >= 0 && {words}.bottom <= innerHeight + 1")
     narrow.run("await corewar.rounds.fight(); document.querySelector('#strip button:nth-child(2)').click()")
     narrow.until("scrollY === 0 && corewar.session.fight.round === 1")
     narrow.run("corewar.complain('x')")

@@ -44,6 +44,46 @@ test("a score formula is checked", () => {
   for (const formula of ["", "W/", "X"]) assert.throws(() => jobs.checkFormula(formula), /1 |Syntax|formula|FORMULA/);
 });
 
+/** The text of an example. */
+const example = (name) => fs.readFileSync(new URL(`../../examples/${name}.red`, import.meta.url), "utf8");
+
+test("a death has a chain of turns", () => {
+  const desk = new Desk(mars);
+  desk.open(fightOf([example("dwarf"), example("imp")]));
+  const turnOf = ({ kind, turn, warrior, address, target }) => [kind, turn, warrior, address, target];
+  assert.deepEqual(desk.why(0, 1).map(turnOf), [
+    ["aim", 7795, 0, 0, 3],
+    ["arrival", 7796, 1, 5202, 5203],
+    ["write", 7797, 0, 1, 5203],
+    ["death", 7798, 1, 5203, 5203],
+  ]);
+  assert.deepEqual(desk.why(0, 0), []);
+  // The instruction that led Lookout to its death is Dusk's.
+  desk.open({ ...fightOf([example("scanner"), example("vampire")]), rounds: 100 });
+  assert.deepEqual(desk.why(0, 0).map(({ kind, warrior }) => [kind, warrior]), [
+    ["aim", 1],
+    ["write", 1],
+    ["arrival", 0],
+    ["death", 0],
+  ]);
+});
+
+test("hits are the places that searches find", () => {
+  const desk = new Desk(mars);
+  desk.open(fightOf([example("dwarf"), example("imp")]));
+  const conditions = [{ word: "at", first: 5203 }, { word: "changes", first: 103 }, { word: "dies", first: -1 }];
+  const hits = desk.hits(0, conditions, 100);
+  const found = [];
+  for (let turn = -1; turn !== null; ) {
+    const next = desk.search(0, conditions, turn, true);
+    if (next) found.push(next.turn);
+    turn = next?.turn ?? null;
+  }
+  assert.deepEqual(hits, found);
+  assert.ok(hits.length >= 3);
+  assert.deepEqual(desk.hits(0, conditions, 2), found.slice(0, 2));
+});
+
 test("a line of source has the numbers of the match", () => {
   const desk = new Desk(mars);
   desk.open({ ...fightOf(["JMP 0\n", "JMP 0\n", "JMP 0\n"]), rounds: 7 });

@@ -40,6 +40,10 @@ function keysOf({ session, theatre, another, round, edit }) {
     y: () => session.redo(),
     "[": () => round(-1),
     "]": () => round(1),
+    b: () => {
+      const first = session.pinned ?? session.view?.head ?? null;
+      if (first !== null) session.toggleBreak({ word: "at", first });
+    },
     e: edit,
     n: another,
     ":": () => element("line").focus(),
@@ -47,6 +51,7 @@ function keysOf({ session, theatre, another, round, edit }) {
     "?": () => typed("helping", HTMLDialogElement).showModal(),
     Escape: () => {
       document.body.classList.remove("alone");
+      session.explain(null);
       session.pin(null);
     },
   };

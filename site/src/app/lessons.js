@@ -31,7 +31,7 @@ const TERMS = { settings: HILLS["94nop"], seed: 1, rounds: ROUNDS, position: 0, 
 
 export class Lessons {
   /**
-   * @param {Host & {session: Session, edit: () => void, examples: Source[],
+   * @param {Host & {session: Session, edit: () => void, read: () => void, examples: Source[],
    *   written: (name: string) => string | undefined, left: () => void}} host `written` returns the learner's text of
    *   a source; `left` is called when a lesson is closed
    * @param {Lesson[]} lessons
@@ -135,10 +135,10 @@ export class Lessons {
     if (entry) this.host.edit();
     this.show(this.lessons.indexOf(lesson) + 1);
     const fought = this.host.fight(sources, TERMS);
+    // On a narrow page it is one of the tabs.
+    this.host.read();
     element("lesson-box").focus({ preventScroll: true });
     element("side").scrollTo(0, 0);
-    // On a narrow page it is below the battle.
-    element("lesson-box").scrollIntoView({ block: "nearest" });
     return fought;
   }
 

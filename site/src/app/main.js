@@ -4,14 +4,16 @@ import { DEFAULTS, FORMULA } from "../model/settings.js";
 import { Bench } from "../view/bench.js";
 import { Cells } from "../view/cells.js";
 import { Console } from "../view/console.js";
-import { buttons, clamp, element, isNarrow, make, onClick, refill, typed, withCode } from "../view/dom.js";
+import { buttons, clamp, element, make, onClick, refill, typed, withCode } from "../view/dom.js";
 import { errorWords } from "../view/host.js";
 import { League } from "../view/league.js";
+import { Lines } from "../view/lines.js";
 import { Rounds } from "../view/rounds.js";
 import { Session } from "../view/session.js";
 import { Shelf } from "../view/shelf.js";
 import { Side } from "../view/side.js";
 import { Theatre } from "../view/theatre.js";
+import { Why } from "../view/why.js";
 import { Pool, remoteDesk } from "../worker/pool.js";
 import { listenToKeys } from "./keys.js";
 import { Lessons } from "./lessons.js";
@@ -68,19 +70,22 @@ class Page {
     const showLine = (/** @type {string} */ name, /** @type {number} */ line) => this.showLine(name, line);
     const side = new Side(this.session, showLine);
     this.cells = new Cells(this.session, side);
+    const lines = new Lines(this.session, this.shelf);
+    this.why = new Why(this.session, side, (marked) => lines.mark(marked));
     this.rounds = new Rounds(this.session, this.pool, showLine, (hits) => this.shelf.takeHits(hits));
     this.console = new Console(this.session);
     const written = (/** @type {string} */ name) => this.sources.written(name);
     const left = () => this.places.rename();
-    const learner = { ...host, session: this.session, examples, written, left, edit: () => this.showDesk(true) };
+    const edit = () => this.showDesk(true);
+    const read = () => this.showTab("lesson");
+    const learner = { ...host, session: this.session, examples, written, left, edit, read };
     this.lessons = new Lessons(learner, lessons, stored.done ?? [], (done) => keep({ done }));
     this.places = new Places(this.session, () => this.lessons.current);
     this.session.listen((change) => this.#follow(change, side));
     this.sources.fill();
     if (server) element("download").textContent = "Save";
     if (stored.desk) this.showDesk(true);
-    // On a narrow page the editor is below the battle.
-    scrollTo(0, 0);
+    this.showTab("battle");
   }
 
   /** @returns {Shelf} */
@@ -227,11 +232,24 @@ class Page {
       this.bench.open();
     } else this.bench.close();
     if (view === "league") this.league.draw();
-    if (view === "battle") this.theatre.fit();
-    else this.session.stop();
-    // On a narrow page it is above the editor, and may be far above.
-    scrollTo(0, 0);
+    document.body.dataset.view = view;
+    this.showTab("battle");
+    if (view !== "battle") this.session.stop();
     return this;
+  }
+
+  /**
+   * Shows a part of the battle on a narrow page.
+   * @param {string} tab battle, code or lesson
+   */
+  showTab(tab) {
+    document.body.dataset.tab = tab;
+    for (const button of buttons("#tabs button")) {
+      button.setAttribute("aria-current", button.dataset.tab === tab ? "page" : "false");
+    }
+    if (tab === "code") this.shelf.editor.mirror.refresh();
+    else this.theatre.fit();
+    scrollTo(0, 0);
   }
 
   /**
@@ -246,12 +264,13 @@ class Page {
   /** @param {boolean} isShown */
   showDesk(isShown) {
     element("desk").hidden = !isShown;
+    if (!isShown) this.showTab("battle");
     element("sources").setAttribute("aria-expanded", String(isShown));
     keep({ desk: isShown });
     if (!isShown) return;
     this.shelf.editor.mirror.refresh();
     this.shelf.list();
-    if (isNarrow()) element("desk").scrollIntoView({ block: "start" });
+    this.showTab("code");
   }
 
   /** Begins with what the address names, or with the sources that are marked. */
@@ -358,19 +377,7 @@ class Page {
         this.show(view).#renew();
       };
     }
-    onClick("sources", () => this.showDesk(element("desk").hidden));
-    onClick("fight", () => this.fightMarked());
-    onClick("fight-here", () => this.fightMarked());
-    onClick("another", () => this.another());
-    onClick("next-fight", () => this.another());
-    onClick("theme", changeTheme);
-    onClick("help", () => typed("helping", HTMLDialogElement).showModal());
-    onClick("what", () => {
-      this.session.stop();
-      typed("helping", HTMLDialogElement).showModal();
-      element("what").hidden = true;
-    });
-    element("what").hidden = !this.sources.isNew;
+    this.#listenToButtons();
     listenToShare(this.session);
     listenToKeys({
       session: this.session,
@@ -393,6 +400,29 @@ class Page {
     });
     // Errors that no part reports.
     addEventListener("unhandledrejection", ({ reason }) => this.complain(errorWords(reason, [], this.meanings)));
+  }
+
+  #listenToButtons() {
+    for (const button of buttons("#tabs button")) {
+      button.onclick = () => {
+        const { tab = "battle" } = button.dataset;
+        if (tab === "code") this.showDesk(true);
+        else this.showTab(tab);
+      };
+    }
+    onClick("sources", () => this.showDesk(element("desk").hidden));
+    onClick("fight", () => this.fightMarked());
+    onClick("fight-here", () => this.fightMarked());
+    onClick("another", () => this.another());
+    onClick("next-fight", () => this.another());
+    onClick("theme", changeTheme);
+    onClick("help", () => typed("helping", HTMLDialogElement).showModal());
+    onClick("what", () => {
+      this.session.stop();
+      typed("helping", HTMLDialogElement).showModal();
+      element("what").hidden = true;
+    });
+    element("what").hidden = !this.sources.isNew;
   }
 }
 

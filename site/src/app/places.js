@@ -22,7 +22,7 @@ export function placeOf(hash) {
 export class Places {
   /** Whether the page follows an address: then what it shows makes no entry of the history. */
   isArriving = false;
-  /** The address of the battle that is shown, and what tells it from others. */
+  /** The address of the battle that is shown, and its terms and sources. */
   #battle = "";
   #key = "";
 

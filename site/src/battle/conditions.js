@@ -1,5 +1,5 @@
 /** Conditions on turns, and searches for them in a battle, forwards and backwards. */
-import { ADDRESS, QUEUED, RECORD_WORDS, TOUCHED_WORDS, WARRIOR, changesOf } from "./place.js";
+import { ADDRESS, DIED, QUEUED, RECORD_WORDS, TOUCHED_WORDS, WARRIOR, changesOf } from "./place.js";
 
 /** @typedef {import("./history.js").History} History */
 /** @typedef {import("./history.js").Turns} Turns */
@@ -30,7 +30,7 @@ export function search(history, condition, turn, forward) {
   // The marks know the last change of each cell, but an edit is no turn.
   const isPlain = first === last && by === undefined && history.edits.length === 0;
   if (word === "changes" && isPlain) return change(history, first, turn, forward);
-  const holds = test(history.core, condition);
+  const isHit = holds(history.core, condition);
   // `at` holds at the place before its turn.
   const shift = word === "at" ? 1 : 0;
   const needsTouched = word === "reads";
@@ -38,7 +38,7 @@ export function search(history, condition, turn, forward) {
     ? history.turns(turn + shift, history.end, needsTouched)
     : history.turnsBack(turn - 1 + shift, needsTouched);
   for (const turns of parts) {
-    const row = firstRow(turns, holds, forward);
+    const row = firstRow(turns, isHit, forward);
     if (row !== null) return turns.first + 1 + row - shift;
   }
   return null;
@@ -47,12 +47,12 @@ export function search(history, condition, turn, forward) {
 /**
  * Returns the first row of some turns for which something holds, or the last one.
  * @param {Turns} turns
- * @param {(turns: Turns, row: number) => boolean} holds
+ * @param {(turns: Turns, row: number) => boolean} isHit
  * @param {boolean} forward
  */
-function firstRow(turns, holds, forward) {
+function firstRow(turns, isHit, forward) {
   const [first, step] = forward ? [0, 1] : [turns.count - 1, -1];
-  for (let row = first; row >= 0 && row < turns.count; row += step) if (holds(turns, row)) return row;
+  for (let row = first; row >= 0 && row < turns.count; row += step) if (isHit(turns, row)) return row;
   return null;
 }
 
@@ -86,7 +86,7 @@ function change(history, address, turn, forward) {
  * @param {Condition} condition
  * @returns {(turns: Turns, row: number) => boolean}
  */
-function test(core, { word, first, last = first, by }) {
+export function holds(core, { word, first, last = first, by }) {
   const isAmong = (/** @type {number} */ address) => (address - first + core) % core <= (last - first + core) % core;
   const isBy = (/** @type {Turns} */ { records }, /** @type {number} */ row) =>
     by === undefined || records[RECORD_WORDS * row + WARRIOR] === by;
@@ -106,6 +106,8 @@ function test(core, { word, first, last = first, by }) {
       return (turns, row) => field(turns, row, QUEUED) === 2 && isOf(turns, row);
     case "ends":
       return (turns, row) => field(turns, row, QUEUED) === 0 && isOf(turns, row);
+    case "dies":
+      return (turns, row) => field(turns, row, DIED) === 1 && isOf(turns, row);
     default:
       return (turns, row) => isOf(turns, row);
   }

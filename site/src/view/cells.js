@@ -37,7 +37,9 @@ export class Cells {
     }
     session.listen((change) => {
       element("cell-box").hidden = session.way !== 0 && session.pinned === null;
+      element("cell-box").classList.toggle("pinned", session.pinned !== null);
       if (change !== "play") this.#notice = "";
+      if (change === "look") this.#showStops();
       if (change !== "play" || session.way === 0) this.look();
     });
   }
@@ -57,6 +59,17 @@ export class Cells {
     const when = `${forward ? "after" : "before"} turn ${number(session.turn)}`;
     this.#notice = `Cell ${number(pinned)} is not ${DONE[word]} ${when}.`;
     this.look();
+  }
+
+  /** Shows which breakpoints the pinned cell has. */
+  #showStops() {
+    const { session } = this;
+    for (const button of buttons("#seek [data-stop]")) {
+      const word = /** @type {Word} */ (button.dataset.stop);
+      const first = session.pinned ?? 0;
+      button.onclick = () => session.toggleBreak({ word, first });
+      button.setAttribute("aria-pressed", String(session.hasBreak({ word, first })));
+    }
   }
 
   /** The address that is looked at. */
@@ -112,9 +125,19 @@ export class Cells {
       make("i", { className: "chip", style: colour(who) }),
       timesWords(many),
     ]);
+    /** @type {import("../battle/conditions.js").Condition} */
+    const here = { word: "at", first: address };
+    const stop = make("button", {
+      className: "bare break",
+      title: "Stop playing when this cell is to be executed",
+      "aria-label": `Breakpoint at ${number(address)}`,
+      "aria-pressed": String(session.hasBreak(here)),
+      onclick: () => session.toggleBreak(here),
+    });
     return make(
       "li",
       { className: address === this.focus ? "focus" : "", style: colour(view.owner[address]) },
+      stop,
       make("button", look, number(address)),
       make("span", { className: "label", title: origin }, label),
       button,

@@ -30,7 +30,7 @@ const WORDS = ["at", "changes", "reads", "splits", "ends", "dies"];
  * @param {Session} session
  * @param {Condition} condition
  */
-function conditionWords({ known }, { word, first, last = first, by }) {
+export function conditionWords({ known }, { word, first, last = first, by }) {
   if (word === "splits" || word === "ends" || word === "dies") return `${word} ${known.names[first]}`;
   const range = last === first ? place(first, known) : `${place(first, known)}..${place(last, known)}`;
   return `${word} ${range}${by === undefined ? "" : ` by ${known.names[by]}`}`;
@@ -108,16 +108,16 @@ const listBreaks = (session) =>
 
 /** @type {Act} */
 function setBreak(session, rest) {
-  if (rest) session.breaks.push(readCondition(session, rest));
+  if (rest) session.setBreaks([...session.breaks, readCondition(session, rest)]);
   return listBreaks(session);
 }
 
 /** @type {Act} */
 function deleteBreak(session, rest) {
-  if (rest === "all") session.breaks = [];
+  if (rest === "all") session.setBreaks([]);
   else if (!/^\d+$/.test(rest) || Number(rest) >= session.breaks.length) {
     throw new CommandError(`no breakpoint \`${rest}\`; expected a number or \`all\``);
-  } else session.breaks.splice(Number(rest), 1);
+  } else session.setBreaks(session.breaks.filter((_, index) => index !== Number(rest)));
   return listBreaks(session);
 }
 

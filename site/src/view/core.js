@@ -9,7 +9,8 @@ import { SHADES } from "./palette.js";
 /** @typedef {import("./palette.js").Palette} Palette */
 /**
  * What is drawn over the cells: addresses of cells that are looked at, that the last turn read and that differ from
- * another future, and where warriors died. `warrior` is the one that made the last turn.
+ * another future, where warriors died, ranges with breakpoints, and arrows from cell to cell. `warrior` is the one that
+ * made the last turn.
  * @typedef {object} Marks
  * @property {number | null} pinned
  * @property {number | null} hovered
@@ -18,6 +19,8 @@ import { SHADES } from "./palette.js";
  * @property {number} warrior
  * @property {number[]} differences
  * @property {{address: number, warrior: number}[]} graves
+ * @property {number[][]} breaks
+ * @property {{from: number, to: number, warrior: number, isFaint: boolean}[]} arrows
  */
 
 /** The largest number of processes of a warrior with rings around them, and the cells in pixels that need none. */
@@ -26,27 +29,34 @@ const LARGE = 16;
 /** The least size of cells in pixels that show their instruction. */
 const READABLE = 46;
 const MARGIN = 8;
-/** Cells of fewer pixels may differ by one, so that they fill the canvas. */
-const SMALL = 5;
+/** By how much one side of a cell may be longer than the other, so that they fill the canvas. */
+const OBLONG = 1.16;
+/** The maximum number of cells of a breakpoint that are marked, and the colour of breakpoints. */
+const MAX_BREAKS = 100;
+export const BREAK = "#ff4f81";
 const RING = new Path2D("M1.2 0A1.2 1.2 0 1 0 -1.2 0A1.2 1.2 0 1 0 1.2 0");
 const CROSS = new Path2D("M-1 -1L1 1M1 -1L-1 1");
 const SQUARE = new Path2D("M-1 -1H1V1H-1z");
 const FONT = 'ui-monospace, Consolas, "DejaVu Sans Mono", monospace';
 
 /**
- * Returns the number of columns that makes the cells largest, preferably a divisor of the core size, and their size.
+ * Returns the number of columns that makes the cells largest, preferably a divisor of the core size, and their sides.
+ * Sides may be fractions, so that cells differ by a pixel and fill the canvas, unless they are large enough for text.
  * @param {number} size of the core
  * @param {number} width in pixels of the screen
  * @param {number} height
  */
 function bestColumns(size, width, height) {
-  let best = { columns: Math.max(1, Math.floor(width)), unit: 1, worth: 0 };
+  let best = { columns: Math.max(1, Math.floor(width)), x: 1, y: 1, worth: 0 };
   const [minimum, maximum] = [Math.sqrt(size) / 3, Math.sqrt(size) * 3];
   for (let columns = Math.max(1, Math.floor(minimum)); columns <= Math.min(size, Math.ceil(maximum)); columns++) {
-    const room = Math.min(width / columns, height / Math.ceil(size / columns));
-    const unit = room >= SMALL ? Math.floor(room) : room;
-    const worth = unit * (size % columns === 0 ? 1.04 : 1) + room / 1000;
-    if (unit > 0 && worth > best.worth) best = { columns, unit, worth };
+    const [across, down] = [width / columns, height / Math.ceil(size / columns)];
+    const room = Math.min(across, down);
+    const isText = room >= READABLE * devicePixelRatio;
+    const most = isText ? Math.floor(room) : room < 1 ? room : room * OBLONG;
+    const [x, y] = [Math.min(across, most), Math.min(down, most)];
+    const worth = x * y * Math.sqrt(Math.min(x / y, y / x)) * (size % columns === 0 ? 1.08 : 1);
+    if (worth > best.worth) best = { columns, x, y, worth };
   }
   return best;
 }
@@ -82,10 +92,10 @@ export class Core {
   fit(size, width, height) {
     const ratio = devicePixelRatio;
     const margin = Math.ceil(MARGIN * ratio);
-    const { columns, unit } = bestColumns(size, width * ratio - 2 * margin, height * ratio - 2 * margin);
-    const rows = Math.ceil(size / columns);
-    const ends = (/** @type {number} */ count) =>
-      Uint32Array.from({ length: count + 1 }, (_, index) => Math.round(index * Math.max(unit, 1)));
+    const { columns, x, y } = bestColumns(size, width * ratio - 2 * margin, height * ratio - 2 * margin);
+    const [rows, unit] = [Math.ceil(size / columns), Math.min(x, y)];
+    const ends = (/** @type {number} */ count, /** @type {number} */ side) =>
+      Uint32Array.from({ length: count + 1 }, (_, index) => Math.round(index * Math.max(side, 1)));
     this.size = size;
     this.columns = columns;
     this.rows = rows;
@@ -93,8 +103,8 @@ export class Core {
     this.#gap = unit >= 12 * ratio ? 2 : unit >= 4 ? 1 : 0;
     this.#inner = this.cell - this.#gap;
     this.#margin = margin;
-    this.#xs = ends(columns);
-    this.#ys = ends(rows);
+    this.#xs = ends(columns, x);
+    this.#ys = ends(rows, y);
     const [wide, tall] = [this.#xs[columns], this.#ys[rows]];
     this.canvas.width = wide + 2 * margin;
     this.canvas.height = tall + 2 * margin;
@@ -258,10 +268,12 @@ export class Core {
    * @param {Marks} marks
    * @param {{address: number, warrior: number}[]} few
    */
-  #drawMarks(palette, { pinned, hovered, head, reads, warrior, differences, graves }, few) {
+  #drawMarks(palette, marks, few) {
+    const { pinned, hovered, head, reads, warrior, differences, graves } = marks;
     const ratio = devicePixelRatio;
     const radius = Math.max(this.cell, 7 * ratio);
     const around = this.#inner / 2 + ratio;
+    this.#drawBreaks(marks.breaks);
     for (const address of differences) this.#mark(address, SQUARE, around, 1.5, "#ff5fd2");
     for (const one of few) this.#mark(one.address, RING, radius, 1.75, palette.mark[one.warrior]);
     for (const grave of graves) {
@@ -272,6 +284,51 @@ export class Core {
     if (head !== null) this.#mark(head, SQUARE, around, 1.25, "rgba(255,255,255,.75)");
     if (pinned !== null) this.#mark(pinned, SQUARE, around + ratio, 2, "#fff");
     if (hovered !== null) this.#mark(hovered, SQUARE, around, 1.25, "#fff");
+    for (const arrow of marks.arrows) this.#drawArrow(arrow, palette.mark[arrow.warrior]);
+  }
+
+  /** @param {number[][]} breaks */
+  #drawBreaks(breaks) {
+    for (const [first, last] of breaks) {
+      const count = Math.min(MAX_BREAKS, (last - first + this.size) % this.size);
+      for (let index = 0; index <= count; index++) {
+        this.#mark((first + index) % this.size, SQUARE, this.#inner / 2 + 2 * devicePixelRatio, 2, BREAK);
+      }
+    }
+  }
+
+  /**
+   * Draws a curved arrow from a cell to another one.
+   * @param {Marks["arrows"][0]} arrow
+   * @param {string} colour
+   */
+  #drawArrow({ from, to, isFaint }, colour) {
+    const { context } = this;
+    const [start, end, ratio] = [this.#middle(from), this.#middle(to), devicePixelRatio];
+    const [dx, dy] = [end.x - start.x, end.y - start.y];
+    const length = Math.max(1, Math.hypot(dx, dy));
+    // A short way is bent more, so that its arrow is seen.
+    const bend = Math.max(18 * ratio, Math.min(0.22 * length, 90 * ratio)) / length;
+    const middle = { x: (start.x + end.x) / 2 + dy * bend, y: (start.y + end.y) / 2 - dx * bend };
+    const angle = Math.atan2(end.y - middle.y, end.x - middle.x);
+    const [gap, head] = [this.cell * 0.6 + 2 * ratio, 8 * ratio];
+    const tip = { x: end.x - Math.cos(angle) * gap, y: end.y - Math.sin(angle) * gap };
+    context.setTransform(1, 0, 0, 1, 0, 0);
+    const path = new Path2D();
+    path.moveTo(start.x, start.y);
+    path.quadraticCurveTo(middle.x, middle.y, tip.x, tip.y);
+    for (const side of [-0.5, 0.5]) {
+      path.moveTo(tip.x, tip.y);
+      path.lineTo(tip.x - head * Math.cos(angle + side), tip.y - head * Math.sin(angle + side));
+    }
+    context.lineCap = "round";
+    context.setLineDash(isFaint ? [3 * ratio, 5 * ratio] : []);
+    for (const [width, stroke] of [[5, "rgba(5,7,10,.85)"], [2.25, colour]]) {
+      context.lineWidth = Number(width) * ratio;
+      context.strokeStyle = String(stroke);
+      context.stroke(path);
+    }
+    context.setLineDash([]);
   }
 
   /**
@@ -297,8 +354,9 @@ export class Core {
    */
   #middle(address) {
     const [column, row] = [address % this.columns, Math.floor(address / this.columns)];
-    const half = this.#margin + this.#inner / 2;
-    return { x: this.#xs[column] + half, y: this.#ys[row] + half };
+    const middle = (/** @type {Uint32Array} */ ends, /** @type {number} */ at) =>
+      this.#margin + (ends[at] + ends[at + 1] - this.#gap) / 2;
+    return { x: middle(this.#xs, column), y: middle(this.#ys, row) };
   }
 
   /**

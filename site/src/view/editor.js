@@ -57,7 +57,7 @@ export class Editor {
       lineNumbers: true,
       tabSize: 8,
       indentUnit: 8,
-      gutters: ["faults", "CodeMirror-linenumbers", "hits"],
+      gutters: ["breaks", "CodeMirror-linenumbers", "faults", "hits"],
       // The page takes files that are dropped.
       dragDrop: false,
       extraKeys: { "Ctrl-S": save, "Cmd-S": save, Tab: "insertSoftTab", "Shift-Tab": false, Esc: leave },

@@ -3,6 +3,8 @@ import { addressesOf, distinct, sharedWords } from "../words/battle.js";
 import { clamp } from "./dom.js";
 
 /** @typedef {import("../battle/conditions.js").Condition} Condition */
+/** @typedef {import("../battle/overview.js").Event} Event */
+/** @typedef {import("../words/why.js").Link} Link */
 /** @typedef {import("../model/fight.js").Edit} Edit */
 /** @typedef {import("../model/fight.js").Fight} Fight */
 /** @typedef {import("../model/fight.js").Made} Made */
@@ -59,8 +61,21 @@ export class Session {
    * @type {{future: number, view: View} | null}
    */
   beside = null;
-  /** @type {Condition[]} */
+  /**
+   * Where playing stops.
+   * @type {Condition[]}
+   */
   breaks = [];
+  /**
+   * The breakpoint at which it has stopped, until another turn is wanted.
+   * @type {Condition | null}
+   */
+  halted = null;
+  /**
+   * A death that is explained, with the turns that led to it.
+   * @type {{death: Event, links: Link[]} | null}
+   */
+  chain = null;
   /** The latest turn of this battle that was shown. */
   furthest = 0;
   /** The turn that is wanted, which is shown as soon as the desk answers. */
@@ -77,8 +92,6 @@ export class Session {
   frames = 0;
   /** The number of battles and futures that are being opened, which `desk.cancel` stops. */
   pending = 0;
-  /** Whether the battle has played to its end, and nothing was done since. */
-  hasEnded = false;
   /** @type {((change: Change) => void)[]} */
   #listeners = [];
   /** @type {Future | null} */
@@ -86,6 +99,11 @@ export class Session {
   #exact = 0;
   #then = 0;
   #frame = 0;
+  /**
+   * The turn at which playing stops, once it is known, and whether that is a breakpoint.
+   * @type {{turn: number, at: Condition | null} | null}
+   */
+  #limit = null;
   /** @type {Promise<void> | null} */
   #going = null;
   /** @type {Promise<unknown>} */
@@ -219,8 +237,7 @@ export class Session {
     this.future = future;
     this.futures[future].end = end;
     if (this.#wantedBeside === this.futures[future]) this.#compare(null);
-    this.view = this.move = this.origins = null;
-    this.hasEnded = false;
+    this.view = this.move = this.origins = this.chain = this.halted = null;
     this.wanted = clamp(this.wanted, 0, end);
     const addresses = addressesOf(labels);
     const named = new Map([...addresses].reverse().map(([name, address]) => [address, name]));
@@ -306,7 +323,7 @@ export class Session {
    * @param {number} turn
    */
   jump(turn) {
-    this.hasEnded = false;
+    this.halted = null;
     this.stop();
     return this.go(turn);
   }
@@ -320,11 +337,58 @@ export class Session {
     if (way > 0 && this.wanted >= this.end) this.wanted = 0;
     if (way < 0 && this.wanted <= 0) this.wanted = this.end;
     this.way = way;
-    this.hasEnded = false;
+    this.halted = this.chain = null;
     this.#exact = this.wanted;
     this.#then = performance.now();
     this.#notify("play");
+    this.#notify("look");
+    this.#findLimit();
     this.#requestTick();
+  }
+
+  /** Finds where playing stops: at the next breakpoint, or at the end of the battle. */
+  async #findLimit() {
+    const { way, opened, breaks } = this;
+    this.#limit = null;
+    const end = { turn: way > 0 ? this.end : 0, at: null };
+    const found = breaks.length ? await this.desk.search(this.future, breaks, this.wanted, way > 0) : null;
+    // The user may have stopped it, or changed the breakpoints, meanwhile.
+    const isLate = way !== this.way || opened !== this.opened || breaks !== this.breaks;
+    if (!isLate) this.#limit = found ? { turn: found.turn, at: breaks[found.index] } : end;
+  }
+
+  /**
+   * Takes other breakpoints.
+   * @param {Condition[]} breaks
+   */
+  setBreaks(breaks) {
+    this.breaks = breaks;
+    if (this.way) this.#findLimit();
+    this.#notify("look");
+  }
+
+  /**
+   * Sets a breakpoint, or removes the one that is like it.
+   * @param {Condition} condition
+   */
+  toggleBreak(condition) {
+    const isOther = (/** @type {Condition} */ one) => !isAlike(one, condition);
+    const others = this.breaks.filter(isOther);
+    this.setBreaks(others.length < this.breaks.length ? others : [...this.breaks, condition]);
+  }
+
+  /** @param {Condition} condition */
+  hasBreak(condition) {
+    return this.breaks.some((one) => isAlike(one, condition));
+  }
+
+  /**
+   * Shows why a warrior died, or no longer.
+   * @param {{death: Event, links: Link[]} | null} chain
+   */
+  explain(chain) {
+    this.chain = chain;
+    this.#notify("look");
   }
 
   /** Requests a tick, in place of one that is still to come. */
@@ -343,12 +407,14 @@ export class Session {
   /** @param {number} now */
   #tick(now) {
     if (this.way === 0) return;
-    const seconds = clamp(now - this.#then, 0, 250) / 1000;
-    this.#exact = clamp(this.#exact + this.way * seconds * this.rate, 0, this.end);
+    const limit = this.#limit;
+    const seconds = limit ? clamp(now - this.#then, 0, 250) / 1000 : 0;
+    const exact = this.#exact + this.way * seconds * this.rate;
+    this.#exact = !limit ? exact : this.way > 0 ? Math.min(exact, limit.turn) : Math.max(exact, limit.turn);
     this.#then = now;
     if (Math.floor(this.#exact) !== this.wanted) this.go(Math.floor(this.#exact));
-    if (this.#exact === (this.way > 0 ? this.end : 0)) {
-      this.hasEnded = this.way > 0;
+    if (limit && this.#exact === limit.turn) {
+      this.halted = limit.at;
       this.stop();
     } else this.#requestTick();
   }
@@ -378,7 +444,7 @@ export class Session {
    * @param {boolean} forward
    */
   async leap(conditions, forward) {
-    this.hasEnded = false;
+    this.halted = null;
     this.stop();
     const found = await this.#inOrder(async () => {
       if (!this.opened) return null;
@@ -505,3 +571,12 @@ export class Session {
     return this.#switch(() => this.#visited);
   }
 }
+
+/**
+ * @param {Condition} one
+ * @param {Condition} other
+ */
+const isAlike = (one, other) => conditionKey(one) === conditionKey(other);
+
+/** @param {Condition} condition */
+const conditionKey = ({ word, first, last = first, by = -1 }) => [word, first, last, by].join();

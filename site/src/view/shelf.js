@@ -181,7 +181,7 @@ export class Shelf {
     }
     this.#store();
     this.host.reveal();
-    if (large.length) this.#showMessage(`${large.join(", ")}: too large; a source has at most 1 MB`);
+    if (large.length) this.say(`${large.join(", ")}: too large; a source has at most 1 MB`);
   }
 
   /** Stores the sources, and says so if the browser has begun or ceased to let it. */
@@ -263,7 +263,7 @@ export class Shelf {
     this.list();
     this.sign();
     this.#store();
-    if (folder) this.#showMessage("Saved");
+    if (folder) this.say("Saved");
   }
 
   /**
@@ -273,7 +273,7 @@ export class Shelf {
   async #reload(entry) {
     const text = await this.host.folder?.load(entry.name);
     if (typeof text !== "string") {
-      this.#showMessage(`${entry.name} is no longer in the folder`);
+      this.say(`${entry.name} is no longer in the folder`);
       return;
     }
     entry.saved = text;
@@ -283,7 +283,7 @@ export class Shelf {
   }
 
   /** @param {string} text */
-  #showMessage(text) {
+  say(text) {
     element("saved").textContent = text;
   }
 
@@ -364,8 +364,8 @@ export class Shelf {
     element("restore").textContent = `Restore ${isChanged ? "the example" : pluralize(count, "example")}`;
     const stored = `${this.#isStored ? "Stored" : "Not stored"} in this browser; Download saves a file`;
     const unsaved = host.folder ? "Not saved" : stored;
-    if (host.isStale(shown.name, text)) this.#showMessage("Changed since this battle; Fight starts a new one");
-    else this.#showMessage(text === shown.saved ? "" : unsaved);
+    if (host.isStale(shown.name, text)) this.say("Changed since this battle; Fight starts a new one");
+    else this.say(text === shown.saved ? "" : unsaved);
   }
 
   /** Assembles the source in the editor, and shows its errors or what it makes. */

@@ -175,8 +175,17 @@ export class Side {
    * @param {number} address
    */
   lineOf(address) {
-    const { opened, fight, origins } = this.session;
-    const found = origins && opened?.lines[origins[address]];
+    const { origins } = this.session;
+    return origins && this.lineOfOrigin(origins[address]);
+  }
+
+  /**
+   * Returns the line of source of a loaded cell, or null.
+   * @param {number} origin
+   */
+  lineOfOrigin(origin) {
+    const { opened, fight } = this.session;
+    const found = opened?.lines[origin];
     if (!opened || !fight || !found) return null;
     const source = fight.warriors[opened.order[found.warrior]];
     const text = source.text.split("\n")[found.line - 1]?.split(";")[0].trim().replace(/\s+/g, " ") ?? "";
@@ -189,8 +198,12 @@ export class Side {
    */
   lineLink(address) {
     const found = this.lineOf(address);
-    if (!found) return null;
-    const show = { className: "link", title: found.text, onclick: () => this.show(found.name, found.line) };
-    return make("button", show, `${found.name}, line ${found.line}`);
+    return found && this.lineButton(found);
+  }
+
+  /** @param {{name: string, line: number, text: string}} line */
+  lineButton({ name, line, text }) {
+    const show = { className: "link", title: text, onclick: () => this.show(name, line) };
+    return make("button", show, `${name}, line ${line}`);
   }
 }

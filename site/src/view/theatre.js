@@ -1,7 +1,8 @@
 /** The core, the strip of time and the controls: what moves. */
 import { CELL_WORDS, NOBODY, cellText, isEmpty, readCell } from "../model/cells.js";
-import { captionWords, number, outcome, place, standingWords, writtenWords } from "../words/battle.js";
+import { captionWords, number, place, standingWords, writtenWords } from "../words/battle.js";
 import { instructionWords } from "../words/instruction.js";
+import { conditionWords } from "./commands.js";
 import { Core } from "./core.js";
 import { buttons, element, isNarrow, make, onClick, placeTip, refill, typed } from "./dom.js";
 import { Palette } from "./palette.js";
@@ -20,11 +21,15 @@ const BACKWARDS = "M12 2v12L2 8z";
 const FASTEST = 200_000;
 /** Below this speed the next instruction is marked while the battle plays. */
 const SLOW = 15;
+/** The maximum number of marks of breakpoints on the strip. */
+const MAX_HITS = 4000;
 /** Milliseconds after which opening a battle takes long. */
 const PATIENCE = 700;
 /** The maximum number of marked cells that differ between two futures. */
 const MAX_DIFFERENCES = 2000;
 const EMPTY = "Empty memory. A process that executes it ends.";
+/** Conditions on cells, which are marked on the core. */
+const CELLS = ["at", "changes", "reads"];
 const EVENTS = { splits: "split", ends: "end of a process", dies: "death" };
 
 export class Theatre {
@@ -33,6 +38,8 @@ export class Theatre {
   /** @type {number | null} */
   hovered = null;
   #isAsked = false;
+  /** The breakpoints whose hits are marked on the strip. */
+  #hitsOf = "";
   /** @type {ReturnType<typeof setTimeout> | undefined} */
   #wait;
   #caption = "";
@@ -54,8 +61,10 @@ export class Theatre {
     this.#listenToCore();
     session.listen((change) => {
       if (change === "turn") this.#notice = "";
+      if (session.halted) this.#notice = `Breakpoint: ${conditionWords(session, session.halted)}.`;
       if (change === "battle") this.#open();
       if (change === "look") this.#recolour();
+      if (change === "look" || change === "battle") this.#findHits();
       if (change === "play") this.#showPlay();
       if (change === "wait") this.#showWait();
       else this.ask();
@@ -80,7 +89,6 @@ export class Theatre {
     onClick("play", () => (session.way > 0 ? session.stop() : session.play(1)));
     onClick("rewind", () => (session.way < 0 ? session.stop() : session.play(-1)));
     onClick("again", () => session.play(1));
-    onClick("why-now", () => this.#showDeath());
     const speed = typed("speed", HTMLInputElement);
     speed.oninput = () => session.setRate(FASTEST ** (Number(speed.value) / 100));
     for (const button of buttons("#leaps button")) {
@@ -103,15 +111,6 @@ export class Theatre {
     this.ask();
   }
 
-  async #showDeath() {
-    const death = this.session.opened?.deaths.at(-1);
-    if (!death) return;
-    if (death.address >= 0) this.session.pin(death.address);
-    await this.session.jump(death.turn);
-    // On a narrow page the reason is below the battle.
-    element("turn-words").scrollIntoView({ block: "nearest" });
-  }
-
   #listenToTrack() {
     const { session, track } = this;
     onClick("whole", () => track.show(0, session.end));
@@ -128,7 +127,10 @@ export class Theatre {
   #listenToCore() {
     const { session } = this;
     for (const core of [this.core, this.other]) {
-      core.canvas.addEventListener("pointermove", (event) => this.#hover(core.addressAt(event)));
+      core.canvas.addEventListener("pointermove", (event) => {
+        // A finger covers what it touches; the cell that it selects is described below.
+        this.#hover(event.pointerType === "touch" ? null : core.addressAt(event));
+      });
       core.canvas.addEventListener("pointerleave", () => this.#hover(null));
       core.canvas.addEventListener("click", (event) => {
         const address = core.addressAt(event);
@@ -149,6 +151,9 @@ export class Theatre {
     if (!opened) return;
     this.track.open(opened);
     this.hovered = null;
+    // As wide as its longest text, so that nothing beside it moves.
+    const widest = `Turn ${number(opened.end)} of ${number(opened.end)}`;
+    element("now").style.minWidth = `${0.6 * widest.length}em`;
     this.fit();
     this.#showPlay();
   }
@@ -210,7 +215,7 @@ export class Theatre {
     core.draw(view, palette, session.grain, this.#marks(view));
     if (beside) this.#drawBeside(beside.future, beside.view, palette);
     if (!performance.getEntriesByName("first fight").length) performance.mark("first fight");
-    this.#showEnding(session.hasEnded && view.turn === opened.end && way === 0);
+    this.#showEnding(view.turn === opened.end && way === 0);
     if (way) this.track.follow(view.turn);
     this.track.draw(palette, view.turn);
     this.#drawNow(view);
@@ -235,7 +240,16 @@ export class Theatre {
       warrior: move?.warrior ?? 0,
       differences: this.#differences(),
       graves: dead.map(({ address, warrior }) => ({ address, warrior })),
+      breaks: session.breaks.flatMap(({ word, first, last = first }) => (CELLS.includes(word) ? [[first, last]] : [])),
+      arrows: way === 0 ? this.#arrows() : [],
     };
+  }
+
+  /** Returns the arrows of the death that is explained: from each instruction to the cell that it wrote or led to. */
+  #arrows() {
+    const links = this.session.chain?.links ?? [];
+    const moves = links.filter(({ kind, address, target }) => kind !== "death" && address !== target);
+    return moves.map(({ address, target, warrior, kind }) => ({ from: address, to: target, warrior, isFaint: kind === "aim" }));
   }
 
   /** Returns the addresses of cells that differ in the future that is shown beside this one. */
@@ -267,18 +281,31 @@ export class Theatre {
   }
 
   /**
-   * Shows who won and what can be done, if the battle came to its end by itself.
+   * Shows what can be done at the end of the battle.
    * @param {boolean} isOver
    */
   #showEnding(isOver) {
     const { opened, known } = this.session;
     element("ending").hidden = !isOver;
+    element("caption").style.color = "";
     if (!isOver || !opened) return;
     const dead = new Set(opened.deaths.map(({ warrior }) => warrior));
     const winner = known.names.findIndex((_, who) => !dead.has(who));
-    element("winner").textContent = outcome(known);
-    element("winner").style.color = known.names.length - dead.size === 1 ? (this.palette?.text[winner] ?? "") : "";
+    if (known.names.length - dead.size === 1) element("caption").style.color = this.palette?.text[winner] ?? "";
     element("why-now").hidden = dead.size === 0;
+  }
+
+  /** Marks on the strip where playing stops. */
+  async #findHits() {
+    const { session, track } = this;
+    const { breaks, future, opened } = session;
+    const key = JSON.stringify([breaks, future]);
+    if (key === this.#hitsOf && opened === track.opened) return;
+    this.#hitsOf = key;
+    const hits = breaks.length && opened ? await session.desk.hits(future, breaks, MAX_HITS).catch(() => []) : [];
+    if (key !== this.#hitsOf || opened !== session.opened) return;
+    track.showHits(hits);
+    this.ask();
   }
 
   /** @param {View} view */

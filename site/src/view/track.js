@@ -4,6 +4,7 @@
  * too.
  */
 import { number } from "../words/battle.js";
+import { BREAK } from "./core.js";
 import { clamp } from "./dom.js";
 
 /** @typedef {import("../battle/overview.js").Overview} Overview */
@@ -44,6 +45,10 @@ export class Track {
    * @type {{turn: number, count: number}[]}
    */
   #peaks = [];
+  /** @type {number[]} */
+  #hits = [];
+  /** @type {import("../worker/desk.js").Opened | null} */
+  opened = null;
   #request = 0;
   #film = document.createElement("canvas");
   /** @type {unknown[]} */
@@ -62,11 +67,11 @@ export class Track {
     this.changed = changed;
   }
 
-  /**
-   * @param {{overview: Overview, end: number, deaths: Death[], edits: {turn: number}[], order: number[],
-   *   events: {turn: number, kind: string, count: number}[]}} opened
-   */
-  open({ overview, end, deaths, edits, order, events }) {
+  /** @param {import("../worker/desk.js").Opened} opened */
+  open(opened) {
+    const { overview, end, deaths, edits, order, events } = opened;
+    this.opened = opened;
+    this.#hits = [];
     this.#peaks = events.filter(({ kind }) => kind === "most");
     this.#overview = overview;
     this.#end = this.last = end;
@@ -75,6 +80,14 @@ export class Track {
     this.#warriors = order.length;
     this.first = 0;
     this.#request++;
+  }
+
+  /**
+   * Marks turns at which playing stops.
+   * @param {number[]} hits
+   */
+  showHits(hits) {
+    this.#hits = hits;
   }
 
   get isWhole() {
@@ -140,7 +153,7 @@ export class Track {
     const { clientWidth: width, clientHeight: height } = canvas;
     const context = canvas.getContext("2d");
     if (!context || !this.#overview || !width) return;
-    const what = [palette, this.#overview, this.first, this.last, width, height, devicePixelRatio];
+    const what = [palette, this.#overview, this.#hits, this.first, this.last, width, height, devicePixelRatio];
     if (what.some((value, index) => value !== this.#drawn[index])) {
       this.#drawn = what;
       this.#drawFilm(palette, this.#overview, width, height);
@@ -196,6 +209,8 @@ export class Track {
    */
   #drawMoments({ context, palette, width, bottom, x }) {
     const isShown = (/** @type {number} */ turn) => turn >= this.first && turn <= this.last;
+    context.fillStyle = BREAK;
+    for (const turn of this.#hits.filter(isShown)) context.fillRect(x(turn) - 1, bottom - 2, 2, 6);
     const line = (/** @type {number} */ turn, /** @type {string} */ colour, /** @type {number[]} */ dash) => {
       context.setLineDash(dash);
       context.strokeStyle = colour;

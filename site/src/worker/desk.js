@@ -1,7 +1,8 @@
 /** The battle that the page shows, with all its futures, and the answers to the page's questions about it. */
-import { readsOf, search } from "../battle/conditions.js";
+import { holds, readsOf, search } from "../battle/conditions.js";
 import { History } from "../battle/history.js";
 import { ADDRESS, DIED, PROCESS, QUEUED, WARRIOR, changesOf } from "../battle/place.js";
+import { chainOf } from "./why.js";
 import { assembleAll, describe } from "../engine/warrior.js";
 import { CELL_WORDS } from "../model/cells.js";
 
@@ -17,7 +18,7 @@ import { CELL_WORDS } from "../model/cells.js";
 /** @typedef {import("../words/battle.js").Move} Move */
 /**
  * A future as it is opened. Warriors are in the order of their turns; `order` says which source each is. `lines` has
- * the warrior and the line of each origin.
+ * the warrior and the line of each origin, and the address where it was loaded.
  * @typedef {object} Opened
  * @property {number} future
  * @property {number} core
@@ -29,7 +30,7 @@ import { CELL_WORDS } from "../model/cells.js";
  * @property {Event[]} events
  * @property {Overview} overview
  * @property {import("../words/battle.js").Label[]} labels
- * @property {{warrior: number, line: number}[]} lines
+ * @property {{warrior: number, line: number, address: number}[]} lines
  * @property {Made[]} edits
  */
 /**
@@ -172,8 +173,9 @@ export class Desk {
       const first = history.start.battle.queue(warrior)[0] - start + history.core;
       const terms = { settings, rounds, warriors: warriors.length };
       this.mars.lines(warriors[source].text, terms).forEach(({ line, labels: names }, index) => {
-        lines.push({ warrior, line });
-        for (const name of names) labels.push({ address: (first + index) % history.core, name, warrior });
+        const address = (first + index) % history.core;
+        lines.push({ warrior, line, address });
+        for (const name of names) labels.push({ address, name, warrior });
       });
     });
     return { labels, lines };
@@ -268,6 +270,40 @@ export class Desk {
       if (!found || (forward ? place < found.turn : place > found.turn)) found = { turn: place, index };
     }
     return found;
+  }
+
+  /**
+   * Returns the places where one of the conditions holds, in order, at most `most`.
+   * @param {number} future
+   * @param {Condition[]} conditions
+   * @param {number} most
+   */
+  hits(future, conditions, most) {
+    const history = this.#history(future);
+    const tests = conditions.map((condition) => ({ test: holds(history.core, condition), word: condition.word }));
+    const needsTouched = conditions.some(({ word }) => word === "reads");
+    /** @type {number[]} */
+    const found = [];
+    for (const turns of history.turns(0, history.end, needsTouched)) {
+      for (let row = 0; row < turns.count && found.length < most; row++) {
+        const hit = tests.find(({ test }) => test(turns, row));
+        // `at` holds at the place before its turn.
+        if (hit) found.push(turns.first + row + (hit.word === "at" ? 0 : 1));
+      }
+      if (found.length >= most) break;
+    }
+    return found;
+  }
+
+  /**
+   * Returns the turns that led to the death of a warrior; none if it lives or an edit killed it.
+   * @param {number} future
+   * @param {number} warrior
+   */
+  why(future, warrior) {
+    const history = this.#history(future);
+    const death = history.deaths.find((one) => one.warrior === warrior);
+    return death ? chainOf(history, death) : [];
   }
 
   /**
