@@ -19,7 +19,14 @@ from counting import skip
 
 # Keys, with their characters in WebDriver.
 KEYS = {"Escape": "\ue00c", "Enter": "\ue007", "Home": "\ue011", "End": "\ue010", "Left": "\ue012", "Right": "\ue014"}
-KEYS |= {"Up": "\ue013", "Shift": "\ue008", "Control": "\ue009", "Tab": "\ue004", "Backspace": "\ue003"}
+KEYS |= {
+    "Up": "\ue013",
+    "Down": "\ue015",
+    "Shift": "\ue008",
+    "Control": "\ue009",
+    "Tab": "\ue004",
+    "Backspace": "\ue003",
+}
 PATIENCE = 30
 ASYNC = """const done = arguments[arguments.length - 1], given = [...arguments].slice(0, -1);
 (async () => {%s})().then(done, error => done({error: `${error}\\n${error.stack}`}));"""

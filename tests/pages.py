@@ -505,6 +505,72 @@ def test_the_editor_shows_errors_and_fights(page: Browser, site: str) -> None:
     assert page.value("corewar.session.fight.warriors[0].text") == "MOV 0, 1 ; mine\n"
 
 
+def test_the_editor_helps(page: Browser) -> None:
+    """It completes words, begins lines where labels are, makes comments, finds texts and explains opcodes."""
+    page.run("corewar.session.stop(); corewar.showDesk(true)")
+    mirror = "corewar.shelf.editor.mirror"
+    page.run(
+        f"{mirror}.setValue(given[0]); {mirror}.focus(); {mirror}.setCursor(1, 99)", "bomb    DAT     0\n        NOP\n"
+    )
+    page.press("Enter")
+    page.type("go")
+    page.press("Tab")
+    page.type("mo")
+    words = "[...document.querySelectorAll('#completions:not([hidden]) b')].map(one => one.textContent)"
+    assert page.value(words) == ["mov", "mod"]
+    page.press("Tab")
+    page.type(".")
+    assert page.value(words) == ["a", "b", "ab", "ba", "f", "x", "i"]
+    page.press("Down", "Down", "Tab")
+    page.type(" #1, bo")
+    assert page.value(words) == ["bomb"]
+    page.press("Tab")
+    assert page.value(f"{mirror}.getLine(2)") == "go      mov.ab #1, bomb"
+    # Enter takes a word only if one was selected.
+    page.type(" ;x")
+    page.press("Enter")
+    page.type("m")
+    assert page.value(words) == []
+    page.press(" ", held="Control")
+    assert page.value(words) == ["mov", "mul", "mod"]
+    page.press("Escape")
+    assert page.value(words) == []
+    page.press("/", held="Control")
+    page.press("Up")
+    page.press("/", held="Control")
+    assert page.value(f"[{mirror}.getLine(2), {mirror}.getLine(3)]") == [";go      mov.ab #1, bomb ;x", ";m"]
+    page.press("/", held="Control")
+    assert page.value(f"{mirror}.getLine(2)") == "go      mov.ab #1, bomb ;x"
+    page.press("f", held="Control")
+    page.type("BOMB")
+    assert page.text("found") == "2"
+    page.press("Enter")
+    first = page.value(f"{mirror}.getCursor().line")
+    page.press("Enter")
+    assert {first, page.value(f"{mirror}.getCursor().line")} == {0, 2}
+    assert page.value(f"{mirror}.getSelection()") == "bomb"
+    page.press("Escape")
+    assert page.value("document.getElementById('finder').hidden && !!document.activeElement.closest('#editor')")
+    page.click("#words")
+    assert "JMZjumps to A if B is zero" in page.text("cheat-words")
+    page.click("#cheat button")
+
+
+def test_the_editor_has_room(page: Browser, site: str) -> None:
+    """At least 60 characters of a line are visible in a usual window, and a divider stays where it is put."""
+    page.run("corewar.showDesk(true)")
+    width = """const {mirror} = corewar.shelf.editor, gutter = mirror.getGutterElement().offsetWidth;
+      return (mirror.getScrollInfo().clientWidth - gutter) / mirror.defaultCharWidth()"""
+    assert page.run(width) >= 60
+    page.run("document.getElementById('divider').focus()")
+    page.press("Left", "Left")
+    narrower = page.run(width)
+    assert narrower < 60
+    page.open(f"{site}?divider")
+    page.until("window.corewar?.session.view")
+    assert page.run(width) == pytest.approx(narrower, abs=0.2)
+
+
 def test_a_source_that_takes_minutes(page: Browser) -> None:
     """Its worker is ended, and the page continues to work: in the editor, and in a fight."""
     page.run("corewar.shelf.show(corewar.shelf.add({name: 'slow.red', text: given[0]}))", slow())

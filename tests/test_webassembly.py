@@ -166,11 +166,11 @@ def test_its_sentences_are_those_of_python(tmp_path: Path) -> None:
 
 
 def test_the_site_is_light() -> None:
-    """The files that a browser loads have at most 200 KiB, compressed as by a server."""
+    """The files that a browser loads have at most 230 kB, compressed as by a server."""
     files = [file for file in (TOP / "build" / "site").glob("*") if file.name != "one.html"]
     if not files:
         skip("the weight of the site", "it is not built; `make site` builds it", "esbuild")
-    assert sum(len(gzip.compress(file.read_bytes())) for file in files) <= 200 * 1024
+    assert sum(len(gzip.compress(file.read_bytes())) for file in files) <= 230_000
 
 
 def test_its_types_are_sound() -> None:

@@ -74,7 +74,7 @@ test("hits are the places that searches find", () => {
   const conditions = [{ word: "at", first: 5203 }, { word: "changes", first: 103 }, { word: "dies", first: -1 }];
   const hits = desk.hits(0, conditions, 100);
   const found = [];
-  for (let turn = -1; turn !== null; ) {
+  for (let turn = 0; turn !== null; ) {
     const next = desk.search(0, conditions, turn, true);
     if (next) found.push(next.turn);
     turn = next?.turn ?? null;

@@ -7,6 +7,7 @@ import ContentEditableInput from "codemirror-src/input/ContentEditableInput.js";
 import TextareaInput from "codemirror-src/input/TextareaInput.js";
 import Doc from "codemirror-src/model/Doc.js";
 
+export { Pass } from "codemirror-src/util/misc.js";
 export { defineMode } from "codemirror-src/modes.js";
 export { CodeMirror, Doc };
 

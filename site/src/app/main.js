@@ -1,6 +1,7 @@
 /** The page: what it begins with, and what its parts have to do with each other. */
 import { MAX_WARRIORS } from "../model/layout.js";
 import { DEFAULTS, FORMULA } from "../model/settings.js";
+import { showSheet } from "../view/assist.js";
 import { Bench } from "../view/bench.js";
 import { Cells } from "../view/cells.js";
 import { Console } from "../view/console.js";
@@ -12,6 +13,7 @@ import { Rounds } from "../view/rounds.js";
 import { Session } from "../view/session.js";
 import { Shelf } from "../view/shelf.js";
 import { Side } from "../view/side.js";
+import { listenToDivider } from "../view/divider.js";
 import { Theatre } from "../view/theatre.js";
 import { Why } from "../view/why.js";
 import { Pool, remoteDesk } from "../worker/pool.js";
@@ -74,11 +76,7 @@ class Page {
     this.why = new Why(this.session, side, (marked) => lines.mark(marked));
     this.rounds = new Rounds(this.session, this.pool, showLine, (hits) => this.shelf.takeHits(hits));
     this.console = new Console(this.session);
-    const written = (/** @type {string} */ name) => this.sources.written(name);
-    const left = () => this.places.rename();
-    const edit = () => this.showDesk(true);
-    const read = () => this.showTab("lesson");
-    const learner = { ...host, session: this.session, examples, written, left, edit, read };
+    const learner = { ...host, session: this.session, examples, ...this.#learning() };
     this.lessons = new Lessons(learner, lessons, stored.done ?? [], (done) => keep({ done }));
     this.places = new Places(this.session, () => this.lessons.current);
     this.session.listen((change) => this.#follow(change, side));
@@ -86,6 +84,16 @@ class Page {
     if (server) element("download").textContent = "Save";
     if (stored.desk) this.showDesk(true);
     this.showTab("battle");
+  }
+
+  /** Returns what lessons ask of the page. */
+  #learning() {
+    return {
+      written: (/** @type {string} */ name) => this.sources.written(name),
+      left: () => this.places.rename(),
+      edit: () => this.showDesk(true),
+      read: () => this.showTab("lesson"),
+    };
   }
 
   /** @returns {Shelf} */
@@ -416,6 +424,8 @@ class Page {
     onClick("another", () => this.another());
     onClick("next-fight", () => this.another());
     onClick("theme", changeTheme);
+    onClick("words", showSheet);
+    listenToDivider((desk) => keep({ width: desk }), stored.width);
     onClick("help", () => typed("helping", HTMLDialogElement).showModal());
     onClick("what", () => {
       this.session.stop();

@@ -14,6 +14,7 @@ import { folderKey } from "./server.js";
  * @property {Partial<MatchTerms>} [terms]
  * @property {string} [theme] "light" or "dark"
  * @property {boolean} [desk] whether the editor is shown
+ * @property {number} [width] of the editor
  * @property {string[]} [done] lessons
  */
 
@@ -48,6 +49,7 @@ const KEPT = {
   terms: (value) => isWhole(value, TERMS),
   theme: (value) => value === "light" || value === "dark",
   desk: isTruth,
+  width: isNumber,
   done: isTexts,
 };
 

@@ -4,6 +4,7 @@ import { cellText } from "../model/cells.js";
 import { pluralize } from "../words/battle.js";
 import { instructionWords } from "../words/instruction.js";
 import { DIRECTIVES, OPCODES } from "../words/source.js";
+import { Completion, Finder, toggleComment } from "./assist.js";
 import { element, make, placeTip, refill } from "./dom.js";
 
 /** @typedef {import("codemirror").Document} Document */
@@ -35,6 +36,13 @@ defineMode("redcode", () => ({
   },
 }));
 
+/**
+ * Returns the keys of a letter with Ctrl, and with the key that Macs have for it.
+ * @param {string} letter
+ * @param {() => void} act
+ */
+const both = (letter, act) => ({ [`Ctrl-${letter}`]: act, [`Cmd-${letter}`]: act });
+
 /** @param {string} text */
 export const newDocument = (text) => new Doc(text, "redcode");
 
@@ -60,8 +68,17 @@ export class Editor {
       gutters: ["breaks", "CodeMirror-linenumbers", "faults", "hits"],
       // The page takes files that are dropped.
       dragDrop: false,
-      extraKeys: { "Ctrl-S": save, "Cmd-S": save, Tab: "insertSoftTab", "Shift-Tab": false, Esc: leave },
+      extraKeys: {
+        ...{ "Ctrl-S": save, "Cmd-S": save, Tab: "insertSoftTab", "Shift-Tab": false, Esc: leave },
+        // A line begins in the first column, where labels are; Tab leads to the opcode.
+        Enter: () => this.mirror.replaceSelection("\n"),
+        ...both("/", () => toggleComment(this.mirror)),
+        ...both("F", () => finder.open()),
+        "Ctrl-Space": () => completion.open(true),
+      },
     });
+    const completion = new Completion(this.mirror);
+    const finder = new Finder(this.mirror);
     const field = this.mirror.getInputField();
     field.setAttribute("aria-label", "Source. Escape leaves the editor; Control-Enter starts a battle.");
     this.mirror.on("changes", () => {

@@ -249,7 +249,9 @@ export class Theatre {
   #arrows() {
     const links = this.session.chain?.links ?? [];
     const moves = links.filter(({ kind, address, target }) => kind !== "death" && address !== target);
-    return moves.map(({ address, target, warrior, kind }) => ({ from: address, to: target, warrior, isFaint: kind === "aim" }));
+    return moves.map(({ kind, address, target, warrior }) => {
+      return { from: address, to: target, warrior, isFaint: kind === "aim" };
+    });
   }
 
   /** Returns the addresses of cells that differ in the future that is shown beside this one. */

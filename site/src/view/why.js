@@ -29,7 +29,7 @@ export class Why {
   }
 
   /**
-   * Goes to the write that killed a warrior, and tells how it came to that.
+   * Goes to the write that killed a warrior, and shows how it came to that.
    * @param {number} [warrior] the last one that died if it is not given
    */
   async ask(warrior = this.session.opened?.deaths.at(-1)?.warrior) {

@@ -280,19 +280,22 @@ export class Desk {
    */
   hits(future, conditions, most) {
     const history = this.#history(future);
-    const tests = conditions.map((condition) => ({ test: holds(history.core, condition), word: condition.word }));
+    // `at` holds at the place before its turn, so it is tested first.
+    const sorted = [...conditions].sort((one, other) => Number(other.word === "at") - Number(one.word === "at"));
+    const tests = sorted.map((one) => ({ test: holds(history.core, one), shift: one.word === "at" ? 0 : 1 }));
     const needsTouched = conditions.some(({ word }) => word === "reads");
     /** @type {number[]} */
     const found = [];
     for (const turns of history.turns(0, history.end, needsTouched)) {
       for (let row = 0; row < turns.count && found.length < most; row++) {
-        const hit = tests.find(({ test }) => test(turns, row));
-        // `at` holds at the place before its turn.
-        if (hit) found.push(turns.first + row + (hit.word === "at" ? 0 : 1));
+        for (const { test, shift } of tests) {
+          const place = turns.first + row + shift;
+          if (test(turns, row) && found.at(-1) !== place) found.push(place);
+        }
       }
       if (found.length >= most) break;
     }
-    return found;
+    return found.slice(0, most);
   }
 
   /**
