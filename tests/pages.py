@@ -205,6 +205,36 @@ def test_breakpoints_stop_play(page: Browser) -> None:
     page.until("corewar.session.way === 0 && corewar.session.turn === 0")
 
 
+def test_the_strip_is_a_picture_or_curves(page: Browser, site: str) -> None:
+    """The picture is painted again for a part of the battle, and curves say how many processes there were at most."""
+    code = """const {picture} = corewar.theatre.track, {columns, rows, first} = picture.frame ?? {};
+      if (first === undefined || first < given[0]) return null;
+      const {data} = picture.canvas.getContext("2d").getImageData(0, 0, columns, rows);
+      const at = (x, y) => 4 * (Math.floor(x * columns) + columns * Math.floor(y * rows));
+      const colour = (x, y) => [...data.slice(at(x, y), at(x, y) + 3)];
+      return data[4 * columns - 1] ? [colour(0.9, 0.4), colour(0.9, 0.9)] : null;"""
+    page.until(f"(() => {{ const given = [0]; {code} }})()")
+    (red, green, blue), empty = page.run(code, 0)
+    assert blue > red and blue > 60 and max(empty) < 20
+    page.run("corewar.theatre.track.show(7000, 7798)")
+    page.until(f"(() => {{ const given = [7000]; {code} }})()")
+    page.run("corewar.theatre.track.show(0, 7798)")
+    page.run(
+        """window.texts = [];
+        const {prototype} = CanvasRenderingContext2D, {fillText} = prototype;
+        prototype.fillText = function(text, ...rest) { texts.push(text); return fillText.call(this, text, ...rest) };"""
+    )
+    fight(page, "silk", "scanner")
+    page.run("document.getElementById('curves').click()")
+    # Samples have fewer.
+    most = page.value("Math.max(...corewar.session.opened.events.map(({count, kind}) => kind === 'most' ? count : 0))")
+    assert most > page.value("Math.max(...corewar.session.opened.overview.processes)")
+    page.until(f"texts.includes('processes, up to {most:,}')")
+    page.open(f"{site}?curves")
+    page.until("window.corewar?.session.view")
+    assert page.value("document.getElementById('curves').getAttribute('aria-pressed')") == "true"
+
+
 def test_the_battle_uses_its_room(page: Browser) -> None:
     """The core fills the stage, what a turn did is visible, and nothing moves while it plays."""
     boxes = "['stage', 'core', 'turn-box', 'controls'].map(id => document.getElementById(id).getBoundingClientRect())"

@@ -84,6 +84,38 @@ test("hits are the places that searches find", () => {
   assert.deepEqual(desk.hits(0, conditions, 2), found.slice(0, 2));
 });
 
+/** Paints a whole picture, and returns who is where in it, and how bright. */
+function painted(desk, frame, future = 0) {
+  const [owner, light] = [[], []];
+  for (let from = 0; from < frame.columns; from = owner.length / frame.rows) {
+    const piece = desk.paint(future, frame, from);
+    owner.push(...piece.owner);
+    light.push(...piece.light);
+  }
+  const at = (column, row) => column * frame.rows + row;
+  return (column, row) => ({ owner: owner[at(column, row)], light: light[at(column, row)] });
+}
+
+test("a picture shows where warriors were", () => {
+  const desk = new Desk(mars);
+  const { end } = desk.open({ ...fightOf([example("imp"), "JMP 0\n"]), position: 7000 });
+  const frame = { first: 0, last: 8000, columns: 80, rows: 80 };
+  const at = painted(desk, frame);
+  for (const column of [10, 40, 79]) {
+    // After 100 turns for each column the imp has made 50 times as many steps, at 100 cells for each row.
+    const row = Math.floor((50 * (column + 1) - 1) / 100);
+    assert.equal(at(column, row).owner, 0);
+    assert.equal(at(column, row + 3).owner === 0, false);
+    assert.ok(at(column, row).light > at(column, Math.max(0, row - 8)).light || row < 8);
+  }
+  assert.ok(end > 8000);
+  // After an edit the battle is another one.
+  const cell = { op: 0, modifier: 4, aMode: 1, bMode: 1, a: 5, b: 5 };
+  desk.edit(0, 4000, { kind: "cell", address: 7500, last: 7899, cell });
+  const edited = painted(desk, frame, 1);
+  assert.deepEqual([edited(38, 77).owner, edited(45, 77).owner, edited(45, 22).owner], [255, 254, 0]);
+});
+
 test("a line of source has the numbers of the match", () => {
   const desk = new Desk(mars);
   desk.open({ ...fightOf(["JMP 0\n", "JMP 0\n", "JMP 0\n"]), rounds: 7 });

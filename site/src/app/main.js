@@ -83,6 +83,7 @@ class Page {
     this.sources.fill();
     if (server) element("download").textContent = "Save";
     if (stored.desk) this.showDesk(true);
+    if (stored.curves) this.#showCurves(true);
     this.showTab("battle");
   }
 
@@ -377,6 +378,13 @@ class Page {
     }
   }
 
+  /** @param {boolean} hasCurves */
+  #showCurves(hasCurves) {
+    this.theatre.track.showCurves(hasCurves);
+    element("curves").setAttribute("aria-pressed", String(hasCurves));
+    keep({ curves: hasCurves });
+  }
+
   listen() {
     for (const button of buttons("#views button")) {
       button.onclick = () => {
@@ -425,6 +433,7 @@ class Page {
     onClick("next-fight", () => this.another());
     onClick("theme", changeTheme);
     onClick("words", showSheet);
+    onClick("curves", () => this.#showCurves(!this.theatre.track.hasCurves));
     listenToDivider((desk) => keep({ width: desk }), stored.width);
     onClick("help", () => typed("helping", HTMLDialogElement).showModal());
     onClick("what", () => {

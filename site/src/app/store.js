@@ -15,6 +15,7 @@ import { folderKey } from "./server.js";
  * @property {string} [theme] "light" or "dark"
  * @property {boolean} [desk] whether the editor is shown
  * @property {number} [width] of the editor
+ * @property {boolean} [curves] whether the strip of time has curves
  * @property {string[]} [done] lessons
  */
 
@@ -50,6 +51,7 @@ const KEPT = {
   theme: (value) => value === "light" || value === "dark",
   desk: isTruth,
   width: isNumber,
+  curves: isTruth,
   done: isTexts,
 };
 

@@ -64,7 +64,7 @@ export class Completion {
 
   /**
    * Shows the list if there is something to complete.
-   * @param {boolean} isWanted whether the user has asked for it
+   * @param {boolean} isWanted whether the user wants it now
    */
   open(isWanted) {
     const { line, ch } = this.mirror.getCursor();

@@ -56,6 +56,18 @@ export class Palette {
     this.process = own.map((colour, who) => pixel(isShown(who) ? mixed(colour, WHITE, 0.72) : shown[who]));
     shown.forEach((colour, who) => this.#shade(who, colour));
     this.#shade(BY_HAND, EDITED);
+    this.colours = shown;
+  }
+
+  /**
+   * Returns the pixel of a point of the picture of the battle.
+   * @param {number} owner
+   * @param {number} light how much it has of the colour of its owner, 0 to 1
+   * @param {number} white how much it has of white after that
+   */
+  lit(owner, light, white) {
+    const colour = this.colours[owner] ?? (owner === BY_HAND ? EDITED : BACK);
+    return pixel(mixed(mixed(BACK, colour, light), WHITE, 0.75 * white));
   }
 
   /**

@@ -52,10 +52,8 @@ export class Theatre {
     this.session = session;
     this.core = new Core(typed("core", HTMLCanvasElement));
     this.other = new Core(typed("other-core", HTMLCanvasElement));
-    const ask = (/** @type {number} */ first, /** @type {number} */ last) =>
-      session.desk.overview(session.future, first, last);
     const [strip, slider] = [typed("overview", HTMLCanvasElement), typed("time", HTMLInputElement)];
-    this.track = new Track(strip, slider, ask, () => this.ask());
+    this.track = new Track(strip, slider, session, () => this.ask());
     this.#listenToControls();
     this.#listenToTrack();
     this.#listenToCore();

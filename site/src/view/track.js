@@ -1,11 +1,12 @@
 /**
- * The strip of time: above, the cells of each warrior, stacked; below, its processes; between them, splits and ends of
- * processes; each death with a cross. A slider lies over it. A part that is zoomed is sampled again, so it is exact
- * too.
+ * The strip of time: the battle as a picture, address by time, or as curves: above, the cells of each warrior, stacked;
+ * below, its processes; between them, splits and ends of processes. Each death has a cross. A slider lies over it. A
+ * part that is zoomed is painted and sampled again, so it is exact too.
  */
 import { number } from "../words/battle.js";
 import { BREAK } from "./core.js";
-import { clamp } from "./dom.js";
+import { clamp, debounce } from "./dom.js";
+import { Picture } from "./picture.js";
 
 /** @typedef {import("../battle/overview.js").Overview} Overview */
 /** @typedef {import("./palette.js").Palette} Palette */
@@ -53,18 +54,41 @@ export class Track {
   #film = document.createElement("canvas");
   /** @type {unknown[]} */
   #drawn = [];
+  /** Whether curves are shown in place of the picture. */
+  hasCurves = false;
+  #paint = debounce(() => this.paint(), 90);
 
   /**
    * @param {HTMLCanvasElement} canvas
    * @param {HTMLInputElement} slider
-   * @param {(first: number, last: number) => Promise<Overview>} ask
+   * @param {import("./session.js").Session} session
    * @param {() => void} changed
    */
-  constructor(canvas, slider, ask, changed) {
+  constructor(canvas, slider, session, changed) {
     this.canvas = canvas;
     this.slider = slider;
-    this.ask = ask;
+    this.ask = (/** @type {number} */ first, /** @type {number} */ last) =>
+      session.desk.overview(session.future, first, last);
     this.changed = changed;
+    this.picture = new Picture((frame, from) => session.desk.paint(session.future, frame, from), changed);
+  }
+
+  /** @param {boolean} hasCurves */
+  showCurves(hasCurves) {
+    this.hasCurves = hasCurves;
+    this.#drawn = [];
+    this.paint();
+    this.changed();
+  }
+
+  /** Paints what is shown, a point of the screen for each of the picture. */
+  paint() {
+    const { clientWidth: width, clientHeight: height } = this.canvas;
+    const { opened, first, last } = this;
+    if (this.hasCurves || !opened || !width || last === first) return;
+    const columns = Math.min(last - first, Math.round(width * devicePixelRatio));
+    const rows = Math.min(opened.core, Math.round((height - FOOT) * devicePixelRatio));
+    this.picture.paint(`${opened.future} ${opened.end}`, { first, last, columns, rows });
   }
 
   /** @param {import("../worker/desk.js").Opened} opened */
@@ -80,6 +104,8 @@ export class Track {
     this.#warriors = order.length;
     this.first = 0;
     this.#request++;
+    this.picture.clear();
+    this.paint();
   }
 
   /**
@@ -105,6 +131,8 @@ export class Track {
     this.last = Math.round(this.first + length);
     const request = ++this.#request;
     this.changed();
+    this.#paint();
+    if (!this.hasCurves) return;
     const overview = await this.ask(this.first, this.last).catch((error) => {
       // If another battle has been opened meanwhile, it may not have these turns.
       if (request === this.#request) throw error;
@@ -155,18 +183,39 @@ export class Track {
     if (!context || !this.#overview || !width) return;
     const what = [palette, this.#overview, this.#hits, this.first, this.last, width, height, devicePixelRatio];
     if (what.some((value, index) => value !== this.#drawn[index])) {
+      if (width !== this.#drawn[5] || height !== this.#drawn[6]) this.#paint();
       this.#drawn = what;
       this.#drawFilm(palette, this.#overview, width, height);
     }
-    context.setTransform(1, 0, 0, 1, 0, 0);
-    context.clearRect(0, 0, canvas.width, canvas.height);
-    context.drawImage(this.#film, 0, 0);
-    context.scale(devicePixelRatio, devicePixelRatio);
+    context.setTransform(devicePixelRatio, 0, 0, devicePixelRatio, 0, 0);
+    context.clearRect(0, 0, width, height);
+    const now = Math.round(this.#across(turn, width));
+    if (!this.hasCurves) this.#drawPicture(context, palette, width, height - FOOT);
+    context.fillStyle = "rgba(8,10,14,.5)";
+    context.fillRect(now, 0, width - now, height - FOOT);
+    context.drawImage(this.#film, 0, 0, width, height);
     context.fillStyle = "#fff";
-    context.fillRect(Math.round(this.#across(turn, width)) - 1, 0, 2, height - FOOT + 4);
+    context.fillRect(now - 1, 0, 2, height - FOOT + 4);
     this.slider.min = String(this.first);
     this.slider.max = String(this.last);
     this.slider.value = String(turn);
+  }
+
+  /**
+   * Draws the picture, or the part of the one before that is shown.
+   * @param {CanvasRenderingContext2D} context
+   * @param {Palette} palette
+   * @param {number} width
+   * @param {number} bottom
+   */
+  #drawPicture(context, palette, width, bottom) {
+    const { picture } = this;
+    picture.draw(palette);
+    if (!picture.frame) return;
+    const { first, last, columns, rows } = picture.frame;
+    const [left, right] = [first, last].map((turn) => this.#across(turn, width));
+    context.imageSmoothingEnabled = columns * devicePixelRatio > right - left;
+    context.drawImage(picture.canvas, 0, 0, columns, rows, left, 0, right - left, bottom);
   }
 
   /**
@@ -194,13 +243,18 @@ export class Track {
     const x = (/** @type {number} */ turn) => this.#across(turn, width);
     const middle = Math.round(bottom * 0.56);
     const drawing = { context, palette, overview, warriors: this.#warriors, width, middle, bottom, x };
+    if (this.hasCurves) this.#drawCurves(drawing);
+    this.#drawScale(drawing);
+    this.#drawMoments(drawing);
+  }
+
+  /** @param {Drawing} drawing */
+  #drawCurves(drawing) {
     const maxCells = drawCells(drawing);
     drawTicks(drawing);
     const shown = this.#peaks.filter(({ turn }) => turn >= this.first && turn <= this.last);
     const maxProcesses = Math.max(drawProcesses(drawing), ...shown.map(({ count }) => count));
-    this.#drawScale(drawing);
     drawLegend(drawing, maxCells, maxProcesses);
-    this.#drawMoments(drawing);
   }
 
   /**

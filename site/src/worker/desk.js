@@ -2,6 +2,7 @@
 import { holds, readsOf, search } from "../battle/conditions.js";
 import { History } from "../battle/history.js";
 import { ADDRESS, DIED, PROCESS, QUEUED, WARRIOR, changesOf } from "../battle/place.js";
+import { Painter } from "./picture.js";
 import { chainOf } from "./why.js";
 import { assembleAll, describe } from "../engine/warrior.js";
 import { CELL_WORDS } from "../model/cells.js";
@@ -53,6 +54,8 @@ import { CELL_WORDS } from "../model/cells.js";
 /** The number of changes of a cell that are reported, and of futures whose histories are kept. */
 const MAX_CHANGES = 5;
 const MAX_HISTORIES = 4;
+/** About the milliseconds that a piece of a picture takes: meanwhile no turn is answered. */
+const PIECE_TIME = 6;
 
 export class Desk {
   /** @type {Map<number, History>} */
@@ -63,6 +66,8 @@ export class Desk {
   #fight = null;
   /** @type {Warrior[]} */
   #warriors = [];
+  /** @type {Painter | null} */
+  #painter = null;
 
   /** @param {Mars} mars */
   constructor(mars) {
@@ -252,6 +257,18 @@ export class Desk {
    */
   overview(future, first, last) {
     return this.#history(future).overview(first, last);
+  }
+
+  /**
+   * Paints a piece of the picture of a future, from the left.
+   * @param {number} future
+   * @param {import("./picture.js").Frame} frame
+   * @param {number} from the first column, the one after those of the piece before
+   */
+  paint(future, frame, from) {
+    if (from === 0) this.#painter = new Painter(this.#history(future), frame);
+    if (!this.#painter) throw new Error("no picture is begun");
+    return this.#painter.paint(PIECE_TIME);
   }
 
   /**

@@ -7,7 +7,7 @@ import { Jobs } from "./jobs.js";
 /** @typedef {{id: number, call: string, given: unknown[]}} CallMessage */
 /** @typedef {Record<string, (...given: unknown[]) => unknown>} Calls */
 
-const DESK_CALLS = "open show edit turn origins move overview search hits why until cell cellOf memory".split(" ");
+const DESK_CALLS = "open show edit turn origins move overview paint search hits why until cell cellOf memory";
 const JOB_CALLS = "assemble warriors match scores round checkFormula".split(" ");
 
 /**
@@ -26,7 +26,7 @@ async function start(module) {
   const bound = (/** @type {any} */ object, /** @type {string[]} */ names) =>
     names.map((name) => [name, object[name].bind(object)]);
   return Object.fromEntries([
-    ...bound(new Desk(mars), DESK_CALLS),
+    ...bound(new Desk(mars), DESK_CALLS.split(" ")),
     ...bound(new Jobs(mars), JOB_CALLS),
     ["start", () => true],
   ]);
