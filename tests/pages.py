@@ -738,8 +738,8 @@ def test_two_windows_lose_nothing(pair: Browser) -> None:
         "frames[%d].corewar.shelf.sources.map(({doc}) => doc.getValue()).filter(text => / ; t?here/.test(text)).sort()"
     )
     page.until(f"[0, 1].every(one => one >= 0) && {texts % 0}.length === 2 && {texts % 1}.length >= 1")
-    page.run("await new Promise(done => setTimeout(done, 900)); location.reload()")
-    page.until("[0, 1].every(one => frames[one]?.corewar?.session.view)")
+    page.run("await new Promise(done => setTimeout(done, 900)); window.isOld = true; location.reload()")
+    page.until("!window.isOld && [0, 1].every(one => frames[one]?.corewar?.session.view)")
     assert page.value(texts % 0) == ["MOV 0, 2 ; here", "MOV 0, 3 ; there"] == page.value(texts % 1)
 
 
@@ -971,6 +971,71 @@ def test_versions_on_the_bench(page: Browser, tmp_path: Path) -> None:
     page.until("document.getElementById('bench-note').textContent.startsWith('The source has an error')")
     page.run("corewar.shelf.editor.mirror.setValue(given[0])", text)
     page.until(done)
+
+
+def test_a_number_is_tuned(page: Browser, tmp_path: Path) -> None:
+    """The bench fights with many values of a number, exactly; a click takes one, and what fails leaves a gap."""
+    page.run("corewar.showDesk(true); corewar.shelf.show(corewar.shelf.find('dwarf.red'))")
+    page.run("const {mirror} = corewar.shelf.editor; mirror.focus(); mirror.setCursor(5, 17)")
+    page.until("document.getElementById('tune-here').textContent === 'Tune 4'")
+    page.run("document.querySelector('#names input').checked || document.querySelectorAll('#names input')[0].click()")
+    page.run("const against = document.getElementById('bench-against'); against.value = 'marked'")
+    page.run("rounds.value = '20'; rounds.dispatchEvent(new Event('change'))")
+    page.click("#tune-here")
+    page.until("location.hash === '#bench' && corewar.bench.tune.results.length === 400")
+    for name, value in (("from", -3), ("to", 8), ("step", 1)):
+        page.run(f"document.getElementById('tune-{name}').value = {value}")
+    page.run("await corewar.bench.tune.sweep()")
+    found = page.value("corewar.bench.tune.results.map(({value, row}) => [value, row?.points ?? null])")
+    # The source asserts that the core size is a multiple of the number.
+    assert [value for value, points in found if points is None] == [-3, 0, 3, 6, 7]
+    text, opponents = (EXAMPLES / "dwarf.red").read_text(), files("imp", "bomber")
+    for value in (-2, 8):
+        path = tmp_path / "dwarf.red"
+        path.write_text(re.sub(r"EQU +4", f"EQU {value}", text))
+        assert dict(found)[value] == sum(table("-r", 20, path, other)[0][0] for other in opponents), value
+    best = max((points or 0, -index) for index, (_, points) in enumerate(found))
+    page.click("#tune-best")
+    line = page.value("corewar.shelf.editor.mirror.getLine(5)")
+    assert line == text.split("\n")[5].replace("4", str(found[-best[1]][0]))
+    box = page.value("document.getElementById('tune-curve').getBoundingClientRect()")
+    page.mouse(box["x"] + box["width"] * 11.5 / 12, box["y"] + 40, "pointerDown", "pointerUp")
+    assert page.value("corewar.shelf.editor.mirror.getLine(5)") == text.split("\n")[5].replace("4", "8")
+    # A sweep can be cancelled.
+    page.run("document.getElementById('tune-to').value = 19000; window.swept = corewar.bench.tune.sweep()")
+    page.until("!document.getElementById('tune-stop').hidden")
+    page.click("#tune-stop")
+    page.run("await swept")
+    assert page.value("document.getElementById('tune-stop').hidden")
+
+
+def test_a_map_of_positions(page: Browser) -> None:
+    """Each square is two battles of the program, and a click shows one of them."""
+    page.click("[data-view=bench]")
+    page.until("document.getElementById('bench-note').textContent.endsWith(' ms')")
+    row = "[...document.querySelectorAll('#bench-rows tr')].find(one => one.textContent.startsWith('Lookout'))"
+    page.run(f"{row}.querySelector('td:last-child button').click()")
+    page.until("document.getElementById('map-stop').hidden && corewar.bench.map.outcomes.every(Boolean)")
+    outcomes = page.value("[...corewar.bench.map.outcomes]")
+    assert len(outcomes) == 2 * 7801
+    for position in (100, 1777, 4001, 7900):
+        wins, ties, losses = table("-r", 2, "-F", position, *files("dwarf", "scanner"))[0][1:]
+        pair = outcomes[2 * (position - 100) :][:2]
+        assert [pair.count(code) for code in (2, 3, 1)] == [wins, ties, losses], position
+    index = next(at for at in range(7801) if outcomes[2 * at] != outcomes[2 * at + 1])
+    point = page.run(
+        """const squares = document.getElementById("map-squares"), columns = Math.floor(squares.clientWidth / 8);
+        squares.scrollIntoView({block: "start", behavior: "instant"});
+        const {left, top, width} = squares.getBoundingClientRect(), side = width / columns;
+        return [left + side * (given[0] % columns + .4), top + side * (Math.floor(given[0] / columns) + .75)];""",
+        index,
+    )
+    page.mouse(*point, "pointerDown", "pointerUp")
+    page.until("!document.getElementById('battle').hidden && corewar.session.fight.round === 1")
+    assert page.value("corewar.session.fight.position") == 100 + index
+    end = {2: "Dwarf wins", 1: "Lookout wins", 3: "A tie"}[outcomes[2 * index + 1]]
+    page.run("await corewar.session.jump(corewar.session.end)")
+    page.until(f"document.getElementById('outcome').textContent.startsWith('{end}')")
 
 
 def test_the_league_is_the_program(page: Browser) -> None:

@@ -66,7 +66,7 @@ class Page {
       /** @type {import("../view/host.js").Host["fight"]} */
       fight: (sources, terms) => this.show("battle").fight(sources, true, terms),
     };
-    this.bench = new Bench(host);
+    this.bench = new Bench(host, () => this.#showBench());
     this.league = new League(host, server && ((sources, terms) => server.league(sources, terms)));
     this.theatre = new Theatre(this.session);
     const showLine = (/** @type {string} */ name, /** @type {number} */ line) => this.showLine(name, line);
@@ -376,6 +376,12 @@ class Page {
     } catch (error) {
       this.complain(`This link cannot be opened. ${errorWords(error, warriors, this.meanings)}`);
     }
+  }
+
+  #showBench() {
+    if (!element("bench").hidden) return;
+    this.places.visit("bench");
+    this.show("bench");
   }
 
   /** @param {boolean} hasCurves */

@@ -5,6 +5,8 @@ import { changeOf, isSure, verdict } from "../words/comparison.js";
 import { Stopped } from "../worker/pool.js";
 import { clamp, debounce, element, make, onClick, refill, throttle, typed, withCode } from "./dom.js";
 import { errorWords } from "./host.js";
+import { PositionMap } from "./map.js";
+import { Tune } from "./tune.js";
 
 /** @typedef {import("./host.js").Host} Host */
 /** @typedef {import("./host.js").MatchTerms} MatchTerms */
@@ -52,9 +54,14 @@ export class Bench {
     else if (this.isOpen) this.fight();
   }, 350);
 
-  /** @param {Host} host */
-  constructor(host) {
+  /**
+   * @param {Host} host
+   * @param {() => void} show shows the bench
+   */
+  constructor(host, show) {
     this.host = host;
+    this.tune = new Tune(host, () => this.#rivals, show);
+    this.map = new PositionMap(host);
     onClick("bench-base", () => this.#compare());
     element("bench-against").addEventListener("change", () => this.fight());
   }
@@ -75,8 +82,7 @@ export class Bench {
     const own = shelf.current;
     if (!own) return;
     const terms = this.host.terms();
-    const isAll = typed("bench-against", HTMLSelectElement).value === "all";
-    const opponents = (isAll ? shelf.all : shelf.fighters).filter(({ name }) => name !== own.name);
+    const opponents = this.#rivals;
     const key = JSON.stringify([own, terms, opponents]);
     if (key === this.#fought) return this.#draw();
     pool.drop("bench");
@@ -92,6 +98,13 @@ export class Bench {
       if (run === this.#run) this.#fault = errorWords(error, [own], this.host.meanings);
     }
     if (run === this.#run) this.#draw();
+  }
+
+  /** The sources that are opponents of the one in the editor. */
+  get #rivals() {
+    const { shelf } = this.host;
+    const isAll = typed("bench-against", HTMLSelectElement).value === "all";
+    return (isAll ? shelf.all : shelf.fighters).filter(({ name }) => name !== shelf.current?.name);
   }
 
   #compare() {
@@ -234,7 +247,7 @@ export class Bench {
     const title = this.#names.get(opponent.name) ?? opponent.name;
     if (!row) {
       const why = this.#faults.get(opponent.name) ?? (this.#fault ? "" : "…");
-      const cell = make("td", { className: "soft", colSpan: 5 }, withCode(why));
+      const cell = make("td", { className: "soft", colSpan: 6 }, withCode(why));
       return make("tr", {}, make("td", {}, opponent.name), cell);
     }
     const { points, far } = mean(row);
@@ -243,6 +256,8 @@ export class Bench {
     const rounds = row.wins + row.ties + row.losses;
     const shares = [row.wins, row.ties, row.losses].map((count) => Math.round((100 * count) / rounds)).join(" · ");
     const show = () => this.#own && this.host.fight([this.#own, opponent]);
+    const map = () => this.#own && this.map.open([this.#own, opponent], [this.#title, title]);
+    const every = { className: "link soft", title: "Every starting distance, in both orders", onclick: map };
     return make(
       "tr",
       {},
@@ -252,6 +267,7 @@ export class Bench {
       make("td", {}, `${fixed(points)} ± ${fixed(far)}`),
       make("td", {}, ...(change ? described(change) : [])),
       make("td", { className: "soft counts" }, shares),
+      make("td", {}, make("button", every, "Map")),
     );
   }
 }

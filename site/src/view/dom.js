@@ -132,6 +132,18 @@ export function placeTip(tip, { x, y }) {
 }
 
 /**
+ * Returns a colour of the style sheet, for canvases, which know no variables.
+ * @param {string} name
+ */
+export function colourOf(name) {
+  const probe = make("i", { style: `color:var(${name})` });
+  document.body.append(probe);
+  const { color } = getComputedStyle(probe);
+  probe.remove();
+  return color;
+}
+
+/**
  * Hands a file to the user.
  * @param {string} name
  * @param {string} text

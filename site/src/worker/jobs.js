@@ -3,7 +3,7 @@ import { History } from "../battle/history.js";
 import { ADDRESS } from "../battle/place.js";
 import { assembleAll, describe } from "../engine/warrior.js";
 import { MarsError } from "../model/errors.js";
-import { FORMULA } from "../model/layout.js";
+import { ASSEMBLY, FORMULA } from "../model/layout.js";
 import { HILLS } from "../model/settings.js";
 
 /** @typedef {import("../engine/mars.js").Mars} Mars */
@@ -100,6 +100,46 @@ export class Jobs {
       if (isNeeded) throw error;
       return 0;
     }
+  }
+
+  /**
+   * Fights a match of each version of a source, which differ in a number, with an opponent. Returns the row of each
+   * version, or null if it has an error, and what the best outcome of a round is worth.
+   * @param {{before: string, after: string}} source the text around the number
+   * @param {number[]} values
+   * @param {Warrior} opponent
+   * @param {import("../engine/mars.js").Terms & {formula?: string, settings: Settings, rounds: number}} terms
+   */
+  sweep({ before, after }, values, opponent, terms) {
+    const rows = values.map((value) => {
+      try {
+        const own = this.mars.assemble(`${before}${value}${after}`, { ...terms, warriors: 2 });
+        return this.mars.match([own, opponent], terms)[0];
+      } catch (error) {
+        if (error instanceof MarsError && error.code === ASSEMBLY) return null;
+        throw error;
+      }
+    });
+    return { rows, best: Math.max(1, ...[0, 1, 2].map((left) => this.#scoreOf(left, terms.formula, false))) };
+  }
+
+  /**
+   * Fights a pair at some distances, first with the first warrior first, then with the other one. Returns for each of
+   * these battles 1 if the first warrior loses, 2 if it wins, 3 if both survive.
+   * @param {Warrior[]} pair
+   * @param {number[]} positions
+   * @param {import("../engine/mars.js").Terms} terms
+   */
+  positions(pair, positions, { settings, seed }) {
+    return Uint8Array.from(
+      positions.flatMap((position) => {
+        const survived = this.mars.survivors(pair, { settings, seed, rounds: 2, position });
+        return [0, 1].map((round) => {
+          const [own, other] = survived.subarray(2 * round);
+          return own ? (other ? 3 : 2) : 1;
+        });
+      }),
+    );
   }
 
   /**

@@ -8,7 +8,7 @@ import { MarsError } from "../model/errors.js";
  * @template T
  * @typedef {{[K in keyof T]: T[K] extends (...given: infer A) => infer R ? (...given: A) => Promise<R> : never}} Later
  */
-/** @typedef {Pick<Jobs, "assemble" | "warriors" | "match" | "scores" | "round" | "checkFormula">} Work */
+/** @typedef {Omit<Jobs, "mars">} Work */
 /**
  * Where the script of a worker is, and the machine.
  * @typedef {{script: string, module: Promise<WebAssembly.Module>}} Parts
@@ -189,6 +189,11 @@ export class Pool {
   /** @type {Job[]} */
   #jobs = [];
   #count = 0;
+  /**
+   * The number of jobs of each group that wait or run.
+   * @type {Map<string, number>}
+   */
+  #counts = new Map();
 
   /**
    * @param {Parts} parts
@@ -208,12 +213,23 @@ export class Pool {
    * @returns {Promise<ReturnType<Work[K]>>}
    */
   ask(call, given, group, urgency = 0) {
-    return new Promise((done, failed) => {
+    const count = (/** @type {number} */ by) => this.#counts.set(group, (this.#counts.get(group) ?? 0) + by);
+    count(1);
+    const answer = new Promise((done, failed) => {
       let at = this.#jobs.length;
       while (at > 0 && this.#jobs[at - 1].urgency < urgency) at--;
       this.#jobs.splice(at, 0, { call, given, urgency, group, done, failed });
       this.#next();
     });
+    return answer.finally(() => count(-1));
+  }
+
+  /**
+   * Returns whether jobs of a group wait or run.
+   * @param {string} group
+   */
+  has(group) {
+    return (this.#counts.get(group) ?? 0) > 0;
   }
 
   /**

@@ -8,7 +8,7 @@ import { Jobs } from "./jobs.js";
 /** @typedef {Record<string, (...given: unknown[]) => unknown>} Calls */
 
 const DESK_CALLS = "open show edit turn origins move overview paint search hits why until cell cellOf memory";
-const JOB_CALLS = "assemble warriors match scores round checkFormula".split(" ");
+const JOB_CALLS = "assemble warriors match scores round sweep positions checkFormula".split(" ");
 
 /**
  * What can be called, once the machine has started.

@@ -1,0 +1,346 @@
+/** Tune: a number of the source in the editor, at many values, against the opponents of the bench. */
+import { number, pluralize } from "../words/battle.js";
+import { Stopped } from "../worker/pool.js";
+import { clamp, colourOf, element, make, onClick, placeTip, refill, throttle, typed, withCode } from "./dom.js";
+import { allOf, errorWords } from "./host.js";
+
+/** @typedef {import("codemirror").Position} Position */
+/** @typedef {import("../engine/mars.js").Row} Row */
+/** @typedef {import("./bench.js").Bench} Bench */
+/** @typedef {import("./host.js").Host} Host */
+/** @typedef {import("./host.js").MatchTerms} MatchTerms */
+/** @typedef {import("codemirror").Mark} Mark */
+/** @typedef {import("../engine/warrior.js").Warrior} Warrior */
+/** @typedef {{value: number, row: Row | null, left: number}} Result `left` is the number of matches that are not done */
+
+/** The number of values at first, at most, and of each job. */
+const AROUND = 400;
+const MAX_VALUES = 20_000;
+const BATCH = 8;
+/** The mark of the number in its document. */
+const MARK = { className: "tuned", inclusiveRight: true, clearWhenEmpty: false };
+/** A number, with its sign unless that is a minus between two operands. */
+const NUMBER = /(?<![\w&])(?:(?<=(?:^|[^\w)\s])\s*)-)?\d+(?!\w)/g;
+const HEIGHT = 190;
+const FOOT = 18;
+const TOP = 14;
+
+export class Tune {
+  /** @type {Mark | null} */
+  #mark = null;
+  /** @type {Result[]} */
+  results = [];
+  #best = 1;
+  #run = 0;
+  #note = "";
+  #later = throttle(() => this.#draw(), 60);
+
+  /**
+   * @param {Host} host
+   * @param {() => import("./host.js").Source[]} opponents
+   * @param {() => void} show shows the bench
+   */
+  constructor(host, opponents, show) {
+    this.host = host;
+    this.opponents = opponents;
+    this.show = show;
+    const { mirror } = host.shelf.editor;
+    mirror.on("cursorActivity", () => this.#offer());
+    mirror.on("scroll", () => (element("tune-here").hidden = true));
+    mirror.on("blur", () => (element("tune-here").hidden = true));
+    // The editor keeps the focus, and so its place, until the button is released.
+    element("tune-here").onmousedown = (event) => event.preventDefault();
+    onClick("tune-here", () => this.begin());
+    onClick("tune-run", () => this.sweep());
+    onClick("tune-stop", () => this.stop());
+    onClick("tune-best", () => this.#take(this.#bestResult?.value));
+    const canvas = element("tune-curve");
+    canvas.onpointermove = (event) => this.#point(event);
+    canvas.onpointerleave = () => (element("tip").hidden = true);
+    canvas.onclick = (event) => this.#take(this.#resultAt(event)?.value);
+    new ResizeObserver(() => this.#draw()).observe(canvas);
+  }
+
+  /** Returns the number at the caret, with its sign, or null. */
+  #numberAt() {
+    const { mirror } = this.host.shelf.editor;
+    const { line, ch } = mirror.getCursor();
+    const text = mirror.getLine(line);
+    const code = text.split(";")[0];
+    for (const { index: from = 0, 0: found } of code.matchAll(NUMBER)) {
+      const to = from + found.length;
+      if (from <= ch && ch <= to) return { line, from, to, text: found };
+    }
+    return null;
+  }
+
+  /** Offers to tune the number at the caret. */
+  #offer() {
+    const found = this.#numberAt();
+    const { mirror } = this.host.shelf.editor;
+    const button = element("tune-here");
+    button.hidden = !found || !mirror.hasFocus() || mirror.getSelection() !== "";
+    if (!found || button.hidden) return;
+    const { left, top } = mirror.charCoords({ line: found.line, ch: found.to }, "window");
+    button.textContent = `Tune ${found.text}`;
+    button.style.left = `${left + 10}px`;
+    button.style.top = `${top - 30}px`;
+  }
+
+  /** Tunes the number at the caret. */
+  begin() {
+    const found = this.#numberAt();
+    const { shelf, terms } = this.host;
+    if (!found || !shelf.shown) return;
+    this.stop();
+    this.#mark?.clear();
+    const [from, to] = [found.from, found.to].map((ch) => ({ line: found.line, ch }));
+    this.#mark = shelf.shown.doc.markText(from, to, MARK);
+    this.results = [];
+    this.#note = "";
+    const { core } = terms().settings;
+    const first = clamp(Number(found.text) - AROUND / 2, -core, core - AROUND);
+    for (const [id, value] of Object.entries({ from: first, to: first + AROUND - 1, step: 1 })) {
+      typed(`tune-${id}`, HTMLInputElement).value = String(value);
+    }
+    element("tune-here").hidden = true;
+    element("tune").hidden = false;
+    this.show();
+    element("tune").scrollIntoView({ block: "nearest" });
+    return this.sweep();
+  }
+
+  /** The values that are wanted: first some from everywhere, then those between them. */
+  get #values() {
+    const [first, last, step] = ["from", "to", "step"].map((id) => Number(typed(`tune-${id}`, HTMLInputElement).value));
+    const count = Math.floor((last - first) / step) + 1;
+    if (!(step > 0) || !(count >= 1) || count > MAX_VALUES || !Number.isInteger(first) || !Number.isInteger(step)) {
+      throw new Error(`Expected whole numbers, and at most ${number(MAX_VALUES)} values.`);
+    }
+    return Array.from({ length: count }, (_, index) => first + step * index);
+  }
+
+  /** Fights with each value. */
+  async sweep() {
+    const { pool, shelf, terms, meanings } = this.host;
+    const range = this.#mark?.find();
+    const own = shelf.current;
+    if (!own || !range) return;
+    const run = ++this.#run;
+    pool.drop("tune");
+    try {
+      const values = this.#values;
+      const opponents = this.opponents();
+      this.results = values.map((value) => ({ value, row: null, left: opponents.length }));
+      const lines = own.text.split("\n");
+      const text = lines[range.from.line];
+      const before = [...lines.slice(0, range.from.line), text.slice(0, range.from.ch)].join("\n");
+      const after = [text.slice(range.to.ch), ...lines.slice(range.to.line + 1)].join("\n");
+      await this.#fight({ before, after }, opponents, terms(), run);
+    } catch (error) {
+      if (run === this.#run && !(error instanceof Stopped)) this.#note = errorWords(error, [own], meanings);
+    }
+    if (run === this.#run) this.#run++;
+    this.#draw();
+  }
+
+  /**
+   * @param {{before: string, after: string}} source the text around the number
+   * @param {import("./host.js").Source[]} opponents
+   * @param {MatchTerms} terms
+   * @param {number} run
+   */
+  async #fight(source, opponents, terms, run) {
+    const { pool } = this.host;
+    const began = performance.now();
+    const entered = await Promise.allSettled(
+      opponents.map((opponent) => pool.ask("warriors", [[opponent], terms], "tune", 2)),
+    );
+    // A source with an error is no opponent.
+    const warriors = entered.flatMap((one) => (one.status === "fulfilled" ? one.value[0].warrior : []));
+    if (!warriors.length) throw new Error("There is no opponent.");
+    this.results.forEach((result) => (result.left = warriors.length));
+    const order = spread(this.results.length).map((index) => this.results[index]);
+    const batches = inBatches(order, BATCH);
+    let done = 0;
+    const fight = async (/** @type {Result[]} */ batch, /** @type {Warrior} */ warrior) => {
+      const values = batch.map(({ value }) => value);
+      const { rows, best } = await pool.ask("sweep", [source, values, warrior, terms], "tune", 1);
+      if (run !== this.#run) return;
+      this.#best = best;
+      batch.forEach((result, index) => add(result, rows[index]));
+      done += batch.length * terms.rounds;
+      this.#note = `${pluralize(done, "round")} in ${((performance.now() - began) / 1000).toFixed(1)} s`;
+      this.#later();
+    };
+    await allOf(batches.flatMap((batch) => warriors.map((warrior) => fight(batch, warrior))));
+  }
+
+  stop() {
+    this.#run++;
+    this.host.pool.drop("tune");
+    this.#draw();
+  }
+
+  /** @returns {Result | undefined} */
+  get #bestResult() {
+    const points = (/** @type {Result} */ { row }) => row?.points ?? -Infinity;
+    const [first, ...others] = this.results.filter(({ row, left }) => row && left === 0);
+    return others.reduce((best, one) => (points(one) > points(best) ? one : best), first);
+  }
+
+  /** @param {number | undefined} value */
+  #take(value) {
+    const range = this.#mark?.find();
+    const { shown, editor } = this.host.shelf;
+    if (value === undefined || !range || !shown) return;
+    const text = String(value);
+    shown.doc.replaceRange(text, range.from, range.to);
+    // The mark is of the number, also after it was replaced.
+    this.#mark?.clear();
+    const to = { ...range.from, ch: range.from.ch + text.length };
+    this.#mark = shown.doc.markText(range.from, to, MARK);
+    editor.mirror.scrollIntoView(range.from, 60);
+    this.#draw();
+  }
+
+  /** The value that the source has now. */
+  get #current() {
+    const range = this.#mark?.find();
+    const text = range && this.host.shelf.shown?.doc.getLine(range.from.line).slice(range.from.ch, range.to.ch);
+    return text ? Number(text) : NaN;
+  }
+
+  /** @param {Result} result */
+  #mean({ row }) {
+    return row ? row.points / (row.wins + row.ties + row.losses) : 0;
+  }
+
+  /** @param {PointerEvent | MouseEvent} event */
+  #resultAt({ clientX }) {
+    const { left, width } = element("tune-curve").getBoundingClientRect();
+    const at = clamp(Math.floor(((clientX - left) / width) * this.results.length), 0, this.results.length - 1);
+    return this.results[at];
+  }
+
+  /** @param {PointerEvent} event */
+  #point(event) {
+    const result = this.#resultAt(event);
+    const tip = element("tip");
+    tip.hidden = !result?.row;
+    if (!result?.row) return;
+    const { wins, ties, losses } = result.row;
+    const head = make("b", {}, `${number(result.value)}: ${this.#mean(result).toFixed(2)}`);
+    const shares = `${number(wins)} won, ${number(ties)} tied, ${number(losses)} lost. Click to take the value.`;
+    refill(tip, make("p", {}, head, " points per round"), make("p", { className: "soft" }, shares));
+    placeTip(tip, { x: event.clientX, y: event.clientY });
+  }
+
+  #draw() {
+    const best = this.#bestResult;
+    element("tune-stop").hidden = !this.host.pool.has("tune");
+    const button = element("tune-best");
+    button.hidden = !best;
+    if (best) button.textContent = `Take ${number(best.value)}: ${this.#mean(best).toFixed(2)} points`;
+    const range = this.#mark?.find();
+    const line = range && this.host.shelf.shown?.doc.getLine(range.from.line);
+    refill(element("tune-line"), line ? make("code", {}, line.split(";")[0].trim().replace(/\s+/g, " ")) : "");
+    refill(element("tune-note"), withCode(this.#note));
+    this.#drawCurve(best);
+  }
+
+  /** @param {Result | undefined} best */
+  #drawCurve(best) {
+    const canvas = typed("tune-curve", HTMLCanvasElement);
+    const [width, ratio] = [canvas.clientWidth, devicePixelRatio];
+    if (!width) return;
+    canvas.width = width * ratio;
+    canvas.height = HEIGHT * ratio;
+    const context = /** @type {CanvasRenderingContext2D} */ (canvas.getContext("2d"));
+    const [ink, line, top] = ["--ink", "--win", "--meta"].map(colourOf);
+    context.scale(ratio, ratio);
+    const { results } = this;
+    const x = (/** @type {number} */ index) => ((index + 0.5) / results.length) * width;
+    const y = (/** @type {number} */ mean) => HEIGHT - FOOT - (mean / this.#best) * (HEIGHT - FOOT - TOP);
+    context.font = "11px system-ui, sans-serif";
+    context.fillStyle = ink;
+    for (const share of [0, 0.5, 1]) {
+      context.globalAlpha = 0.16;
+      context.fillRect(0, y(share * this.#best), width, 1);
+      context.globalAlpha = 0.7;
+      context.fillText((share * this.#best).toFixed(1), 2, y(share * this.#best) - 3);
+    }
+    context.globalAlpha = 1;
+    const current = results.findIndex(({ value }) => value === this.#current);
+    if (current >= 0) context.fillRect(Math.round(x(current)), TOP, 1, HEIGHT - FOOT - TOP);
+    const wide = Math.max(1.5, width / results.length - 0.5);
+    results.forEach((result, index) => {
+      if (!result.row || result.left) return;
+      context.fillStyle = result === best ? top : line;
+      const height = y(this.#mean(result));
+      context.globalAlpha = 0.28;
+      context.fillRect(x(index) - wide / 2, height, wide, HEIGHT - FOOT - height);
+      context.globalAlpha = 1;
+      context.fillRect(x(index) - wide / 2, height - 1, wide, 2.5);
+    });
+    this.#drawValues(context, width, ink);
+  }
+
+  /**
+   * @param {CanvasRenderingContext2D} context
+   * @param {number} width
+   * @param {string} colour
+   */
+  #drawValues(context, width, colour) {
+    const { results } = this;
+    context.fillStyle = colour;
+    context.globalAlpha = 0.7;
+    const count = Math.min(results.length, Math.floor(width / 90));
+    for (let k = 0; k < count; k++) {
+      const index = Math.round((k * (results.length - 1)) / Math.max(1, count - 1));
+      context.textAlign = k === 0 ? "left" : k === count - 1 ? "right" : "center";
+      const at = k === 0 ? 2 : k === count - 1 ? width - 2 : ((index + 0.5) / results.length) * width;
+      context.fillText(number(results[index].value), at, HEIGHT - 4);
+    }
+  }
+}
+
+/**
+ * @param {Result} result
+ * @param {Row | null} row null if the source with this value has an error
+ */
+function add(result, row) {
+  result.left--;
+  if (!row) return;
+  const sum = result.row ?? { points: 0, wins: 0, ties: 0, losses: 0 };
+  result.row = {
+    points: sum.points + row.points,
+    wins: sum.wins + row.wins,
+    ties: sum.ties + row.ties,
+    losses: sum.losses + row.losses,
+  };
+}
+
+/**
+ * @template T
+ * @param {T[]} all
+ * @param {number} size
+ */
+export const inBatches = (all, size) =>
+  Array.from({ length: Math.ceil(all.length / size) }, (_, at) => all.slice(size * at, size * (at + 1)));
+
+/**
+ * Returns the numbers up to a count, first some that are far apart, then those between them.
+ * @param {number} count
+ */
+export function spread(count) {
+  /** @type {number[]} */
+  const found = [];
+  const bits = Math.ceil(Math.log2(Math.max(2, count)));
+  for (let index = 0; index < 2 ** bits; index++) {
+    let reversed = 0;
+    for (let bit = 0; bit < bits; bit++) if (index & (1 << bit)) reversed |= 1 << (bits - 1 - bit);
+    if (reversed < count) found.push(reversed);
+  }
+  return found;
+}
