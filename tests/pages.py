@@ -487,6 +487,35 @@ def test_loading_again_keeps_the_place(page: Browser) -> None:
     assert page.value("location.hash") == ""
 
 
+SHOWN = "['stage', 'track', 'play', 'top', 'side', 'desk', 'rewind', 'leaps'].filter(id => %s)"
+SHOWN %= "document.getElementById(id).checkVisibility()"
+
+
+def test_a_battle_is_embedded(page: Browser, site: str, tmp_path: Path) -> None:
+    """Only core, strip and Play are shown, of a link and of the page in one file; Share copies the code."""
+    go_to_turn(page, 4000)
+    link = page.run("return shared(corewar.session)")
+    page.click("#share")
+    page.until("document.getElementById('sharing').open")
+    page.click("#copy-embed")
+    page.until("document.getElementById('link').value.startsWith('<iframe src=\"Dwarf-Imp.html#embed\" title=')")
+    page.open(f"{site}?embed#embed&f={link}")
+    page.until("window.corewar?.session.turn === 4000 && corewar.session.isSettled")
+    assert page.value(SHOWN) == ["stage", "track", "play"] and page.value("corewar.session.way") == 0
+    boxes = "['stage', 'core'].map(id => document.getElementById(id).getBoundingClientRect())"
+    page.resize(480, 400)
+    page.until("document.documentElement.scrollWidth <= 480 && document.documentElement.scrollHeight <= 400")
+    stage, core = page.value(boxes)
+    assert core["height"] > 150 and stage["bottom"] <= 400
+    page.resize(1280, 800)
+    text = page.run("return pageWith(await shared(corewar.session))")
+    (tmp_path / "Dwarf-Imp.html").write_text(text, encoding="utf-8")
+    page.open(f"file://{tmp_path}/Dwarf-Imp.html#embed")
+    page.until("window.corewar?.session.turn === 4000 && corewar.session.isSettled")
+    assert page.value(SHOWN) == ["stage", "track", "play"]
+    page.open("about:blank")
+
+
 def test_a_link_that_only_this_machine_can_open(page: Browser) -> None:
     """Share shows no address of this machine."""
     page.click("#share")

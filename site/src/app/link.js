@@ -176,9 +176,9 @@ export async function unpack(text, selection = {}) {
 
 /**
  * Returns what an address carries after its `#`: a fight as `f`, and a selection: `w=0,5` of its warriors, `r=3` its
- * round, `t=100` its turn.
+ * round, `t=100` its turn; and whether it begins with `embed`: only the battle is shown.
  * @param {string} hash
- * @returns {{text: string, selection: Selection}}
+ * @returns {{text: string, selection: Selection, isEmbedded: boolean}}
  */
 export function readAddress(hash) {
   const given = new URLSearchParams(hash.replace(/^#/, ""));
@@ -187,5 +187,6 @@ export function readAddress(hash) {
     return /^\d{1,9}(,\d{1,9})*$/.test(text) ? text.split(",").map(Number) : undefined;
   };
   const [warriors, rounds, turns] = [numbers("w"), numbers("r"), numbers("t")];
-  return { text: given.get("f") ?? "", selection: { warriors, round: rounds?.[0], turn: turns?.[0] } };
+  const selection = { warriors, round: rounds?.[0], turn: turns?.[0] };
+  return { text: given.get("f") ?? "", selection, isEmbedded: given.has("embed") };
 }

@@ -297,8 +297,9 @@ class Page {
    * @param {string} carried the battle of the page, or ""
    */
   async #arrive(carried) {
-    const { text, selection } = readAddress(location.hash);
+    const { text, selection, isEmbedded } = readAddress(location.hash);
     const place = placeOf(location.hash);
+    document.body.classList.toggle("embed", isEmbedded);
     const isBattle = !place || place.view === "battle" || place.number !== null;
     this.show(isBattle || !place ? "battle" : place.view);
     this.lessons.show(place?.view === "learn" ? (place.number ?? 0) : 0);
@@ -368,7 +369,8 @@ class Page {
       const { fight, turn, pinned } = await unpack(text, selection);
       warriors = fight.warriors;
       if (fight.formula !== FORMULA) await this.pool.ask("checkFormula", [fight.formula], "link", 3);
-      await this.session.open(fight, { turn, pinned, plays: turn === 0 && !isStill() });
+      const isEmbedded = document.body.classList.contains("embed");
+      await this.session.open(fight, { turn, pinned, plays: turn === 0 && !isStill() && !isEmbedded });
       this.#hasNewTerms = false;
       this.#showTerms(fight);
       this.session.rename(this.shelf.mark(warriors));
@@ -437,6 +439,7 @@ class Page {
     onClick("fight-here", () => this.fightMarked());
     onClick("another", () => this.another());
     onClick("next-fight", () => this.another());
+    onClick("whole-page", () => open(location.href.replace(/#embed&?/, "#"), "_blank", "noopener"));
     onClick("theme", changeTheme);
     onClick("words", showSheet);
     onClick("curves", () => this.#showCurves(!this.theatre.track.hasCurves));

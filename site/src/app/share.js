@@ -24,9 +24,38 @@ export function shared(session) {
   return pack({ fight: { ...fight, edits: opened.edits }, turn, pinned });
 }
 
+/**
+ * Returns the code that shows the battle in another page.
+ * @param {string} address
+ * @param {string} title
+ */
+function embedCode(address, title) {
+  const named = title.replace(/[&<>"]/g, (letter) => `&#${letter.charCodeAt(0)};`);
+  return `<iframe src="${address}" title="${named}" width="640" height="520" style="border:0" loading="lazy"></iframe>`;
+}
+
+/**
+ * Copies a text, which stays selected in the field if the browser does not allow that.
+ * @param {string} text
+ */
+async function copy(text) {
+  const field = typed("link", HTMLInputElement);
+  const note = element("link-note");
+  field.value = text;
+  field.select();
+  try {
+    await navigator.clipboard.writeText(text);
+    note.textContent = "Copied.";
+  } catch {
+    note.textContent = "The browser does not allow copying. The text is selected; press Ctrl-C.";
+  }
+}
+
 /** @param {Session} session */
 export function listenToShare(session) {
   const note = (/** @type {string} */ text) => (element("link-note").textContent = text);
+  const title = () => session.known.names.join(" against ");
+  const file = () => `${session.known.names.join("-").replace(/[^\w-]+/g, "_") || "battle"}.html`;
   onClick("share", async () => {
     session.stop();
     // The link leads to the turn at which the battle stops.
@@ -43,20 +72,15 @@ export function listenToShare(session) {
     typed("sharing", HTMLDialogElement).showModal();
     field.select();
   });
-  onClick("copy", async () => {
-    const field = typed("link", HTMLInputElement);
-    field.select();
-    try {
-      await navigator.clipboard.writeText(field.value);
-      note("Copied.");
-    } catch {
-      note("The browser does not allow copying. The link is selected; press Ctrl-C.");
-    }
+  onClick("copy", () => copy(typed("link", HTMLInputElement).value));
+  onClick("copy-embed", async () => {
+    // Others can show the page in one file, where its address has no fight.
+    const address = isPublic ? `${location.href.split("#")[0]}#embed&f=${await shared(session)}` : `${file()}#embed`;
+    await copy(embedCode(address, title()));
   });
   onClick("page", async () => {
-    const name = session.known.names.join("-").replace(/[^\w-]+/g, "_") || "battle";
     try {
-      download(`${name}.html`, await pageWith(await shared(session)), "text/html");
+      download(file(), await pageWith(await shared(session)), "text/html");
     } catch (error) {
       note(`The page cannot be saved: ${/** @type {Error} */ (error).message}`);
     }

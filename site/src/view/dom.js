@@ -155,5 +155,5 @@ export function download(name, text, type) {
   setTimeout(() => URL.revokeObjectURL(link.href), 10_000);
 }
 
-/** Whether the page has the layout of a narrow window. */
-export const isNarrow = () => matchMedia("(max-width: 56rem)").matches;
+/** Whether the page has the layout of a narrow window; a battle in a frame has none. */
+export const isNarrow = () => matchMedia("(max-width: 56rem)").matches && !document.body.matches(".embed");

@@ -11,7 +11,7 @@ import { allOf, errorWords } from "./host.js";
 /** @typedef {import("./host.js").MatchTerms} MatchTerms */
 /** @typedef {import("codemirror").Mark} Mark */
 /** @typedef {import("../engine/warrior.js").Warrior} Warrior */
-/** @typedef {{value: number, row: Row | null, left: number}} Result `left` is the number of matches that are not done */
+/** @typedef {{value: number, row: Row | null, left: number}} Result `left` counts the matches that are not done */
 
 /** The number of values at first, at most, and of each job. */
 const AROUND = 400;
