@@ -779,7 +779,7 @@ def test_what_a_link_brings_is_stored_once_it_is_changed(page: Browser, site: st
     sources = [{"name": f"{name}.red", "text": f";name {name}\nMOV 0, 1\n"} for name in ("Anna", "Bert")]
     link = page.run(fight, "W*S", sources)
     page.open(f"{site}?guests#f={link}")
-    page.until("document.title === 'Anna against Bert · Core War'")
+    page.until("window.corewar?.session.view && document.title === 'Anna against Bert · Core War'")
     names = "corewar.shelf.sources.map(({name}) => name).filter(name => /^(Anna|Bert)/.test(name))"
     assert page.value(names) == ["Anna.red", "Bert.red"]
     page.run("corewar.shelf.show(corewar.shelf.find('Bert.red'))")
@@ -1201,7 +1201,7 @@ def test_a_lesson_is_checked(page: Browser) -> None:
 def test_no_window_scrolls_sideways(page: Browser, view: str) -> None:
     page.run("corewar.show(given[0]); corewar.showDesk(true)", view)
     try:
-        for width in (390, 768, 1280, 2560):
+        for width in (320, 390, 768, 1280, 2560):
             page.resize(width, 844)
             page.until("document.documentElement.scrollWidth <= innerWidth + 1")
     finally:
@@ -1214,6 +1214,26 @@ def narrow(page: Browser) -> Iterator[Browser]:
     page.resize(390, 844)
     yield page
     page.resize(1280, 800)
+
+
+def test_nothing_moves_while_the_page_begins(page: Browser, site: str) -> None:
+    """Browsers that measure it call more than 0.1 poor; and Play is visible in windows of all sizes."""
+    moved = """return new Promise(done => {
+        let sum = 0;
+        const add = list => { for (const entry of list.getEntries()) sum += entry.value };
+        new PerformanceObserver(add).observe({type: "layout-shift", buffered: true});
+        setTimeout(() => done(sum), 500);
+      })"""
+    play = "document.getElementById('play').getBoundingClientRect()"
+    try:
+        for width, height in ((1280, 800), (390, 844), (844, 390), (320, 640)):
+            page.resize(width, height)
+            page.open(f"{site}?{width}")
+            page.until("window.corewar?.session.view && document.body.classList.contains('running')")
+            assert page.run(moved) < 0.02, width
+            assert page.value(f"{play}.top > 0 && {play}.bottom <= innerHeight"), width
+    finally:
+        page.resize(1280, 800)
 
 
 def test_a_narrow_page_has_tabs(narrow: Browser) -> None:
@@ -1281,13 +1301,20 @@ def test_a_narrow_page_shows_answers(narrow: Browser) -> None:
 
 
 CONTRAST = """
-const parse = colour => (colour.match(/[\\d.]+/g) ?? [0, 0, 0, 0]).map(Number);
+const probe = Object.assign(document.createElement("canvas"), {width: 1, height: 1}).getContext("2d");
+const parse = colour => {
+  probe.clearRect(0, 0, 1, 1);
+  probe.fillStyle = colour;
+  probe.fillRect(0, 0, 1, 1);
+  const [r, g, b, a] = probe.getImageData(0, 0, 1, 1).data;
+  return [r, g, b, a / 255];
+};
 const light = ([r, g, b]) => [r, g, b].map(v => v / 255).map(v => v <= .03928 ? v / 12.92 : ((v + .055) / 1.055) ** 2.4)
   .reduce((sum, v, i) => sum + v * [.2126, .7152, .0722][i], 0);
 const ground = one => {
   for (let at = one; at; at = at.parentElement) {
     const colour = parse(getComputedStyle(at).backgroundColor);
-    if (colour.length < 4 || colour[3] > .99) return colour;
+    if (colour[3] > .99) return colour;
   }
   return [255, 255, 255];
 };

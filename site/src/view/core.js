@@ -76,6 +76,10 @@ export class Core {
   #image = new ImageData(1, 1);
   #pixels = new Uint32Array(1);
   #processOwners = new Uint8Array(1);
+  /** What cells add to those around them: a pixel for each cell, which is drawn large and smooth. */
+  #glow = document.createElement("canvas");
+  #glowImage = new ImageData(1, 1);
+  #glows = new Uint32Array(1);
 
   /** @param {HTMLCanvasElement} canvas */
   constructor(canvas) {
@@ -115,6 +119,10 @@ export class Core {
     this.#image = this.context.createImageData(wide, tall);
     this.#pixels = new Uint32Array(this.#image.data.buffer);
     this.#processOwners = new Uint8Array(size);
+    this.#glow.width = columns;
+    this.#glow.height = rows;
+    this.#glowImage = new ImageData(columns, rows);
+    this.#glows = new Uint32Array(this.#glowImage.data.buffer);
   }
 
   /**
@@ -131,7 +139,20 @@ export class Core {
     context.clearRect(0, 0, canvas.width, canvas.height);
     context.putImageData(this.#image, this.#margin, this.#margin);
     if (this.#isReadable) this.#drawTexts(view);
+    else this.#drawGlow();
     this.#drawMarks(palette, marks, this.cell < LARGE * devicePixelRatio ? few : []);
+  }
+
+  #drawGlow() {
+    const { context } = this;
+    this.#glow.getContext("2d")?.putImageData(this.#glowImage, 0, 0);
+    context.globalCompositeOperation = "lighter";
+    // Small cells are bright enough beside each other.
+    context.globalAlpha = Math.min(1, this.cell / (8 * devicePixelRatio));
+    context.imageSmoothingEnabled = true;
+    context.drawImage(this.#glow, this.#margin, this.#margin, this.#xs[this.columns], this.#ys[this.rows]);
+    context.globalCompositeOperation = "source-over";
+    context.globalAlpha = 1;
   }
 
   get #isReadable() {
@@ -144,7 +165,7 @@ export class Core {
    * @param {Palette} palette
    * @param {number} grain
    */
-  #drawCells({ owner, written, turn }, { shades, back }, grain) {
+  #drawCells({ owner, written, turn }, { shades, glows, back }, grain) {
     const [pixels, xs, ys] = [this.#pixels, this.#xs, this.#ys];
     const { width } = this.#image;
     pixels.fill(back);
@@ -155,7 +176,9 @@ export class Core {
         const address = first + column;
         const when = written[address];
         const age = when === 0 ? SHADES : Math.min(SHADES, Math.floor((turn - when) / grain));
-        const shade = shades[owner[address] * (SHADES + 1) + age];
+        const index = owner[address] * (SHADES + 1) + age;
+        const shade = shades[index];
+        this.#glows[address] = glows[index];
         const to = start + xs[column + 1] - this.#gap;
         for (let x = start + xs[column]; x < to; x++) pixels[x] = shade;
       }
@@ -180,6 +203,7 @@ export class Core {
         if (this.#processOwners[address] === warrior + 1) continue;
         if (count <= MAX_RINGED) few.push({ address, warrior });
         this.#drawProcess(address, palette.process[warrior], this.#processOwners[address] > 0);
+        this.#glows[address] = palette.processGlow[warrior];
         this.#processOwners[address] = warrior + 1;
       }
       first += count;

@@ -7,8 +7,12 @@ const COLOURS = "#ff7a33 #3f9df2 #2fe0a0 #a98fb4 #f7e21f #c2f0fb #a35f4a #bdb4ff
 COLOURS.push(..."#d0562a #2f6fc0 #179a6c #d060b8 #a8951a #4aa3bd #d8a58c #858d98".split(" "));
 /** The number of shades that a cell goes through until it no longer counts as written recently. */
 export const SHADES = 24;
-const GROUND = [21, 26, 33];
-const BACK = [9, 12, 16];
+const GROUND = [14, 19, 25];
+/** The colour of the stage: `--stage` of the style sheet. */
+const BACK = [6, 8, 12];
+/** The shades that glow, and how strongly the first one does. */
+const GLOWING = 9;
+const GLOW = 0.45;
 const WHITE = [255, 255, 255];
 const EDITED = [235, 235, 235];
 
@@ -40,6 +44,8 @@ const css = (colour) => `rgb(${colour.map(Math.round)})`;
 export class Palette {
   back = pixel(BACK);
   backText = css(BACK);
+  /** What each shade of each owner adds to the cells around it. */
+  glows = new Uint32Array((NOBODY + 1) * (SHADES + 1));
   /** The shades of each owner, from fresh to old. */
   shades = new Uint32Array((NOBODY + 1) * (SHADES + 1)).fill(pixel(GROUND));
 
@@ -53,6 +59,7 @@ export class Palette {
     const shown = own.map((colour, who) => (isShown(who) ? colour : mixed(colour, GROUND, 0.86)));
     this.text = own.map(css);
     this.mark = own.map((colour, who) => css(isShown(who) ? mixed(colour, WHITE, 0.25) : shown[who]));
+    this.processGlow = shown.map((colour) => pixel(mixed([0, 0, 0], colour, 0.6)));
     this.process = own.map((colour, who) => pixel(isShown(who) ? mixed(colour, WHITE, 0.72) : shown[who]));
     shown.forEach((colour, who) => this.#shade(who, colour));
     this.#shade(BY_HAND, EDITED);
@@ -79,6 +86,8 @@ export class Palette {
       const part = 0.46 + 0.54 * (1 - age / SHADES) ** 1.7;
       const bright = age < 2 ? mixed(colour, WHITE, 0.09 * (2 - age)) : colour;
       this.shades[owner * (SHADES + 1) + age] = pixel(mixed(GROUND, bright, part));
+      const glow = GLOW * Math.max(0, 1 - age / GLOWING) ** 1.6;
+      this.glows[owner * (SHADES + 1) + age] = pixel(mixed([0, 0, 0], colour, glow));
     }
   }
 }

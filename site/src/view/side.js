@@ -145,7 +145,7 @@ export class Side {
     row.querySelector("button")?.setAttribute("aria-pressed", String(chosen === who));
     processes.textContent = number(view.processes[who]);
     cells.textContent = number(view.owned[who]);
-    bar.style.width = `${(100 * view.owned[who]) / known.core}%`;
+    bar.style.setProperty("--share", `${(100 * view.owned[who]) / known.core}%`);
     const death = opened.deaths.find(({ warrior }) => warrior === who);
     if (death && death.turn <= view.turn) fate.textContent = `died in turn ${number(death.turn)}`;
     else if (view.turn === opened.end) fate.textContent = fateWords(known);

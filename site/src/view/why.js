@@ -2,7 +2,7 @@
 import { cellText, readCell } from "../model/cells.js";
 import { number, place } from "../words/battle.js";
 import { linkWords } from "../words/why.js";
-import { buttons, element, make, onClick, refill, withCode } from "./dom.js";
+import { buttons, element, isNarrow, make, onClick, refill, withCode } from "./dom.js";
 import { swatch } from "./palette.js";
 
 /** @typedef {import("../words/why.js").Link} Link */
@@ -40,11 +40,11 @@ export class Why {
     const links = await session.desk.why(future, death.warrior);
     if (opened !== session.opened) return;
     const write = links.filter(({ kind }) => kind === "write").at(-1);
-    if (death.address >= 0) session.pin(death.address);
+    // On a narrow page the cell would cover the turns that led to it.
+    session.pin(death.address < 0 || isNarrow() ? null : death.address);
     session.explain({ death, links });
     await session.jump((write ?? death).turn);
-    // On a narrow page it is below the battle.
-    element("chain-box").scrollIntoView({ block: "nearest" });
+    scrollTo(0, 0);
   }
 
   #draw() {
@@ -76,7 +76,7 @@ export class Why {
     const { session, side } = this;
     const { opened, known } = session;
     const show = () => {
-      session.pin(link.kind === "aim" || link.kind === "arrival" ? link.address : link.target);
+      if (!isNarrow()) session.pin(link.kind === "aim" || link.kind === "arrival" ? link.address : link.target);
       session.jump(link.turn);
     };
     const found = side.lineOfOrigin(link.origin);
