@@ -437,6 +437,7 @@ def test_a_link_carries_the_fight(page: Browser, site: str) -> None:
         page.open(f"{site}?{broken}#f={broken}")
         page.until("window.corewar?.session.view")
         assert page.text("complaint") == f"This link cannot be opened. {why}"
+        assert page.value("location.hash") == ""
 
 
 BACK = "history.back(); await new Promise(done => addEventListener('popstate', done, {once: true}))"

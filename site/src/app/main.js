@@ -349,6 +349,8 @@ class Page {
     const first = this.examples.filter(({ name }) => FIRST.includes(name));
     if (!this.session.latest) await this.fight(first, isShown, DEFAULT_TERMS);
     this.complain([...new Set(faults)].join(" ").trim());
+    // A link that cannot be opened is not tried again when the page is loaded again.
+    if (readAddress(location.hash).text) this.places.rename();
   }
 
   /** Says that something that was stored is damaged. */

@@ -54,6 +54,11 @@ export class Picture {
     }
   }
 
+  /** Whether all of it is painted. */
+  get isWhole() {
+    return this.frame !== null && this.#painted === this.frame.columns;
+  }
+
   /** Forgets the picture: it is of another battle. */
   clear() {
     this.frame = null;
