@@ -1008,6 +1008,11 @@ def test_a_number_is_tuned(page: Browser, tmp_path: Path) -> None:
     page.run("corewar.showDesk(true); corewar.shelf.show(corewar.shelf.find('dwarf.red'))")
     page.run("const {mirror} = corewar.shelf.editor; mirror.focus(); mirror.setCursor(5, 17)")
     page.until("document.getElementById('tune-here').textContent === 'Tune 4'")
+    # The name of an EQU is as good as its number.
+    page.run("corewar.shelf.editor.mirror.setCursor(11, 3)")
+    assert page.value("document.getElementById('tune-here').hidden")
+    page.run("corewar.shelf.editor.mirror.setCursor(8, 20)")
+    assert page.value("document.getElementById('tune-here').hidden") is False
     page.run("document.querySelector('#names input').checked || document.querySelectorAll('#names input')[0].click()")
     page.run("const against = document.getElementById('bench-against'); against.value = 'marked'")
     page.run("rounds.value = '20'; rounds.dispatchEvent(new Event('change'))")

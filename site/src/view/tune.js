@@ -1,5 +1,6 @@
 /** Tune: a number of the source in the editor, at many values, against the opponents of the bench. */
 import { number, pluralize } from "../words/battle.js";
+import { readSource } from "../words/source.js";
 import { Stopped } from "../worker/pool.js";
 import { clamp, colourOf, element, make, onClick, placeTip, refill, throttle, typed, withCode } from "./dom.js";
 import { allOf, errorWords } from "./host.js";
@@ -61,17 +62,17 @@ export class Tune {
     new ResizeObserver(() => this.#draw()).observe(canvas);
   }
 
-  /** Returns the number at the caret, with its sign, or null. */
+  /** Returns the number at the caret, with its sign, or that of the EQU whose name is there; null if there is none. */
   #numberAt() {
     const { mirror } = this.host.shelf.editor;
     const { line, ch } = mirror.getCursor();
-    const text = mirror.getLine(line);
-    const code = text.split(";")[0];
-    for (const { index: from = 0, 0: found } of code.matchAll(NUMBER)) {
-      const to = from + found.length;
-      if (from <= ch && ch <= to) return { line, from, to, text: found };
-    }
-    return null;
+    const code = mirror.getLine(line).split(";")[0];
+    const here = numbersIn(code, line).find(({ from, to }) => from <= ch && ch <= to);
+    if (here) return here;
+    const name = (/\w*$/.exec(code.slice(0, ch))?.[0] ?? "") + (/^\w*/.exec(code.slice(ch))?.[0] ?? "");
+    const equate = readSource(mirror.getValue()).equates.get(name);
+    const [only, ...others] = equate ? numbersIn(equate.text.split(";")[0], equate.number - 1) : [];
+    return only && others.length === 0 ? only : null;
   }
 
   /** Offers to tune the number at the caret. */
@@ -81,7 +82,7 @@ export class Tune {
     const button = element("tune-here");
     button.hidden = !found || !mirror.hasFocus() || mirror.getSelection() !== "";
     if (!found || button.hidden) return;
-    const { left, top } = mirror.charCoords({ line: found.line, ch: found.to }, "window");
+    const { left, top } = mirror.charCoords(mirror.getCursor(), "window");
     button.textContent = `Tune ${found.text}`;
     button.style.left = `${left + 10}px`;
     button.style.top = `${top - 30}px`;
@@ -304,6 +305,14 @@ export class Tune {
     }
   }
 }
+
+/**
+ * Returns the numbers of a line of code.
+ * @param {string} code
+ * @param {number} line
+ */
+const numbersIn = (code, line) =>
+  [...code.matchAll(NUMBER)].map(({ index: from = 0, 0: text }) => ({ line, from, to: from + text.length, text }));
 
 /**
  * @param {Result} result
