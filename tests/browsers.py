@@ -41,10 +41,18 @@ class Files(http.server.SimpleHTTPRequestHandler):
         ...
 
 
+class Strict(Files):
+    """A server that allows no workers, as some networks and extensions do."""
+
+    def end_headers(self) -> None:
+        self.send_header("Content-Security-Policy", "worker-src 'none'")
+        super().end_headers()
+
+
 @contextmanager
-def served(folder: Path) -> Iterator[str]:
+def served(folder: Path, kind: type[Files] = Files) -> Iterator[str]:
     """Yields the address of a folder that is served as files."""
-    handler = functools.partial(Files, directory=str(folder))
+    handler = functools.partial(kind, directory=str(folder))
     with http.server.ThreadingHTTPServer(("127.0.0.1", 0), handler) as server:
         threading.Thread(target=server.serve_forever, daemon=True).start()
         yield f"http://127.0.0.1:{server.server_address[1]}"

@@ -8,7 +8,7 @@ from collections.abc import Iterator
 from pathlib import Path
 
 import pytest
-from browsers import Browser, served
+from browsers import Browser, Strict, served
 from conftest import COMMAND, ENVIRONMENT, EXAMPLES, TOP
 from costly import slow
 from counting import PROGRAM, skip
@@ -846,13 +846,15 @@ def test_opening_a_battle_is_cancelled(page: Browser) -> None:
     assert page.value("[corewar.session.futures.length, document.title]") == [2, "Dwarf against Imp · Core War"]
 
 
-def test_workers_that_are_blocked(page: Browser, site: str) -> None:
-    """The page says so, also if the script fails before anything is asked of a worker."""
-    code = """const script = URL.createObjectURL(new Blob(["throw 1"]));
-      const module = new Promise(done => setTimeout(done, 500));
-      const pool = new corewar.pool.constructor({script, module}, 1);
-      return pool.ask("assemble", ["", {}], "lint").then(() => "", ({message}) => message);"""
-    assert page.run(code)
+def test_workers_that_are_blocked(browser: Browser) -> None:
+    """The page says that the simulator does not start, although its workers fail before anything is asked of them."""
+    with served(TOP / "build" / "site", Strict) as address:
+        browser.open(f"{address}/index.html")
+        browser.until("!document.getElementById('complaint').hidden")
+        assert browser.text("complaint") == "A worker does not start."
+        assert browser.text("loading") == "The simulator does not start."
+    browser.open("about:blank")
+    browser.errors()
 
 
 def test_a_surprise_has_a_seed_of_its_own(page: Browser) -> None:

@@ -349,6 +349,7 @@ class Page {
     const first = this.examples.filter(({ name }) => FIRST.includes(name));
     if (!this.session.latest) await this.fight(first, isShown, DEFAULT_TERMS);
     this.complain([...new Set(faults)].join(" ").trim());
+    if (!this.session.latest) element("loading").textContent = "The simulator does not start.";
     // A link that cannot be opened is not tried again when the page is loaded again.
     if (readAddress(location.hash).text) this.places.rename();
   }

@@ -45,6 +45,7 @@ export class Picture {
     for (let from = 0; from < frame.columns; ) {
       const piece = await this.ask(frame, from).catch(() => null);
       // Another battle may have been opened, or the desk started again.
+      if (!piece) this.#wanted = "";
       if (!piece || request !== this.#request) return;
       if (from === 0) this.#begin(frame);
       this.#owner.set(piece.owner, piece.from * frame.rows);

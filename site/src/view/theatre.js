@@ -21,8 +21,9 @@ const BACKWARDS = "M12 2v12L2 8z";
 const FASTEST = 200_000;
 /** Below this speed the next instruction is marked while the battle plays. */
 const SLOW = 15;
-/** The maximum number of marks of breakpoints on the strip. */
+/** The maximum number of marks of breakpoints on the strip, and of turns that are searched for them. */
 const MAX_HITS = 4000;
+const MAX_SCANNED = 4_000_000;
 /** Milliseconds after which opening a battle takes long. */
 const PATIENCE = 700;
 /** The maximum number of marked cells that differ between two futures. */
@@ -302,7 +303,8 @@ export class Theatre {
     const key = JSON.stringify([breaks, future]);
     if (key === this.#hitsOf && opened === track.opened) return;
     this.#hitsOf = key;
-    const hits = breaks.length && opened ? await session.desk.hits(future, breaks, MAX_HITS).catch(() => []) : [];
+    const isShort = opened !== null && opened.end <= MAX_SCANNED;
+    const hits = breaks.length && isShort ? await session.desk.hits(future, breaks, MAX_HITS).catch(() => []) : [];
     if (key !== this.#hitsOf || opened !== session.opened) return;
     track.showHits(hits);
     this.ask();
