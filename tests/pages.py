@@ -1207,6 +1207,10 @@ def test_a_lesson_is_checked(page: Browser) -> None:
         "document.querySelectorAll('#lessons .lesson')[3].querySelector('.main').click()"
     )
     page.until(verdict % (3, f"{counts % (0, 100, 0)} Well done."))
+    assert page.text("progress") == "2 of 10 done Continue: Watch an imp"
+    page.click("[data-view=learn]")
+    page.click("#progress button")
+    page.until("location.hash === '#learn/1'")
 
 
 @pytest.mark.parametrize("view", ["battle", "bench", "league", "learn"])

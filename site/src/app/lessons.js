@@ -50,6 +50,17 @@ export class Lessons {
 
   #list() {
     refill(element("lessons"), ...this.lessons.map((lesson) => this.#card(lesson)));
+    this.#showProgress();
+  }
+
+  /** Says how many lessons are done, and offers the next one. */
+  #showProgress() {
+    const open = this.lessons.filter(({ id }) => !this.done.has(id));
+    const count = this.lessons.length - open.length;
+    const [next] = open;
+    const onclick = () => this.begin(next);
+    const go = next && count > 0 && make("button", { className: "main", onclick }, `Continue: ${next.title}`);
+    refill(element("progress"), count ? `${count} of ${this.lessons.length} done ` : "", go);
   }
 
   /**
@@ -102,6 +113,7 @@ export class Lessons {
    */
   #pass(lesson, card) {
     this.keep([...this.done.add(lesson.id)]);
+    this.#showProgress();
     if (element("lessons").contains(card)) return;
     this.#list();
     const next = this.lessons[this.lessons.indexOf(lesson) + 1];
