@@ -84,7 +84,7 @@ def test_two_versions(run: Run) -> None:
 
 
 def test_versions_score_as_in_their_matches(run: Run) -> None:
-    words, opponents = ["-r", 20, "--seed", 7], ["@imp", "@scanner", "@vampire"]
+    words, opponents = ["--same-seed", "-r", 20, "--seed", 7], ["@imp", "@scanner", "@vampire"]
     lines = run("challenge", "--old", "@dwarf", "--jobs", 2, *words, "@bomber", *opponents).stdout.splitlines()
     for column, version in ((0, "@dwarf"), (1, "@bomber")):
         rows = csv.DictReader(io.StringIO(run("challenge", "--format", "csv", *words, version, *opponents).stdout))

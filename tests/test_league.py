@@ -14,6 +14,7 @@ import sys
 import time
 from concurrent.futures import Future
 from pathlib import Path
+from typing import Any
 from xml.etree import ElementTree
 
 import numpy as np
@@ -27,7 +28,6 @@ from corewar.engine.calls import assemble
 from corewar.contests.contest import Contest, Matches, all_pairs, digests_of
 from corewar.contests.places import Executor, threads
 from corewar.contests.results import Results
-from corewar.contests.scores import error_of
 from corewar.contests.table import League
 from corewar.model.errors import CorewarError
 from corewar.model.settings import HILLS, Settings
@@ -85,14 +85,14 @@ def rows(output: str) -> list[str]:
 def test_it_is_the_programs_league(run: Run, words: str) -> None:
     """The same counts as the program's own: ties, negative points, formulas, limits, and warriors of the same text."""
     files = [*NAMES, *NAMES[:3]]
-    output = run("league", "--jobs", 3, *words.split(), *files, cwd=EXAMPLES).stdout
+    output = run("league", "--same-seed", "--jobs", 3, *words.split(), *files, cwd=EXAMPLES).stdout
     assert rows(output) == own_rows(EXAMPLES, f"-o {words} {' '.join(files)}")
 
 
 def test_a_hill_is_its_words(run: Run) -> None:
     files, tiny = ["dwarf.red", "imp.red", "fitted.red"], "-o -r 20 -s 800 -c 8000 -p 800 -l 20"
     for words, own in (("", "20"), ("-d 300", "300")):
-        output = run("league", "-r", 20, "--hill", "tiny", *words.split(), *files, cwd=EXAMPLES).stdout
+        output = run("league", "--same-seed", "-r", 20, "--hill", "tiny", *words.split(), *files, cwd=EXAMPLES).stdout
         assert rows(output) == own_rows(EXAMPLES, f"{tiny} -d {own} {' '.join(files)}")
 
 
@@ -118,6 +118,7 @@ LAST_FIRST = ["-r", 4, "dead.red", "late.red", "stay.red", "same.red"]
 def test_csv(run: Run, folder: Path) -> None:
     """Dead has no points. Late survives only Dead, and the two others survive both and tie."""
     head = "rank file name author points wins ties losses rounds win_percent tie_percent loss_percent score error"
+    head += " lead lead_error"
     won, late = ["12", "66.6667", "33.3333", "0.0", "233.3333", "0.0"], [
         "12",
         "33.3333",
@@ -128,10 +129,10 @@ def test_csv(run: Run, folder: Path) -> None:
     ]
     table = [
         head.split(),
-        ["1", "stay.red", "Stay", "Anonymous", "28", "8", "4", "0", *won],
-        ["1", "same.red", "Stay", "Anonymous", "28", "8", "4", "0", *won],
-        ["3", "late.red", "Late, later", "Me & you", "12", "4", "0", "8", *late],
-        ["4", "dead.red", "Dead", "Anonymous", "0", "0", "0", "12", "12", "0.0", "0.0", "100.0", "0.0", "0.0"],
+        ["1", "stay.red", "Stay", "Anonymous", "28", "8", "4", "0", *won, "0.0", "0.0"],
+        ["1", "same.red", "Stay", "Anonymous", "28", "8", "4", "0", *won, "133.3333", "0.0"],
+        ["3", "late.red", "Late, later", "Me & you", "12", "4", "0", "8", *late, "100.0", "0.0"],
+        ["4", "dead.red", "Dead", "Anonymous", "0", "0", "0", "12", "12", "0.0", "0.0", "100.0", "0.0", "0.0", "", ""],
     ]
     assert [*csv.reader(io.StringIO(run("league", "--format", "csv", *LAST_FIRST).stdout))] == table
     run("league", "--format", "csv", "--order", "files", "-o", "out.csv", *LAST_FIRST)
@@ -140,17 +141,21 @@ def test_csv(run: Run, folder: Path) -> None:
 
 def test_json(run: Run, folder: Path) -> None:
     result = json.loads(run("league", "--format", "json", *LAST_FIRST).stdout)
-    assert result["seed"] == 1 and result["rounds"] == 4 and "--seed=1" in result["words"] and "-r=4" in result["words"]
+    assert result["seed"] == 1 and result["rounds"] == 4 and "-r=4" in result["words"]
     assert [warrior["file"] for warrior in result["warriors"]] == ORDER
     assert result["warriors"][0] == {
         **{"rank": 1, "file": "stay.red", "name": "Stay", "author": "Anonymous"},
         **{"points": 28, "wins": 8, "ties": 4, "losses": 0, "rounds": 12},
         **{"win_percent": 66.6667, "tie_percent": 33.3333, "loss_percent": 0.0, "score": 233.3333, "error": 0.0},
+        **{"lead": 0.0, "lead_error": 0.0},
     }
     assert [warrior["rank"] for warrior in result["warriors"]] == [1, 1, 3, 4]
     first = {"first": 3, "second": 2, "points": 0, "wins": 0, "ties": 0, "losses": 4, "theirs": 12}
-    assert len(result["matches"]) == 6 and result["matches"][0] == first
-    done = subprocess.run([PROGRAM, "-b", *result["words"], "dead.red", "late.red"], cwd=folder, capture_output=True)
+    seeds = [match.pop("seed") for match in result["matches"]]
+    # Matches of equal warriors have equal seeds.
+    assert len(seeds) == 6 and len({*seeds}) == 4 and result["matches"][0] == first
+    words = [*result["words"], f"--seed={seeds[0]}"]
+    done = subprocess.run([PROGRAM, "-b", *words, "dead.red", "late.red"], cwd=folder, capture_output=True)
     assert done.stdout.splitlines()[1].split()[:4] == [b"0", b"0", b"0", b"4"]
 
 
@@ -160,34 +165,70 @@ def test_no_error_is_known_from_one_round(run: Run, folder: Path) -> None:
         result = json.loads(run("league", "--format", "json", *words, "stay.red", "dead.red").stdout)
         assert [(one["score"], one["error"]) for one in result["warriors"]] == [(300.0, None), (0.0, None)]
         table = run("league", "--format", "csv", *words, "stay.red", "dead.red").stdout.splitlines()
-        assert [line.split(",")[-1] for line in table] == ["error", "", ""]
+        assert [line.split(",")[-3] for line in table] == ["error", "", ""]
     result = json.loads(run("league", "--format", "json", "-r", 4, "stay.red", "none.red").stdout)
-    warrior = result["warriors"][0]
+    (warrior,) = result["warriors"]
     assert (warrior["rounds"], warrior["win_percent"], warrior["score"], warrior["error"]) == (0, 0.0, 0.0, None)
 
 
-def test_the_error_is_how_seeds_differ() -> None:
-    """The scores of 100 seeds lie as far from each other as the error of each says."""
-    warriors = [corewar.read(EXAMPLES / f"{name}.red", settings="tiny") for name in ("dwarf", "imp", "clear", "gate")]
-    scores, errors = [], []
-    for seed in range(100):
-        contest = Contest(settings=HILLS["tiny"], rounds=30, seed=1 + 7919 * seed, formula="4*W/S-3")
-        matches = Matches(contest, warriors, all_pairs(4))
+def examples() -> list[corewar.Warrior]:
+    return [corewar.read(EXAMPLES / f"{name}.red", settings="tiny") for name in ("dwarf", "imp", "clear", "gate")]
+
+
+def variants() -> list[corewar.Warrior]:
+    """Two examples, each with other numbers in its first cell."""
+    made = []
+    for warrior in examples()[:3:2]:
+        for change in range(5):
+            cells = warrior.cells.copy()
+            cells[0]["b"] = (int(cells[0]["b"]) + change) % 800
+            made.append(corewar.Warrior.from_cells(cells, warrior.start, settings="tiny"))
+    return made
+
+
+def clones() -> list[corewar.Warrior]:
+    """Warriors of which some are equal, as evolvers breed them."""
+    return [warrior for warrior in examples() for _ in range(3)]
+
+
+@pytest.mark.parametrize("warriors", [examples(), variants(), clones()], ids=["examples", "variants", "clones"])
+def test_the_errors_are_how_seeds_differ(warriors: list[corewar.Warrior]) -> None:
+    """The scores and leads of 60 seeds lie as far from each other as the errors say."""
+    found = []
+    for seed in range(60):
+        contest = Contest(settings=HILLS["tiny"], rounds=20, seed=1 + seed, formula="4*W/S-3")
+        matches = Matches(contest, warriors, all_pairs(len(warriors)))
         with threads(matches, 2) as place:
-            assert sum(map(len, place.fight(matches))) == 6
-        records = League(matches, by_points=False).records()
-        scores.append([one["score"] for one in records])
-        errors.append([one["error"] for one in records])
-    ratio = np.std(scores, axis=0, ddof=1) / np.mean(errors, axis=0)
-    assert (abs(ratio - 1) < 0.3).all()
+            assert sum(map(len, place.fight(matches))) == len(matches)
+        found.append(League(matches, by_points=False).records())
+    scores, errors = (np.array([[one[name] for one in row] for row in found]) for name in ("score", "error"))
+    ratio = np.std(scores, axis=0, ddof=1) / errors.mean(axis=0)
+    assert 0.85 < np.median(ratio) < 1.15
+    # The lead of one rank over the next is that of different warriors, so it is taken as one number of both.
+    first, second = np.argsort(-scores.mean(axis=0), kind="stable")[[0, -1]]
+    leads = [one[first]["score"] - one[second]["score"] for one in found]
+    assert 0.7 < np.std(leads, ddof=1) / np.hypot(*errors[:, [first, second]].mean(axis=0)) < 1.4
 
 
-def test_the_error_takes_matches_as_independent() -> None:
-    """Even those of equal opponents, whose rounds are all the same: LEAGUES.md warns of it."""
-    contest, row = Contest(rounds=30), [40, 10, 10, 10]
-    one, four = (error_of(contest, np.array([row] * count)) for count in (1, 4))
-    assert one and four and abs(one / four - 2) < 1e-9
-    assert "square root of N" in (TOP / "docs" / "user" / "LEAGUES.md").read_text()
+def test_a_lead_has_an_error() -> None:
+    """That of two warriors is of the difference of their points, and that of equal ones is 0."""
+    dwarf, imp = examples()[:2]
+
+    def league(*warriors: corewar.Warrior, **given: Any) -> list[dict[str, Any]]:
+        matches = Matches(Contest(settings=HILLS["tiny"], rounds=20, **given), warriors, all_pairs(len(warriors)))
+        with threads(matches, 1) as place:
+            assert sum(map(len, place.fight(matches))) == len(matches)
+        return League(matches).records()
+
+    both = league(dwarf, imp)
+    wins, ties, losses = (both[0][name] for name in ("wins", "ties", "losses"))
+    points = np.repeat([3, 0, -3], [wins, ties, losses])
+    assert both[0]["lead"] == both[0]["score"] - both[1]["score"] and both[1]["lead"] is both[1]["lead_error"] is None
+    assert abs(both[0]["lead_error"] - 100 * points.std(ddof=1) / np.sqrt(20)) < 1e-3
+    # Copies have the same results against Dwarf, and tie with each other.
+    equal = next(one for one in league(imp, imp, dwarf) if one["lead"] == 0)
+    assert equal["lead_error"] == 0 and equal["error"] > 0
+    assert all(one["error"] is one["lead_error"] is None for one in league(imp, imp, dwarf, same_seed=True))
 
 
 def test_matrix(run: Run, folder: Path) -> None:
@@ -216,7 +257,7 @@ def test_pages(run: Run, folder: Path) -> None:
     run("league", "--pages", "web", *LAST_FIRST[:2], "dead.red", "./late.red", "same.red")
     page = (folder / "web" / "index.html").read_text()
     assert "rounds 4 · seed 1" in page and "Late, later by Me &amp; you" in page
-    assert page.count("background:#1e50c8") == 3 and page.count('href="battles.html#w=1,2"') == 2
+    assert page.count("background:#1e50c8") == 3 and page.count('href="battles.html#w=1,2&amp;s=') == 2
     assert [path.name for path in sorted((folder / "web").iterdir())] == ["battles.html", "index.html"]
     fight = unpacked((folder / "web" / "battles.html").read_text())
     assert [name for name, _ in fight["w"]] == ["dead.red", "late.red", "same.red"]
@@ -353,7 +394,7 @@ def wait_for_results(path: Path, count: int) -> None:
 def test_it_continues_after_it_was_ended(folder: Path) -> None:
     """After a kill and after Ctrl-C, which reports how many are stored, the table is the same, and all are stored."""
     path, before = folder / "kept.sqlite", 0
-    words = ["-r", 800, "--jobs", 1, "--results", path, *(EXAMPLES / name for name in NAMES[:7])]
+    words = ["-r", 800, "--same-seed", "--jobs", 1, "--results", path, *(EXAMPLES / name for name in NAMES[:7])]
     for how in (signal.SIGKILL, signal.SIGINT):
         process = begin("league", *words)
         wait_for_results(path, before)
@@ -419,7 +460,10 @@ def test_a_stored_match_is_of_its_contest(folder: Path) -> None:
     for other in others:
         assert not filled(other)[0].is_fought.any()
     stored, turned = filled(contest, (0, 2, 1, 0))
-    assert stored.is_fought.tolist() == [True, True, False, False, False, False] and turned == 3
+    assert stored.is_fought.tolist() == [True, True, False, False, False, False] and turned == 1
+    # Copies on both sides of an opponent are no other order of files.
+    stored, turned = filled(contest, (0, 1, 0))
+    assert stored.is_fought.tolist() == [True, False, False] and turned == 0
     with sqlite3.connect(path) as file, pytest.raises(sqlite3.IntegrityError):
         file.execute("UPDATE fought SET wins = 'many'")
 
@@ -543,6 +587,8 @@ def test_a_large_league() -> None:
 def test_a_contest_is_words() -> None:
     words = "-s=8000 -p=8000 -c=80000 -l=100 -d=100 -r=1 --seed=1 -F=200 --score=(W*W-1)/S"
     assert Contest(position=200).words == words.split()
+    # A seed of its own is not that of all matches.
+    assert Contest().words == [word for word in Contest(same_seed=True).words if word != "--seed=1"]
 
 
 def test_the_call_keeps_its_name() -> None:

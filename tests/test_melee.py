@@ -69,7 +69,7 @@ def test_equal_scores_share_a_rank() -> None:
     imp = corewar.assemble("JMP 0", settings="nano")
     table = melee(Contest(settings=HILLS["nano"]), [imp] * 3, 3, 2, 1)
     assert table == [Standing(1, 200.0, 0.0, 4, 0, 2, 0, imp)] * 3
-    assert [one.error for one in melee(Contest(settings=HILLS["nano"]), [imp] * 3, 3, 1, 1)] == [None] * 3
+    assert all(np.isnan(one.error) for one in melee(Contest(settings=HILLS["nano"]), [imp] * 3, 3, 1, 1))
 
 
 def test_the_error_is_how_seeds_differ() -> None:

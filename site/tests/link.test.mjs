@@ -54,9 +54,10 @@ test("a link does not inflate without end", async () => {
 });
 
 test("an address selects a part of a fight", async () => {
-  const { text, selection } = readAddress(`#f=${await pack({ fight, turn: 12, pinned: 3 })}&w=1&r=7&t=100`);
+  const { text, selection } = readAddress(`#f=${await pack({ fight, turn: 12, pinned: 3 })}&w=1&r=7&t=100&s=8`);
   const found = await unpack(text, selection);
   assert.deepEqual([found.fight.warriors, found.fight.round, found.turn], [[fight.warriors[1]], 7, 100]);
+  assert.equal(found.fight.seed, 8);
 });
 
 test("numbers and edits out of range are rejected", async () => {

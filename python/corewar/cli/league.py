@@ -26,7 +26,7 @@ from ..contests.table import FORMATS, League
 from ..model.errors import FileError
 from ..model.printing import printable
 from .layout import EXECUTION, STATUSES, Command, Number, Option
-from .options import BattleOptions, Decorator, Output, Picture, battle_options, with_options
+from .options import BattleOptions, Decorator, Output, Picture, battle_options, match_option, with_options
 from .reporting import report, report_error, show
 from .waiting import progress, run_in_thread
 
@@ -61,6 +61,7 @@ EXECUTION_OPTIONS = [
         help="Store results in this file; skip matches already in it",
     ),
     JOBS,
+    match_option("--same-seed", is_flag=True, help="Give all matches the seed itself, as `mars --league` does"),
     click.option(
         "--scheduler",
         cls=Option,
@@ -109,10 +110,12 @@ def contest_options(command: Callable[..., Any]) -> Callable[..., Any]:
 
     @battle_options()
     @wraps(command)
-    def wrapper(options: BattleOptions, results: str | None, jobs: int, scheduler: str | None, **given: Any) -> Any:
+    def wrapper(
+        options: BattleOptions, results: str | None, jobs: int, scheduler: str | None, same_seed: bool, **given: Any
+    ) -> Any:
         if len(options.files) < 2:
             raise click.UsageError("expected at least two files")
-        return command(options, MatchRunner(results, jobs, scheduler), **given)
+        return command(replace(options, same_seed=same_seed), MatchRunner(results, jobs, scheduler), **given)
 
     return with_options(*EXECUTION_OPTIONS)(wrapper)
 
@@ -124,6 +127,7 @@ def contest_of(options: BattleOptions) -> Contest:
         seed=options.seed,
         position=options.position,
         formula=options.formula,
+        same_seed=options.same_seed,
     )
 
 

@@ -34,6 +34,7 @@ class BattleOptions:
     formula: str
     round: int
     limit: Limit
+    same_seed: bool = False
 
     def fight(self) -> Match:
         """The match of the files. Each file is read once. Raises FileError."""

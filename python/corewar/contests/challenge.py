@@ -6,9 +6,12 @@ from dataclasses import dataclass
 from functools import cached_property
 from typing import Any
 
+import numpy as np
+from numpy.typing import NDArray
+
 from ..model.printing import printable
-from .contest import Matches
-from .scores import HEAD, NAMES, RATES, csv_text, error_of, json_text, names_of, rates_of
+from .contest import Matches, Rows
+from .scores import HEAD, NAMES, RATES, Sums, csv_text, json_text, names_of, rates_of
 
 COLUMNS = (*NAMES, *HEAD, "theirs", *RATES)
 
@@ -35,14 +38,21 @@ class Challenge:
 
     def records(self) -> list[dict[str, Any]]:
         """Returns a row for each match in this order, with the names of the opponent and the results of the warrior."""
-        return [self._record(number + 1, self.matches.counts[[number]].tolist()[0], [number]) for number in self.order]
+        rows = np.arange(len(self.matches))
+        counts, errors = self.matches.counts.tolist(), self._errors(rows)
+        return [self._record(number + 1, counts[number], errors[number]) for number in self.order]
 
     def whole(self) -> dict[str, Any]:
         """Returns the row of the warrior, with the sums."""
-        return self._record(0, self.sums, list(range(len(self.matches))))
+        return self._record(0, self.sums, self._errors(np.zeros(len(self.matches), np.intp))[0] / len(self.matches))
 
-    def _record(self, warrior: int, counts: Sequence[int], rows: list[int]) -> dict[str, Any]:
-        error = error_of(self.matches.contest, self.matches.counts[rows, :4])
+    def _errors(self, sums: Rows) -> NDArray[np.float64]:
+        """Returns the standard errors of the warrior's scores, if the match of each row belongs to a sum."""
+        first, count = np.zeros_like(sums), int(sums.max(initial=0)) + 1
+        found = Sums(count, sums, np.arange(len(sums)), first, first + 1).errors(self.matches)
+        return found * 100 / self.matches.contest.rounds
+
+    def _record(self, warrior: int, counts: Sequence[int], error: float) -> dict[str, Any]:
         numbers = dict(zip((*HEAD, "theirs"), counts))
         return {**names_of(self.matches.warriors[warrior]), **numbers, **rates_of(counts, error)}
 

@@ -2,6 +2,7 @@
 from __future__ import annotations
 
 import hashlib
+import shlex
 from collections.abc import Iterator, Mapping, Sequence
 from dataclasses import dataclass
 from functools import lru_cache
@@ -10,7 +11,7 @@ from typing import Any
 import numpy as np
 from numpy.typing import NDArray
 
-from ..engine.calls import assemble, match
+from ..engine.calls import assemble, match, population
 from ..engine.outcomes import run_lineups, table_of
 from ..engine.sources import Assembler, Limit, read_warrior
 from ..engine.warriors import Warrior
@@ -23,6 +24,8 @@ Counts = NDArray[np.int64]
 Pairs = NDArray[np.intp]
 # Indices of pairs, from 0.
 Rows = NDArray[np.intp]
+# The multipliers of the generator SplitMix64, which makes numbers of 64 bits that look random of any numbers.
+MULTIPLIERS = 0x9E3779B97F4A7C15, 0xBF58476D1CE4E5B9, 0x94D049BB133111EB
 # A core in which the rounds end at once.
 TINY = Settings(core=100, cycles=2, longest=1, distance=1)
 
@@ -31,6 +34,9 @@ TINY = Settings(core=100, cycles=2, longest=1, distance=1)
 class Contest:
     """The settings of all matches. They determine the result of a match of two warriors in a given order. Raises
     `MarsError` for a formula that is not an expression in W and S.
+
+    Each match has a seed of its own, which `seed` and its two warriors determine, so that the matches of a warrior are
+    independent. With `same_seed` all have the seed itself, as in `mars --league`.
     """
 
     settings: Settings = Settings()
@@ -38,23 +44,53 @@ class Contest:
     seed: int = 1
     position: int | None = None
     formula: str = FORMULA
+    same_seed: bool = False
 
     def __post_init__(self) -> None:
-        # It has a value only if a warrior survives, but is refused before hours of matches.
+        # The seeds of matches are made of this one. A formula has a value only if a warrior survives, but both are
+        # refused before hours of matches.
+        population([], [], settings=self.settings, rounds=self.rounds, seed=self.seed, position=self.position)
         score_of(self.formula, 2, 0)
 
     @property
     def words(self) -> list[str]:
-        """The settings as options of `mars`."""
-        numbers = {**vars(self.settings), "rounds": self.rounds, "seed": self.seed, "position": self.position}
+        """The settings as options of `mars`, without a seed if each match has its own."""
+        seed = None if self.has_seeds else self.seed
+        numbers = {**vars(self.settings), "rounds": self.rounds, "seed": seed, "position": self.position}
         given = [f"{NUMBERS[name].word}={number}" for name, number in numbers.items() if number is not None]
         return [*given, f"--score={self.formula}"]
 
+    @property
+    def has_seeds(self) -> bool:
+        """Whether each match has a seed of its own; with a given position nothing is drawn."""
+        return not self.same_seed and self.position is None
 
-def fight(contest: Contest, warriors: Mapping[int, Warrior], pairs: Pairs) -> Counts:
+    @property
+    def key(self) -> str:
+        """What matches of these settings are stored by."""
+        return shlex.join([*self.words, *([f"--pair-seeds={self.seed}"] if self.has_seeds else [])])
+
+    def seeds_of(self, first: NDArray[np.uint64], second: NDArray[np.uint64]) -> NDArray[np.int64]:
+        """Returns the seeds of matches, from the first 8 bytes of the digests of their two warriors."""
+        if not self.has_seeds:
+            return np.full(len(first), self.seed)
+        start = mixed(np.full(len(first), self.seed, np.uint64))
+        return 1 + (mixed(mixed(start ^ first) ^ second) % np.uint64(NUMBERS["seed"].maximum)).astype(np.int64)
+
+
+def mixed(numbers: NDArray[np.uint64]) -> NDArray[np.uint64]:
+    """Returns the next number of SplitMix64 after each of these states."""
+    step, first, second = map(np.uint64, MULTIPLIERS)
+    numbers = numbers + step
+    numbers = (numbers ^ (numbers >> np.uint64(30))) * first
+    numbers = (numbers ^ (numbers >> np.uint64(27))) * second
+    return numbers ^ (numbers >> np.uint64(31))
+
+
+def fight(contest: Contest, warriors: Mapping[int, Warrior], pairs: Pairs, seeds: NDArray[np.int64]) -> Counts:
     """Runs the matches of some pairs and returns their counts, a row for each. Raises `MarsError`."""
     numbers, places = np.unique(pairs, return_inverse=True)
-    table = table_of(places.reshape(pairs.shape), contest.seed)
+    table = table_of(places.reshape(pairs.shape), seeds)
     fighters = [warriors[number] for number in numbers.tolist()]
     survived = run_lineups(fighters, table, contest.settings, contest.rounds, contest.position)["survived"].astype(bool)
     ties = survived.all(axis=2).sum(axis=1)
@@ -143,6 +179,11 @@ class Matches:
         self.is_fought: NDArray[np.bool_] = np.zeros(len(pairs), bool)
         both = [digests_of(warrior) for warrior in warriors]
         self.digests, self._older = [one for one, _ in both], [other for _, other in both]
+        heads = np.array([int.from_bytes(one[:8], "little") for one in self.digests], np.uint64)
+        self.seeds = contest.seeds_of(*heads[pairs].T)
+        # A number for each match; it is the same for matches of equal warriors.
+        kinds = np.unique(np.array(self.digests, "S32"), return_inverse=True)[1]
+        self.same: NDArray[np.intp] = kinds[pairs[:, 0]] * len(warriors) + kinds[pairs[:, 1]]
 
     def __len__(self) -> int:
         return len(self.pairs)
@@ -163,23 +204,26 @@ class Matches:
 
     def take_stored(self, stored: Iterator[tuple[Any, ...]]) -> int:
         """Fills in what was stored, by two digests and counts. Returns how many matches are stored only with the
-        warriors in the other order. Raises CorewarError if the counts are not those of a match.
+        warriors in the other order, in results of no match of these. Raises CorewarError if the counts are not those of
+        a match.
         """
         numbers: dict[bytes, set[int]] = {}
         for number, digests in enumerate(zip(self.digests, self._older)):
             for digest in digests:
                 numbers.setdefault(digest, set()).add(number)
         found = [
-            (one, other, *counts)
-            for first, second, *counts in stored
+            (place, one, other, *counts)
+            for place, (first, second, *counts) in enumerate(stored)
             for one in numbers.get(first, ())
             for other in numbers.get(second, ())
         ]
-        pairs = np.array([row[:2] for row in found], np.intp).reshape(-1, 2)
-        counts = check_counts([row[2:] for row in found] or np.empty((0, 5)), len(found), self.contest)
+        places, pairs = np.split(np.array([row[:3] for row in found], np.intp).reshape(-1, 3), [1], axis=1)
+        counts = check_counts([row[3:] for row in found] or np.empty((0, 5)), len(found), self.contest)
         rows, reversed_rows = self.rows_of(pairs), self.rows_of(pairs[:, ::-1])
         self.fill_in(rows[rows >= 0], counts[rows >= 0])
-        reversed_rows = np.unique(reversed_rows[reversed_rows >= 0])
+        # A warrior of which there are copies may stand before some opponent and after it.
+        is_own = np.isin(places[:, 0], places[rows >= 0])
+        reversed_rows = np.unique(reversed_rows[(reversed_rows >= 0) & ~is_own])
         return int((~self.is_fought[reversed_rows]).sum())
 
     def bundles(self, cycles: int) -> Iterator[Rows]:

@@ -22,12 +22,12 @@ CYCLES = 40_000_000
 @dataclass(frozen=True)
 class Standing:
     """The results of a warrior in all its rounds: `score` is its points for 100 rounds, and `error` the standard error
-    of the score, or None if the warrior was in fewer than two matches.
+    of the score, or NaN if the warrior was in fewer than two matches.
     """
 
     rank: int
     score: float
-    error: float | None
+    error: float
     points: int
     wins: int
     ties: int
@@ -116,10 +116,9 @@ def ranked(
     scores = [100 * points[one] / rounds[one] if rounds[one] else 0.0 for one in range(len(warriors))]
     ranks, standings = ranks_of(scores), []
     for one in sorted(range(len(warriors)), key=scores.__getitem__, reverse=True):
-        error = None if np.isnan(errors[one]) else float(errors[one])
         (_, wins, *ties), score = lives[one], scores[one]
         counts = points[one], wins, sum(ties), rounds[one] - wins - sum(ties)
-        standings.append(Standing(ranks[one], score, error, *counts, warriors[one]))
+        standings.append(Standing(ranks[one], score, float(errors[one]), *counts, warriors[one]))
     return standings
 
 

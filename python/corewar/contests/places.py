@@ -11,6 +11,7 @@ from itertools import islice
 from typing import Any
 
 import numpy as np
+from numpy.typing import NDArray
 
 from ..engine.binding import library
 from ..engine.outcomes import Threads
@@ -73,7 +74,7 @@ def threads(matches: Matches, jobs: int) -> Iterator[Executor]:
     pool = Threads(jobs)
 
     def submit(rows: Rows) -> Future[Any]:
-        return pool.submit(fight, matches.contest, matches.warriors, matches.pairs[rows])
+        return pool.submit(fight, matches.contest, matches.warriors, matches.pairs[rows], matches.seeds[rows])
 
     try:
         yield Executor(submit, CYCLES, BUNDLES_PER_JOB * jobs)
@@ -88,14 +89,16 @@ def versions() -> str:
     return f"corewar {__version__}, library {library()[1].mars_version()}"
 
 
-def fight_on_worker(wanted: str, contest: Contest, warriors: dict[int, Warrior], pairs: Pairs) -> Counts | str:
+def fight_on_worker(
+    wanted: str, contest: Contest, warriors: dict[int, Warrior], pairs: Pairs, seeds: NDArray[np.int64]
+) -> Counts | str:
     """Returns the counts of a bundle, on a worker; an error as text, since text can be sent. A worker with other
     versions runs nothing, because its results would be stored for good.
     """
     try:
         if versions() != wanted:
             return f"a worker has {versions()}, but this league is run by {wanted}"
-        return fight(contest, warriors, pairs)
+        return fight(contest, warriors, pairs, seeds)
     except CorewarError as fault:
         return str(fault)
 
@@ -152,7 +155,8 @@ def cluster(matches: Matches, address: str) -> Iterator[Executor]:
         pairs = matches.pairs[rows]
         # A worker needs no source.
         warriors = {number: replace(matches.warriors[number], source=None) for number in np.unique(pairs).tolist()}
-        future: Future[Any] = executor.submit(fight_on_worker, wanted, matches.contest, warriors, pairs)
+        given = wanted, matches.contest, warriors, pairs, matches.seeds[rows]
+        future: Future[Any] = executor.submit(fight_on_worker, *given)
         return future
 
     wanted = versions()

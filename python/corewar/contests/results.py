@@ -7,7 +7,6 @@ is killed loses at most those of its last second. Several processes may use one 
 from __future__ import annotations
 
 import os
-import shlex
 import sqlite3
 import sys
 import time
@@ -38,7 +37,7 @@ class Results:
     """The stored results of some matches. Waiting results are written at the end. Raises CorewarError for the file."""
 
     def __init__(self, path: str, matches: Matches) -> None:
-        self.path, self.matches, self.contest = path, matches, shlex.join(matches.contest.words)
+        self.path, self.matches, self.contest = path, matches, matches.contest.key
         self.new: list[tuple[Any, ...]] = []
         self.written = time.monotonic()
         with self.file_errors():

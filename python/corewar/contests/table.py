@@ -10,7 +10,7 @@ from numpy.typing import NDArray
 
 from ..model.errors import SCORE, MarsError
 from .contest import Matches, fits
-from .scores import HEAD, NAMES, RATES, csv_text, error_of, json_text, names_of, ranks_of, rates_of
+from .scores import HEAD, LEADS, NAMES, RATES, Sums, csv_text, json_text, names_of, ranks_of, rates_of, rounded
 
 
 class League:
@@ -43,13 +43,31 @@ class League:
         return rows
 
     def records(self) -> list[dict[str, Any]]:
-        """Returns the rows for programs, with the columns RATES. Equal points share a rank."""
-        ranks, records = ranks_of([row["points"] for row in self.rows]), []
+        """Returns the rows for programs, with the columns RATES and LEADS. Equal points share a rank."""
+        ranks, records = ranks_of([row["points"] for row in self.rows]), list[dict[str, Any]]()
+        errors, leads, lead_errors = self.errors()
         for number, row, rank in zip(self.order, self.rows, ranks):
-            others = np.delete(self.against[number], number, axis=0)
-            rates = rates_of([row[name] for name in HEAD], error_of(self.matches.contest, others))
-            records.append({**row, "rank": rank, **rates})
+            rates, place = rates_of([row[name] for name in HEAD], errors[number]), self.ranks[number] - 1
+            lead = dict(zip(LEADS, map(rounded, (leads[place], lead_errors[place]))))
+            records.append({**row, "rank": rank, **rates, **lead})
         return records
+
+    def errors(self) -> tuple[NDArray[np.float64], NDArray[np.float64], NDArray[np.float64]]:
+        """Returns the standard error of each warrior's score; and for each rank, in this order, by how much its score
+        is greater than that of the next one, and the standard error of this lead. The last one has none.
+        """
+        matches, count = self.matches, len(self.warriors)
+        rows, scale = np.arange(len(matches)), 100 / (matches.contest.rounds * max(1, count - 1))
+        # The points of a match belong to the sum of each of its warriors ..
+        given = matches.pairs.T.ravel(), np.tile(rows, 2), np.repeat([0, 1], len(rows))
+        errors = Sums(count, *given, np.ones_like(given[0])).errors(matches)
+        # .. and to the lead of each over the next one, and with the opposite sign to the lead of the one before.
+        places = np.array([self.ranks[number] - 1 for number in range(count)], np.intp)[given[0]]
+        leads = np.stack([np.r_[places, places - 1], *np.tile(given[1:], 2), np.repeat([1, -1], len(places))])
+        is_lead = (leads[0] >= 0) & (leads[0] < count - 1)
+        lead_errors = Sums(count, *leads[:, is_lead]).errors(matches)
+        points = self.against[..., 0].sum(axis=1)[[*self.ranks]]
+        return errors * scale, np.append(-np.diff(points) * scale, np.nan), lead_errors * scale
 
     def titles(self) -> list[str]:
         """Returns the name or file, and the author, of each warrior in the shown order."""
@@ -79,7 +97,7 @@ def matrix_of(league: League) -> str:
 
 
 def csv_of(league: League) -> str:
-    return csv_text(("rank", *NAMES, *HEAD, *RATES), league.records())
+    return csv_text(("rank", *NAMES, *HEAD, *RATES, *LEADS), league.records())
 
 
 def json_of(league: League) -> str:
@@ -88,9 +106,9 @@ def json_of(league: League) -> str:
 
 
 def matches_of(league: League) -> Iterator[dict[str, int]]:
-    places = np.argsort(league.order)[league.matches.pairs]
-    for pair, counts in zip(places.tolist(), league.matches.counts.tolist()):
-        yield dict(zip(("first", "second", *HEAD, "theirs"), [*pair, *counts]))
+    places, matches = np.argsort(league.order)[league.matches.pairs], league.matches
+    for row in np.column_stack([places, matches.counts, matches.seeds]).tolist():
+        yield dict(zip(("first", "second", *HEAD, "theirs", "seed"), row))
 
 
 FORMATS = {"table": table_of, "csv": csv_of, "json": json_of, "matrix": matrix_of}

@@ -4,6 +4,9 @@ from __future__ import annotations
 from pathlib import Path
 from typing import Any
 
+import numpy as np
+from numpy.typing import NDArray
+
 from ..analysis.formatting import pluralize
 from ..engine.calls import Match
 from ..contests.table import League
@@ -46,20 +49,24 @@ def lines_of(league: League) -> list[list[dict[str, Any] | None]]:
     """Returns the cells of the matrix, row by row, with None for a warrior against itself."""
     balances, order = league.balances(), league.order
     colours, counts = mix_colours(balances).tolist(), balances.tolist()
+    seeds = np.zeros((len(order), len(order)), np.int64)
+    seeds[tuple(league.matches.pairs.T)] = league.matches.seeds
     return [
         [
-            None if one == other else cell(league, (one, other), counts[x][y], colours[x][y])
+            None if one == other else cell(league, (one, other), counts[x][y], colours[x][y], seeds)
             for y, other in enumerate(order)
         ]
         for x, one in enumerate(order)
     ]
 
 
-def cell(league: League, pair: tuple[int, int], counts: list[int], colour: list[int]) -> dict[str, Any]:
+def cell(
+    league: League, pair: tuple[int, int], counts: list[int], colour: list[int], seeds: NDArray[np.int64]
+) -> dict[str, Any]:
     """Returns a cell of the matrix, with a link to the first round of the match."""
     wins, ties, losses = counts
     title = f"{pluralize(wins, 'win')}, {pluralize(ties, 'tie')}, {pluralize(losses, 'loss')} against "
     title += league.warriors[pair[1]].called
     ink = "#000" if sum(colour) > 3 * 130 else "#fff"
-    link = f"{PAGE}#w={min(pair)},{max(pair)}"
+    link = f"{PAGE}#w={min(pair)},{max(pair)}&s={seeds[min(pair), max(pair)]}"
     return {"wins": wins, "title": title, "ground": f"#{bytes(colour).hex()}", "ink": ink, "link": link}

@@ -37,6 +37,8 @@ def contest_of(given: dict[str, Any]) -> Contest:
         seed=seed,
         position=position or None,
         formula=str(given["formula"]),
+        # As in the leagues that the page runs itself.
+        same_seed=True,
     )
 
 

@@ -7,8 +7,8 @@ import { DEFAULTS, FORMULA, HILLS, MAX_SOURCE_SIZE, RANGES, SETTINGS, hillOf } f
 /** @typedef {import("../model/settings.js").Settings} Settings */
 /** @typedef {{fight: Fight, turn: number, pinned: number | null}} Shared */
 /**
- * What the address of a page selects of its fight: some of the warriors, a round and a turn.
- * @typedef {{warriors?: number[], round?: number, turn?: number}} Selection
+ * What the address of a page selects of its fight: some of the warriors, a round, a turn and a seed.
+ * @typedef {{warriors?: number[], round?: number, turn?: number, seed?: number}} Selection
  */
 
 const VERSION = 1;
@@ -167,7 +167,7 @@ export async function unpack(text, selection = {}) {
   const round = Math.min(selection.round ?? whole(short.r, 0, rounds - 1, 0), rounds - 1);
   const formula = typeof short.f === "string" ? short.f.slice(0, MAX_FORMULA) : FORMULA;
   const position = whole(short.p, 0, settings.core, 0);
-  const seed = whole(short.s, 1, MAX_SEED, 1);
+  const seed = whole(selection.seed ?? short.s, 1, MAX_SEED, 1);
   const edits = readEdits(short.e, settings.core);
   const turn = selection.turn ?? whole(short.t, 0, LAST_TURN, 0);
   const pinned = short.c === undefined ? null : whole(short.c, 0, settings.core - 1, 0);
@@ -176,7 +176,7 @@ export async function unpack(text, selection = {}) {
 
 /**
  * Returns what an address carries after its `#`: a fight as `f`, and a selection: `w=0,5` of its warriors, `r=3` its
- * round, `t=100` its turn; and whether it begins with `embed`: only the battle is shown.
+ * round, `t=100` its turn, `s=7` its seed; and whether it begins with `embed`: only the battle is shown.
  * @param {string} hash
  * @returns {{text: string, selection: Selection, isEmbedded: boolean}}
  */
@@ -187,6 +187,7 @@ export function readAddress(hash) {
     return /^\d{1,9}(,\d{1,9})*$/.test(text) ? text.split(",").map(Number) : undefined;
   };
   const [warriors, rounds, turns] = [numbers("w"), numbers("r"), numbers("t")];
-  const selection = { warriors, round: rounds?.[0], turn: turns?.[0] };
+  const seed = given.has("s") ? Number(given.get("s")) : undefined;
+  const selection = { warriors, round: rounds?.[0], turn: turns?.[0], seed };
   return { text: given.get("f") ?? "", selection, isEmbedded: given.has("embed") };
 }
