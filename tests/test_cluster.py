@@ -135,3 +135,32 @@ def test_no_scheduler_and_no_package(run: Run) -> None:
     command = [sys.executable, "-c", hidden, "league", "--scheduler", "127.0.0.1:9", "imp.red", "dwarf.red"]
     done = subprocess.run(command, cwd=EXAMPLES, env=ENVIRONMENT, capture_output=True, text=True)
     assert done.returncode == 1 and "install Debian's python3-distributed, or with pip corewar[cluster]" in done.stderr
+
+
+PROGRAM = """
+import sys
+from functools import partial
+import distributed, numpy as np
+import corewar
+files = ["dwarf", "imp", "paper", "vampire", "bomber"]
+warriors = [corewar.read(f"{name}.red") for name in files]
+lineups = [[a, b] for a in range(5) for b in range(5)] * 4 + [[0, 1, 2]]
+how = dict(seeds=range(1, 102), rounds=3)
+with distributed.Client(sys.argv[1], set_as_default=False) as client:
+    executor = client.get_executor(pure=False)
+    for more in ({}, {"counts": True}, {"reduce": partial(corewar.shares, cycles=80000)}):
+        there = corewar.outcomes(warriors, lineups, executor=executor, **how, **more)
+        assert np.array_equal(there, corewar.outcomes(warriors, lineups, **how, **more))
+    contest = corewar.Contest(rounds=3)
+    assert contest.melee(warriors, 3, 50, executor=executor).to_dict() == contest.melee(warriors, 3, 50).to_dict()
+print("equal")
+"""
+
+
+def test_any_call_runs_on_a_cluster(start: Start, scheduler: tuple[str, Any]) -> None:
+    """Outcomes, reduced or not, and contests are the same on the workers of a Dask client."""
+    for _ in range(2):
+        worker(start, scheduler[0])
+    words = [sys.executable, "-c", PROGRAM, scheduler[0]]
+    done = subprocess.run(words, cwd=EXAMPLES, env=ENVIRONMENT, capture_output=True, text=True, timeout=240)
+    assert done.stdout == "equal\n", done.stderr

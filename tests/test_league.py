@@ -12,7 +12,7 @@ import sqlite3
 import subprocess
 import sys
 import time
-from concurrent.futures import Future
+from concurrent.futures import Executor, Future
 from pathlib import Path
 from typing import Any
 from xml.etree import ElementTree
@@ -25,12 +25,11 @@ from test_pages import unpacked
 
 import corewar
 from corewar.engine.calls import assemble
-from corewar.contests.contest import Contest, Matches, all_pairs, digests_of
-from corewar.contests.places import Executor, threads
+from corewar.contests.contest import Contest, Execution, Progress, run as run_matches
+from corewar.contests.matches import Matches, all_pairs, digests_of
 from corewar.contests.results import Results
-from corewar.contests.table import League
 from corewar.model.errors import CorewarError
-from corewar.model.settings import HILLS, Settings
+from corewar.model.settings import Settings
 from corewar.pictures.shades import LOST, NO_MATCH, TIED, WON, mix_colours
 
 PROGRAM = TOP / "crates" / "mars" / "out" / "mars"
@@ -196,17 +195,13 @@ def test_the_errors_are_how_seeds_differ(warriors: list[corewar.Warrior]) -> Non
     """The scores and leads of 60 seeds lie as far from each other as the errors say."""
     found = []
     for seed in range(60):
-        contest = Contest(settings=HILLS["tiny"], rounds=20, seed=1 + seed, formula="4*W/S-3")
-        matches = Matches(contest, warriors, all_pairs(len(warriors)))
-        with threads(matches, 2) as place:
-            assert sum(map(len, place.fight(matches))) == len(matches)
-        found.append(League(matches, by_points=False).records())
-    scores, errors = (np.array([[one[name] for one in row] for row in found]) for name in ("score", "error"))
+        found.append(Contest("tiny", rounds=20, seed=1 + seed, formula="4*W/S-3").league(warriors, jobs=2))
+    scores, errors = (np.array([getattr(one, name) for one in found]) for name in ("scores", "errors"))
     ratio = np.std(scores, axis=0, ddof=1) / errors.mean(axis=0)
     assert 0.85 < np.median(ratio) < 1.15
     # The lead of one rank over the next is that of different warriors, so it is taken as one number of both.
     first, second = np.argsort(-scores.mean(axis=0), kind="stable")[[0, -1]]
-    leads = [one[first]["score"] - one[second]["score"] for one in found]
+    leads = scores[:, first] - scores[:, second]
     assert 0.7 < np.std(leads, ddof=1) / np.hypot(*errors[:, [first, second]].mean(axis=0)) < 1.4
 
 
@@ -215,10 +210,7 @@ def test_a_lead_has_an_error() -> None:
     dwarf, imp = examples()[:2]
 
     def league(*warriors: corewar.Warrior, **given: Any) -> list[dict[str, Any]]:
-        matches = Matches(Contest(settings=HILLS["tiny"], rounds=20, **given), warriors, all_pairs(len(warriors)))
-        with threads(matches, 1) as place:
-            assert sum(map(len, place.fight(matches))) == len(matches)
-        return League(matches).records()
+        return Contest("tiny", rounds=20, **given).league(warriors).records()
 
     both = league(dwarf, imp)
     wins, ties, losses = (both[0][name] for name in ("wins", "ties", "losses"))
@@ -228,7 +220,8 @@ def test_a_lead_has_an_error() -> None:
     # Copies have the same results against Dwarf, and tie with each other.
     equal = next(one for one in league(imp, imp, dwarf) if one["lead"] == 0)
     assert equal["lead_error"] == 0 and equal["error"] > 0
-    assert all(one["error"] is one["lead_error"] is None for one in league(imp, imp, dwarf, same_seed=True))
+    same = league(*examples(), same_seed=True)
+    assert all(one["error"] is one["lead_error"] is None for one in same)
 
 
 def test_matrix(run: Run, folder: Path) -> None:
@@ -446,16 +439,15 @@ def test_a_stored_match_is_of_its_contest(folder: Path) -> None:
 
     contest = Contest(rounds=4)
     matches = Matches(contest, warriors, all_pairs(3))
-    with Results(path, matches) as results, threads(matches, 2) as place:
-        for rows_done in place.fight(matches):
-            results.keep(rows_done)
+    assert sum(map(len, run_matches(matches, Execution(2, results=path)))) == 3
     stored, turned = filled(contest)
     assert stored.is_fought.all() and turned == 0 and (stored.counts == matches.counts).all()
     others = [
         Contest(rounds=5),
         Contest(rounds=4, seed=2),
         Contest(rounds=4, formula="S"),
-        Contest(settings=Settings(cycles=9), rounds=4),
+        Contest(Settings(cycles=9), rounds=4),
+        Contest(rounds=4, same_seed=True),
     ]
     for other in others:
         assert not filled(other)[0].is_fought.any()
@@ -540,12 +532,17 @@ def test_texts_in_a_results_file(run: Run, folder: Path) -> None:
     "sent", [None, "text", [[1, 2]], [[0, 2, 0, 0, 0]], [[0.5] * 5], [], [[99, 99, 99, 99, 0]], [[3, 0, 1, 0, 1]]]
 )
 def test_counts_of_a_worker_are_checked(sent: object) -> None:
+    """Those of an executor are not believed."""
+
+    class Liar(Executor):
+        def submit(self, *given: Any, **named: Any) -> Future[Any]:
+            answer = Future[Any]()
+            answer.set_result(sent)
+            return answer
+
     imp = assemble("MOV 0, 1")
-    matches, answer = Matches(Contest(), [imp, imp], all_pairs(2)), Future[object]()
-    answer.set_result(sent)
     with pytest.raises(CorewarError, match="^invalid result from a worker: "):
-        list(Executor(lambda rows: answer, 1, 1).fight(matches))
-    assert not matches.is_fought.any()
+        Contest().league([imp, imp], executor=Liar())
 
 
 def test_results_of_the_other_order_are_reported(run: Run, folder: Path) -> None:
@@ -572,16 +569,13 @@ def test_names_that_a_terminal_obeys(run: Run, folder: Path) -> None:
 
 
 def test_a_large_league() -> None:
-    """Bundles of any size cover all pairs once, and the sums are those of the pairs."""
-    contest = Contest(settings=HILLS["nano"], formula="S")
-    warriors = [assemble(f"jmp {number % 5}", settings=contest.settings) for number in range(60)]
-    matches = Matches(contest, warriors, all_pairs(60))
-    assert sorted(np.concatenate([*matches.bundles(contest.settings.cycles * 7)]).tolist()) == [*range(1770)]
-    with threads(matches, 3) as place:
-        assert sum(len(done) for done in place.fight(matches)) == 1770
-    league = League(matches)
-    assert sum(row["points"] for row in league.rows) == matches.counts[:, [0, 4]].sum()
-    assert sorted(league.ranks.values()) == [*range(1, 61)]
+    """Parts of any size cover all pairs once, and the sums are those of the pairs."""
+    warriors = [assemble(f"jmp {number % 5}", settings="nano") for number in range(60)]
+    seen = list[Progress]()
+    league = Contest("nano", formula="S").league(warriors, jobs=3, progress=seen.append)
+    assert seen[0].done == 0 and seen[-1].done == seen[-1].total == 1770 and len(seen) > 6
+    assert league.points.sum() == league.results[:, [0, 4]].sum() == league.matrix[..., 0].sum()
+    assert sorted(league.places.tolist()) == [*range(1, 61)]
 
 
 def test_a_contest_is_words() -> None:

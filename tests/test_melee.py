@@ -15,11 +15,10 @@ import pytest
 from conftest import EXAMPLES, Run, begin
 
 import corewar
-from corewar.contests import melee as module
-from corewar.contests.contest import Contest, score_of
-from corewar.contests.melee import Standing, lineups_of, melee
+from corewar.contests.contest import Contest, Progress
+from corewar.contests.melee import lineups_of
 from corewar.engine.calls import assemble
-from corewar.model.settings import HILLS
+from corewar.engine.rewards import score_of
 
 NAMES = "dwarf imp silk paper vampire bomber".split()
 
@@ -32,8 +31,8 @@ def warriors() -> list[corewar.Warrior]:
 def test_it_is_the_sum_of_its_matches(formula: str) -> None:
     """Each standing is the sum of the rows of the matches, for any number of threads."""
     contest = Contest(rounds=3, seed=9, formula=formula)
-    table = melee(contest, warriors(), 3, 20, 1)
-    assert table == melee(contest, warriors(), 3, 20, 3)
+    table = contest.melee(warriors(), 3, 20)
+    assert table.to_dict() == contest.melee(warriors(), 3, 20, jobs=3).to_dict()
     dice, sums = random.Random(9), {name: [0] * 5 for name in NAMES}
     lineups = lineups_of(len(NAMES), 3, 20, dice)
     for lineup in lineups:
@@ -43,11 +42,10 @@ def test_it_is_the_sum_of_its_matches(formula: str) -> None:
         for one, row in zip(lineup, rows):
             added = [row.points, 3, row.wins, row.ties, row.losses]
             sums[NAMES[one]] = [before + number for before, number in zip(sums[NAMES[one]], added)]
-    for own in table:
-        points, *rest = sums[Path(own.warrior.file).stem]
-        assert [own.points, own.rounds, own.wins, own.ties, own.losses] == [points, *rest]
-        assert own.score == 100 * points / own.rounds
-    assert [one.rank for one in table] == [1 + sum(other.score > one.score for other in table) for one in table]
+    for name, counts, rounds, score in zip(NAMES, table.counts.tolist(), table.rounds, table.scores):
+        assert [counts[0], rounds, *counts[1:]] == sums[name] and score == 100 * counts[0] / rounds
+    scores = table.scores.tolist()
+    assert table.ranks.tolist() == [1 + sum(other > score for other in scores) for score in scores]
 
 
 def test_lineups_are_fair() -> None:
@@ -67,9 +65,13 @@ def test_scores_are_those_of_the_formula() -> None:
 
 def test_equal_scores_share_a_rank() -> None:
     imp = corewar.assemble("JMP 0", settings="nano")
-    table = melee(Contest(settings=HILLS["nano"]), [imp] * 3, 3, 2, 1)
-    assert table == [Standing(1, 200.0, 0.0, 4, 0, 2, 0, imp)] * 3
-    assert all(np.isnan(one.error) for one in melee(Contest(settings=HILLS["nano"]), [imp] * 3, 3, 1, 1))
+    table = Contest("nano").melee([imp] * 3, 3, 2)
+    assert table.counts.tolist() == [[4, 0, 2, 0]] * 3 and table.ranks.tolist() == [1] * 3
+    assert table.scores.tolist() == [200] * 3 and table.errors.tolist() == [0] * 3
+    assert np.isnan(Contest("nano").melee([imp] * 3, 3, 1).errors).all()
+    for size, lineups in ((1, 1), (4, 1), (2, 0)):
+        with pytest.raises(corewar.CorewarError, match="of 2 to 16 of the warriors"):
+            Contest("nano").melee([imp] * 3, size, lineups)
 
 
 def test_the_error_is_how_seeds_differ() -> None:
@@ -77,15 +79,10 @@ def test_the_error_is_how_seeds_differ() -> None:
     dice, limits = random.Random(1), (16, 7, 8, 8, 80, 80)
     cells: Any = [[tuple(map(dice.randrange, limits)) for _ in range(5)] for _ in range(12)]
     warriors = [corewar.Warrior.from_cells(one, settings="nano") for one in cells]
-    contests = [Contest(settings=HILLS["nano"], rounds=3, seed=1 + 7919 * seed) for seed in range(60)]
-    tables = [melee(contest, warriors, 3, 60, 2) for contest in contests]
-    spreads: list[float] = []
-    errors: list[float] = []
-    for warrior in warriors:
-        own = [one for table in tables for one in table if one.warrior is warrior]
-        spreads.append(float(np.std([one.score for one in own], ddof=1)))
-        errors.append(float(np.mean([one.error or 0.0 for one in own])))
-    assert abs(sum(spreads) / sum(errors) - 1) < 0.2
+    contests = [Contest("nano", rounds=3, seed=1 + 7919 * seed) for seed in range(60)]
+    tables = [contest.melee(warriors, 3, 60, jobs=2) for contest in contests]
+    spreads = np.std([table.scores for table in tables], axis=0, ddof=1)
+    assert abs(spreads.sum() / np.mean([table.errors for table in tables], axis=0).sum() - 1) < 0.2
 
 
 def test_formats_for_programs(run: Run) -> None:
@@ -146,7 +143,9 @@ def test_it_can_be_stopped() -> None:
 def test_it_reports_its_progress(monkeypatch: pytest.MonkeyPatch) -> None:
     """The table does not depend on how many matches are run between two reports."""
     warriors = [assemble(f"jmp {number}, <5", settings="nano") for number in range(5)]
-    contest = Contest(settings=HILLS["nano"])
-    whole, counts = melee(contest, warriors, 3, 40, 2), list[int]()
-    monkeypatch.setattr(module, "CYCLES", 7 * contest.settings.cycles)
-    assert melee(contest, warriors, 3, 40, 2, counts.append) == whole and counts == [14, 14, 12]
+    contest, seen = Contest("nano"), list[Progress]()
+    whole = contest.melee(warriors, 2, 10, progress=seen.append).to_dict()
+    assert seen == [Progress(0, 10), Progress(10, 10)]
+    monkeypatch.setattr("corewar.engine.outcomes.TURNS", 3 * 1600)
+    assert contest.melee(warriors, 2, 10, jobs=1, progress=seen.append).to_dict() == whole
+    assert [one.done for one in seen[2:]] == [0, 3, 6, 9, 10]

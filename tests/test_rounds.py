@@ -11,10 +11,9 @@ from battles import matches
 from conftest import ENVIRONMENT, EXAMPLES, begin
 from hypothesis import given, strategies as st
 
-from corewar.battle.rounds import portions
 from corewar.cli import rounds as module
 from corewar.engine.battles import Battle
-from corewar.engine.calls import Match, match
+from corewar.engine.calls import Match, match, portions
 from corewar.engine.sources import read
 from corewar.model.errors import MarsError
 from corewar.model.settings import FORMULA
@@ -26,9 +25,10 @@ def test_portions_are_the_match(fight: Match, rounds: int, size: int, fixed: int
     position = 9 if fixed and len(fight.warriors) == 2 else None
     fight = replace(fight, rounds=rounds, position=position)
     number = 0
-    for part in portions(fight, size):
-        assert 1 <= part.rounds < size + len(fight.warriors)
-        for round_ in range(part.rounds):
+    for count, seed, _ in portions((rounds, fight.seed, position), len(fight.warriors), size):
+        assert 1 <= count < size + len(fight.warriors)
+        part = replace(fight, rounds=count, seed=seed)
+        for round_ in range(count):
             assert Battle(part, round_) == Battle(fight, number)
             number += 1
     assert number == rounds

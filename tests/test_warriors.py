@@ -5,19 +5,27 @@ import os
 import pickle
 import random
 import re
+import subprocess
+import sys
+from concurrent.futures import ProcessPoolExecutor, ThreadPoolExecutor
+from dataclasses import replace
+from functools import partial
+from multiprocessing import get_context
 from pathlib import Path
 from typing import Any
 
 import numpy as np
 import pytest
 from battles import matches
-from conftest import EXAMPLES
+from conftest import ENVIRONMENT, EXAMPLES
 from hypothesis import given
 
 import corewar
 from corewar import CorewarError, Edit, MarsError, Match, Settings, Warrior
 from corewar.battle.history import History
+from corewar.engine import outcomes as module
 from corewar.engine.outcomes import COUNTED, COUNTS, OUTCOME
+from corewar.engine.parts import call_there, versions
 from corewar.engine.warriors import read_load
 from corewar.model.cells import MODES, MODIFIERS, OPCODES, Cell
 
@@ -260,7 +268,7 @@ def test_lineups() -> None:
         with pytest.raises(MarsError) as found:
             corewar.outcomes(warriors, lineups, **words)
         assert str(found.value) == fault
-    uneven: list[tuple[Any, dict[str, Any]]] = [([[0, 1], [2]], {}), ([0, 1], {}), (pairs, {"seeds": [1, 2]})]
+    uneven: list[tuple[Any, dict[str, Any]]] = [([[[0]], [2]], {}), ([0, 1], {}), (pairs, {"seeds": [1, 2]})]
     fractions: list[tuple[Any, dict[str, Any]]] = [([[0, 1.5]], {}), ([["0", "1"]], {}), (pairs, {"seeds": 1.5})]
     for lineups, words in [*uneven, *fractions]:
         with pytest.raises(ValueError):
@@ -269,6 +277,138 @@ def test_lineups() -> None:
         corewar.outcomes(warriors, [[0] * 17])
     with pytest.raises(CorewarError, match="expected 1 or more jobs, not 0"):
         corewar.outcomes(warriors, jobs=0)
+
+
+def test_lineups_of_different_lengths() -> None:
+    """A place without a warrior has only zeros, and gets no reward."""
+    warriors = random_warriors(random.Random(3), 4)
+    words: dict[str, Any] = {"settings": SMALL, "rounds": 6}
+    lineups, seeds = [[0, 1, 2], [3], [2, 1]], [5, 6, 7]
+    made = corewar.outcomes(warriors, lineups, seeds=seeds, **words)
+    assert made.shape == (3, 6, 3) and np.array_equal(
+        made, corewar.outcomes(warriors, lineups, seeds=seeds, jobs=3, **words)
+    )
+    for lineup, seed, rows in zip(lineups, seeds, made):
+        alone = corewar.outcomes(warriors, [lineup], seeds=seed, **words)[0]
+        assert np.array_equal(rows[:, : len(lineup)], alone) and not rows[:, len(lineup) :].view(np.uint8).any()
+        rewards: list[Any] = [corewar.points, partial(corewar.shares, cycles=SMALL.cycles)]
+        for reward in rewards:
+            got = reward(rows)
+            assert np.array_equal(got[:, : len(lineup)], reward(alone)) and not got[:, len(lineup) :].any()
+
+
+@pytest.mark.parametrize("formula", ["(W*W-1)/S", "5-S*W"])
+def test_points(formula: str) -> None:
+    """Their sums are the points of matches; a formula without a value for a round is an error."""
+    warriors = [corewar.read(EXAMPLES / f"{name}.red") for name in ("dwarf", "imp", "clear", "paper")]
+    made = corewar.outcomes(warriors, [[0, 1, 2, 3]], rounds=12)
+    rows = corewar.match(warriors, rounds=12, formula=formula)
+    assert corewar.points(made, formula)[0].sum(axis=0).tolist() == [row.points for row in rows]
+    with pytest.raises(MarsError, match="score 3 DivideByZero"):
+        corewar.points(made, "1/(W-4)")
+
+
+def spread(made: Any) -> Any:
+    """Returns two numbers of each lineup."""
+    return np.stack([made["turns"].sum(axis=(1, 2)), made["survived"].sum(axis=(1, 2))], axis=1)
+
+
+def test_executors(monkeypatch: pytest.MonkeyPatch) -> None:
+    """Threads, processes and parts of any size give equal arrays, reduced or not."""
+    warriors = random_warriors(random.Random(4), 30)
+    lineups = [[one, (one * 7 + 3) % 30] for one in range(30)] * 3 + [[1, 2, 3]]
+    words: dict[str, Any] = {"settings": SMALL, "rounds": 7, "seeds": range(1, 92), "counts": True}
+    whole = corewar.outcomes(warriors, lineups, **words)
+    monkeypatch.setattr(module, "TURNS", SMALL.cycles * 40)
+    monkeypatch.setattr(module, "DISTANT_TURNS", SMALL.cycles * 100)
+    with ThreadPoolExecutor(2) as threads, ProcessPoolExecutor(2, get_context("spawn")) as processes:
+        hows: list[dict[str, Any]] = [{}, {"jobs": 3}, {"executor": threads}, {"executor": processes}]
+        for how in hows:
+            assert np.array_equal(corewar.outcomes(warriors, lineups, **words, **how), whole)
+            assert np.array_equal(corewar.outcomes(warriors, lineups, **words, **how, reduce=spread), spread(whole))
+            for wrong, fault in (([0, 30], "index 90: lineup 2 Index"), ([], "index 90: lineup 1 Count")):
+                with pytest.raises(MarsError, match=fault):
+                    corewar.outcomes(warriors, [*lineups[:90], wrong], **words, **how)
+            with pytest.raises(MarsError, match="index 29: warrior 2 Start"):
+                corewar.outcomes([*warriors[:29], replace(warriors[29], start=99)], lineups, **words, **how)
+            with pytest.raises(CorewarError, match="expected an array with"):
+                corewar.outcomes(warriors, lineups, **words, **how, reduce=np.ravel)
+    # A match that takes long is run in portions.
+    one = corewar.outcomes(warriors[:3], rounds=500, seeds=9, settings=SMALL)
+    monkeypatch.undo()
+    assert np.array_equal(one, corewar.outcomes(warriors[:3], rounds=500, seeds=9, settings=SMALL))
+
+
+def test_a_worker_of_another_version() -> None:
+    """It runs nothing; its answer names both versions."""
+    answer = call_there("corewar 0.9, library 900", len, "abc")
+    assert str(answer).startswith("a worker has corewar 2.0, library 2000, but this is corewar 0.9, library 900")
+    assert call_there(versions(), len, "abc") == 3
+
+
+def test_sums_in_parts(monkeypatch: pytest.MonkeyPatch) -> None:
+    """Matches, leagues and populations that take long are run in parts, with the same rows and errors."""
+    warriors, imp = random_warriors(random.Random(6), 7), corewar.assemble("JMP 0", settings=SMALL)
+    words: dict[str, Any] = {"settings": SMALL, "rounds": 5, "seed": 8}
+    calls: list[Any] = [
+        partial(corewar.match, warriors, **words),
+        partial(corewar.league, warriors, **words),
+        partial(corewar.population, warriors[:3], warriors[3:], **words),
+        partial(corewar.population, warriors[:3], warriors[3:], position=50, **words),
+        partial(corewar.match, [imp] * 2, **words, formula="1/(S-2)"),
+        partial(corewar.league, [imp] * 3, **words, formula=f"2*{2**59}"),
+        partial(corewar.league, [imp] * 3, **words, formula="W+"),
+        partial(corewar.population, [imp], [imp] * 3, **{**words, "seed": 0}),
+    ]
+
+    def results() -> list[str]:
+        found = []
+        for call in calls:
+            try:
+                found.append(str(call()))
+            except MarsError as fault:
+                found.append(str(fault))
+        return found
+
+    whole = results()
+    assert whole[4:6] == ["score 3 DivideByZero", "score 4 Range"]
+    for name in ("calls", "sums", "outcomes"):
+        monkeypatch.setattr(f"corewar.engine.{name}.TURNS", 1)
+    assert results() == whole
+
+
+CALLS = [
+    "corewar.match(two, rounds=100000)",
+    "corewar.league(two * 2, rounds=100000)",
+    "corewar.population(two, two, rounds=100000)",
+    "corewar.outcomes(two, rounds=100000)",
+    "corewar.outcomes(two, [[0, 1]] * 9, rounds=10000, jobs=2)",
+    "corewar.Battle(corewar.Match(two * 8, settings=corewar.Settings(cycles=10**7))).play()",
+]
+
+
+@pytest.mark.parametrize("call", CALLS)
+def test_ctrl_c(call: str) -> None:
+    """It ends a call within half a second of a free processor, and its threads."""
+    program = f"""
+import corewar, threading, time, os, signal
+two = [corewar.assemble("JMP 0")] * 2
+began = []
+def interrupt():
+    time.sleep(0.4)
+    began.append(time.process_time())
+    os.kill(os.getpid(), signal.SIGINT)
+threading.Thread(target=interrupt).start()
+try:
+    {call}
+    print("ended")
+except KeyboardInterrupt:
+    for thread in threading.enumerate()[1:]:
+        thread.join()
+    print(time.process_time() - began[0])
+"""
+    done = subprocess.run([sys.executable, "-c", program], env=ENVIRONMENT, capture_output=True, text=True, timeout=60)
+    assert float(done.stdout) < 0.5 * (2 if "jobs" in call else 1), done.stderr
 
 
 def test_shares() -> None:

@@ -11,10 +11,18 @@
 The package calls the library that `scripts/library` builds, and requires cffi and NumPy.
 """
 from .battle.history import History
+from .contests.challenge import Challenge
+from .contests.comparison import Comparison
+from .contests.contest import Contest, Progress
+from .contests.league import League
+from .contests.melee import Melee
+from .contests.standings import Standings
 from .engine.battles import Battle
-from .engine.calls import Match, Row, assemble, league, match, population
-from .engine.outcomes import outcomes, shares
+from .engine.calls import Match, Row, assemble, match
+from .engine.outcomes import outcomes
+from .engine.rewards import points, shares
 from .engine.sources import Assembler, Limit, Overrun, read
+from .engine.sums import league, population
 from .engine.warriors import Warrior
 from .model.cells import cell_of, cell_text
 from .model.edits import Edit
@@ -30,7 +38,8 @@ Fault = MarsError
 FileFault = FileError
 
 __all__ = [
-    "HILLS", "Assembler", "Battle", "CorewarError", "Edit", "FileError", "History", "Limit", "MarsError", "Match",
-    "Overrun", "Row", "Settings", "Warrior", "assemble", "cell_of", "cell_text", "league", "match", "outcomes",
-    "population", "read", "shares",
+    "HILLS", "Assembler", "Battle", "Challenge", "Comparison", "Contest", "CorewarError", "Edit", "FileError",
+    "History", "League", "Limit", "MarsError", "Match", "Melee", "Overrun", "Progress", "Row", "Settings",
+    "Standings", "Warrior", "assemble", "cell_of", "cell_text", "league", "match", "outcomes", "points", "population",
+    "read", "shares",
 ]  # fmt: skip

@@ -2,14 +2,12 @@
 from __future__ import annotations
 
 from collections.abc import Iterator
-from dataclasses import dataclass, replace
+from dataclasses import dataclass
 
 from ..engine.calls import Match
 from .history import History
 
 OUTCOMES = ("win", "tie", "loss")
-# The generator of seeds: each is the one before times the multiplier, modulo a prime.
-MULTIPLIER, MODULUS = 16807, 2**31 - 1
 
 
 @dataclass(frozen=True, eq=False)
@@ -18,18 +16,6 @@ class Round:
 
     history: History
     outcomes: tuple[str, ...]
-
-
-def portions(fight: Match, size: int) -> Iterator[Match]:
-    """Yields matches of about `size` rounds, which together have the rounds of a match in their order."""
-    count = len(fight.warriors)
-    # The warrior that begins is the same in each first round.
-    size = -(-size // count) * count
-    # In each round a seed is drawn for each warrior but the first, and for each but two to put them in another order.
-    draws = max(0, 2 * count - 3) if not fight.position else 0
-    for first in range(0, fight.rounds, size):
-        seed = fight.seed * pow(MULTIPLIER, draws * first, MODULUS) % MODULUS
-        yield replace(fight, rounds=min(size, fight.rounds - first), seed=seed)
 
 
 def rounds_of(fight: Match, count: int) -> Iterator[Round]:

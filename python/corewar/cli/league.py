@@ -1,37 +1,34 @@
 """`league` and `challenge`: matches of many warriors in pairs."""
 from __future__ import annotations
 
+import json
 import os
 import re
 from collections.abc import Callable, Sequence
+from contextlib import ExitStack, nullcontext
 from dataclasses import dataclass, replace
-from functools import wraps
+from functools import partial, wraps
 from pathlib import Path
-from typing import Any
+from typing import Any, TypeVar
 
 import click
-import numpy as np
-from numpy.typing import NDArray
 
+from ..contests.cluster import cluster
+from ..contests.contest import Contest, Progress
+from ..contests.standings import csv_text
 from ..engine.files import replace_file
+from ..engine.sources import Assembler, read_warrior
 from ..engine.warriors import Warrior
-from ..contests.contest import Contest, Matches, Rows, all_pairs, read_entrants
-from ..contests.challenge import FORMATS as CHALLENGE_FORMATS
-from ..contests.challenge import Challenge
-from ..contests.comparison import FORMATS as CHANGE_FORMATS
-from ..contests.comparison import Comparison, compare
-from ..contests.places import cluster, threads
-from ..contests.results import Results
-from ..contests.table import FORMATS, League
 from ..model.errors import FileError
 from ..model.printing import printable
 from .layout import EXECUTION, STATUSES, Command, Number, Option
 from .options import BattleOptions, Decorator, Output, Picture, battle_options, match_option, with_options
 from .reporting import report, report_error, show
-from .waiting import progress, run_in_thread
+from .waiting import progress
 
+Result = TypeVar("Result")
 ADDRESS = re.compile(r"(tcp://)?(\[[0-9a-fA-F:]+\]|[^\s/:\[\]]+):\d+")
-REVERSED_ORDER = "{} of {} matches are stored only with the warriors in the other order; those are different matches"
+OTHER_ORDER = "{} of {} matches are stored only with the warriors in the other order; those are different matches"
 LEFT_OUT = f"{STATUSES}; 1 also if a file with an error was left out"
 
 
@@ -73,6 +70,31 @@ EXECUTION_OPTIONS = [
 ]
 
 
+class Waiting:
+    """Shows the progress of a contest by a bar on a terminal."""
+
+    def __init__(self, what: str = "matches", scale: int = 1) -> None:
+        self.what, self.scale, self.state = what, scale, Progress(0, 0)
+        self.stack = ExitStack()
+        self.advance: Callable[[int], None] | None = None
+
+    def __enter__(self) -> Waiting:
+        return self
+
+    def __exit__(self, *_: object) -> None:
+        self.stack.close()
+
+    def __call__(self, state: Progress) -> None:
+        if self.advance is None:
+            if state.turned:
+                report(OTHER_ORDER.format(state.turned, state.total))
+            bar = progress(state.total // self.scale, self.what, state.done // self.scale)
+            self.advance = self.stack.enter_context(bar)
+        else:
+            self.advance(state.done // self.scale - self.state.done // self.scale)
+        self.state = state
+
+
 @dataclass(frozen=True)
 class MatchRunner:
     """Where matches are run, and where their results are stored."""
@@ -81,28 +103,18 @@ class MatchRunner:
     jobs: int
     scheduler: str | None
 
-    def fight(self, matches: Matches) -> None:
-        """Runs all matches that are not stored yet, with a bar on a terminal."""
-        if not self.results:
-            self._fight(matches, lambda rows: None)
-            return
-        try:
-            with Results(self.results, matches) as stored:
-                reversed_count = stored.find()
-                if reversed_count:
-                    report(REVERSED_ORDER.format(reversed_count, len(matches)))
-                self._fight(matches, stored.keep)
-        except KeyboardInterrupt:
-            report(f"{matches.is_fought.sum()} of {len(matches)} matches stored; run the same command to continue")
-            # A match that is under way isn't waited for.
-            os._exit(130)
-
-    def _fight(self, matches: Matches, keep: Callable[[Rows], None]) -> None:
-        place = cluster(matches, self.scheduler) if self.scheduler else threads(matches, self.jobs)
-        with progress(len(matches), "matches", int(matches.is_fought.sum())) as advance, place as here:
-            for rows in here.fight(matches):
-                keep(rows)
-                advance(len(rows))
+    def run(self, call: Callable[..., Result]) -> Result:
+        """Returns the result of a method of a contest, with a bar on a terminal."""
+        with Waiting() as waiting, cluster(self.scheduler) if self.scheduler else nullcontext() as executor:
+            try:
+                return call(jobs=self.jobs, executor=executor, results=self.results, progress=waiting)
+            except KeyboardInterrupt:
+                if not self.results:
+                    raise
+                state = waiting.state
+                report(f"{state.done} of {state.total} matches stored; run the same command to continue")
+                # A match that is under way isn't waited for.
+                os._exit(130)
 
 
 def contest_options(command: Callable[..., Any]) -> Callable[..., Any]:
@@ -120,25 +132,19 @@ def contest_options(command: Callable[..., Any]) -> Callable[..., Any]:
     return with_options(*EXECUTION_OPTIONS)(wrapper)
 
 
-def contest_of(options: BattleOptions) -> Contest:
-    return Contest(
-        settings=options.settings,
-        rounds=options.rounds,
-        seed=options.seed,
-        position=options.position,
-        formula=options.formula,
-        same_seed=options.same_seed,
-    )
-
-
 def entrants_of(options: BattleOptions, count: int = 2) -> tuple[Contest, list[Warrior], list[FileError]]:
-    """The contest, the warriors of the files for matches of `count`, and the errors of the other files, which are
-    reported.
+    """The contest, the warriors of the files for matches of `count`, in order, and the errors of the other files, which
+    are reported.
     """
-    contest = contest_of(options)
-    warriors, faults = read_entrants(contest, options.files, options.limit, count)
-    for fault in faults:
-        report_error(fault)
+    given = {name: getattr(options, name) for name in ("rounds", "seed", "position", "formula", "same_seed")}
+    contest, warriors, faults = Contest(options.settings, **given), list[Warrior](), list[FileError]()
+    with Assembler(options.limit) as assembler:
+        for file in options.files:
+            try:
+                warriors.append(read_warrior(assembler.assemble, file, options.settings, options.rounds, count))
+            except FileError as left:
+                report_error(left)
+                faults.append(left)
     return contest, warriors, faults
 
 
@@ -153,19 +159,26 @@ def format_option(formats: Sequence[str]) -> Decorator:
     )
 
 
-def write_results(text: str, form: str, output: str | None = None) -> None:
+def write_results(result: Any, form: str, output: str | None = None, only_sum: bool = False) -> None:
     """Writes results with their end of line to a file, or to standard output. Names of files are as they were given in
     formats for programs, and printable in the others.
     """
     is_for_programs = form in ("csv", "json")
-    shown = text if is_for_programs else "\n".join(map(printable, text.split("\n")))
-    data = f"{shown}\n".encode("utf-8", "surrogateescape")
+    if form == "csv":
+        text = csv_text(result.COLUMNS, [result.total()] if only_sum else result.records())
+    elif form == "json":
+        text = json.dumps({name: one for name, one in result.to_dict().items() if name != "matches" or not only_sum})
+    else:
+        text = result.matrix_text() if form == "matrix" else str(result)
+        lines = [*map(printable, text.split("\n"))]
+        text = "\n".join(lines[1 + len(result.records()) :] if only_sum else lines)
+    data = f"{text}\n".encode("utf-8", "surrogateescape")
     if output:
         replace_file(output, data)
     elif is_for_programs:
         click.echo(data, nl=False)
     else:
-        show(shown.split("\n"))
+        show(text.split("\n"))
 
 
 @click.command(
@@ -184,7 +197,7 @@ def write_results(text: str, form: str, output: str | None = None) -> None:
     show_default=True,
     help="Order of the rows: most points first, or as the files are given",
 )
-@format_option(list(FORMATS))
+@format_option(("table", "csv", "json", "matrix"))
 @click.option("-o", "--output", type=FILE, help="Write the results to this file")
 @click.option(
     "--picture",
@@ -212,13 +225,11 @@ def league(options: BattleOptions, runner: MatchRunner, order: str, form: str, *
     contest, warriors, faults = entrants_of(options)
     if not warriors:
         return 1
-    matches = Matches(contest, warriors, all_pairs(len(warriors)))
-    runner.fight(matches)
-    result = League(matches, order == "points")
-    write_results(FORMATS[form](result), form, files["output"])
+    found = runner.run(partial(contest.league, warriors))
+    result = replace(found, by_points=order == "points")
+    write_results(result, form, files["output"])
     if files["picture"]:
-        ranks = [result.ranks[number] for number in result.order]
-        draw(result.titles(), ranks, result.balances(), files["picture"])
+        draw(result, files["picture"])
     if files["pages"]:
         write_pages(Path(files["pages"]), result)
     return 1 if faults else 0
@@ -240,7 +251,7 @@ def league(options: BattleOptions, runner: MatchRunner, order: str, form: str, *
     metavar="FILE",
     help="An earlier version of the first file: compare the scores of both against the others, per 100 rounds",
 )
-@format_option(list(CHALLENGE_FORMATS))
+@format_option(("table", "csv", "json"))
 def challenge(options: BattleOptions, runner: MatchRunner, only_sum: bool, old: str | None, form: str) -> int:
     """Run a match of the first file against each of the others.
 
@@ -253,10 +264,8 @@ def challenge(options: BattleOptions, runner: MatchRunner, only_sum: bool, old: 
     contest, warriors, faults = entrants_of(options)
     if not warriors or any(fault.file == options.files[0] for fault in faults):
         return 1
-    opponents = np.arange(1, len(warriors))
-    matches = Matches(contest, warriors, np.column_stack([np.zeros_like(opponents), opponents]))
-    runner.fight(matches)
-    write_results(CHALLENGE_FORMATS[form](Challenge(matches, only_sum)), form)
+    result = runner.run(partial(contest.challenge, warriors[0], warriors[1:]))
+    write_results(result, form, only_sum=only_sum)
     return 1 if faults else 0
 
 
@@ -268,17 +277,7 @@ def print_change(options: BattleOptions, runner: MatchRunner, only_sum: bool, ol
     contest, warriors, faults = entrants_of(replace(options, files=(*both, *options.files[1:])))
     if len(warriors) < 3 or any(fault.file in both for fault in faults):
         return 1
-    opponents = warriors[2:]
-
-    def run(advance: Callable[[int], None]) -> list[NDArray[np.float64]]:
-        parts = []
-        for part in compare(contest, warriors[0], warriors[1], opponents, runner.jobs):
-            parts.append(part)
-            advance(part.shape[1])
-        return parts
-
-    with progress(len(opponents), "opponents") as advance:
-        parts = run_in_thread(lambda: run(advance))
-    comparison = Comparison(contest, warriors[:2], opponents, np.concatenate(parts, axis=1), only_sum)
-    write_results(CHANGE_FORMATS[form](comparison), form)
+    with Waiting("opponents", 2) as waiting:
+        result = contest.compare(warriors[0], warriors[1], warriors[2:], jobs=runner.jobs, progress=waiting)
+    write_results(result, form, only_sum=only_sum)
     return 1 if faults else 0

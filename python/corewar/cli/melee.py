@@ -3,15 +3,11 @@ from __future__ import annotations
 
 import click
 
-from ..contests.melee import melee as run
-from ..contests.melee import records_of, table_of
-from ..contests.scores import HEAD, NAMES, RATES, csv_text, json_text
 from ..model.settings import MAX_WARRIORS
 from .layout import Command, Number
-from .league import JOBS, LEFT_OUT, entrants_of, format_option, write_results
+from .league import JOBS, LEFT_OUT, Waiting, entrants_of, format_option, write_results
 from .options import BattleOptions, battle_options
 from .reporting import report
-from .waiting import progress, run_in_thread
 
 
 @click.command(
@@ -45,13 +41,7 @@ def melee(options: BattleOptions, size: int, lineups: int, form: str, jobs: int)
     if len(warriors) < size:
         report(f"{len(warriors)} warriors are left, but a match has {size}")
         return 1
-    with progress(lineups, "matches") as advance:
-        table = run_in_thread(lambda: run(contest, warriors, size, lineups, jobs, advance))
-    if form == "table":
-        text = table_of(table)
-    elif form == "csv":
-        text = csv_text(("rank", *NAMES, *HEAD, *RATES), records_of(table))
-    else:
-        text = json_text(contest, size=size, lineups=lineups, warriors=records_of(table))
-    write_results(text, form)
+    with Waiting() as waiting:
+        result = contest.melee(warriors, size, lineups, jobs=jobs, progress=waiting)
+    write_results(result, form)
     return 1 if faults else 0

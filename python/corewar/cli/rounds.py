@@ -1,39 +1,36 @@
 """`fight` and `rounds`: a match, and how each of its rounds ends."""
 from __future__ import annotations
 
-from dataclasses import astuple
+from dataclasses import astuple, replace
 
 import click
 import numpy as np
 
 from ..analysis.captions import command
 from ..analysis.formatting import pluralize
-from ..battle.rounds import count_outcomes, portions, rounds_of
-from ..engine.calls import Match, Row, match
+from ..battle.rounds import count_outcomes, rounds_of
+from ..engine.calls import Match, Row, fits, match, portions
 from ..model.printing import printable
 from .layout import Command
 from .options import BattleOptions, Output, battle_options
-from .waiting import progress, run_in_thread
+from .waiting import progress
 
 # The number of cycles after which the bar moves, at most a quarter of a second of two warriors.
 CYCLES = 6_000_000
-# Points are 64 bits with a sign.
-MAX_POINTS = 2**63 - 1
 
 
 def rows_of(fought: Match, formula: str) -> list[Row]:
     """The rows of a match, with a bar on a terminal."""
-
-    def run(part: Match) -> list[Row]:
-        return run_in_thread(lambda: match(formula=formula, **vars(part)))
-
-    counts = np.zeros((len(fought.warriors), 4), object)
+    counts, count = np.zeros((len(fought.warriors), 4), object), len(fought.warriors)
+    numbers = fought.rounds, fought.seed, fought.position
     with progress(fought.rounds, "rounds") as advance:
-        for part in portions(fought, max(1, CYCLES // fought.settings.cycles)):
-            counts += [astuple(row) for row in run(part)]
-            advance(part.rounds)
+        for rounds, seed, _ in portions(numbers, count, CYCLES // fought.settings.cycles):
+            part = replace(fought, rounds=rounds, seed=seed)
+            counts += [astuple(row) for row in match(formula=formula, **vars(part))]
+            advance(rounds)
     # The library refuses points that do not fit, also if those of each part do.
-    return [Row(*row) for row in counts.tolist()] if abs(counts).max() <= MAX_POINTS else run(fought)
+    is_exact = all(map(fits, counts[:, 0]))
+    return [Row(*row) for row in counts.tolist()] if is_exact else match(formula=formula, **vars(fought))
 
 
 @click.command(

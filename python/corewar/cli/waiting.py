@@ -3,26 +3,7 @@ from __future__ import annotations
 
 import sys
 from collections.abc import Callable, Iterator
-from concurrent.futures import Future
 from contextlib import contextmanager
-from threading import Thread
-from typing import TypeVar
-
-Result = TypeVar("Result")
-
-
-def run_in_thread(function: Callable[[], Result]) -> Result:
-    """Returns the result of a function. It runs in another thread, so that Ctrl-C doesn't wait for it."""
-    result: Future[Result] = Future()
-
-    def call() -> None:
-        try:
-            result.set_result(function())
-        except Exception as fault:
-            result.set_exception(fault)
-
-    Thread(target=call, daemon=True).start()
-    return result.result()
 
 
 @contextmanager

@@ -1,88 +1,81 @@
-"""The results of one warrior against many, as text for people and programs."""
+"""The results of one warrior against many."""
 from __future__ import annotations
 
-from collections.abc import Sequence
 from dataclasses import dataclass
-from functools import cached_property
 from typing import Any
 
 import numpy as np
-from numpy.typing import NDArray
 
+from ..engine.warriors import Warrior
 from ..model.printing import printable
-from .contest import Matches, Rows
-from .scores import HEAD, NAMES, RATES, Sums, csv_text, json_text, names_of, rates_of
-
-COLUMNS = (*NAMES, *HEAD, "theirs", *RATES)
+from .matches import Matches
+from .standings import HEAD, NAMES, RATES, Numbers, Standings, Sums, head_of, names_of, rates_of
 
 
-@dataclass(frozen=True)
-class Challenge:
-    """The matches of the first warrior with each of the others; with `only_sum` only their sums are shown."""
+@dataclass(frozen=True, eq=False)
+class Challenge(Standings):
+    """The results of a warrior against each of its opponents: `Standings` whose rows have an opponent, and the results
+    of the warrior in the match with it.
 
-    matches: Matches
-    only_sum: bool = False
+    - `challenger`: the warrior
+    - `theirs`: the points of the opponents
+    - `seeds`: the seeds of the matches
+    - `total_error`: the standard error of the warrior's score in all matches
+    """
 
-    @cached_property
-    def order(self) -> list[int]:
-        """The rows of the matches, the most points first."""
-        if self.only_sum:
-            return []
-        points = self.matches.counts[:, 0].tolist()
-        return sorted(range(len(points)), key=points.__getitem__, reverse=True)
+    challenger: Warrior
+    theirs: Numbers
+    seeds: Numbers
+    total_error: float
+
+    COLUMNS = (*NAMES, *HEAD, "theirs", *RATES)
 
     @property
     def sums(self) -> list[int]:
         """The sums of all matches: points, wins, ties and losses of the warrior, and the points of its opponents."""
-        return [sum(column) for column in self.matches.counts.T.tolist()]
+        return [sum(column) for column in np.column_stack([self.counts, self.theirs]).T.tolist()]
 
     def records(self) -> list[dict[str, Any]]:
-        """Returns a row for each match in this order, with the names of the opponent and the results of the warrior."""
-        rows = np.arange(len(self.matches))
-        counts, errors = self.matches.counts.tolist(), self._errors(rows)
-        return [self._record(number + 1, counts[number], errors[number]) for number in self.order]
+        """Returns a row for each match, that with the most points first."""
+        return [self.record(one) for one in np.argsort(-self.points, kind="stable").tolist()]
 
-    def whole(self) -> dict[str, Any]:
+    def record(self, number: int) -> dict[str, Any]:
+        """Returns the row of a match."""
+        counts = *self.counts[number].tolist(), int(self.theirs[number])
+        return {**row_of(self.warriors[number], counts, self.errors[number]), "seed": int(self.seeds[number])}
+
+    def total(self) -> dict[str, Any]:
         """Returns the row of the warrior, with the sums."""
-        return self._record(0, self.sums, self._errors(np.zeros(len(self.matches), np.intp))[0] / len(self.matches))
+        return row_of(self.challenger, tuple(self.sums), self.total_error)
 
-    def _errors(self, sums: Rows) -> NDArray[np.float64]:
-        """Returns the standard errors of the warrior's scores, if the match of each row belongs to a sum."""
-        first, count = np.zeros_like(sums), int(sums.max(initial=0)) + 1
-        found = Sums(count, sums, np.arange(len(sums)), first, first + 1).errors(self.matches)
-        return found * 100 / self.matches.contest.rounds
+    def to_dict(self) -> dict[str, Any]:
+        """Returns the options, the seed, the warrior with the sums, and each match, as plain values."""
+        return {**head_of(self.contest), "warrior": self.total(), "matches": self.records()}
 
-    def _record(self, warrior: int, counts: Sequence[int], error: float) -> dict[str, Any]:
-        numbers = dict(zip((*HEAD, "theirs"), counts))
-        return {**names_of(self.matches.warriors[warrior]), **numbers, **rates_of(counts, error)}
-
-
-def table_of(challenge: Challenge) -> str:
-    """Returns the head, a line for each match, and the sums."""
-    matches = challenge.matches
-    opponents = [matches.warriors[number + 1] for number in challenge.order]
-    width = max((len(one.file) for one in opponents), default=0)
-    head = [] if challenge.only_sum else ["  points   wins   ties losses   theirs  opponent"]
-    counts = matches.counts[challenge.order].tolist()
-    lines = [f"{row_of(row)}  {printable(one.file):{width}}  {one.title}" for row, one in zip(counts, opponents)]
-    return "\n".join([*head, *lines, f"{row_of(challenge.sums)}  sum of {len(matches)}"])
+    def __str__(self) -> str:
+        width = max((len(one.file) for one in self.warriors), default=0)
+        lines = ["  points   wins   ties losses   theirs  opponent"]
+        for number in np.argsort(-self.points, kind="stable").tolist():
+            one, counts = self.warriors[number], [*self.counts[number], self.theirs[number]]
+            lines.append(f"{text_of(counts)}  {printable(one.file):{width}}  {one.title}")
+        return "\n".join([*lines, f"{text_of(self.sums)}  sum of {len(self.warriors)}"])
 
 
-def row_of(counts: Sequence[int]) -> str:
+def row_of(warrior: Warrior, counts: tuple[int, ...], error: float) -> dict[str, Any]:
+    return {**names_of(warrior), **dict(zip((*HEAD, "theirs"), counts)), **rates_of(counts, error)}
+
+
+def text_of(counts: list[int]) -> str:
     points, wins, ties, losses, theirs = counts
     return f"{points:8} {wins:6} {ties:6} {losses:6} {theirs:8}"
 
 
-def csv_of(challenge: Challenge) -> str:
-    """Returns a row for each match, or the sums if only they are shown."""
-    rows = [challenge.whole()] if challenge.only_sum else challenge.records()
-    return csv_text(COLUMNS, rows)
-
-
-def json_of(challenge: Challenge) -> str:
-    """Returns the warrior with its sums, and each match unless only the sums are shown."""
-    matches = {} if challenge.only_sum else {"matches": challenge.records()}
-    return json_text(challenge.matches.contest, warrior=challenge.whole(), **matches)
-
-
-FORMATS = {"table": table_of, "csv": csv_of, "json": json_of}
+def challenge_of(matches: Matches) -> Challenge:
+    """Returns the challenge of the matches of the first warrior with each of the others."""
+    rows, count = np.arange(len(matches)), len(matches)
+    scale, first = 100 / matches.contest.rounds, np.zeros_like(rows)
+    errors = Sums(count, rows, rows, first, first + 1).errors(matches) * scale
+    (total,) = Sums(1, first, rows, first, first + 1).errors(matches) * scale / max(1, count)
+    challenger, *opponents = matches.warriors
+    counts, theirs = matches.counts[:, :4], matches.counts[:, 4]
+    return Challenge(matches.contest, tuple(opponents), counts, errors, challenger, theirs, matches.seeds, float(total))

@@ -1,238 +1,198 @@
-"""The matches of a league or a challenge: their settings, warriors, pairs and results."""
+"""Contests of many warriors: leagues, challenges, comparisons and melees."""
 from __future__ import annotations
 
-import hashlib
-import shlex
-from collections.abc import Iterator, Mapping, Sequence
+import random
+from collections.abc import Callable, Iterator, Sequence
+from concurrent.futures import Executor
+from contextlib import ExitStack
 from dataclasses import dataclass
-from functools import lru_cache
+from functools import partial
 from typing import Any
 
 import numpy as np
-from numpy.typing import NDArray
+from numpy.typing import ArrayLike, NDArray
 
-from ..engine.calls import assemble, match, population
 from ..engine.outcomes import run_lineups, table_of
-from ..engine.sources import Assembler, Limit, read_warrior
+from ..engine.rewards import survivals
 from ..engine.warriors import Warrior
-from ..model.errors import SCORE, CorewarError, FileError, MarsError
-from ..model.settings import FORMULA, NUMBERS, Settings
-
-# Rows of five numbers: points, wins, ties and losses of the first warrior, and points of the second one.
-Counts = NDArray[np.int64]
-# Rows of two numbers: the warriors of a match in their order.
-Pairs = NDArray[np.intp]
-# Indices of pairs, from 0.
-Rows = NDArray[np.intp]
-# The multipliers of the generator SplitMix64, which makes numbers of 64 bits that look random of any numbers.
-MULTIPLIERS = 0x9E3779B97F4A7C15, 0xBF58476D1CE4E5B9, 0x94D049BB133111EB
-# A core in which the rounds end at once.
-TINY = Settings(core=100, cycles=2, longest=1, distance=1)
+from ..model.errors import CorewarError
+from ..model.settings import MAX_WARRIORS, NUMBERS
+from .challenge import Challenge, challenge_of
+from .comparison import Comparison, scores_of
+from .league import League, league_of
+from .matches import Matches, Rows, all_pairs
+from .melee import Melee, lineups_of, melee_of
+from .results import Results
+from .terms import Terms
 
 
-@dataclass(frozen=True, kw_only=True)
-class Contest:
-    """The settings of all matches. They determine the result of a match of two warriors in a given order. Raises
-    `MarsError` for a formula that is not an expression in W and S.
+@dataclass(frozen=True)
+class Progress:
+    """How far a contest is.
 
-    Each match has a seed of its own, which `seed` and its two warriors determine, so that the matches of a warrior are
-    independent. With `same_seed` all have the seed itself, as in `mars --league`.
+    - `done`, `total`: the numbers of matches
+    - `turned`: the number of matches that are stored only with the warriors in the other order, which are different
+      matches
     """
 
-    settings: Settings = Settings()
-    rounds: int = 1
-    seed: int = 1
-    position: int | None = None
-    formula: str = FORMULA
-    same_seed: bool = False
-
-    def __post_init__(self) -> None:
-        # The seeds of matches are made of this one. A formula has a value only if a warrior survives, but both are
-        # refused before hours of matches.
-        population([], [], settings=self.settings, rounds=self.rounds, seed=self.seed, position=self.position)
-        score_of(self.formula, 2, 0)
-
-    @property
-    def words(self) -> list[str]:
-        """The settings as options of `mars`, without a seed if each match has its own."""
-        seed = None if self.has_seeds else self.seed
-        numbers = {**vars(self.settings), "rounds": self.rounds, "seed": seed, "position": self.position}
-        given = [f"{NUMBERS[name].word}={number}" for name, number in numbers.items() if number is not None]
-        return [*given, f"--score={self.formula}"]
-
-    @property
-    def has_seeds(self) -> bool:
-        """Whether each match has a seed of its own; with a given position nothing is drawn."""
-        return not self.same_seed and self.position is None
-
-    @property
-    def key(self) -> str:
-        """What matches of these settings are stored by."""
-        return shlex.join([*self.words, *([f"--pair-seeds={self.seed}"] if self.has_seeds else [])])
-
-    def seeds_of(self, first: NDArray[np.uint64], second: NDArray[np.uint64]) -> NDArray[np.int64]:
-        """Returns the seeds of matches, from the first 8 bytes of the digests of their two warriors."""
-        if not self.has_seeds:
-            return np.full(len(first), self.seed)
-        start = mixed(np.full(len(first), self.seed, np.uint64))
-        return 1 + (mixed(mixed(start ^ first) ^ second) % np.uint64(NUMBERS["seed"].maximum)).astype(np.int64)
+    done: int
+    total: int
+    turned: int = 0
 
 
-def mixed(numbers: NDArray[np.uint64]) -> NDArray[np.uint64]:
-    """Returns the next number of SplitMix64 after each of these states."""
-    step, first, second = map(np.uint64, MULTIPLIERS)
-    numbers = numbers + step
-    numbers = (numbers ^ (numbers >> np.uint64(30))) * first
-    numbers = (numbers ^ (numbers >> np.uint64(27))) * second
-    return numbers ^ (numbers >> np.uint64(31))
+@dataclass(frozen=True)
+class Execution:
+    """Where matches are run, where their results are stored, and what gets their progress."""
+
+    jobs: int = 1
+    executor: Executor | None = None
+    results: str | None = None
+    progress: Callable[[Progress], object] | None = None
+
+    def report(self, done: int, total: int, turned: int = 0) -> None:
+        if self.progress is not None:
+            self.progress(Progress(done, total, turned))
 
 
-def fight(contest: Contest, warriors: Mapping[int, Warrior], pairs: Pairs, seeds: NDArray[np.int64]) -> Counts:
-    """Runs the matches of some pairs and returns their counts, a row for each. Raises `MarsError`."""
-    numbers, places = np.unique(pairs, return_inverse=True)
-    table = table_of(places.reshape(pairs.shape), seeds)
-    fighters = [warriors[number] for number in numbers.tolist()]
-    survived = run_lineups(fighters, table, contest.settings, contest.rounds, contest.position)["survived"].astype(bool)
-    ties = survived.all(axis=2).sum(axis=1)
-    wins = survived.sum(axis=1) - ties[:, None]
-    losses = contest.rounds - wins[:, 0] - ties
-    points = points_of(contest.formula, wins, ties)
-    if any(not fits(one) for one in points.ravel()):
-        raise MarsError(SCORE, 4)
-    return np.column_stack([points[:, 0], wins[:, 0], ties, losses, points[:, 1]]).astype(np.int64)
+class Contest(Terms):
+    """A contest: the settings of all its matches. They determine the result of a match of two warriors in their order.
 
+    - `settings`: the parameters of the core, or the name of a hill
+    - `rounds`: the number of rounds of each match, 1 to 100,000
+    - `seed`: the seed, 1 to 2,147,483,646
+    - `position`: the address of the second of two warriors, or None to draw positions from the seed
+    - `formula`: the score of each survivor of a round, as for `match`
+    - `same_seed`: whether all matches have the seed itself, as in `mars --league`; otherwise each match of two has a
+      seed of its own, which `seed` and the two warriors determine, so that the matches of a warrior are independent
 
-def points_of(formula: str, wins: NDArray[Any], ties: NDArray[Any]) -> NDArray[Any]:
-    """Returns the points of both warriors, which may have more than 64 bits, from their wins and ties. Raises
-    `MarsError`.
+    Every method takes these by name:
+
+    - `jobs`: the number of threads
+    - `executor`: an executor of `concurrent.futures` that runs the matches instead, as for `outcomes`
+    - `progress`: is called with a `Progress` before the first match and each time some have been run
+
+    Ctrl-C ends each of them at once. Raises `MarsError` for an invalid number and for a formula that is not an
+    expression in W and S.
     """
-    values = [score_of(formula, 2, left) if many.any() else 0 for left, many in ((1, wins), (2, ties))]
-    return np.asarray(wins.astype(object) * values[0] + ties[:, None].astype(object) * values[1])
 
+    def league(
+        self,
+        warriors: Sequence[Warrior],
+        *,
+        jobs: int = 1,
+        executor: Executor | None = None,
+        results: str | None = None,
+        progress: Callable[[Progress], object] | None = None,
+    ) -> League:
+        """Runs a league: every two warriors play a match, of which the earlier one is the first.
 
-@lru_cache(maxsize=None)
-def score_of(formula: str, warriors: int, survivors: int) -> int:
-    """Returns the value of a formula as the library computes it, in a round that ends so. Raises `MarsError`."""
-    lives, dies = assemble("JMP 0", settings=TINY), assemble("DAT 0", settings=TINY)
-    return match([lives] * survivors + [dies] * (warriors - survivors), settings=TINY, formula=formula)[0].points
+        - `results`: the name of a file in which results are stored; matches that it contains are not run again
 
-
-def fits(points: int) -> bool:
-    """Returns whether a sum of points fits in 64 bits."""
-    return -(2**63) <= points < 2**63
-
-
-def check_counts(counts: object, matches: int, contest: Contest) -> Counts:
-    """Returns the counts of a number of matches, which come from a file or from another machine. Raises CorewarError if
-    they are not the counts of any matches of this contest.
-    """
-    try:
-        table = np.array(counts)
-    except (ValueError, OverflowError):
-        table = np.empty(0)
-    if table.shape != (matches, 5) or not (matches == 0 or table.dtype.kind == "i"):
-        raise CorewarError(f"expected five whole numbers for each of {matches} matches")
-    outcomes, rounds = table[:, 1:4], contest.rounds
-    wrong = np.flatnonzero((outcomes < 0).any(axis=1) | (outcomes > rounds).any(axis=1) | (outcomes.sum(1) != rounds))
-    if len(wrong):
-        wins, ties, losses = outcomes[wrong[0]].tolist()
-        raise CorewarError(f"a match of {rounds} rounds cannot have {wins} wins, {ties} ties and {losses} losses")
-    # The losses of the first warrior are the wins of the second one.
-    points = points_of(contest.formula, outcomes[:, ::2], outcomes[:, 1])
-    wrong = np.flatnonzero((table[:, ::4] != points).any(axis=1))
-    if len(wrong):
-        first, *outcome, second = table[wrong[0]].tolist()
-        raise CorewarError(f"{first} and {second} are not the points of {'-'.join(map(str, outcome))}")
-    return table.astype(np.int64)
-
-
-def digests_of(warrior: Warrior) -> tuple[bytes, bytes]:
-    """Returns the digests by which the matches of a warrior are known: of its cells and start, as its load file has
-    them without name and author, and of the whole load file, by which version 1.2 stored results.
-    """
-    first, _, _, rest = warrior.load.split(b"\n", 3)
-    return hashlib.sha256(first + b"\n" + rest).digest(), hashlib.sha256(warrior.load).digest()
-
-
-def read_entrants(
-    contest: Contest, files: Sequence[str], limit: Limit, count: int = 2
-) -> tuple[list[Warrior], list[FileError]]:
-    """Returns the warriors of files, for matches of `count` warriors, in order, and the errors of the other files.
-    Raises `MarsError` for the settings.
-    """
-    warriors, faults = [], []
-    with Assembler(limit) as assembler:
-        for file in files:
-            try:
-                warriors.append(read_warrior(assembler.assemble, file, contest.settings, contest.rounds, count))
-            except FileError as left:
-                faults.append(left)
-    return warriors, faults
-
-
-class Matches:
-    """The matches of pairs, sorted by the first and then the second warrior. `counts` is valid where `is_fought`."""
-
-    def __init__(self, contest: Contest, warriors: Sequence[Warrior], pairs: Pairs) -> None:
-        self.contest, self.warriors, self.pairs = contest, dict(enumerate(warriors)), pairs
-        self.counts: Counts = np.zeros((len(pairs), 5), np.int64)
-        self.is_fought: NDArray[np.bool_] = np.zeros(len(pairs), bool)
-        both = [digests_of(warrior) for warrior in warriors]
-        self.digests, self._older = [one for one, _ in both], [other for _, other in both]
-        heads = np.array([int.from_bytes(one[:8], "little") for one in self.digests], np.uint64)
-        self.seeds = contest.seeds_of(*heads[pairs].T)
-        # A number for each match; it is the same for matches of equal warriors.
-        kinds = np.unique(np.array(self.digests, "S32"), return_inverse=True)[1]
-        self.same: NDArray[np.intp] = kinds[pairs[:, 0]] * len(warriors) + kinds[pairs[:, 1]]
-
-    def __len__(self) -> int:
-        return len(self.pairs)
-
-    def fill_in(self, rows: Rows, counts: Counts) -> None:
-        """Stores the counts of matches, by their rows."""
-        self.counts[rows] = counts
-        self.is_fought[rows] = True
-
-    def rows_of(self, pairs: Pairs) -> Rows:
-        """Returns the row of each of these pairs, or -1 for a pair without a match."""
-        if not len(self):
-            return np.full(len(pairs), -1)
-        # A pair as one number.
-        wanted, sought = (numbers[:, 0] * len(self.warriors) + numbers[:, 1] for numbers in (self.pairs, pairs))
-        rows = np.searchsorted(wanted, sought).clip(max=len(self) - 1)
-        return np.where(wanted[rows] == sought, rows, -1)
-
-    def take_stored(self, stored: Iterator[tuple[Any, ...]]) -> int:
-        """Fills in what was stored, by two digests and counts. Returns how many matches are stored only with the
-        warriors in the other order, in results of no match of these. Raises CorewarError if the counts are not those of
-        a match.
+        Raises `MarsError` for an invalid warrior, and `CorewarError` for the file and for errors of an executor.
         """
-        numbers: dict[bytes, set[int]] = {}
-        for number, digests in enumerate(zip(self.digests, self._older)):
-            for digest in digests:
-                numbers.setdefault(digest, set()).add(number)
-        found = [
-            (place, one, other, *counts)
-            for place, (first, second, *counts) in enumerate(stored)
-            for one in numbers.get(first, ())
-            for other in numbers.get(second, ())
-        ]
-        places, pairs = np.split(np.array([row[:3] for row in found], np.intp).reshape(-1, 3), [1], axis=1)
-        counts = check_counts([row[3:] for row in found] or np.empty((0, 5)), len(found), self.contest)
-        rows, reversed_rows = self.rows_of(pairs), self.rows_of(pairs[:, ::-1])
-        self.fill_in(rows[rows >= 0], counts[rows >= 0])
-        # A warrior of which there are copies may stand before some opponent and after it.
-        is_own = np.isin(places[:, 0], places[rows >= 0])
-        reversed_rows = np.unique(reversed_rows[(reversed_rows >= 0) & ~is_own])
-        return int((~self.is_fought[reversed_rows]).sum())
+        matches = Matches(self, warriors, all_pairs(len(warriors)))
+        for _ in run(matches, Execution(jobs, executor, results, progress)):
+            pass
+        return league_of(matches)
 
-    def bundles(self, cycles: int) -> Iterator[Rows]:
-        """Yields the rows of the matches left to run, in bundles of at most `cycles` cycles or one match."""
-        rows = np.flatnonzero(~self.is_fought)
-        size = max(1, cycles // (self.contest.rounds * self.contest.settings.cycles))
-        return (rows[at : at + size] for at in range(0, len(rows), size))
+    def challenge(
+        self,
+        warrior: Warrior,
+        opponents: Sequence[Warrior],
+        *,
+        jobs: int = 1,
+        executor: Executor | None = None,
+        results: str | None = None,
+        progress: Callable[[Progress], object] | None = None,
+    ) -> Challenge:
+        """Runs a match of a warrior with each of its opponents; the warrior is the first. The rest is as for `league`,
+        with which it may share a file of results.
+        """
+        pairs = np.column_stack([np.zeros(len(opponents), np.intp), np.arange(1, len(opponents) + 1)])
+        matches = Matches(self, [warrior, *opponents], pairs)
+        for _ in run(matches, Execution(jobs, executor, results, progress)):
+            pass
+        return challenge_of(matches)
+
+    def compare(
+        self,
+        old: Warrior,
+        new: Warrior,
+        opponents: Sequence[Warrior],
+        *,
+        jobs: int = 1,
+        executor: Executor | None = None,
+        progress: Callable[[Progress], object] | None = None,
+    ) -> Comparison:
+        """Runs a match of each of two versions of a warrior with each opponent, all with the same seed, so that both
+        versions have the same positions. Raises `MarsError`, and `CorewarError` without an opponent and for errors of
+        an executor.
+        """
+        if not opponents:
+            raise CorewarError("expected 1 or more opponents")
+        pairs = np.stack(np.meshgrid([0, 1], np.arange(2, len(opponents) + 2), indexing="ij"), axis=-1)
+        finish, how = partial(scores_of, formula=self.formula), Execution(jobs, executor, None, progress)
+        scores = self._play([old, new, *opponents], pairs.reshape(-1, 2), self.seed, finish, how)
+        return Comparison(self, (old, new), tuple(opponents), scores.reshape(2, len(opponents), self.rounds))
+
+    def melee(
+        self,
+        warriors: Sequence[Warrior],
+        size: int = 4,
+        lineups: int = 100,
+        *,
+        jobs: int = 1,
+        executor: Executor | None = None,
+        progress: Callable[[Progress], object] | None = None,
+    ) -> Melee:
+        """Runs matches of random warriors, whose numbers of matches differ by at most one. The seed draws the warriors
+        and the seed of each match.
+
+        - `size`: the number of warriors in a match, 2 to 16
+        - `lineups`: the number of matches, 1 or more
+
+        Raises `MarsError`, and `CorewarError` for too few warriors and for errors of an executor.
+        """
+        if not 2 <= size <= min(MAX_WARRIORS, len(warriors)) or lineups < 1:
+            raise CorewarError(f"expected 1 or more matches of 2 to 16 of the warriors, not {lineups} of {size}")
+        dice = random.Random(self.seed)
+        drawn = np.array(lineups_of(len(warriors), size, lineups, dice))
+        seeds = np.array([dice.randint(1, NUMBERS["seed"].maximum) for _ in drawn])
+        lives = self._play(warriors, drawn, seeds, survivals, Execution(jobs, executor, None, progress))
+        return melee_of(self, warriors, drawn, seeds, lives)
+
+    def _play(
+        self,
+        warriors: Sequence[Warrior],
+        lineups: Rows,
+        seeds: ArrayLike,
+        finish: Callable[[NDArray[Any]], NDArray[Any]],
+        how: Execution,
+    ) -> NDArray[Any]:
+        """Returns what `finish` returns for the rows of each lineup."""
+        table, parts, done = table_of(lineups, seeds), dict[int, NDArray[Any]](), 0
+        how.report(0, len(table))
+        for part, found in run_lineups(warriors, table, self.run(lineups.shape[1]), finish, how.jobs, how.executor):
+            parts[part.start] = found
+            done += len(found)
+            how.report(done, len(table))
+        return np.concatenate([parts[start] for start in sorted(parts)])
 
 
-def all_pairs(count: int) -> Pairs:
-    """Returns all pairs of `count` warriors, the earlier one first."""
-    return np.column_stack(np.triu_indices(count, 1))
+def run(matches: Matches, how: Execution) -> Iterator[Rows]:
+    """Runs the matches that are not stored yet. Yields their rows: first those that are stored, then those of some
+    matches each time these have been run. Raises CorewarError.
+    """
+    with ExitStack() as stack:
+        stored = stack.enter_context(Results(how.results, matches)) if how.results else None
+        turned = stored.find() if stored else 0
+        rows = np.flatnonzero(matches.is_fought)
+        done = len(rows)
+        how.report(done, len(matches), turned)
+        yield rows
+        for rows in matches.fight(how.jobs, how.executor):
+            if stored:
+                stored.keep(rows)
+            done += len(rows)
+            how.report(done, len(matches), turned)
+            yield rows

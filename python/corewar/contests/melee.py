@@ -1,43 +1,53 @@
-"""Melees: matches of several warriors in random lineups, and the table of how all fared."""
+"""Melees: matches of several warriors in random lineups, and how all fared."""
 from __future__ import annotations
 
 import random
-from collections.abc import Callable, Sequence
+from collections.abc import Sequence
 from dataclasses import dataclass
 from typing import Any
 
 import numpy as np
 from numpy.typing import NDArray
 
-from ..engine.outcomes import outcomes
+from ..engine.calls import fits
+from ..engine.rewards import score_of
 from ..engine.warriors import Warrior
-from ..model.settings import NUMBERS
-from .contest import Contest, score_of
-from .scores import HEAD, names_of, ranks_of, rates_of
-
-# The maximum cycles of a thread between two reports of progress, two or three seconds of four warriors.
-CYCLES = 40_000_000
+from ..model.errors import SCORE, MarsError
+from .matches import Rows
+from .standings import HEAD, NAMES, RATES, Numbers, Standings, head_of
+from .terms import Terms
 
 
-@dataclass(frozen=True)
-class Standing:
-    """The results of a warrior in all its rounds: `score` is its points for 100 rounds, and `error` the standard error
-    of the score, or NaN if the warrior was in fewer than two matches.
+@dataclass(frozen=True, eq=False)
+class Melee(Standings):
+    """The results of warriors in melees, `Standings` with the lineups. An error is NaN if the warrior was in fewer than
+    two matches.
+
+    - `lineups`: the warriors of each match, in their order
+    - `seeds`: the seeds of the matches
     """
 
-    rank: int
-    score: float
-    error: float
-    points: int
-    wins: int
-    ties: int
-    losses: int
-    warrior: Warrior
+    lineups: Rows
+    seeds: Numbers
 
-    @property
-    def rounds(self) -> int:
-        """The number of rounds in which it was one of the warriors."""
-        return self.wins + self.ties + self.losses
+    COLUMNS = ("rank", *NAMES, *HEAD, *RATES)
+
+    def to_dict(self) -> dict[str, Any]:
+        """Returns the options, the seed, the numbers of matches and warriors in one, and the rows, as plain values."""
+        return {
+            **head_of(self.contest),
+            "size": self.lineups.shape[1],
+            "lineups": len(self.lineups),
+            "warriors": self.records(),
+        }
+
+    def __str__(self) -> str:
+        lines, ranks = ["  rank    score rounds   wins   ties losses  warrior"], self.ranks
+        for one in self.order.tolist():
+            _, wins, ties, losses = self.counts[one].tolist()
+            numbers = f"{ranks[one]:6} {self.scores[one]:8.1f} {self.rounds[one]:6} {wins:6} {ties:6} {losses:6}"
+            lines.append(f"{numbers}  {self.warriors[one].title}")
+        return "\n".join(lines)
 
 
 def lineups_of(warriors: int, size: int, count: int, dice: random.Random) -> list[list[int]]:
@@ -53,40 +63,22 @@ def lineups_of(warriors: int, size: int, count: int, dice: random.Random) -> lis
     return lineups
 
 
-def melee(
-    contest: Contest,
-    warriors: Sequence[Warrior],
-    size: int,
-    count: int,
-    jobs: int,
-    advance: Callable[[int], None] = lambda matches: None,
-) -> list[Standing]:
-    """Runs the matches of `count` random lineups of `size` warriors, and returns the results, the best first.
-
-    The seed of the contest draws the lineups and the seed of each match. `advance` gets the number of matches each time
-    some have been run. Raises `MarsError`.
+def melee_of(
+    contest: Terms, warriors: Sequence[Warrior], lineups: Rows, seeds: Numbers, lives: NDArray[np.intp]
+) -> Melee:
+    """Returns the results of melees. `lives` is for each match and place in how many rounds the warrior died, and was
+    one of 1, 2 .. survivors. Raises `MarsError`.
     """
-    dice = random.Random(contest.seed)
-    lineups = lineups_of(len(warriors), size, count, dice)
-    seeds = [dice.randint(1, NUMBERS["seed"].maximum) for _ in lineups]
-    numbers: dict[str, Any] = {"settings": contest.settings, "rounds": contest.rounds, "position": contest.position}
-    step, parts = jobs * max(1, CYCLES // (contest.rounds * contest.settings.cycles)), list[NDArray[np.bool_]]()
-    for at in range(0, count, step):
-        part = slice(at, at + step)
-        # A copy, since a field of an array keeps all others.
-        parts.append(outcomes(warriors, lineups[part], seeds=seeds[part], jobs=jobs, **numbers)["survived"].copy())
-        advance(len(parts[-1]))
-    survived = np.concatenate(parts)
-    places = np.broadcast_to(np.array(lineups)[:, None, :], survived.shape)
-    # In how many rounds each warrior was one of 0, 1, 2 .. survivors.
-    lives = np.zeros((len(warriors), size + 1), np.int64)
-    survivors = np.broadcast_to(survived.sum(axis=-1, keepdims=True), survived.shape)
-    np.add.at(lives, (places, survivors), survived)
-    values = [score_of(contest.formula, size, left) if lives[:, left].any() else 0 for left in range(size + 1)]
-    matches = (survived * np.array(values, float)[survivors]).sum(axis=1)
-    errors = errors_of(np.array(lineups).ravel(), matches.ravel(), len(warriors))
-    rounds = np.bincount(places[:, 0].ravel(), minlength=len(warriors)) * contest.rounds
-    return ranked(warriors, rounds.tolist(), lives.tolist(), values, errors / contest.rounds)
+    size, count = lineups.shape[1], len(warriors)
+    sums = np.zeros((count, size + 1), np.int64)
+    np.add.at(sums, lineups, lives)
+    values = [score_of(contest.formula, size, left) if left and sums[:, left].any() else 0 for left in range(size + 1)]
+    points = [sum(value * times for value, times in zip(values, own)) for own in sums.tolist()]
+    if not all(map(fits, points)):
+        raise MarsError(SCORE, 4)
+    errors = errors_of(lineups.ravel(), (lives @ np.array(values, float)).ravel(), count) / contest.rounds
+    counts = np.column_stack([np.array(points, np.int64), sums[:, 1], sums[:, 2:].sum(axis=1), sums[:, 0]])
+    return Melee(contest, tuple(warriors), counts, errors, lineups, seeds)
 
 
 def errors_of(places: NDArray[np.int64], points: NDArray[np.float64], count: int) -> NDArray[np.float64]:
@@ -99,42 +91,3 @@ def errors_of(places: NDArray[np.int64], points: NDArray[np.float64], count: int
         # The matches of a warrior have other opponents, drawn as well as the rounds, so whole matches are compared.
         spread = np.bincount(places, (points - (sums / matches)[places]) ** 2, count) / (matches - 1)
         return np.where(matches > 1, 100 * np.sqrt(spread / matches), np.nan)
-
-
-def ranked(
-    warriors: Sequence[Warrior],
-    rounds: Sequence[int],
-    lives: Sequence[Sequence[int]],
-    values: Sequence[int],
-    errors: NDArray[np.float64],
-) -> list[Standing]:
-    """Returns the table, the best score first; equal scores share a rank. A warrior that was in no lineup has 0.
-
-    `lives` is for each warrior in how many rounds it was one of 0, 1, 2 .. survivors, `values` what each then gets.
-    """
-    points = [sum(value * count for value, count in zip(values, own)) for own in lives]
-    scores = [100 * points[one] / rounds[one] if rounds[one] else 0.0 for one in range(len(warriors))]
-    ranks, standings = ranks_of(scores), []
-    for one in sorted(range(len(warriors)), key=scores.__getitem__, reverse=True):
-        (_, wins, *ties), score = lives[one], scores[one]
-        counts = points[one], wins, sum(ties), rounds[one] - wins - sum(ties)
-        standings.append(Standing(ranks[one], score, float(errors[one]), *counts, warriors[one]))
-    return standings
-
-
-def table_of(standings: Sequence[Standing]) -> str:
-    lines = ["  rank    score rounds   wins   ties losses  warrior"]
-    for one in standings:
-        numbers = f"{one.rank:6} {one.score:8.1f} {one.rounds:6} {one.wins:6} {one.ties:6} {one.losses:6}"
-        lines.append(f"{numbers}  {one.warrior.title}")
-    return "\n".join(lines)
-
-
-def records_of(standings: Sequence[Standing]) -> list[dict[str, Any]]:
-    """Returns a row for each warrior, with the columns of a league."""
-    records = []
-    for one in standings:
-        counts = [one.points, one.wins, one.ties, one.losses]
-        names = {"rank": one.rank, **names_of(one.warrior)}
-        records.append({**names, **dict(zip(HEAD, counts)), **rates_of(counts, one.error)})
-    return records

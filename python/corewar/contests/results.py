@@ -16,7 +16,7 @@ from typing import Any, TypeVar
 
 from ..model.errors import CorewarError
 from ..model.printing import printable
-from .contest import Matches, Rows
+from .matches import Matches, Rows
 
 TABLE = """CREATE TABLE IF NOT EXISTS fought (contest TEXT, first BLOB, second BLOB,
 points INTEGER NOT NULL, wins INTEGER NOT NULL, ties INTEGER NOT NULL, losses INTEGER NOT NULL, theirs INTEGER NOT NULL,
@@ -26,7 +26,7 @@ KEEP = "INSERT OR IGNORE INTO fought VALUES (?, ?, ?, ?, ?, ?, ?, ?)"
 # In seconds: how long another process may lock the file, how long one attempt takes, during which Ctrl-C waits, and how
 # long results wait to be written.
 LOCK_SECONDS = 60
-TRY_SECONDS = 1
+TRY_SECONDS = 0.25
 WRITE_SECONDS = 1
 
 

@@ -13,6 +13,7 @@ from ..model.errors import EDIT, MarsError
 from ..model.header import numbers
 from .binding import MAX_UINT32, array, call, check_size, clamp, dtype_of, library, read_text, settings_struct, slice_of
 from .calls import Match, check_count, warrior_arrays
+from .parts import TURNS
 from .warriors import clamp_fields
 
 Words = NDArray[np.uint32]
@@ -130,7 +131,13 @@ class Battle:
         recorded, seen = array("MarsRecord", records), array("MarsTouched", touched)
         rows = *slice_of("MarsRecord", recorded), *slice_of("MarsTouched", seen)
         # No battle has the greatest number of turns.
-        call("mars_play", *self._slice(), MAX_UINT32 if turns is None else check_size(turns), *rows)
+        left = MAX_UINT32 if turns is None else check_size(turns)
+        while True:
+            # Python raises Ctrl-C between two calls.
+            call("mars_play", *self._slice(), left if records or touched else min(left, TURNS), *rows)
+            left -= TURNS
+            if records or touched or left <= 0 or self.over:
+                break
         count = self.turns - before
         return recorded[:count], seen[:count]
 

@@ -2,8 +2,8 @@
 from __future__ import annotations
 
 import os
-from collections.abc import Sequence
-from dataclasses import dataclass, replace
+from collections.abc import Iterator, Sequence
+from dataclasses import astuple, dataclass, replace
 from typing import Any
 
 import numpy as np
@@ -11,7 +11,13 @@ import numpy as np
 from ..model.errors import CorewarError, MarsError
 from ..model.settings import FORMULA, MAX_WARRIORS, Settings, settings_of
 from .binding import array, call, check_size, clamp, read_text, settings_struct, slice_of
+from .parts import TURNS
 from .warriors import Warrior, program
+
+# The generator of seeds: each is the one before times the multiplier, modulo a prime.
+MULTIPLIER, MODULUS = 16807, 2**31 - 1
+# The number of rounds, the seed and the position of a match.
+Numbers = tuple[int, int, int | None]
 
 
 @dataclass(frozen=True, init=False, repr=False)
@@ -129,40 +135,39 @@ def match(
     if memory runs out.
     """
     check_count(len(warriors))
-    return rows("mars_match", settings, (rounds, seed, position), formula, warriors, len(warriors))
+    given, numbers = settings_of(settings), (rounds, seed, position)
+    count, sums = len(warriors), []
+    size = TURNS // max(1, given.cycles * count)
+    if rounds > size:
+        check_numbers(given, rounds, seed, None)
+        # Python raises Ctrl-C between two calls.
+        for part in portions(numbers, count, size):
+            sums.append([astuple(row) for row in rows("mars_match", given, part, formula, warriors, count)])
+        found = [Row(*map(sum, zip(*own))) for own in zip(*sums)]
+        if all(fits(row.points) for row in found):
+            return found
+    return rows("mars_match", given, numbers, formula, warriors, count)
 
 
-def league(
-    warriors: Sequence[Warrior],
-    *,
-    settings: Settings | str = "94nop",
-    rounds: int = 1,
-    seed: int = 1,
-    formula: str = FORMULA,
-) -> list[Row]:
-    """Runs a league of up to 65,536 warriors, a match of every two, and returns the row of each, in their order.
-
-    The parameters and errors are those of `match`; every match has the same seed.
-    """
-    return rows("mars_league", settings, (rounds, seed, None), formula, warriors, len(warriors))
+def check_numbers(settings: Settings, rounds: int, seed: int, position: int | None) -> None:
+    """Raises MarsError if the library would refuse one of these numbers."""
+    rows("mars_population", settings, (rounds, seed, position), FORMULA, [], 0)
 
 
-def population(
-    candidates: Sequence[Warrior],
-    opponents: Sequence[Warrior],
-    *,
-    settings: Settings | str = "94nop",
-    rounds: int = 1,
-    seed: int = 1,
-    position: int | None = None,
-    formula: str = FORMULA,
-) -> list[Row]:
-    """Runs a match of each candidate with each opponent, and returns the sum of the rows of each candidate.
+def portions(numbers: Numbers, warriors: int, size: int) -> Iterator[Numbers]:
+    """Yields the numbers of matches of about `size` rounds, which together have the rounds of a match in order."""
+    rounds, seed, position = numbers
+    # The warrior that begins is the same in each first round.
+    size = max(1, -(-size // warriors)) * warriors
+    # In each round a seed is drawn for each warrior but the first, and for each but two to put them in another order.
+    draws = max(0, 2 * warriors - 3) if not position else 0
+    for first in range(0, rounds, size):
+        yield min(size, rounds - first), seed * pow(MULTIPLIER, draws * first, MODULUS) % MODULUS, position
 
-    The candidate is the first warrior of its matches. The other parameters and the errors are those of `match`.
-    """
-    fighters = [*candidates, *opponents]
-    return rows("mars_population", settings, (rounds, seed, position), formula, fighters, len(candidates))
+
+def fits(points: int) -> bool:
+    """Returns whether a sum of points fits in 64 bits."""
+    return -(2**63) <= points < 2**63
 
 
 def check_count(warriors: int) -> None:
@@ -188,12 +193,12 @@ def warrior_arrays(warriors: Sequence[Warrior], core: int) -> tuple[Any, ...]:
 def rows(
     name: str,
     settings: Settings | str,
-    numbers: tuple[int, int, int | None],
+    numbers: Numbers,
     formula: str,
     warriors: Sequence[Warrior],
     count: int,
 ) -> list[Row]:
-    """Returns the rows of a call, whose numbers are rounds, seed and position."""
+    """Returns the rows of a call."""
     given, result = settings_of(settings), array("MarsRow", count)
     words = settings_struct(given, *numbers), *slice_of("uint8_t", encode_source(formula))
     call(name, *words, *warrior_arrays(warriors, given.core), *slice_of("MarsRow", result))

@@ -1,17 +1,23 @@
 """How each warrior fares in each round of many matches, as an array."""
 from __future__ import annotations
 
-from collections.abc import Sequence
-from concurrent.futures import Future, ThreadPoolExecutor
+import math
+from collections.abc import Callable, Iterator, Sequence
+from concurrent.futures import Executor, ThreadPoolExecutor
+from dataclasses import dataclass, replace
+from functools import partial
+from threading import Event
 from typing import Any
 
 import numpy as np
 from numpy.typing import ArrayLike, NDArray
 
-from ..model.errors import LINEUP, CorewarError, MarsError
-from ..model.settings import NUMBERS, Settings, settings_of
+from ..model.errors import CorewarError, MarsError
+from ..model.settings import MAX_WARRIORS, NUMBERS, Settings, settings_of
 from .binding import MAX_UINT32, array, call, settings_struct, slice_of
-from .calls import check_count, population, warrior_arrays
+from .calls import check_count, check_numbers, portions, warrior_arrays
+from .parts import DISTANT_TURNS, TURNS, Stopped, run_parts
+from .rewards import cycles_of
 from .warriors import Warrior
 
 # What is known of a warrior in a round.
@@ -19,23 +25,16 @@ OUTCOME = np.dtype([("survived", "?"), ("turns", "u4"), ("cycles", "u4"), ("star
 # What it did, if that is counted.
 COUNTS = ("own_turns", "spawned", "executed", "written", "touched")
 COUNTED = np.dtype([*OUTCOME.descr, *((name, "u4") for name in COUNTS)])
-# The number of parts for each thread, so that all end at about the same time.
-PARTS = 4
+# The number of parts for each thread, so that all end at about the same time, and the maximum rounds of one.
+PARTS, MAX_ROUNDS = 4, 1 << 18
 
-
-class Threads(ThreadPoolExecutor):
-    """A pool of threads that raises CorewarError if the system refuses one."""
-
-    def submit(self, *given: Any, **named: Any) -> Future[Any]:
-        try:
-            return super().submit(*given, **named)
-        except RuntimeError as fault:
-            raise CorewarError(f"{fault}; use fewer jobs") from None
+Array = NDArray[Any]
+Reduce = Callable[[Array], Array]
 
 
 def outcomes(
     warriors: Sequence[Warrior],
-    lineups: ArrayLike | None = None,
+    lineups: ArrayLike | Sequence[Sequence[int]] | None = None,
     *,
     settings: Settings | str = "94nop",
     rounds: int = 1,
@@ -43,16 +42,24 @@ def outcomes(
     position: int | None = None,
     counts: bool = False,
     jobs: int = 1,
-) -> NDArray[Any]:
+    executor: Executor | None = None,
+    reduce: Reduce | None = None,
+) -> Array:
     """Runs a match of each lineup, and returns how each of its warriors fares in each round.
 
-    - `lineups`: the indices of the warriors of each match, in their order: 1 to 16 for each, and as many for each; None
-      for one match of all warriors
+    - `lineups`: the indices of the warriors of each match, in their order: 1 to 16 for each; None for one match of all
+      warriors
     - `settings`, `position`: as for `match`; a position is only for lineups of two
     - `rounds`: the number of rounds of each match, 1 to 100,000
     - `seeds`: the seed of all matches, or one for each, 1 to 2,147,483,646
     - `counts`: whether to count what each warrior does, which takes several times as long
     - `jobs`: the number of threads, 1 or more
+    - `executor`: an executor of `concurrent.futures` that runs the matches instead: threads, processes, that of a Dask
+      client, MPI. Its workers need the same version of the package; results are the same, however they are split
+    - `reduce`: a function of the outcomes of some lineups that returns an array with a row for each, such as
+      `partial(corewar.shares, cycles=800)`; the rows of all lineups are returned instead. It runs where the matches
+      run, so that the outcomes of only a few lineups are in memory; for other processes it is a function that can be
+      pickled
 
     Returns an array of the shape (lineups, rounds, warriors of a lineup) with these fields:
 
@@ -70,68 +77,141 @@ def outcomes(
     - `touched`: the number of cells that it executed, read or wrote; operands count as read even if the opcode
       does not use them
 
-    The sums over the rounds are the rows of `match`. Raises ValueError for lineups of different lengths, for more or
-    fewer seeds than lineups, and for numbers that are not whole; `CorewarError` for more than 16 warriors in a match or
-    no thread; and `MarsError` if a number, a lineup or a warrior is invalid, if the core is too small, or if memory
-    runs out.
+    In a lineup that is shorter than others the last places have no warrior: all their fields are 0, also `turns`, which
+    is 1 or more for a warrior. The sums over the rounds are the rows of `match`. Raises ValueError for more or fewer
+    seeds than lineups, and for numbers that are not whole; `CorewarError` for more than 16 warriors in a match, for no
+    thread and for errors of an executor; and `MarsError` if a number, a lineup or a warrior is invalid, if the core is
+    too small, or if memory runs out.
     """
     if jobs < 1:
         raise CorewarError(f"expected 1 or more jobs, not {jobs}")
     given = settings_of(settings)
     table = table_of([range(len(warriors))] if lineups is None else lineups, seeds)
+    table["counting"] = counts
     if not len(table):
         # With no lineup the library does not check these numbers.
-        seed = seeds if isinstance(seeds, int) else 1
-        population([], [], settings=given, rounds=rounds, seed=seed, position=position)
-    table["counting"] = counts
-    rows = run_lineups(warriors, table, given, rounds, position, jobs)
+        check_numbers(given, rounds, seeds if isinstance(seeds, int) else 1, position)
+    run = Run(given, rounds, position, int(table["count"].max(initial=0)))
+    finish = partial(found_of, counts=counts, cycles=given.cycles, reduce=reduce)
+    found: Array | None = None
+    for part, rows in run_lineups(warriors, table, run, finish, jobs, executor):
+        if found is None:
+            found = np.empty((len(table), *rows.shape[1:]), rows.dtype)
+        found[part] = rows
+    return finish(np.zeros((0, rounds, run.width), array("MarsOutcome", 0).dtype)) if found is None else found
+
+
+def found_of(rows: Array, counts: bool, cycles: int, reduce: Reduce | None) -> Array:
+    """Returns rows of the library as `outcomes` does, or reduced."""
     found = np.empty(rows.shape, COUNTED if counts else OUTCOME)
     for field in ("survived", "turns", "start", *(COUNTS if counts else ())):
         found[field] = rows[field]
-    found["cycles"] = cycles_of(found["turns"], found["survived"], given.cycles)
-    return found
+    found["cycles"] = cycles_of(found["turns"], found["survived"], cycles)
+    if reduce is None:
+        return found
+    reduced = np.asarray(reduce(found))
+    if reduced.shape[:1] != rows.shape[:1]:
+        raise CorewarError(f"expected an array with {len(rows)} rows from `reduce`, not of the shape {reduced.shape}")
+    return reduced
+
+
+@dataclass(frozen=True)
+class Run:
+    """What all matches have in common: also the number of places of each row, which is that of the longest lineup."""
+
+    settings: Settings
+    rounds: int
+    position: int | None = None
+    width: int = 2
 
 
 def run_lineups(
     warriors: Sequence[Warrior],
-    table: NDArray[Any],
-    given: Settings,
-    rounds: int,
-    position: int | None,
+    table: Array,
+    run: Run,
+    finish: Callable[[Array], Array],
     jobs: int = 1,
-) -> NDArray[Any]:
-    """Runs the matches of a table of lineups. Returns an array as `outcomes` does, with the fields of the library."""
-    count = int(table["count"].max(initial=0))
+    executor: Executor | None = None,
+) -> Iterator[tuple[slice, Array]]:
+    """Runs the matches of a table of lineups in parts. Yields what `finish` returns for the rows of the library of each
+    part, of the shape (lineups, rounds, warriors), with the part as it is in the table, as they end. Raises MarsError
+    and CorewarError.
+    """
+    is_here = executor is None or isinstance(executor, ThreadPoolExecutor)
+    turns = max(1, run.rounds * run.settings.cycles * run.width)
+    size = max(1, min((TURNS if is_here else DISTANT_TURNS) // turns, MAX_ROUNDS // max(1, run.rounds)))
+    if executor is None and jobs > 1:
+        size = min(size, max(1, -(-len(table) // (jobs * PARTS))))
+    if executor is None and size >= len(table):
+        if len(table):
+            yield slice(0, len(table)), play(warriors, table, run, finish)
+        return
+    # A part has only its own warriors, so a wrong lineup is looked for first, and then a wrong warrior.
+    places = np.arange(MAX_WARRIORS) < table["count"][:, None]
+    wrong = (table["count"] < 1) | (np.where(places, table["warrior"], 0).max(axis=1) >= len(warriors))
+    first = np.flatnonzero(wrong)[:1]
+    try:
+        play(warriors, table[first], run, np.asarray)
+    except MarsError as fault:
+        index = int(first[0]) if len(first) else fault.warrior
+        raise MarsError(fault.code, fault.number, line=fault.line, warrior=index) from None
+    starts = range(0, len(table), size)
+    parts = ((*part_of(warriors, table[at : at + size], run.width, is_here), run, finish) for at in starts)
+    for number, found in run_parts(play, parts, jobs, executor):
+        yield slice(starts[number], starts[number] + size), found
+
+
+def part_of(warriors: Sequence[Warrior], table: Array, width: int, is_here: bool) -> tuple[list[Warrior], Array]:
+    """Returns the warriors of some lineups, without their sources if they are sent, and the lineups of these."""
+    indices = table["warrior"][:, :width]
+    # A place without a warrior has the index 0.
+    used = np.flatnonzero(np.bincount(indices.ravel(), minlength=len(warriors)))
+    places = np.zeros(len(warriors), np.uint32)
+    places[used] = np.arange(len(used))
+    part, table = [warriors[number] for number in used.tolist()], table.copy()
+    table["warrior"][:, :width] = places[indices]
+    return part if is_here else [replace(one, source=None) for one in part], table
+
+
+def play(
+    warriors: Sequence[Warrior], table: Array, run: Run, finish: Callable[[Array], Array], stop: Event | None = None
+) -> Array:
+    """Runs the matches of a table, and returns them finished. A single match may take long: it is run in portions."""
     # The library refuses 0 by the same name as any number out of the range, and 0 rounds need no memory.
-    rounds = rounds if 0 < rounds <= NUMBERS["rounds"].maximum else 0
-    # The library refuses a seed that is out of its range, but takes 0 in a lineup for that of the settings.
-    struct = settings_struct(given, rounds, int(table["seed"].min(initial=1)), position)
-    fixed = struct, *warrior_arrays(warriors, given.core)
-    size = max(1, -(-len(table) // (jobs * PARTS)) if jobs > 1 else len(table))
-
-    def run(first: int) -> NDArray[Any]:
-        part = table[first : first + size]
-        rows = array("MarsOutcome", len(part) * rounds * count)
-        try:
-            call("mars_outcomes", *fixed, *slice_of("MarsLineup", part), *slice_of("MarsOutcome", rows))
-        except MarsError as fault:
-            # A part counts its lineups from 0.
-            if fault.code == LINEUP:
-                raise MarsError(LINEUP, fault.number, warrior=first + fault.warrior) from None
-            raise
-        return rows
-
-    if jobs == 1:
-        rows = run(0)
-    else:
-        with Threads(jobs) as pool:
-            rows = np.concatenate([*pool.map(run, range(0, max(1, len(table)), size))])
-    return rows.reshape(len(table), rounds, count)
+    rounds = run.rounds if 0 < run.rounds <= NUMBERS["rounds"].maximum else 0
+    fixed, size = warrior_arrays(warriors, run.settings.core), TURNS // max(1, run.settings.cycles * run.width)
+    given, parts = [(rounds, 0, run.position)], []
+    if len(table) == 1 and rounds > size and table["count"][0] and table["seed"][0] <= NUMBERS["seed"].maximum:
+        given = [*portions((rounds, int(table["seed"][0]), run.position), int(table["count"][0]), size)]
+    for count, seed, position in given:
+        if stop is not None and stop.is_set():
+            raise Stopped
+        if seed:
+            table = table.copy()
+            table["seed"] = seed
+        # It refuses a seed that is out of its range, but takes 0 in a lineup for that of the settings.
+        settings = settings_struct(run.settings, count, int(table["seed"].min(initial=1)), position)
+        rows = array("MarsOutcome", count * int(table["count"].sum()))
+        call("mars_outcomes", settings, *fixed, *slice_of("MarsLineup", table), *slice_of("MarsOutcome", rows))
+        parts.append(placed(rows, table["count"], (len(table), count, run.width)))
+    return finish(parts[0] if len(parts) == 1 else np.concatenate(parts, axis=1))
 
 
-def table_of(lineups: ArrayLike, seeds: ArrayLike) -> NDArray[Any]:
+def placed(rows: Array, counts: NDArray[np.uint32], shape: tuple[int, int, int]) -> Array:
+    """Returns the rows of the library as an array of the shape (lineups, rounds, warriors), with 0 for no warrior."""
+    if len(rows) == math.prod(shape):
+        return rows.reshape(shape)
+    found = np.zeros(shape, rows.dtype)
+    found[np.broadcast_to((np.arange(shape[2]) < counts[:, None])[:, None], shape)] = rows
+    return found
+
+
+def table_of(lineups: Any, seeds: ArrayLike) -> Array:
     """Returns lineups in the form that the library expects. Raises ValueError."""
-    indices = clamped(lineups, "lineups of whole numbers, all of the same length")
+    lengths = [len(one) for one in lineups if isinstance(one, Sequence)] if isinstance(lineups, Sequence) else []
+    if len({*lengths}) > 1 and len(lengths) == len(lineups):
+        lineups = [[*one, *[0] * (max(lengths) - len(one))] for one in lineups]
+    indices = clamped(lineups, "lineups of whole numbers")
     # An empty list has one dimension, and stands for no lineups.
     if indices.shape == (0,):
         indices = indices.reshape(0, 0)
@@ -139,7 +219,8 @@ def table_of(lineups: ArrayLike, seeds: ArrayLike) -> NDArray[Any]:
         raise ValueError(f"expected an array of lineups, with 2 dimensions and not {indices.ndim}")
     check_count(indices.shape[1])
     table = array("MarsLineup", len(indices))
-    table["count"], table["warrior"][:, : indices.shape[1]] = indices.shape[1], indices
+    table["count"] = lengths if len(lengths) == len(table) else indices.shape[1]
+    table["warrior"][:, : indices.shape[1]] = indices
     table["seed"] = clamped(seeds, "whole numbers as seeds")
     return table
 
@@ -155,50 +236,3 @@ def clamped(given: ArrayLike, wanted: str) -> NDArray[np.int64]:
     if numbers.size and numbers.dtype.kind not in "biuO":
         raise ValueError(f"expected {wanted}")
     return np.where(fits, numbers, np.int64(MAX_UINT32)).astype(np.int64)
-
-
-def cycles_of(turns: NDArray[np.uint32], survived: NDArray[np.bool_], limit: int) -> NDArray[np.int64]:
-    """Returns the number of complete cycles when each warrior died, or the limit if it survived.
-
-    In a cycle each living warrior makes a turn. So after each death, as many cycles are complete as fit into the turns
-    since the end of the cycle of the death before it.
-    """
-    count = turns.shape[-1]
-    # Those that survive come last, since no number of turns has more than 32 bits.
-    order = np.argsort(np.where(survived, 1 << 32, turns.astype(np.int64)), axis=-1, kind="stable")
-    deaths = np.take_along_axis(turns, order, -1).astype(np.int64)
-    complete_at = np.empty(turns.shape, np.int64)
-    # The last turn of the cycle of the latest death, and the number of cycles that are complete then.
-    end, complete = np.zeros((2, *turns.shape[:-1]), np.int64)
-    for place in range(count):
-        left = count - place
-        whole = (deaths[..., place] - 1 - end) // left
-        # Otherwise it died in the cycle of the death before it.
-        is_later = whole >= 0
-        complete_at[..., place] = complete - 1 + np.where(is_later, whole + 1, 0)
-        end, complete = end + np.where(is_later, (whole + 1) * left, 0), complete_at[..., place] + 1
-    found = np.empty_like(complete_at)
-    np.put_along_axis(found, order, complete_at, -1)
-    return np.where(survived, limit, found)
-
-
-def shares(made: NDArray[Any], cycles: int) -> NDArray[np.float64]:
-    """Returns the reward of each warrior of outcomes if those who live in a cycle share W/`cycles`, with W warriors: in
-    a round they get W together.
-
-    - `made`: what `outcomes` returned
-    - `cycles`: the cycle limit of its settings
-
-    Raises `CorewarError` if there are no cycles.
-    """
-    if cycles < 1:
-        raise CorewarError(f"expected 1 or more cycles, not {cycles}")
-    # A warrior also lives in the cycle in which it dies.
-    lived = np.minimum(made["cycles"].astype(np.int64) + 1, cycles).astype(float)
-    order = np.argsort(lived, axis=-1, kind="stable")
-    ends = np.take_along_axis(lived, order, -1)
-    # From one death to the next, each cycle is shared by those that are left.
-    steps = np.diff(ends, axis=-1, prepend=0) / np.arange(lived.shape[-1], 0, -1)
-    gained = np.empty_like(lived)
-    np.put_along_axis(gained, order, steps.cumsum(-1), -1)
-    return gained * lived.shape[-1] / cycles

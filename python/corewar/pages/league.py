@@ -9,7 +9,7 @@ from numpy.typing import NDArray
 
 from ..analysis.formatting import pluralize
 from ..engine.calls import Match
-from ..contests.table import League
+from ..contests.league import League
 from ..model.settings import label
 from ..pictures.shades import mix_colours
 from .render import render, write_page
@@ -28,7 +28,7 @@ def begin_pages(folder: Path) -> None:
 
 def write_pages(folder: Path, league: League) -> None:
     """Writes the page of a league, index.html, and the page of its battles unless it has too many warriors."""
-    contest, warriors = league.matches.contest, tuple(league.warriors)
+    contest, warriors = league.contest, league.warriors
     has_matrix = len(warriors) <= MAX_MATRIX_SIZE
     given: dict[str, Any] = {"rounds": contest.rounds, "seed": contest.seed, "position": contest.position}
     match = Match(warriors, settings=contest.settings, **given)
@@ -36,7 +36,10 @@ def write_pages(folder: Path, league: League) -> None:
     texts = [f"{label(name)} {value:,}" for name, value in numbers.items() if value]
     page = render(
         "league.html.j2",
-        rows=[{**row, "title": title} for row, title in zip(league.rows, league.titles())],
+        rows=[
+            {**row, "title": title, "rank": rank}
+            for row, title, rank in zip(league.records(), league.titles, league.places[league.order].tolist())
+        ],
         settings=[*texts, f"score {contest.formula}"],
         lines=lines_of(league) if has_matrix else [],
     )
@@ -47,10 +50,10 @@ def write_pages(folder: Path, league: League) -> None:
 
 def lines_of(league: League) -> list[list[dict[str, Any] | None]]:
     """Returns the cells of the matrix, row by row, with None for a warrior against itself."""
-    balances, order = league.balances(), league.order
+    balances, order = league.balances, league.order.tolist()
     colours, counts = mix_colours(balances).tolist(), balances.tolist()
     seeds = np.zeros((len(order), len(order)), np.int64)
-    seeds[tuple(league.matches.pairs.T)] = league.matches.seeds
+    seeds[tuple(league.pairs.T)] = league.seeds
     return [
         [
             None if one == other else cell(league, (one, other), counts[x][y], colours[x][y], seeds)

@@ -1,14 +1,11 @@
 """The wins of each pair in a league as a picture: blue is won, red lost, grey tied."""
 from __future__ import annotations
 
-from collections.abc import Sequence
-
-import numpy as np
 from matplotlib import rc_context
 from matplotlib.figure import Figure
 from matplotlib.patches import Patch
-from numpy.typing import NDArray
 
+from ..contests.league import League
 from .saving import save
 from .shades import LOST, TIED, WON, mix_colours
 
@@ -18,13 +15,14 @@ CELL, SIDE, LETTER = 0.25, 20.0, 4.0
 
 # `$` in a name does not begin a formula.
 @rc_context({"text.parse_math": False})  # type: ignore[misc]
-def draw(titles: Sequence[str], ranks: Sequence[int], balances: NDArray[np.int64], path: str) -> None:
-    """Draws the wins, ties and losses of each against each. The end of the file's name selects the kind of picture."""
+def figure_of(league: League) -> Figure:
+    """Returns the picture of the wins, ties and losses of each against each."""
+    titles, ranks = league.titles, league.places[league.order].tolist()
     side = min(CELL * len(titles), SIDE)
     letter = min(9.0, 72 * side / max(1, len(titles)) * 0.7)
     figure = Figure(figsize=(side + 4, side + 1), layout="constrained")
     axes = figure.subplots()
-    axes.imshow(mix_colours(balances), interpolation="none")
+    axes.imshow(mix_colours(league.balances), interpolation="none")
     places = range(len(titles)) if letter >= LETTER else []
     axes.set_xticks(places, [str(ranks[place]) for place in places], fontsize=letter)
     axes.set_yticks(places, [f"{titles[place]}  {ranks[place]}" for place in places], fontsize=letter)
@@ -32,4 +30,9 @@ def draw(titles: Sequence[str], ranks: Sequence[int], balances: NDArray[np.int64
     shades = {"won": WON, "tied": TIED, "lost": LOST}
     patches = [Patch(color=[part / 255 for part in shade], label=name) for name, shade in shades.items()]
     axes.legend(handles=patches, loc="upper left", bbox_to_anchor=(1.01, 1), borderaxespad=0, frameon=False)
-    save(figure, path)
+    return figure
+
+
+def draw(league: League, path: str) -> None:
+    """Writes the picture of a league. The end of the file's name selects the kind of picture."""
+    save(figure_of(league), path)

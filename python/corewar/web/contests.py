@@ -3,16 +3,13 @@ from __future__ import annotations
 
 import os
 from collections.abc import Generator
-from contextlib import ExitStack
 from typing import Any
 
 import numpy as np
-from numpy.typing import NDArray
 
 from ..engine.sources import Assembler, Overrun
-from ..contests.contest import Contest, Matches, all_pairs
-from ..contests.places import threads
-from ..contests.results import Results
+from ..contests.contest import Contest, Execution, run
+from ..contests.matches import Matches, all_pairs
 from ..model.errors import CorewarError, MarsError
 from ..model.settings import Settings
 from ..engine.warriors import Warrior
@@ -32,7 +29,7 @@ def contest_of(given: dict[str, Any]) -> Contest:
     """Returns the contest of a message. Raises TypeError, ValueError or KeyError if it is none."""
     rounds, seed, position = [int(given[name]) for name in ("rounds", "seed", "position")]
     return Contest(
-        settings=settings_of(given["settings"]),
+        settings_of(given["settings"]),
         rounds=rounds,
         seed=seed,
         position=position or None,
@@ -58,18 +55,6 @@ def league(assembler: Assembler, given: dict[str, Any], results: str | None) -> 
     contest = contest_of(given)
     warriors = [warrior_of(assembler, source, contest) for source in given["sources"]]
     matches = Matches(contest, warriors, all_pairs(len(warriors)))
-    with ExitStack() as stack:
-        kept = stack.enter_context(Results(results, matches)) if results else None
-        here = stack.enter_context(threads(matches, JOBS))
-        if kept:
-            kept.find()
-        yield rows_as_lists(matches, np.flatnonzero(matches.is_fought))
-        for rows in here.fight(matches):
-            if kept:
-                kept.keep(rows)
-            yield rows_as_lists(matches, rows)
-
-
-def rows_as_lists(matches: Matches, rows: NDArray[np.intp]) -> list[list[int]]:
-    table: list[list[int]] = np.hstack([matches.pairs[rows], matches.counts[rows]]).tolist()
-    return table
+    for rows in run(matches, Execution(JOBS, results=results)):
+        table: list[list[int]] = np.hstack([matches.pairs[rows], matches.counts[rows]]).tolist()
+        yield table

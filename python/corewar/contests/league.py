@@ -1,0 +1,126 @@
+"""The results of a league: a match of every two warriors."""
+from __future__ import annotations
+
+from dataclasses import dataclass
+from functools import cached_property
+from typing import Any
+
+import numpy as np
+
+from ..engine.calls import fits
+from ..model.errors import SCORE, MarsError
+from .matches import Counts, Matches, Pairs, Rows
+from .standings import HEAD, NAMES, RATES, Numbers, Rates, Standings, Sums, rounded
+
+LEADS = ("lead", "lead_error")
+
+
+@dataclass(frozen=True, eq=False)
+class League(Standings):
+    """The results of a league, `Standings` with the results of each match.
+
+    - `pairs`: the two warriors of each match, in their order
+    - `results`: the points, wins, ties and losses of the first one, and the points of the second one
+    - `seeds`: the seeds of the matches
+    - `leads`, `lead_errors`: by how much the score of each warrior is greater than that of the next rank, and the
+      standard error of that; NaN for the last one
+    - `by_points`: whether rows are shown by their points, or in the order of the warriors
+    """
+
+    pairs: Pairs
+    results: Counts
+    seeds: Numbers
+    leads: Rates
+    lead_errors: Rates
+    by_points: bool = True
+
+    COLUMNS = ("rank", *NAMES, *HEAD, *RATES, *LEADS)
+
+    @cached_property
+    def matrix(self) -> Numbers:
+        """The points, wins, ties and losses of each warrior against each other one."""
+        return matrix_of(len(self.warriors), self.pairs, self.results)
+
+    @property
+    def order(self) -> Rows:
+        """The indices of the warriors as they are shown."""
+        return best_of(self.points) if self.by_points else np.arange(len(self.warriors))
+
+    @property
+    def places(self) -> Numbers:
+        """The ranks as the table shows them: equal points are in the order of the warriors."""
+        return 1 + np.argsort(best_of(self.points))
+
+    @property
+    def titles(self) -> list[str]:
+        """The name or file, and the author, of each warrior as they are shown."""
+        return [self.warriors[one].title for one in self.order.tolist()]
+
+    @property
+    def balances(self) -> Numbers:
+        """The wins, ties and losses of each warrior against each, as they are shown."""
+        return np.asarray(self.matrix[np.ix_(self.order, self.order)][..., 1:])
+
+    def record(self, number: int) -> dict[str, Any]:
+        """Returns the row of a warrior, without its rank."""
+        lead = dict(zip(LEADS, map(rounded, (self.leads[number], self.lead_errors[number]))))
+        return {**super().record(number), **lead}
+
+    def to_dict(self) -> dict[str, Any]:
+        """Returns the options, the seed, the rows, and each match with the numbers of these rows, as plain values."""
+        names = ("first", "second", *HEAD, "theirs", "seed")
+        table = np.column_stack([np.argsort(self.order)[self.pairs], self.results, self.seeds])
+        return {**super().to_dict(), "matches": [dict(zip(names, row)) for row in table.tolist()]}
+
+    def __str__(self) -> str:
+        lines, places = ["  rank   points   wins   ties losses  warrior"], self.places
+        for one, title in zip(self.order.tolist(), self.titles):
+            points, wins, ties, losses = self.counts[one].tolist()
+            lines.append(f"{places[one]:6} {points:8} {wins:6} {ties:6} {losses:6}  {title}")
+        return "\n".join(lines)
+
+    def matrix_text(self) -> str:
+        """Returns the wins of each against each; rows and columns have the ranks of the warriors."""
+        ranks = [str(rank) for rank in self.places[self.order]]
+        lines = [["", *ranks]]
+        for line, (rank, wins) in enumerate(zip(ranks, self.balances[..., 0].tolist())):
+            lines.append([rank, *(str(count) if place != line else "." for place, count in enumerate(wins))])
+        width = max(len(cell) for line in lines for cell in line)
+        titles = ["warrior", *self.titles]
+        return "\n".join(
+            " ".join(cell.rjust(width) for cell in line) + f"  {title}" for line, title in zip(lines, titles)
+        )
+
+
+def best_of(points: Numbers) -> Rows:
+    """Returns the indices of warriors by their points, the most first; equal ones are in their order."""
+    return np.argsort(-points, kind="stable")
+
+
+def matrix_of(count: int, pairs: Pairs, results: Counts) -> Numbers:
+    matrix = np.zeros((count, count, 4), np.int64)
+    first, second = pairs.T
+    matrix[first, second], matrix[second, first] = results[:, :4], results[:, [4, 3, 2, 1]]
+    return matrix
+
+
+def league_of(matches: Matches) -> League:
+    """Returns the league of the matches of all pairs. Raises `MarsError` if a sum of points does not fit in 64 bits."""
+    contest, count = matches.contest, len(matches.warriors)
+    matrix = matrix_of(count, matches.pairs, matches.counts)
+    if not all(fits(sum(line)) for line in matrix[..., 0].tolist()):
+        raise MarsError(SCORE, 4)
+    counts, rows = matrix.sum(axis=1), np.arange(len(matches))
+    best, scale = best_of(counts[:, 0]), 100 / (contest.rounds * max(1, count - 1))
+    # The points of a match belong to the sum of each of its warriors ..
+    given = matches.pairs.T.ravel(), np.tile(rows, 2), np.repeat([0, 1], len(rows))
+    errors = Sums(count, *given, np.ones_like(given[0])).errors(matches) * scale
+    # .. and to the lead of each over the next one, and with the opposite sign to the lead of the one before.
+    places = np.argsort(best)[given[0]]
+    sums = np.stack([np.r_[places, places - 1], *np.tile(given[1:], 2), np.repeat([1, -1], len(places))])
+    sums = sums[:, (sums[0] >= 0) & (sums[0] < count - 1)]
+    lead_errors = Sums(count, *sums).errors(matches) * scale
+    leads = np.append(-np.diff(counts[best, 0]) * scale, [np.nan] * bool(count))
+    of_warriors = np.argsort(best)
+    ahead = leads[of_warriors], lead_errors[of_warriors]
+    return League(contest, matches.warriors, counts, errors, matches.pairs, matches.counts, matches.seeds, *ahead)

@@ -1,0 +1,151 @@
+"""Matches of two: their warriors, seeds and results, which are run or read from a file."""
+from __future__ import annotations
+
+import hashlib
+from collections.abc import Iterator, Sequence
+from concurrent.futures import Executor
+from functools import partial
+from typing import Any
+
+import numpy as np
+from numpy.typing import NDArray
+
+from ..engine.calls import fits
+from ..engine.outcomes import run_lineups, table_of
+from ..engine.rewards import score_of, survivals
+from ..engine.warriors import Warrior
+from ..model.errors import SCORE, CorewarError, MarsError
+from .terms import Terms
+
+# Rows of five numbers: points, wins, ties and losses of the first warrior, and points of the second one.
+Counts = NDArray[np.int64]
+# Rows of two numbers: the warriors of a match in their order.
+Pairs = NDArray[np.intp]
+# Indices of pairs, from 0.
+Rows = NDArray[np.intp]
+# The maximum number of matches that are listed for the library at a time.
+BLOCK = 1 << 18
+
+
+def counts_of(rows: NDArray[Any], formula: str) -> Counts:
+    """Returns the counts of matches, from the rows of the library. Raises `MarsError`."""
+    losses, wins, ties = np.moveaxis(survivals(rows), -1, 0)
+    points = points_of(formula, wins, ties[:, 0])
+    if not all(map(fits, points.ravel())):
+        raise MarsError(SCORE, 4)
+    return np.column_stack([points[:, 0], wins[:, 0], ties[:, 0], losses[:, 0], points[:, 1]]).astype(np.int64)
+
+
+def points_of(formula: str, wins: NDArray[Any], ties: NDArray[Any]) -> NDArray[Any]:
+    """Returns the points of both warriors, which may have more than 64 bits, from their wins and ties. Raises
+    `MarsError`.
+    """
+    values = [score_of(formula, 2, left) if many.any() else 0 for left, many in ((1, wins), (2, ties))]
+    return np.asarray(wins.astype(object) * values[0] + ties[:, None].astype(object) * values[1])
+
+
+def check_counts(counts: object, matches: int, contest: Terms) -> Counts:
+    """Returns the counts of a number of matches, which come from a file or from another machine. Raises CorewarError if
+    they are not the counts of any matches of this contest.
+    """
+    try:
+        table = np.array(counts)
+    except (ValueError, OverflowError):
+        table = np.empty(0)
+    if table.shape != (matches, 5) or not (matches == 0 or table.dtype.kind == "i"):
+        raise CorewarError(f"expected five whole numbers for each of {matches} matches")
+    outcomes, rounds = table[:, 1:4], contest.rounds
+    wrong = np.flatnonzero((outcomes < 0).any(axis=1) | (outcomes > rounds).any(axis=1) | (outcomes.sum(1) != rounds))
+    if len(wrong):
+        wins, ties, losses = outcomes[wrong[0]].tolist()
+        raise CorewarError(f"a match of {rounds} rounds cannot have {wins} wins, {ties} ties and {losses} losses")
+    # The losses of the first warrior are the wins of the second one.
+    points = points_of(contest.formula, outcomes[:, ::2], outcomes[:, 1])
+    wrong = np.flatnonzero((table[:, ::4] != points).any(axis=1))
+    if len(wrong):
+        first, *outcome, second = table[wrong[0]].tolist()
+        raise CorewarError(f"{first} and {second} are not the points of {'-'.join(map(str, outcome))}")
+    return table.astype(np.int64)
+
+
+def digests_of(warrior: Warrior) -> tuple[bytes, bytes]:
+    """Returns the digests by which the matches of a warrior are known: of its cells and start, as its load file has
+    them without name and author, and of the whole load file, by which version 1.2 stored results.
+    """
+    first, _, _, rest = warrior.load.split(b"\n", 3)
+    return hashlib.sha256(first + b"\n" + rest).digest(), hashlib.sha256(warrior.load).digest()
+
+
+class Matches:
+    """The matches of pairs, sorted by the first and then the second warrior. `counts` is valid where `is_fought`."""
+
+    def __init__(self, contest: Terms, warriors: Sequence[Warrior], pairs: Pairs) -> None:
+        self.contest, self.warriors, self.pairs = contest, tuple(warriors), pairs
+        self.counts: Counts = np.zeros((len(pairs), 5), np.int64)
+        self.is_fought: NDArray[np.bool_] = np.zeros(len(pairs), bool)
+        both = [digests_of(warrior) for warrior in warriors]
+        self.digests, self._older = [one for one, _ in both], [other for _, other in both]
+        heads = np.array([int.from_bytes(one[:8], "little") for one in self.digests], np.uint64)
+        self.seeds = contest.seeds_of(*heads[pairs].T)
+        # A number for each match; it is the same for matches of equal warriors.
+        kinds = np.unique(np.array(self.digests, "S32"), return_inverse=True)[1]
+        self.same: NDArray[np.intp] = kinds[pairs[:, 0]] * len(warriors) + kinds[pairs[:, 1]]
+
+    def __len__(self) -> int:
+        return len(self.pairs)
+
+    def fight(self, jobs: int = 1, executor: Executor | None = None) -> Iterator[Rows]:
+        """Runs the matches that are left. Yields the rows of some with their counts filled in. Raises CorewarError."""
+        left, finish = np.flatnonzero(~self.is_fought), partial(counts_of, formula=self.contest.formula)
+        for block in (left[at : at + BLOCK] for at in range(0, len(left), BLOCK)):
+            table = table_of(self.pairs[block], self.seeds[block])
+            for part, counts in run_lineups(self.warriors, table, self.contest.run(), finish, jobs, executor):
+                rows = block[part]
+                try:
+                    self.fill_in(rows, check_counts(counts, len(rows), self.contest))
+                except CorewarError as fault:
+                    raise CorewarError(f"invalid result from a worker: {fault}") from None
+                yield rows
+
+    def fill_in(self, rows: Rows, counts: Counts) -> None:
+        """Stores the counts of matches, by their rows."""
+        self.counts[rows] = counts
+        self.is_fought[rows] = True
+
+    def rows_of(self, pairs: Pairs) -> Rows:
+        """Returns the row of each of these pairs, or -1 for a pair without a match."""
+        if not len(self):
+            return np.full(len(pairs), -1)
+        # A pair as one number.
+        wanted, sought = (numbers[:, 0] * len(self.warriors) + numbers[:, 1] for numbers in (self.pairs, pairs))
+        rows = np.searchsorted(wanted, sought).clip(max=len(self) - 1)
+        return np.where(wanted[rows] == sought, rows, -1)
+
+    def take_stored(self, stored: Iterator[tuple[Any, ...]]) -> int:
+        """Fills in what was stored, by two digests and counts. Returns how many matches are stored only with the
+        warriors in the other order, in results of no match of these. Raises CorewarError if the counts are not those of
+        a match.
+        """
+        numbers: dict[bytes, set[int]] = {}
+        for number, digests in enumerate(zip(self.digests, self._older)):
+            for digest in digests:
+                numbers.setdefault(digest, set()).add(number)
+        found = [
+            (place, one, other, *counts)
+            for place, (first, second, *counts) in enumerate(stored)
+            for one in numbers.get(first, ())
+            for other in numbers.get(second, ())
+        ]
+        places, pairs = np.split(np.array([row[:3] for row in found], np.intp).reshape(-1, 3), [1], axis=1)
+        counts = check_counts([row[3:] for row in found] or np.empty((0, 5)), len(found), self.contest)
+        rows, reversed_rows = self.rows_of(pairs), self.rows_of(pairs[:, ::-1])
+        self.fill_in(rows[rows >= 0], counts[rows >= 0])
+        # A warrior of which there are copies may stand before some opponent and after it.
+        is_own = np.isin(places[:, 0], places[rows >= 0])
+        reversed_rows = np.unique(reversed_rows[(reversed_rows >= 0) & ~is_own])
+        return int((~self.is_fought[reversed_rows]).sum())
+
+
+def all_pairs(count: int) -> Pairs:
+    """Returns all pairs of `count` warriors, the earlier one first."""
+    return np.column_stack(np.triu_indices(count, 1))

@@ -1,0 +1,88 @@
+"""What the matches of a contest have in common, and the seed of each."""
+from __future__ import annotations
+
+import shlex
+from dataclasses import dataclass
+
+import numpy as np
+from numpy.typing import NDArray
+
+from ..engine.calls import check_numbers
+from ..engine.outcomes import Run
+from ..engine.rewards import score_of
+from ..model.settings import FORMULA, NUMBERS, Settings, settings_of
+
+# The numbers of the generator SplitMix64, which makes numbers of 64 bits that look random of any numbers.
+MULTIPLIERS, SHIFTS = (0x9E3779B97F4A7C15, 0xBF58476D1CE4E5B9, 0x94D049BB133111EB), (30, 27, 31)
+
+
+@dataclass(frozen=True, init=False)
+class Terms:
+    """The settings of all matches. They determine the result of a match of two warriors in a given order."""
+
+    settings: Settings
+    rounds: int
+    seed: int
+    position: int | None
+    formula: str
+    same_seed: bool
+
+    def __init__(
+        self,
+        settings: Settings | str = "94nop",
+        *,
+        rounds: int = 1,
+        seed: int = 1,
+        position: int | None = None,
+        formula: str = FORMULA,
+        same_seed: bool = False,
+    ) -> None:
+        given = {"settings": settings_of(settings), "rounds": rounds, "seed": seed, "position": position}
+        vars(self).update(given, formula=formula, same_seed=same_seed)
+        # The seeds of matches are made of this one. A formula has a value only if a warrior survives, but both are
+        # refused before hours of matches.
+        check_numbers(self.settings, rounds, seed, position)
+        score_of(formula, 2, 0)
+
+    @property
+    def words(self) -> list[str]:
+        """The settings as options of `mars`, without a seed if each match has its own."""
+        seed = None if self.has_seeds else self.seed
+        numbers = {**vars(self.settings), "rounds": self.rounds, "seed": seed, "position": self.position}
+        given = [f"{NUMBERS[name].word}={number}" for name, number in numbers.items() if number is not None]
+        return [*given, f"--score={self.formula}"]
+
+    @property
+    def has_seeds(self) -> bool:
+        """Whether each match has a seed of its own; with a given position nothing is drawn."""
+        return not self.same_seed and self.position is None
+
+    @property
+    def is_drawn(self) -> bool:
+        """Whether rounds differ from each other by chance."""
+        return self.rounds > 1 and self.position is None
+
+    @property
+    def key(self) -> str:
+        """What matches of these settings are stored by."""
+        return shlex.join([*self.words, *([f"--pair-seeds={self.seed}"] if self.has_seeds else [])])
+
+    def run(self, width: int = 2) -> Run:
+        """Returns what the engine needs for matches of this number of warriors."""
+        return Run(self.settings, self.rounds, self.position, width)
+
+    def seeds_of(self, first: NDArray[np.uint64], second: NDArray[np.uint64]) -> NDArray[np.int64]:
+        """Returns the seeds of matches, from the first 8 bytes of the digests of their two warriors."""
+        if not self.has_seeds:
+            return np.full(len(first), self.seed)
+        start = mixed(np.full(len(first), self.seed, np.uint64))
+        return 1 + (mixed(mixed(start ^ first) ^ second) % np.uint64(NUMBERS["seed"].maximum)).astype(np.int64)
+
+
+def mixed(numbers: NDArray[np.uint64]) -> NDArray[np.uint64]:
+    """Returns the next number of SplitMix64 after each of these states."""
+    (step, *multipliers), shifts = map(np.uint64, MULTIPLIERS), [*map(np.uint64, SHIFTS)]
+    numbers = numbers + step
+    for multiplier, shift in zip(multipliers, shifts):
+        numbers = (numbers ^ (numbers >> shift)) * multiplier
+    return np.asarray(numbers ^ (numbers >> shifts[-1]))

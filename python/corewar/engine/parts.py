@@ -1,0 +1,105 @@
+"""Runs a call in parts: here, in threads, or on any executor of `concurrent.futures`, such as one of processes, of Dask
+or of MPI. Parts are short, so that Ctrl-C is raised at once and memory is only needed for those that are under way.
+"""
+from __future__ import annotations
+
+from collections.abc import Callable, Iterable, Iterator
+from concurrent.futures import FIRST_COMPLETED, CancelledError, Executor, Future, ThreadPoolExecutor, wait
+from itertools import islice
+from threading import Event
+from typing import Any, TypeVar
+
+from ..model.errors import CorewarError
+from .binding import library
+
+# The maximum number of turns of a part here, a quarter second, and on an executor, where each part costs milliseconds.
+TURNS, DISTANT_TURNS = 12_000_000, 100_000_000
+# The number of parts that are submitted at a time: for each thread, and to an executor with any number of workers.
+PARTS_PER_JOB, SUBMITTED_PARTS = 2, 500
+
+Result = TypeVar("Result")
+
+
+class Stopped(Exception):
+    """A part was stopped because nobody waits for it any more."""
+
+
+class Threads(ThreadPoolExecutor):
+    """A pool of threads that raises CorewarError if the system refuses one."""
+
+    def submit(self, *given: Any, **named: Any) -> Future[Any]:
+        try:
+            return super().submit(*given, **named)
+        except RuntimeError as fault:
+            raise CorewarError(f"{fault}; use fewer jobs") from None
+
+
+def versions() -> str:
+    """Returns the versions of the package and of the library in this process."""
+    from .. import __version__
+
+    return f"corewar {__version__}, library {library()[1].mars_version()}"
+
+
+def call_there(wanted: str, function: Callable[..., Result], *given: Any) -> Result | CorewarError:
+    """Returns the result of a call, or its error. A process with other versions calls nothing, because its results may
+    be others, and may be stored for good.
+    """
+    try:
+        if versions() != wanted:
+            return CorewarError(f"a worker has {versions()}, but this is {wanted}")
+        return function(*given)
+    except CorewarError as fault:
+        return fault
+
+
+def result_of(future: Future[Any]) -> Any:
+    """Returns what an executor has answered. Raises CorewarError."""
+    try:
+        result = future.result()
+    except CancelledError:
+        raise CorewarError("the executor has ended before all matches were run") from None
+    except CorewarError:
+        raise
+    except ModuleNotFoundError as fault:
+        raise CorewarError(f"this package is not installed on a worker: {fault}") from None
+    except Exception as fault:
+        # The call itself returns its errors: a worker could not load it, or a part has ended several workers.
+        raise CorewarError(f"error on the workers: {' '.join(str(fault).split())}") from None
+    if isinstance(result, CorewarError):
+        raise result
+    return result
+
+
+def run_parts(
+    function: Callable[..., Result], parts: Iterable[tuple[Any, ...]], jobs: int = 1, executor: Executor | None = None
+) -> Iterator[tuple[int, Result]]:
+    """Calls a function with the arguments of each part, and with an event that is set when nobody waits any more.
+    Yields the number of each part with its result, as they end. Raises CorewarError.
+
+    - `jobs`: the number of threads here; with one, no other thread runs
+    - `executor`: runs the parts instead; unless it has threads, they get no event, and a worker must have this version
+    """
+    stop = Event()
+    if executor is None and jobs == 1:
+        yield from ((number, function(*part, stop)) for number, part in enumerate(parts))
+        return
+    pool = Threads(jobs) if executor is None else executor
+    is_here = isinstance(pool, ThreadPoolExecutor)
+    head: list[Any] = [function] if is_here else [call_there, versions(), function]
+    room = PARTS_PER_JOB * jobs if executor is None else SUBMITTED_PARTS
+    left, out = enumerate(parts), dict[Future[Any], int]()
+    try:
+        while True:
+            for number, part in islice(left, room - len(out)):
+                out[pool.submit(*head, *part, *[stop] * is_here)] = number
+            if not out:
+                return
+            for future in wait(out, return_when=FIRST_COMPLETED).done:
+                yield out.pop(future), future.result() if is_here else result_of(future)
+    finally:
+        stop.set()
+        for future in out:
+            future.cancel()
+        if executor is None:
+            pool.shutdown(wait=False, cancel_futures=True)
