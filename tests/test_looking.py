@@ -227,8 +227,8 @@ def test_ctrl_c_ends_a_match(tmp_path: Path) -> None:
     """The command does not wait for the call of the library, which runs all rounds."""
     words = ["fight", "-r", "100000", "-c", "10000000", *[str(EXAMPLES / f"{name}.red") for name in ("imp", "dwarf")]]
     with begin(*words, stdout=None) as process:
-        status = Path(f"/proc/{process.pid}/task")
-        while process.poll() is None and len([*status.iterdir()]) < 2:
+        loaded = Path(f"/proc/{process.pid}/maps")
+        while process.poll() is None and "libmars" not in loaded.read_text():
             time.sleep(0.05)
         time.sleep(0.5)
         process.send_signal(signal.SIGINT)

@@ -30,6 +30,22 @@ from corewar.engine.warriors import read_load
 from corewar.model.cells import MODES, MODIFIERS, OPCODES, Cell
 
 
+def test_constants() -> None:
+    """What an evolver needs to make cells: their type, the limits of their numbers, and the greatest seed."""
+    assert corewar.CELL == assemble_cells().dtype and corewar.MAX_SEED == 2**31 - 2
+    highest = tuple(limit - 1 for limit in corewar.cell_limits(80))
+    assert (
+        corewar.OPCODES[highest[0]] == "NOP"
+        and corewar.MODIFIERS[highest[1]] == "I"
+        and corewar.MODES[highest[2]] == ">"
+    )
+    corewar.outcomes([Warrior.from_cells(np.array([highest], corewar.CELL), settings="nano")], settings="nano")
+
+
+def assemble_cells() -> Any:
+    return corewar.assemble("DAT 0").cells
+
+
 @given(matches())
 def test_a_warrior_is_a_value(fight: Match) -> None:
     """Equal warriors have equal cells, load files and digests, also in other processes."""
@@ -326,8 +342,9 @@ def test_executors(monkeypatch: pytest.MonkeyPatch) -> None:
         for how in hows:
             assert np.array_equal(corewar.outcomes(warriors, lineups, **words, **how), whole)
             assert np.array_equal(corewar.outcomes(warriors, lineups, **words, **how, reduce=spread), spread(whole))
-            for wrong, fault in (([0, 30], "index 90: lineup 2 Index"), ([], "index 90: lineup 1 Count")):
-                with pytest.raises(MarsError, match=fault):
+            wrongs: list[tuple[list[int], str]] = [([0, 30], "lineup 2 Index"), ([], "lineup 1 Count")]
+            for wrong, fault in wrongs:
+                with pytest.raises(MarsError, match=f"index 90: {fault}"):
                     corewar.outcomes(warriors, [*lineups[:90], wrong], **words, **how)
             with pytest.raises(MarsError, match="index 29: warrior 2 Start"):
                 corewar.outcomes([*warriors[:29], replace(warriors[29], start=99)], lineups, **words, **how)
@@ -384,6 +401,10 @@ CALLS = [
     "corewar.outcomes(two, rounds=100000)",
     "corewar.outcomes(two, [[0, 1]] * 9, rounds=10000, jobs=2)",
     "corewar.Battle(corewar.Match(two * 8, settings=corewar.Settings(cycles=10**7))).play()",
+    "corewar.Contest(rounds=100000).league(two * 2)",
+    "corewar.Contest(rounds=100000).league(two * 2, jobs=2)",
+    "corewar.Contest(rounds=100000).melee(two, 2, 9)",
+    "corewar.Contest(rounds=100000).compare(*two, two)",
 ]
 
 

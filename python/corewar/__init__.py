@@ -3,8 +3,7 @@
     import corewar
     dwarf = corewar.read("dwarf.red")
     imp = corewar.assemble("MOV 0, 1")
-    for row in corewar.match([dwarf, imp], rounds=100):
-        print(row.points, row.wins, row.ties, row.losses)
+    print(corewar.Contest(rounds=100).league([dwarf, imp]))
     history = corewar.History(corewar.Match((dwarf, imp)))
     print(history.end, history.deaths(history.end))
 
@@ -24,10 +23,10 @@ from .engine.rewards import points, shares
 from .engine.sources import Assembler, Limit, Overrun, read
 from .engine.sums import league, population
 from .engine.warriors import Warrior
-from .model.cells import cell_of, cell_text
+from .model.cells import CELL, MODES, MODIFIERS, OPCODES, cell_limits, cell_of, cell_text
 from .model.edits import Edit
 from .model.errors import CorewarError, FileError, MarsError
-from .model.settings import HILLS, Settings
+from .model.settings import HILLS, MAX_SEED, MAX_WARRIORS, Settings
 
 # The version of the kit: of this package, the Debian packages and the library (MARS_VERSION in its header).
 __version__ = "2.0"
@@ -38,8 +37,8 @@ Fault = MarsError
 FileFault = FileError
 
 __all__ = [
-    "HILLS", "Assembler", "Battle", "Challenge", "Comparison", "Contest", "CorewarError", "Edit", "FileError",
-    "History", "League", "Limit", "MarsError", "Match", "Melee", "Overrun", "Progress", "Row", "Settings",
-    "Standings", "Warrior", "assemble", "cell_of", "cell_text", "league", "match", "outcomes", "points", "population",
-    "read", "shares",
+    "CELL", "HILLS", "MAX_SEED", "MAX_WARRIORS", "MODES", "MODIFIERS", "OPCODES", "Assembler", "Battle", "Challenge",
+    "Comparison", "Contest", "CorewarError", "Edit", "FileError", "History", "League", "Limit", "MarsError", "Match",
+    "Melee", "Overrun", "Progress", "Row", "Settings", "Standings", "Warrior", "assemble", "cell_limits", "cell_of",
+    "cell_text", "league", "match", "outcomes", "points", "population", "read", "shares",
 ]  # fmt: skip

@@ -16,7 +16,7 @@ from ..engine.outcomes import run_lineups, table_of
 from ..engine.rewards import survivals
 from ..engine.warriors import Warrior
 from ..model.errors import CorewarError
-from ..model.settings import MAX_WARRIORS, NUMBERS
+from ..model.settings import MAX_SEED, MAX_WARRIORS
 from .challenge import Challenge, challenge_of
 from .comparison import Comparison, scores_of
 from .league import League, league_of
@@ -157,7 +157,7 @@ class Contest(Terms):
             raise CorewarError(f"expected 1 or more matches of 2 to 16 of the warriors, not {lineups} of {size}")
         dice = random.Random(self.seed)
         drawn = np.array(lineups_of(len(warriors), size, lineups, dice))
-        seeds = np.array([dice.randint(1, NUMBERS["seed"].maximum) for _ in drawn])
+        seeds = np.array([dice.randint(1, MAX_SEED) for _ in drawn])
         lives = self._play(warriors, drawn, seeds, survivals, Execution(jobs, executor, None, progress))
         return melee_of(self, warriors, drawn, seeds, lives)
 

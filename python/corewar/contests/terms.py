@@ -10,7 +10,7 @@ from numpy.typing import NDArray
 from ..engine.calls import check_numbers
 from ..engine.outcomes import Run
 from ..engine.rewards import score_of
-from ..model.settings import FORMULA, NUMBERS, Settings, settings_of
+from ..model.settings import FORMULA, MAX_SEED, NUMBERS, Settings, settings_of
 
 # The numbers of the generator SplitMix64, which makes numbers of 64 bits that look random of any numbers.
 MULTIPLIERS, SHIFTS = (0x9E3779B97F4A7C15, 0xBF58476D1CE4E5B9, 0x94D049BB133111EB), (30, 27, 31)
@@ -76,7 +76,7 @@ class Terms:
         if not self.has_seeds:
             return np.full(len(first), self.seed)
         start = mixed(np.full(len(first), self.seed, np.uint64))
-        return 1 + (mixed(mixed(start ^ first) ^ second) % np.uint64(NUMBERS["seed"].maximum)).astype(np.int64)
+        return 1 + (mixed(mixed(start ^ first) ^ second) % np.uint64(MAX_SEED)).astype(np.int64)
 
 
 def mixed(numbers: NDArray[np.uint64]) -> NDArray[np.uint64]:

@@ -16,6 +16,8 @@ OPERAND = rf"([{re.escape(MODES)}])(-?\d{{1,{MAX_DIGITS}}})"
 TEXT = re.compile(rf"({'|'.join(OPCODES)})\.({'|'.join(MODIFIERS)}) {OPERAND}, {OPERAND}", re.ASCII)
 # The numbers of a cell: opcode, modifier, modes and numbers of A and B.
 Cell = tuple[int, int, int, int, int, int]
+# The type of a cell in an array.
+CELL = np.dtype([*((name, "u1") for name in ("op", "modifier", "a_mode", "b_mode")), ("a", "u4"), ("b", "u4")])
 # Arrays of cells, and of records of turns or deaths, with the fields of the header.
 Cells = NDArray[Any]
 Records = NDArray[Any]
@@ -26,6 +28,11 @@ def signed(number: int, core: int) -> int:
     return number - core if number > core // 2 else number
 
 
+def cell_limits(core: int) -> Cell:
+    """Returns a limit for each number of a cell in a core of a size: each number is from 0 to less than its limit."""
+    return len(OPCODES), len(MODIFIERS), len(MODES), len(MODES), core, core
+
+
 def cell_text(cell: Cell | np.void, core: int) -> str:
     """Returns a cell as text, as `mars` lists it: `cell_text(history.state(0).cells[0], 8000)` is `"MOV.I $0, $1"`.
 
@@ -34,9 +41,8 @@ def cell_text(cell: Cell | np.void, core: int) -> str:
     """
     numbers = cell.tolist() if isinstance(cell, np.void) else cell
     op, modifier, a_mode, b_mode, a, b = numbers
-    limits = len(OPCODES), len(MODIFIERS), len(MODES), len(MODES), core, core
-    if not all(0 <= number < limit for number, limit in zip(numbers, limits)):
-        raise CorewarError(f"expected the numbers of a cell, below {limits}, not {numbers}")
+    if not all(0 <= number < limit for number, limit in zip(numbers, cell_limits(core))):
+        raise CorewarError(f"expected the numbers of a cell, below {cell_limits(core)}, not {numbers}")
     return f"{OPCODES[op]}.{MODIFIERS[modifier]} {MODES[a_mode]}{signed(a, core)}, {MODES[b_mode]}{signed(b, core)}"
 
 

@@ -11,8 +11,8 @@ MAX_DIGITS = 18
 # The limits of the header.
 LIMITS = enumeration("MAX_CORE")
 MAX_CORE = LIMITS["MAX_CORE"]
-# The maximum number of warriors of a match, and of a league.
-MAX_WARRIORS, MAX_LEAGUE = LIMITS["MAX_WARRIORS"], LIMITS["MAX_LEAGUE"]
+# The maximum number of warriors of a match, and of a league, and the greatest seed.
+MAX_WARRIORS, MAX_LEAGUE, MAX_SEED = LIMITS["MAX_WARRIORS"], LIMITS["MAX_LEAGUE"], LIMITS["MAX_SEED"]
 # The maximum size of a source or load file, in bytes.
 MAX_FILE_SIZE = 1_048_576
 
@@ -90,7 +90,7 @@ NUMBERS = {
     "read_limit": Number("--read-limit", "read limit", 1, MAX_CORE, UP_TO_CORE),
     "write_limit": Number("--write-limit", "write limit", 1, MAX_CORE, UP_TO_CORE),
     "rounds": Number("-r", "number of rounds", 1, LIMITS["MAX_ROUNDS"]),
-    "seed": Number("--seed", "seed for the starting positions", 1, LIMITS["MAX_SEED"]),
+    "seed": Number("--seed", "seed for the starting positions", 1, MAX_SEED),
     "position": Number(
         "-F", "position of warrior 2", 1, MAX_CORE, "from the minimum distance to the core size minus it"
     ),
