@@ -9,7 +9,11 @@
 
 The package calls the library that `scripts/library` builds, and requires cffi and NumPy.
 """
+from .analysis.causes import Why
+from .analysis.study import Study, study
+from .analysis.turns import Turn
 from .battle.history import History
+from .battle.rounds import Round, rounds
 from .contests.challenge import Challenge
 from .contests.comparison import Comparison
 from .contests.contest import Contest, Progress
@@ -23,7 +27,8 @@ from .engine.rewards import points, shares
 from .engine.sources import Assembler, Limit, Overrun, read
 from .engine.sums import league, population
 from .engine.warriors import Warrior
-from .model.cells import CELL, MODES, MODIFIERS, OPCODES, cell_limits, cell_of, cell_text
+from .explain.errors import Problem, problems
+from .model.cells import CELL, MODES, MODIFIERS, OPCODES, cell_limits, cell_of, cell_text, columns
 from .model.edits import Edit
 from .model.errors import CorewarError, FileError, MarsError
 from .model.settings import HILLS, MAX_SEED, MAX_WARRIORS, Settings
@@ -39,6 +44,7 @@ FileFault = FileError
 __all__ = [
     "CELL", "HILLS", "MAX_SEED", "MAX_WARRIORS", "MODES", "MODIFIERS", "OPCODES", "Assembler", "Battle", "Challenge",
     "Comparison", "Contest", "CorewarError", "Edit", "FileError", "History", "League", "Limit", "MarsError", "Match",
-    "Melee", "Overrun", "Progress", "Row", "Settings", "Standings", "Warrior", "assemble", "cell_limits", "cell_of",
-    "cell_text", "league", "match", "outcomes", "points", "population", "read", "shares",
+    "Melee", "Overrun", "Problem", "Progress", "Round", "Row", "Settings", "Standings", "Study", "Turn", "Warrior",
+    "Why", "assemble", "cell_limits", "cell_of", "cell_text", "columns", "league", "match", "outcomes", "points",
+    "population", "problems", "read", "rounds", "shares", "study",
 ]  # fmt: skip

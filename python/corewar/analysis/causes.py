@@ -2,13 +2,15 @@
 from __future__ import annotations
 
 from collections.abc import Iterator
+from dataclasses import dataclass
 from itertools import islice
 
 from ..battle.conditions import Condition, last_change, search
 from ..battle.history import History
 from ..model.cells import OPCODES
-from .endings import describe_survivor, own_turns
+from .endings import Executed, describe_survivor, executed_by, own_turns
 from .formatting import BattleFormatter
+from .turns import Turn
 
 # How many more turns are searched for one in which a warrior executed a cell of another.
 EXTRA_TURNS = 500
@@ -29,13 +31,20 @@ def describe_change(formatter: BattleFormatter, address: int, turn: int) -> list
 
 def describe_cause(formatter: BattleFormatter, address: int, turn: int) -> list[str]:
     """Describes how a cell got its value up to a turn: its last change, and the last change of its opcode."""
-    history = formatter.history
-    found, became = last_change(history, address, turn), last_change(history, address, turn, "becomes")
-    by_hand, lines = history.by_hand(address, turn), describe_change(formatter, address, turn)
-    if became is not None and became != found and (by_hand is None or by_hand[0] < became):
+    history, lines = formatter.history, describe_change(formatter, address, turn)
+    for became in causes_of(history, address, turn)[1:]:
         opcode = OPCODES[history.block(turn).cell(address, turn)["op"]]
         lines += [f"It became a {opcode} in turn {became}:", *formatter.lines(became)]
     return lines
+
+
+def causes_of(history: History, address: int, turn: int) -> list[int]:
+    """Returns the last turn, up to this one, that changed a cell, and if it is another one that which changed its
+    opcode; nothing before an edit of the cell.
+    """
+    by_hand = history.by_hand(address, turn)
+    found = [last_change(history, address, turn, word) for word in ("changes", "becomes")]
+    return [*dict.fromkeys(one for one in found if one is not None and (by_hand is None or by_hand[0] < one))]
 
 
 def foreign_write(history: History, turn: int) -> int | None:
@@ -96,11 +105,73 @@ def describe_death(formatter: BattleFormatter, warrior: int, count: int) -> Iter
 
 def describe_hit(formatter: BattleFormatter, warrior: int) -> Iterator[str]:
     """Describes the first turn in which another warrior changed a cell where one was loaded, if there is one."""
-    history, own = formatter.history, formatter.history.warriors[warrior]
+    found = first_hit(formatter.history, warrior)
+    if found:
+        yield "The first hit of another warrior on its loaded code was:"
+        yield from formatter.lines(found)
+
+
+def first_hit(history: History, warrior: int) -> int | None:
+    """Returns the first turn in which another warrior changed a cell where one was loaded."""
+    own = history.warriors[warrior]
     first = (int(history.state(0).queues[warrior][0]) - own.start) % history.core
     last = (first + len(own) - 1) % history.core
     others = [number for number in range(len(history.warriors)) if number != warrior]
     found = search(history, [Condition("changes", first, last, other) for other in others], 0) if others else None
-    if found:
-        yield "The first hit of another warrior on its loaded code was:"
-        yield from formatter.lines(found[0])
+    return found and found[0]
+
+
+@dataclass(frozen=True)
+class Why:
+    """How a battle ended for a warrior, and why.
+
+    - `warrior`, `name`: its number and its name
+    - `fate`: `died`, `killed` by an edit, or `alive`
+    - `turn`: the turn in which it died, or the last one
+    - `last`: the turn in which its last process died, or None
+    - `causes`: the turn that last changed the cell which that turn executed and, if it is another one, that which
+      changed its opcode
+    - `before`: its turns before that, the latest last
+    - `hit`: the first turn in which another warrior changed its loaded code, or None
+    - `executed`: for one that is alive, the lines that it executed in its last turns, the most frequent first
+    - `text`: the lines that `corewar why` prints
+    """
+
+    warrior: int
+    name: str
+    fate: str
+    turn: int
+    last: Turn | None
+    causes: tuple[Turn, ...]
+    before: tuple[Turn, ...]
+    hit: Turn | None
+    executed: tuple[Executed, ...]
+    text: str
+
+    def __str__(self) -> str:
+        return self.text
+
+
+def why_of(formatter: BattleFormatter, warrior: int, count: int) -> Why:
+    """Returns how a battle ended for a warrior, with `count` of its turns before it died."""
+    history, death = formatter.history, formatter.history.death(warrior)
+    text = "\n".join(describe_death(formatter, warrior, count))
+    fate = "alive" if death is None else "killed" if history.is_killed(warrior) else "died"
+    last, causes, before = None, list[int](), list[int]()
+    if death is not None and fate == "died":
+        last = formatter.turn_of(death)
+        causes = causes_of(history, last.place.address, death - 1)
+        before = [*islice(own_turns(history, warrior, death - 1), count)][::-1]
+    hit = first_hit(history, warrior)
+    return Why(
+        warrior,
+        history.names[warrior],
+        fate,
+        history.end if death is None else death,
+        last,
+        tuple(map(formatter.turn_of, causes)),
+        tuple(map(formatter.turn_of, before)),
+        None if hit is None else formatter.turn_of(hit),
+        tuple(executed_by(formatter, warrior)[0]) if death is None else (),
+        text,
+    )

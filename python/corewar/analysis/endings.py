@@ -3,7 +3,8 @@ from __future__ import annotations
 
 from collections import Counter
 from collections.abc import Iterator, Sequence
-from itertools import islice
+from dataclasses import dataclass
+from itertools import chain, islice
 
 import numpy as np
 
@@ -44,19 +45,36 @@ def describe_survivor(formatter: BattleFormatter, warrior: int) -> Iterator[str]
     history, name = formatter.history, formatter.names[warrior]
     processes = len(history.ending.queues[warrior])
     yield f"{name} is alive after turn {history.end}, the last one, with {pluralize(processes, 'process')}."
-    turns = last_turns(history, warrior)
-    lines = {turn: describe_line(formatter, warrior, turn) for turn in turns}
-    written = {turn: written_by(history, turn) for turn in turns}
-    yield f"Its last {pluralize(len(turns), 'turn')}:"
+    rows, cells = executed_by(formatter, warrior)
+    yield f"Its last {pluralize(sum(row.turns for row in rows), 'turn')}:"
     yield "  turns  cells written  line"
-    rows = Counter(lines.values()).most_common()
-    for line, count in rows[:MAX_ROWS]:
-        cells = {address for turn in turns if lines[turn] == line for address in written[turn]}
-        yield f"{count:7} {len(cells):14}  {line}"
+    for row in rows[:MAX_ROWS]:
+        yield f"{row.turns:7} {row.cells:14}  {row.line}"
     rest = rows[MAX_ROWS:]
     if rest:
-        yield f"{sum(count for _, count in rest):7} {'':14}  in {pluralize(len(rest), 'more line')}"
-    yield from describe_hits(formatter, warrior, {address for cells in written.values() for address in cells})
+        yield f"{sum(row.turns for row in rest):7} {'':14}  in {pluralize(len(rest), 'more line')}"
+    yield from describe_hits(formatter, warrior, cells)
+
+
+@dataclass(frozen=True)
+class Executed:
+    """A line that a warrior executed in its last turns: their number, the cells that these wrote, and the line."""
+
+    turns: int
+    cells: int
+    line: str
+
+
+def executed_by(formatter: BattleFormatter, warrior: int) -> tuple[list[Executed], set[int]]:
+    """Returns the lines that a warrior executed in its last turns, the most frequent first, and all cells that these
+    turns wrote.
+    """
+    history, written = formatter.history, dict[str, list[list[int]]]()
+    for turn in last_turns(history, warrior):
+        written.setdefault(describe_line(formatter, warrior, turn), []).append(written_by(history, turn))
+    rows = [Executed(len(turns), len({*chain(*turns)}), line) for line, turns in written.items()]
+    cells = {*chain.from_iterable(chain.from_iterable(written.values()))}
+    return sorted(rows, key=lambda row: -row.turns), cells
 
 
 def describe_line(formatter: BattleFormatter, warrior: int, turn: int) -> str:

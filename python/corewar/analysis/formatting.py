@@ -9,6 +9,7 @@ import numpy as np
 from ..battle.history import History
 from ..battle.labels import Sources
 from ..model.cells import Cell, cell_text
+from .turns import Place, Turn, Write
 
 # How many of many texts are shown, and how many processes around one that was edited.
 MAX_LISTED, MAX_PROCESSES = 8, 20
@@ -41,10 +42,12 @@ class BattleFormatter:
     def cell(self, cell: Cell | np.void) -> str:
         return cell_text(cell, self.history.core)
 
+    def place(self, address: int) -> Place:
+        return Place(int(address), self.sources.labels.get(int(address), ""))
+
     def where(self, address: int) -> str:
         """Returns an address, with its label if it has one."""
-        label = self.sources.labels.get(address)
-        return f"{address} ({label})" if label else str(address)
+        return str(self.place(address))
 
     def places(self, addresses: Iterable[int]) -> str:
         return list_some([self.where(int(address)) for address in addresses])
@@ -68,17 +71,39 @@ class BattleFormatter:
         line = self.sources.line(self.history, int(self.history.record(turn)["address"]), turn - 1)
         return f"line {line.number} of {self.names[line.warrior]}: {line.text}" if line else ""
 
+    def writes(self, turn: int) -> list[Write]:
+        """Returns the writes of a turn, last those that changed nothing."""
+        block = self.history.block_of(turn)
+        parts = block.changes.addresses, block.changes.before, block.changes.after
+        changed = [*zip(*(part[block.changes.of(turn)] for part in parts))]
+        same = [(at, block.cell(at, turn), block.cell(at, turn)) for at in block.rewritten(turn)]
+        return [Write(self.place(at), self.cell(old), self.cell(new)) for at, old, new in changed + same]
+
     def changes(self, turn: int) -> list[str]:
         """Describes the writes of a turn, also those that changed nothing."""
-        block = self.history.block_of(turn)
-        found = (
-            part[block.changes.of(turn)]
-            for part in (block.changes.addresses, block.changes.before, block.changes.after)
-        )
-        changes = [f"{self.where(int(at))}: {self.cell(old)} -> {self.cell(new)}" for at, old, new in zip(*found)]
-        return changes + [
-            f"{self.where(at)}: {self.cell(block.cell(at, turn))}, as before" for at in block.rewritten(turn)
+        return [
+            f"{one.place}: {one.before}" + (f" -> {one.after}" if one.before != one.after else ", as before")
+            for one in self.writes(turn)
         ]
+
+    def turn_of(self, turn: int) -> Turn:
+        """Returns a turn as a value."""
+        record, history = self.history.record(turn), self.history
+        address, number = int(record["address"]), int(record["warrior"])
+        line = self.sources.line(history, address, turn - 1)
+        return Turn(
+            turn,
+            number,
+            history.names[number],
+            self.place(address),
+            self.cell(history.executed(turn)),
+            line.number if line else 0,
+            line.text if line else "",
+            tuple(map(self.place, self.reads(turn))),
+            tuple(self.writes(turn)),
+            tuple(map(self.place, record["process"][: record["queued"]])),
+            "\n".join(self.lines(turn)),
+        )
 
     def processes_after(self, turn: int) -> str:
         """Describes where the process of a turn went."""

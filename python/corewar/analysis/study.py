@@ -4,19 +4,23 @@ hits itself.
 from __future__ import annotations
 
 from collections.abc import Iterator
-from dataclasses import dataclass
+from dataclasses import dataclass, replace
 
 import numpy as np
 from numpy.typing import NDArray
 
 from ..battle.blocks import Block, Touches
 from ..battle.history import NOBODY, History
-from ..battle.labels import Sources
+from ..battle.labels import MAX_TRACED_TURNS, Sources
 from ..battle.origins import Origins
+from ..engine.calls import Match
+from ..engine.warriors import Warrior
 from ..model.cells import OPCODES
+from ..model.settings import Settings, settings_of
 from .formatting import BattleFormatter, pluralize
 
 Numbers = NDArray[np.int64]
+Strides = tuple[tuple[int | None, float], ...]
 COMPARING = [OPCODES.index(name) for name in ("SEQ", "SNE", "SLT", "JMZ", "JMN", "DJN")]
 # The most lines of a table, the most strides of a line, and the least share of a stride that is shown.
 MAX_ROWS, MAX_STRIDES, MIN_SHARE = 8, 2, 0.2
@@ -41,7 +45,107 @@ class Accesses:
         return Accesses(self.turns[wanted], self.places[wanted], self.origins[wanted], self.addresses[wanted])
 
 
+@dataclass(frozen=True)
+class Access:
+    """A line that writes or compares cells: how many `times`, how many `cells` it reaches, `by` which turn, the
+    `strides` from one cell to the next, each with its share, and the line. A stride is None if none is frequent.
+    """
+
+    times: int
+    cells: int
+    by: int
+    strides: Strides
+    line: str
+
+    @property
+    def stride(self) -> str:
+        """The strides as text."""
+        shown = [
+            "varies" if one is None else f"{one}" if share > 0.995 else f"{one} ({share:.0%})"
+            for one, share in self.strides
+        ]
+        return ", ".join(shown) or "-"
+
+
+@dataclass(frozen=True)
+class Hit:
+    """The first turn in which a warrior wrote another opcode over its own code: the writing cell, and the written one,
+    each by its line and address.
+    """
+
+    turn: int
+    writer: str
+    written: str
+
+
+@dataclass(frozen=True)
 class Study:
+    """What a warrior does without an opponent.
+
+    - `name`, `length`: its name and its number of cells
+    - `processes`: its maximum number of processes
+    - `turns`, `survives`: the number of turns that it makes, and whether it lives after them
+    - `hit`: the first turn in which it hits itself, or None
+    - `core`, `written`, `scanned`: the numbers of cells of the core, that it writes, and that it scans outside its code
+    - `writes`, `scans`: the lines that do so, those that reach the most cells first
+
+    Its text is what `corewar study` prints.
+    """
+
+    name: str
+    length: int
+    processes: int
+    turns: int
+    survives: bool
+    hit: Hit | None
+    core: int
+    written: int
+    scanned: int
+    writes: tuple[Access, ...]
+    scans: tuple[Access, ...]
+
+    def __str__(self) -> str:
+        return "\n".join(self._lines())
+
+    def _lines(self) -> Iterator[str]:
+        fate = f"{'survives' if self.survives else 'dies after'} {pluralize(self.turns, 'turn')}"
+        size, processes = pluralize(self.length, "cell"), pluralize(self.processes, "process")
+        yield f"{self.name} without an opponent: {size}, at most {processes}; {fate}."
+        if self.hit is None:
+            yield "It never writes another opcode over its own code."
+        else:
+            yield f"It first hits itself in turn {self.hit.turn}: {self.hit.writer} overwrites {self.hit.written}."
+        yield f"It writes to {self.written} of {self.core} cells:" if self.written else "It writes nothing."
+        yield from table_of("writes", self.writes)
+        scanned = f"It scans {self.scanned} of {self.core} cells:"
+        yield scanned if self.scanned else "It scans nothing outside its code."
+        yield from table_of("reads", self.scans)
+
+
+def table_of(what: str, rows: tuple[Access, ...]) -> Iterator[str]:
+    """Describes accesses, a line for each."""
+    if rows:
+        yield f"  {what:>6}  cells by turn  {'stride':20} line"
+    for row in rows[:MAX_ROWS]:
+        yield f"  {row.times:6} {row.cells:6} {row.by:7}  {row.stride:20} {row.line}"
+    if rows[MAX_ROWS:]:
+        yield f"  and {pluralize(len(rows) - MAX_ROWS, 'more line')}"
+
+
+def study(warrior: Warrior, *, settings: Settings | str = "94nop") -> Study:
+    """Returns where a warrior writes and scans without an opponent, in at most a million turns.
+
+    - `settings`: the parameters of the core, or the name of a hill
+
+    Raises `MarsError` if the warrior is invalid.
+    """
+    given = settings_of(settings)
+    # Lines are known up to this turn.
+    given = replace(given, cycles=min(given.cycles, MAX_TRACED_TURNS))
+    return Observation(History(Match([warrior], settings=given))).study()
+
+
+class Observation:
     """A battle of one warrior."""
 
     def __init__(self, history: History) -> None:
@@ -90,26 +194,28 @@ class Study:
         found = np.flatnonzero(is_other & is_own)[:1]
         return (int(changes.turns[found[0]]), int(changes.addresses[found[0]])) if len(found) else None
 
-    def describe(self) -> Iterator[str]:
-        """Yields the lines of the report: how it ends, when it first hits itself, and what it writes and scans."""
-        history, name = self.history, self.history.names[0]
-        fate = f"{'survives' if history.death(0) is None else 'dies after'} {pluralize(history.end, 'turn')}"
-        size, processes = pluralize(len(history.warriors[0]), "cell"), pluralize(self.processes, "process")
-        yield f"{name} without an opponent: {size}, at most {processes}; {fate}."
-        yield self._describe_hit()
-        written = np.count_nonzero(self.is_written)
-        yield f"It writes to {written} of {history.core} cells:" if written else "It writes nothing."
-        yield from self._table("writes", self.writes)
-        scanned = len(np.unique(self.scans.addresses))
-        yield f"It scans {scanned} of {history.core} cells:" if scanned else "It scans nothing outside its code."
-        yield from self._table("reads", self.scans)
+    def study(self) -> Study:
+        """Returns what was observed."""
+        history, death = self.history, self.history.death(0)
+        return Study(
+            history.names[0],
+            len(history.warriors[0]),
+            self.processes,
+            history.end,
+            death is None,
+            self._hit(),
+            history.core,
+            int(np.count_nonzero(self.is_written)),
+            len(np.unique(self.scans.addresses)),
+            tuple(self._rows(self.writes)),
+            tuple(self._rows(self.scans)),
+        )
 
-    def _describe_hit(self) -> str:
+    def _hit(self) -> Hit | None:
         if self.hit is None:
-            return "It never writes another opcode over its own code."
+            return None
         turn, address = self.hit
-        writer = self._line(int(self.history.record(turn)["address"]), turn)
-        return f"It first hits itself in turn {turn}: {writer} overwrites {self._line(address, turn)}."
+        return Hit(turn, *(self._line(at, turn) for at in (int(self.history.record(turn)["address"]), address)))
 
     def _line(self, address: int, turn: int) -> str:
         """Returns the line of a cell before a turn, and its address."""
@@ -123,30 +229,22 @@ class Study:
             return f"{line.number}: {line.text}"
         return f"cell {origin}: {self.formatter.cell(self.history.block(0).start.cells[origin])}"
 
-    def _table(self, what: str, found: Accesses) -> Iterator[str]:
-        """Describes accesses by the lines of their instructions, those that reach the most cells first."""
-        names = {origin: self._name(origin) for origin in np.unique(found.origins).tolist()}
-        rows = []
+    def _rows(self, found: Accesses) -> list[Access]:
+        """Returns accesses by the lines of their instructions, those that reach the most cells first."""
+        names, rows = {origin: self._name(origin) for origin in np.unique(found.origins).tolist()}, []
         for name in dict.fromkeys(names.values()):
             own = found.only(np.isin(found.origins, [origin for origin, one in names.items() if one == name]))
             _, first = np.unique(own.addresses, return_index=True)
-            rows.append(
-                (len(first), len(own.turns), int(own.turns[first].max()), strides(own, self.history.core), name)
-            )
-        rows.sort(key=lambda row: row[:2], reverse=True)
-        if rows:
-            yield f"  {what:>6}  cells by turn  {'stride':20} line"
-        for cells, count, turn, stride, name in rows[:MAX_ROWS]:
-            yield f"  {count:6} {cells:6} {turn:7}  {stride:20} {name}"
-        if rows[MAX_ROWS:]:
-            yield f"  and {pluralize(len(rows) - MAX_ROWS, 'more line')}"
+            given = len(own.turns), len(first), int(own.turns[first].max())
+            rows.append(Access(*given, strides(own, self.history.core), name))
+        return sorted(rows, key=lambda row: (row.cells, row.times), reverse=True)
 
 
 def joined(parts: list[Accesses]) -> Accesses:
     return Accesses(*(np.concatenate([getattr(part, name) for part in parts]) for name in vars(parts[0])))
 
 
-def strides(found: Accesses, core: int) -> str:
+def strides(found: Accesses, core: int) -> Strides:
     """Returns the distances between cells that the same operand accesses one after the other, the most frequent first,
     each with its share.
     """
@@ -159,8 +257,8 @@ def strides(found: Accesses, core: int) -> str:
     distances, counts = np.unique(np.where(apart > core // 2, apart - core, apart), return_counts=True)
     best = np.argsort(-counts, kind="stable")[:MAX_STRIDES]
     shares = [
-        (int(distances[one]), counts[one] / counts.sum()) for one in best if counts[one] >= MIN_SHARE * counts.sum()
+        (int(distances[one]), float(counts[one] / counts.sum()))
+        for one in best
+        if counts[one] >= MIN_SHARE * counts.sum()
     ]
-    if not shares:
-        return "varies" if len(apart) else "-"
-    return ", ".join(f"{distance}" if share > 0.995 else f"{distance} ({share:.0%})" for distance, share in shares)
+    return tuple(shares) if shares or not len(apart) else ((None, 1.0),)

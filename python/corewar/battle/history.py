@@ -8,11 +8,11 @@ from __future__ import annotations
 
 from collections.abc import Iterator
 from dataclasses import dataclass
-from functools import lru_cache
+from functools import cached_property, lru_cache
 from html import escape
 from importlib import import_module
 from itertools import count
-from typing import Any
+from typing import TYPE_CHECKING, Any
 
 import numpy as np
 from numpy.typing import NDArray
@@ -24,6 +24,12 @@ from ..model.edits import Edit
 from ..model.errors import CorewarError
 from ..model.settings import whole
 from .blocks import Block
+
+if TYPE_CHECKING:
+    # These describe histories, and are loaded when they are called.
+    from corewar.analysis.causes import Why
+    from corewar.analysis.turns import Turn
+    from corewar.pages.player import Player
 
 # The number of turns of a block, and of blocks in the cache, 5 to 13 MB each.
 BLOCK_SIZE, CACHED_BLOCKS = 65_536, 24
@@ -124,11 +130,50 @@ class History:
         `ImportError` without matplotlib.
         """
         try:
-            # Pictures are drawn from histories, so the module can only be imported when the picture is requested.
-            timeline = import_module("corewar.pictures.timeline")
+            timeline = self._load("pictures.timeline")
         except ImportError as missing:
             raise ImportError(f"a figure requires matplotlib, Debian's python3-matplotlib: {missing}") from None
         return timeline.figure_of(self, timeline.whole(self))
+
+    def player(self, turn: int = 0, height: int = 700) -> Player:
+        """Returns what a notebook shows as the battle in the page of `corewar page`, from a turn on, in a frame of a
+        height in pixels; its `page` is the HTML. Raises `CorewarError` if the site is not built.
+        """
+        found: Player = self._load("pages.player").player_of(self, turn, height)
+        return found
+
+    def why(self, warrior: int | str, turns: int = 4) -> Why:
+        """Returns a `Why`: how the battle ended for a warrior, given by number, name or file, and why.
+
+        - `turns`: the number of its turns before its death
+
+        Raises `CorewarError` if there is no such warrior.
+        """
+        found: Why = self._load("analysis.causes").why_of(self._formatter, self.warrior(str(warrior)), turns)
+        return found
+
+    def trace(self, first: int = 1, last: int | None = None) -> list[Turn]:
+        """Returns a `Turn` for each turn from `first` to `last` or the end. Raises `CorewarError` if the battle has no
+        such turn.
+        """
+        last = self.end if last is None else last
+        return [self._formatter.turn_of(turn) for turn in range(first, last + 1)]
+
+    def _load(self, module: str) -> Any:
+        """Returns a module of a higher folder, which itself imports this one."""
+        return import_module(f"corewar.{module}")
+
+    @cached_property
+    def _formatter(self) -> Any:
+        """What describes turns, with the sources."""
+        return self._load("analysis.formatting").BattleFormatter(self, self._load("battle.labels").Sources(self))
+
+    def __getstate__(self) -> dict[str, Any]:
+        # What is derived is computed again.
+        return {name: value for name, value in vars(self).items() if name not in ("_blocks", "_written", "_formatter")}
+
+    def __setstate__(self, state: dict[str, Any]) -> None:
+        vars(self).update(state, _blocks=lru_cache(maxsize=CACHED_BLOCKS)(read_block), _written={})
 
     def warrior(self, named: str) -> int:
         """Returns the number of the warrior with this number, name or file. Raises `CorewarError` if there is none."""
@@ -298,6 +343,7 @@ class History:
         after.edit(edit)
         edited = History.__new__(History)
         edited.__dict__.update(vars(self))
+        edited.__dict__.pop("_formatter", None)
         kept = [Segment(one.run, min(one.last, turn)) for one in self.segments if one.first <= turn]
         edited.segments = [*kept, whole_segment(run_of(after, edit, before))]
         # What is known at the turn itself lacks the cells that the edit changes.

@@ -3,6 +3,7 @@ from __future__ import annotations
 
 from collections.abc import Iterator
 from dataclasses import dataclass
+from typing import Any
 
 from ..engine.calls import Match
 from .history import History
@@ -12,15 +13,25 @@ OUTCOMES = ("win", "tie", "loss")
 
 @dataclass(frozen=True, eq=False)
 class Round:
-    """A round: its battle, and the outcome for each warrior in the order of the files."""
+    """A round of a match.
+
+    - `history`: its battle
+    - `outcomes`: `win`, `tie` or `loss` for each warrior, in the order of the match
+    """
 
     history: History
     outcomes: tuple[str, ...]
 
+    def to_dict(self) -> dict[str, Any]:
+        """Returns its number, the outcomes and its number of turns, as plain values."""
+        return {"round": self.history.round, "outcomes": [*self.outcomes], "turns": self.history.end}
 
-def rounds_of(fight: Match, count: int) -> Iterator[Round]:
-    """Yields the rounds of a match, from round 0."""
-    for number in range(count):
+
+def rounds(fight: Match) -> Iterator[Round]:
+    """Yields the rounds of a match, from round 0. Raises `MarsError` if the match is invalid, and `CorewarError` if it
+    has more than 16 warriors.
+    """
+    for number in range(fight.rounds):
         history = History(fight, number)
         dead = {int(warrior) for warrior in history.ending.deaths["warrior"]}
         survived = "win" if len(dead) == len(fight.warriors) - 1 else "tie"

@@ -1,17 +1,21 @@
 """`explain`: what an error means, and what to do."""
 from __future__ import annotations
 
+import json
 import os
 import re
 import sys
 from collections.abc import Callable, Iterator, Sequence
+from dataclasses import asdict, dataclass, field
+from typing import Any
 
 import click
 
 from ..engine.calls import encode_source
 from ..engine.sources import Assembler, Overrun, read_file, read_warriors
 from ..engine.warriors import Warrior
-from ..explain import CHECKED_ROWS, errors_of, excerpt, explain_error, explain_kind, fix, pmars_differences, read_faults
+from ..explain import CHECKED_ROWS, Problem, errors_of, excerpt, explain_error, explain_kind, fix, pmars_differences
+from ..explain import problem_of, read_faults
 from ..explain.errors import kind_of
 from ..explain.instructions import describe_line, find_instruction
 from ..explain.source import Line, parse_line
@@ -19,7 +23,7 @@ from ..explain.words import DIRECTIVES, OPCODES
 from ..model.errors import ASSEMBLY, CorewarError, FileError, MarsError
 from ..model.printing import printable
 from .layout import Command
-from .options import BattleOptions, battle_options
+from .options import BattleOptions, battle_options, format_option
 from .reporting import report, report_error, report_sentences, show
 
 EXAMPLES = [
@@ -49,7 +53,8 @@ class Explain(Command):
 @battle_options(needs_files=False)
 @click.option("--pmars", is_flag=True, help="Report what pMARS reads differently")
 @click.option("--fix", "is_fixed", is_flag=True, help="Print the source, with known differences from pMARS replaced")
-def explain(options: BattleOptions, pmars: bool, is_fixed: bool) -> int:
+@format_option(("text", "json"), "explanations")
+def explain(options: BattleOptions, pmars: bool, is_fixed: bool, form: str) -> int:
     """Explain the errors of files, or what an instruction does.
 
     An argument that is not a file but an instruction, such as 'MOV }bomb, >ptr', an opcode or a directive is described
@@ -61,21 +66,47 @@ def explain(options: BattleOptions, pmars: bool, is_fixed: bool) -> int:
     """
     if (pmars or is_fixed) and not options.files:
         raise click.UsageError("expected at least one file")
-    if pmars and is_fixed:
-        raise click.UsageError("--fix and --pmars exclude each other")
+    if pmars + is_fixed + (form == "json") > 1:
+        raise click.UsageError("--fix, --pmars and --format json exclude each other")
     if is_fixed:
         return max([fix_file(options, path) for path in options.files])
     if pmars:
         for path in options.files:
             compare_file(options, path)
-    elif line := instruction_of(options.files):
-        return explain_instruction(options, line)
-    elif options.files:
-        # Each file is looked at, also after one with an error.
-        return max([explain_file(options, path) for path in options.files])
     else:
-        return explain_input(options)
+        shown = Explanations(form == "json")
+        if line := instruction_of(options.files):
+            status = explain_instruction(options, line, shown)
+        elif options.files:
+            # Each file is looked at, also after one with an error.
+            status = max([explain_file(options, path, shown) for path in options.files])
+        else:
+            status = explain_input(options, shown)
+        shown.end()
+        return status
     return 0
+
+
+@dataclass
+class Explanations:
+    """What is printed: lines at once, or with `is_json` the values of all explanations at the end."""
+
+    is_json: bool
+    found: list[dict[str, Any]] = field(default_factory=list)
+
+    def add(self, lines: Sequence[str], **value: Any) -> None:
+        if self.is_json:
+            self.found.append(value)
+        else:
+            write([*lines])
+
+    def add_problem(self, head: str, file: str, problem: Problem, source: bytes) -> None:
+        lines = [head, *excerpt(source, problem.line), *problem.advice]
+        self.add(lines, **{"file": file, **asdict(problem)})
+
+    def end(self) -> None:
+        if self.is_json:
+            click.echo(json.dumps(self.found))
 
 
 def instruction_of(words: Sequence[str]) -> Line | None:
@@ -89,33 +120,37 @@ def instruction_of(words: Sequence[str]) -> Line | None:
     return find_instruction(text) or (parse_line(1, text, {}) if is_line or text.upper() in DIRECTIVES else None)
 
 
-def explain_instruction(options: BattleOptions, line: Line) -> int:
+def explain_instruction(options: BattleOptions, line: Line, shown: Explanations) -> int:
     """Prints what an instruction does, or its error. Returns the exit status."""
     with Assembler(options.limit) as assembler:
         try:
-            write(describe_line(line, loader(options, line.text, assembler), options.settings.core))
+            lines = [*describe_line(line, loader(options, line.text, assembler), options.settings.core)]
+            shown.add(lines, instruction=line.text, meaning=lines)
         except MarsError as fault:
             if fault.code != ASSEMBLY:
                 raise
             if line.word in MEANINGS and not line.labels + line.operands:
-                write([f"{line.text}: {MEANINGS[line.word]}"])
+                shown.add([f"{line.text}: {MEANINGS[line.word]}"], instruction=line.text, meaning=[MEANINGS[line.word]])
                 return 0
-            write([f"{line.text}: {kind_of(fault)}", *explain_kind(kind_of(fault), 1, encode_source(line.text))])
+            kind, source = kind_of(fault), encode_source(line.text)
+            problem = problem_of(kind, 1, source, explain_kind(kind, 1, source))
+            shown.add([f"{line.text}: {kind}", *problem.advice], **{"file": "", **asdict(problem)})
             return 1
     return 0
 
 
-def explain_file(options: BattleOptions, path: str) -> int:
+def explain_file(options: BattleOptions, path: str, shown: Explanations) -> int:
     """Assembles a file, and explains its errors. Returns the exit status."""
     found = False
     try:
         for fault, text, sentences in errors_in(options, path):
-            write([f"{path}: {fault}", *excerpt(text, fault.line), *sentences])
+            problem = problem_of(kind_of(fault), fault.line, text, sentences)
+            shown.add_problem(f"{path}: {fault}", path, problem, text)
             found = True
     except FileError as unread:
         report_error(unread)
         return 1
-    if not found:
+    if not found and not shown.is_json:
         write([f"{path}: no error"])
     return int(found)
 
@@ -173,7 +208,7 @@ def errors_in(options: BattleOptions, path: str) -> Iterator[tuple[MarsError, by
             yield error, text, sentences
 
 
-def explain_input(options: BattleOptions) -> int:
+def explain_input(options: BattleOptions, shown: Explanations) -> int:
     """Explains the error messages of standard input, or an instruction. Returns the exit status. Raises CorewarError if
     there is neither.
     """
@@ -183,12 +218,13 @@ def explain_input(options: BattleOptions) -> int:
     found = [*read_faults(text.splitlines())]
     line = None if found else find_instruction(text.strip())
     if line:
-        return explain_instruction(options, line)
+        return explain_instruction(options, line, shown)
     if not found:
         raise CorewarError("no error message found in the input")
     for message, path, number, kind in found:
         source = read_file(path) if os.path.isfile(path) else b""
-        write([message, *excerpt(source, number), *explain_kind(kind, number, source)])
+        problem = problem_of(kind, number, source, explain_kind(kind, number, source))
+        shown.add_problem(message, path, problem, source)
     return 0
 
 

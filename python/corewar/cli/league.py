@@ -4,7 +4,7 @@ from __future__ import annotations
 import json
 import os
 import re
-from collections.abc import Callable, Sequence
+from collections.abc import Callable
 from contextlib import ExitStack, nullcontext
 from dataclasses import dataclass, replace
 from functools import partial, wraps
@@ -22,7 +22,7 @@ from ..engine.warriors import Warrior
 from ..model.errors import FileError
 from ..model.printing import printable
 from .layout import EXECUTION, STATUSES, Command, Number, Option
-from .options import BattleOptions, Decorator, Output, Picture, battle_options, match_option, with_options
+from .options import BattleOptions, Output, Picture, battle_options, format_option, match_option, with_options
 from .reporting import report, report_error, show
 from .waiting import progress
 
@@ -146,17 +146,6 @@ def entrants_of(options: BattleOptions, count: int = 2) -> tuple[Contest, list[W
                 report_error(left)
                 faults.append(left)
     return contest, warriors, faults
-
-
-def format_option(formats: Sequence[str]) -> Decorator:
-    return click.option(
-        "--format",
-        "form",
-        type=click.Choice(formats),
-        default=formats[0],
-        show_default=True,
-        help="Format of the results",
-    )
 
 
 def write_results(result: Any, form: str, output: str | None = None, only_sum: bool = False) -> None:

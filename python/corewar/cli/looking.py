@@ -1,26 +1,21 @@
 """`why`, `trace`, `changed` and `study`: what happened in a battle."""
 from __future__ import annotations
 
-from dataclasses import replace
-
 import click
 
-from ..analysis.causes import describe_change, describe_death
-from ..analysis.endings import describe_survivor
+from ..analysis.causes import describe_change
 from ..analysis.losses import Death, Tie, describe_losses, describe_ties, fates_of
-from ..analysis.study import WARRIORS, Study
+from ..analysis.study import WARRIORS, study as study_of
 from ..analysis.formatting import BattleFormatter
 from ..battle.history import History
-from ..battle.labels import MAX_TRACED_TURNS, Sources
-from ..battle.rounds import rounds_of
-from ..engine.calls import Match
+from ..battle.labels import Sources
+from ..battle.rounds import rounds as rounds_of
 from ..engine.sources import Limit, read_warriors
 from ..model.errors import CorewarError
-from ..model.printing import printable
 from ..model.settings import Settings, whole
 from .layout import Command, Number
-from .options import LIMIT, BattleOptions, battle_options, core_options, is_given
-from .reporting import show
+from .options import LIMIT, BattleOptions, battle_options, core_options, format_option, is_given
+from .reporting import show, show_value
 from .waiting import progress
 
 
@@ -55,7 +50,8 @@ def warrior_of(history: History, named: str) -> int:
     show_default=True,
     help="Number of turns to print before its last one, 1 or more",
 )
-def why(options: BattleOptions, named: str | None, turns: int) -> None:
+@format_option(("text", "json"), "explanations")
+def why(options: BattleOptions, named: str | None, turns: int, form: str) -> None:
     """Explain why a warrior died.
 
     Prints its last turn, the cell that it executed, the turn that last changed this cell, and its turns before that;
@@ -63,30 +59,33 @@ def why(options: BattleOptions, named: str | None, turns: int) -> None:
     `--round`, counts the lines that killed each warrior, and what it executed last in ties.
     """
     if options.rounds > 1 and not is_given("round_"):
-        print_losses(options, named)
+        print_losses(options, named, form)
         return
-    formatter = formatter_of(options)
-    died = [int(number) for number in formatter.history.ending.deaths["warrior"]]
-    for number in died if named is None else [warrior_of(formatter.history, named)]:
-        show(describe_death(formatter, number, turns))
-    living = [number for number in range(len(formatter.names)) if number not in died]
-    if named is None and not died:
-        click.echo(f"No warrior died; {formatter.ending()}.")
-    if named is None and (len(living) > 1 or not died):
-        for number in living:
-            show(describe_survivor(formatter, number))
+    history = History(options.fight(), options.round)
+    died = [int(number) for number in history.ending.deaths["warrior"]]
+    living = [number for number in range(len(history.names)) if number not in died]
+    # The warriors that died, and in a tie those that live.
+    numbers = [*died, *(living if len(living) > 1 or not died else [])]
+    if named is not None:
+        numbers = [warrior_of(history, named)]
+    elif not died and form == "text":
+        click.echo(f"No warrior died; {BattleFormatter(history, Sources(history)).ending()}.")
+    show_value([history.why(number, turns) for number in numbers], form)
 
 
-def print_losses(options: BattleOptions, named: str | None) -> None:
+def print_losses(options: BattleOptions, named: str | None, form: str) -> None:
     """Prints how warriors died and tied in all rounds: the one selected by its name, or all that did."""
     fight = options.fight()
     first = History(fight)
     warriors = range(len(first.names)) if named is None else [warrior_of(first, named)]
     fates = list[Death | Tie]()
     with progress(options.rounds, "rounds") as advance:
-        for one in rounds_of(fight, options.rounds):
+        for one in rounds_of(fight):
             fates += fates_of(one.history, first.names)
             advance(1)
+    if form == "json":
+        show_value([fate for fate in fates if fate.warrior in warriors])
+        return
     if named is None and not any(isinstance(fate, Death) for fate in fates):
         click.echo(f"No warrior died in {options.rounds} rounds.")
     for number in warriors:
@@ -107,15 +106,20 @@ def print_losses(options: BattleOptions, named: str | None) -> None:
     "--from", "first", type=Number(1), help="First turn to print, 1 or more; by default the last turns are printed"
 )
 @click.option("--turns", type=Number(1), default=20, show_default=True, help="Number of turns to print, 1 or more")
-def trace(options: BattleOptions, first: int | None, turns: int) -> None:
+@format_option(("text", "json"), "turns")
+def trace(options: BattleOptions, first: int | None, turns: int, form: str) -> None:
     """Print each turn: the instruction, its reads and its writes."""
     formatter = formatter_of(options)
     end = formatter.history.end
     first = max(1, end - turns + 1) if first is None else first
     if first > end:
         raise click.BadParameter(f"the battle has turns 1 to {end}", param_hint="--from")
-    for turn in range(first, min(end, first + turns - 1) + 1):
-        show(formatter.lines(turn))
+    last = min(end, first + turns - 1)
+    if form == "json":
+        show_value(formatter.history.trace(first, last))
+    else:
+        for turn in range(first, last + 1):
+            show(formatter.lines(turn))
 
 
 @click.command(
@@ -147,14 +151,13 @@ def changed(options: BattleOptions, named: str, before: int | None) -> None:
 @click.command(cls=Command, examples=["corewar study dwarf.red"])
 @core_options
 @LIMIT
+@format_option(("text", "json"), "report")
 @click.argument("file")
-def study(file: str, settings: Settings, limit: Limit) -> None:
+def study(file: str, settings: Settings, limit: Limit, form: str) -> None:
     """Show where a warrior writes and scans without an opponent.
 
     For each line that writes or compares cells, prints how often it does so, how many cells it reaches and by which
     turn, and the stride from one to the next. Also finds the first turn in which the warrior hits its own code.
     """
-    warriors = read_warriors([file], settings, limit=limit, warriors=WARRIORS)
-    # Lines are known up to this turn.
-    settings = replace(settings, cycles=min(settings.cycles, MAX_TRACED_TURNS))
-    show(map(printable, Study(History(Match(warriors, settings=settings))).describe()))
+    (warrior,) = read_warriors([file], settings, limit=limit, warriors=WARRIORS)
+    show_value(study_of(warrior, settings=settings), form)

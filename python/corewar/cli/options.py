@@ -127,6 +127,17 @@ def match_option(*words: str, **how: Any) -> Decorator:
     return click.option(*words, cls=Option, group=MATCH, **how)
 
 
+def format_option(formats: Sequence[str], what: str = "results") -> Decorator:
+    return click.option(
+        "--format",
+        "form",
+        type=click.Choice(formats),
+        default=formats[0],
+        show_default=True,
+        help=f"Format of the {what}",
+    )
+
+
 SETTINGS = [number_option(name, CORE) for name in vars(Settings())]
 HILL = match_option(
     "--hill", type=click.Choice(list(HILLS)), default="94nop", show_default=True, help="Settings of a known hill"

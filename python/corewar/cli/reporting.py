@@ -1,8 +1,11 @@
 """Reports errors on standard error."""
 from __future__ import annotations
 
+import json
 import sys
 from collections.abc import Iterable, Sequence
+from dataclasses import asdict
+from typing import Any
 
 import click
 
@@ -14,6 +17,17 @@ from ..model.printing import lines_for, printable
 def show(lines: Iterable[str]) -> None:
     """Writes lines to standard output."""
     click.echo(lines_for(sys.stdout, lines))
+
+
+def show_value(value: Any, form: str = "json") -> None:
+    """Writes a value, or a list of values, as text or as JSON."""
+    if form == "json":
+        values = [asdict(one) for one in value] if isinstance(value, list) else asdict(value)
+        click.echo(json.dumps(values))
+    else:
+        show(
+            printable(line) for one in (value if isinstance(value, list) else [value]) for line in str(one).split("\n")
+        )
 
 
 def report(text: str) -> None:

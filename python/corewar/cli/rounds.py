@@ -1,6 +1,7 @@
 """`fight` and `rounds`: a match, and how each of its rounds ends."""
 from __future__ import annotations
 
+import json
 from dataclasses import astuple, replace
 
 import click
@@ -8,11 +9,11 @@ import numpy as np
 
 from ..analysis.captions import command
 from ..analysis.formatting import pluralize
-from ..battle.rounds import count_outcomes, rounds_of
+from ..battle.rounds import count_outcomes, rounds as rounds_of
 from ..engine.calls import Match, Row, fits, match, portions
 from ..model.printing import printable
 from .layout import Command
-from .options import BattleOptions, Output, battle_options
+from .options import BattleOptions, Output, battle_options, format_option
 from .waiting import progress
 
 # The number of cycles after which the bar moves, at most a quarter of a second of two warriors.
@@ -60,12 +61,16 @@ def fight(options: BattleOptions) -> None:
     type=Output(file_okay=False),
     help="Write a page that shows each round, and an index, into this folder",
 )
-def rounds(options: BattleOptions, pages: str | None) -> None:
+@format_option(("text", "json"), "outcomes")
+def rounds(options: BattleOptions, pages: str | None, form: str) -> None:
     """Print the outcome of every round, with the command to debug it.
 
     The outcomes are in the order of the files.
     """
     fought = options.fight()
+    if form == "json":
+        click.echo(json.dumps([one.to_dict() for one in rounds_of(fought)]))
+        return
     width = 5 * len(fought.warriors)
     titles = [printable(warrior.title) for warrior in fought.warriors]
     for number, title in enumerate(titles):
@@ -76,7 +81,7 @@ def rounds(options: BattleOptions, pages: str | None) -> None:
 
         written = Pages(pages, fought, options.formula)
     outcomes = []
-    for one in rounds_of(fought, options.rounds):
+    for one in rounds_of(fought):
         outcome, words = "".join(f"{what:5}" for what in one.outcomes), printable(command(one.history, "debug"))
         click.echo(f"{one.history.round:5} {outcome:{max(width, 7)}} {one.history.end:7}  {words}")
         outcomes.append(one.outcomes)

@@ -140,7 +140,7 @@ class Matches:
         counts = check_counts([row[3:] for row in found] or np.empty((0, 5)), len(found), self.contest)
         rows, reversed_rows = self.rows_of(pairs), self.rows_of(pairs[:, ::-1])
         self.fill_in(rows[rows >= 0], counts[rows >= 0])
-        # A warrior of which there are copies may stand before some opponent and after it.
+        # A warrior of which there are copies may be both before and after the same opponent.
         is_own = np.isin(places[:, 0], places[rows >= 0])
         reversed_rows = np.unique(reversed_rows[(reversed_rows >= 0) & ~is_own])
         return int((~self.is_fought[reversed_rows]).sum())

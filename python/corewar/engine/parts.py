@@ -21,7 +21,7 @@ Result = TypeVar("Result")
 
 
 class Stopped(Exception):
-    """A part was stopped because nobody waits for it any more."""
+    """A part was stopped because its result is not needed any more."""
 
 
 class Threads(ThreadPoolExecutor):
@@ -74,7 +74,7 @@ def result_of(future: Future[Any]) -> Any:
 def run_parts(
     function: Callable[..., Result], parts: Iterable[tuple[Any, ...]], jobs: int = 1, executor: Executor | None = None
 ) -> Iterator[tuple[int, Result]]:
-    """Calls a function with the arguments of each part, and with an event that is set when nobody waits any more.
+    """Calls a function with the arguments of each part, and an event that is set when no result is needed any more.
     Yields the number of each part with its result, as they end. Raises CorewarError.
 
     - `jobs`: the number of threads here; with one, no other thread runs

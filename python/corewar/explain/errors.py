@@ -2,11 +2,16 @@
 from __future__ import annotations
 
 import re
-from collections.abc import Callable, Iterator
+from collections.abc import Callable, Iterator, Sequence
+from dataclasses import dataclass
+from typing import Any
 
-from ..model.errors import MarsError
+from ..engine.calls import encode_source
+from ..engine.sources import Assembler, Limit
+from ..model.errors import ASSEMBLY, MarsError
+from ..model.settings import Settings
 from .meanings import explain_error
-from .source import Line, Misspelt, Source, read_source
+from .source import Advice, Line, Misspelt, Source, read_source
 
 # The maximum number of errors that are reported for a source.
 MAX_ERRORS = 10
@@ -47,6 +52,61 @@ def errors_of(data: bytes, load: Callable[[bytes], object]) -> Iterator[tuple[Ma
             lines[number - 1] = replaced(source.lines[number - 1], source, advice.old if advice else "").encode()
             if advice and advice.new == "EQU":
                 correct(lines, source, advice.old)
+
+
+@dataclass(frozen=True)
+class Problem:
+    """An error of a source.
+
+    - `line`: the number of the line, from 1, or 0
+    - `error`: the error as `mars` prints it after the line, such as `2 Operation`
+    - `source`: the text of the line
+    - `advice`: sentences on what is wrong and what to do
+    - `word`, `replacement`: a word of the line, and what to write in its place, or "" if that is not known
+    """
+
+    line: int
+    error: str
+    source: str
+    advice: tuple[str, ...]
+    word: str = ""
+    replacement: str = ""
+
+    def __str__(self) -> str:
+        return "\n".join([f"line {self.line}: {self.error}" if self.line else self.error, *self.advice])
+
+
+def problem_of(kind: str, number: int, source: bytes, sentences: Sequence[str]) -> Problem:
+    """Returns an error with its explanation. The line may be another one than that which the library reports."""
+    advice = next((one for one in sentences if isinstance(one, Advice)), None)
+    lines = source.split(b"\n")
+    text = lines[number - 1].decode("utf-8", "replace").rstrip("\r") if 0 < number <= len(lines) else ""
+    words = (advice.old, advice.new) if advice and advice.line in (0, number) else ("", "")
+    return Problem(number, kind, text, tuple(map(str, sentences)), *words)
+
+
+def problems(
+    source: str | bytes,
+    *,
+    settings: Settings | str = "94nop",
+    rounds: int = 1,
+    warriors: int = 2,
+    limit: Limit = Limit(),
+) -> list[Problem]:
+    """Returns the errors of a source, at most ten, each with what `corewar explain` says; none if it is right.
+
+    - `settings`, `rounds`, `warriors`: as for `assemble`
+    - `limit`: the limits for assembling it
+
+    Raises `Overrun` if a limit is exceeded, and `MarsError` if the settings are invalid.
+    """
+    data, given = encode_source(source), dict[str, Any](settings=settings, rounds=rounds, warriors=warriors)
+    with Assembler(limit) as assembler:
+        found = [*errors_of(data, lambda text: assembler.assemble(text, **given))]
+    for fault, _ in found:
+        if fault.code != ASSEMBLY:
+            raise fault
+    return [problem_of(kind_of(fault), fault.line, data, sentences) for fault, sentences in found]
 
 
 def correct(lines: list[bytes], source: Source, misspelt: str) -> None:

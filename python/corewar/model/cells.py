@@ -23,6 +23,19 @@ Cells = NDArray[Any]
 Records = NDArray[Any]
 
 
+def columns(records: Records) -> dict[str, NDArray[Any]]:
+    """Returns arrays of records as columns without nested fields, as `pandas.DataFrame` takes them: the field `address`
+    of the first `change` is `change_0_address`.
+    """
+    if records.ndim > 1:
+        parts = {str(place): columns(records[:, place]) for place in range(records.shape[1])}
+    elif records.dtype.names:
+        parts = {name: columns(records[name]) for name in records.dtype.names}
+    else:
+        return {"": records}
+    return {f"{name}_{rest}".rstrip("_"): column for name, part in parts.items() for rest, column in part.items()}
+
+
 def signed(number: int, core: int) -> int:
     """Returns a number as it is printed: the equivalent number nearest to 0, positive for half the core size."""
     return number - core if number > core // 2 else number

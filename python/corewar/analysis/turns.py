@@ -1,0 +1,54 @@
+"""Turns as values, for programs."""
+from __future__ import annotations
+
+from dataclasses import dataclass
+
+
+@dataclass(frozen=True)
+class Place:
+    """A cell of the core: its address, and its label or ""."""
+
+    address: int
+    label: str
+
+    def __str__(self) -> str:
+        return f"{self.address} ({self.label})" if self.label else str(self.address)
+
+
+@dataclass(frozen=True)
+class Write:
+    """A write of a turn: the cell before it and after it, which may be equal."""
+
+    place: Place
+    before: str
+    after: str
+
+
+@dataclass(frozen=True)
+class Turn:
+    """A turn of a battle.
+
+    - `turn`: its number, from 1
+    - `warrior`, `name`: the number and the name of the warrior
+    - `place`, `cell`: where it executed an instruction, and the instruction
+    - `line`, `source`: the number and the text of its line in the source of a warrior, also of a copy, or 0 and ""
+    - `reads`: the cells that it read, except its own and those where its process went
+    - `writes`: its writes
+    - `processes`: where its process went: one cell, two after a split, or none if it died
+    - `text`: the lines that `corewar trace` prints
+    """
+
+    turn: int
+    warrior: int
+    name: str
+    place: Place
+    cell: str
+    line: int
+    source: str
+    reads: tuple[Place, ...]
+    writes: tuple[Write, ...]
+    processes: tuple[Place, ...]
+    text: str
+
+    def __str__(self) -> str:
+        return self.text
