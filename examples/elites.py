@@ -27,7 +27,7 @@ OPPONENTS = [
 
 
 def cell(dice: random.Random) -> tuple[int, int, int, int, int, int]:
-    opcode, modifier, a_mode, b_mode, a, b = (dice.randrange(limit) for limit in (16, 7, 8, 8, 80, 80))
+    opcode, modifier, a_mode, b_mode, a, b = map(dice.randrange, corewar.cell_limits(NANO.core))
     return opcode, modifier, a_mode, b_mode, a, b
 
 

@@ -2,10 +2,13 @@
 from __future__ import annotations
 
 import json
+import runpy
 import subprocess
 import sys
 from pathlib import Path
+from types import SimpleNamespace
 
+import numpy as np
 import pytest
 from conftest import ENVIRONMENT, EXAMPLES
 
@@ -107,3 +110,39 @@ def test_arguments(tmp_path: Path, script: str) -> None:
     for words in (["--none"], wrong[script]):
         done = run(script, *words, cwd=tmp_path)
         assert (done.returncode, done.stdout) == (2, "") and "error: " in done.stderr
+
+
+def test_asking_and_telling(tmp_path: Path) -> None:
+    """A search that continues from a checkpoint has the same result as one without a pause."""
+    whole = run("asktell.py", "whole.json", 6, cwd=tmp_path).stdout
+    run("asktell.py", "parts.json", 2, cwd=tmp_path)
+    assert run("asktell.py", "parts.json", 6, cwd=tmp_path).stdout == whole
+    assert (tmp_path / "parts.json").read_bytes() == (tmp_path / "whole.json").read_bytes()
+    (tmp_path / "bad.json").write_text("{}")
+    assert run("asktell.py", "bad.json", 6, cwd=tmp_path).stderr == "asktell: 'best'\n"
+
+
+def test_the_red_queen(tmp_path: Path) -> None:
+    """Processes run the matches of each champion, whose league is the table; and the script stays short."""
+    table = run("redqueen.py", 1, cwd=tmp_path).stdout.splitlines()
+    assert len(table) == 3 and table[0].split()[:2] == ["rank", "points"]
+    assert len((EXAMPLES / "redqueen.py").read_text().splitlines()) < 50
+
+
+def test_environments() -> None:
+    """The rewards of an episode add up to the share of the whole warrior, in one environment as in many."""
+    module = SimpleNamespace(**runpy.run_path(str(EXAMPLES / "environment.py")))
+    many, one = module.VectorEnvironment(3), module.Environment()
+    seen, _ = many.reset(seed=4)
+    assert seen.shape == (3, 5, 6) and not seen.any()
+    for episode in range(2):
+        total, cells = np.zeros(3), corewar.assemble("SPL 0\nMOV 2, <2\nJMP -1\nDAT 0\nDAT 0", settings="nano").cells
+        for place, cell in enumerate(cells.tolist()):
+            seen, rewards, over, truncated, info = many.step([cell, cell, (0, 0, 0, 0, 0, 0)])
+            total += rewards
+            assert over.tolist() == [place == 4] * 3 and not truncated.any() and (seen[0, place] == cell).all()
+        assert np.allclose(total, info["share"]) and info["share"][0] == info["share"][1] > info["share"][2]
+    state, _ = one.reset(seed=4)
+    assert state.shape == (5, 6)
+    state, reward, over, truncated, info = one.step(cells.tolist()[0])
+    assert isinstance(reward, float) and (over, truncated) == (False, False) and "SPL" in one.render()
