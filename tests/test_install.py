@@ -183,12 +183,20 @@ def test_one_version() -> None:
 
 
 def test_one_list_of_packages(tmp_path: Path) -> None:
-    """The dependencies of `corewar` are the same for pip, for the Debian package, and for scripts/setup."""
-    required = {
-        f"python3-{name}" for name in tomllib.loads((TOP / "pyproject.toml").read_text())["project"]["dependencies"]
-    }
+    """The dependencies of `corewar` are the same for pip, for the Debian package, and for scripts/setup. A wheel needs
+    only two, and pictures are an extra of both packages, since matplotlib is larger than all else.
+    """
+    project = tomllib.loads((TOP / "pyproject.toml").read_text())["project"]
+    assert project["dependencies"] == ["numpy", "cffi"]
+    extras = project["optional-dependencies"]
+    needed = {f"python3-{name}" for name in project["dependencies"] + extras["cli"]}
+    pictures = {f"python3-{name}" for name in extras["pictures"]}
+    required = needed | pictures
     control = (TOP / "packaging" / "debian" / "control").read_text().partition("Package: corewar")[2]
-    assert {*re.findall(r"^ (python3-[\w-]+),$", control, re.M)} == required
+    assert {*re.findall(r"^ (python3-[\w-]+),$", control, re.M)} == needed
+    assert pictures | {f"python3-{name}" for name in extras["cluster"]} == {
+        *re.findall(r"python3-[\w-]+", re.findall(r"^Recommends: (.*)$", control, re.M)[0])
+    }
     # With this stub, no package is installed.
     (tmp_path / "dpkg-query").write_text("#!/bin/sh\n")
     (tmp_path / "dpkg-query").chmod(0o755)

@@ -175,7 +175,10 @@ def test_a_figure_is_the_picture(run: Run, tmp_path: Path, monkeypatch: pytest.M
     monkeypatch.delitem(sys.modules, "corewar.pictures.timeline")
     modules: dict[str, Any] = sys.modules
     monkeypatch.setitem(modules, "matplotlib", None)
-    with pytest.raises(ImportError, match="a figure requires matplotlib, Debian's python3-matplotlib: "):
+    with pytest.raises(
+        ImportError,
+        match=r"a figure requires matplotlib, Debian's python3-matplotlib, or with pip corewar\[pictures\]: ",
+    ):
         history.figure()
 
 

@@ -80,6 +80,39 @@ def test_commands_run_from_any_folder(environment: Path, tmp_path: Path) -> None
     assert "turn 3" in started(environment, "corewar", "debug", *files, input="step 3\n")
 
 
+# The packages of the extras, hidden.
+HIDDEN = """
+import sys
+sys.modules.update({name: None for name in "click rich prompt_toolkit pygments jinja2 matplotlib distributed".split()})
+"""
+ENGINE = """
+import corewar
+imp, dwarf = corewar.assemble("MOV 0, 1"), corewar.assemble("ADD #4, 3\\nMOV 2, @2\\nJMP -2\\nDAT 0")
+print(len(corewar.Contest(rounds=5).league([imp, dwarf], jobs=2).records()))
+history = corewar.History(corewar.Match((imp, dwarf)))
+print(history.why(0).fate, len(corewar.problems("MVO 0")), len(history.player().page) > 100_000)
+try:
+    history.figure()
+except ImportError as missing:
+    print(missing)
+"""
+
+
+def test_the_engine_needs_no_extra(environment: Path) -> None:
+    """All but commands, pictures and clusters works with NumPy and cffi; what is missing is named in one line."""
+    lines = started(environment, "python", "-c", HIDDEN + ENGINE).splitlines()
+    assert lines[0] == "2" and lines[1].endswith(" 1 True")
+    assert lines[2].startswith(
+        "a figure requires matplotlib, Debian's python3-matplotlib, or with pip corewar[pictures]: "
+    )
+    code = HIDDEN + "from corewar.__main__ import main; main()"
+    command = [str(environment / "bin" / "python"), "-c", code, "fight"]
+    done = subprocess.run(command, capture_output=True, text=True)
+    assert (done.returncode, done.stdout) == (1, "") and done.stderr.endswith(
+        "; install the dependencies of corewar with scripts/setup, or with pip corewar[cli]\n"
+    )
+
+
 def test_files_for_editors(environment: Path) -> None:
     assert "MOV|ADD" in (environment / "share/nvim/site/syntax/redcode.vim").read_text()
     manifest = (environment / "share/corewar/vscode/package.json").read_text()

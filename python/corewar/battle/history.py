@@ -132,7 +132,8 @@ class History:
         try:
             timeline = self._load("pictures.timeline")
         except ImportError as missing:
-            raise ImportError(f"a figure requires matplotlib, Debian's python3-matplotlib: {missing}") from None
+            advice = "Debian's python3-matplotlib, or with pip corewar[pictures]"
+            raise ImportError(f"a figure requires matplotlib, {advice}: {missing}") from None
         return timeline.figure_of(self, timeline.whole(self))
 
     def player(self, turn: int = 0, height: int = 700) -> Player:

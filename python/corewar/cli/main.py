@@ -33,8 +33,8 @@ GROUPS = {
     "Editors": {"lsp": "editing"},
 }
 COMMANDS = {name: module for group in GROUPS.values() for name, module in group.items()}
-# What to do about a missing module.
-SETUP = "; install the dependencies of corewar with scripts/setup"
+# What to do about a missing module: the extra of the wheel that has it, if it is not `cli`.
+SETUP, EXTRAS = "install the dependencies of corewar with scripts/setup, or with pip", {"matplotlib": "pictures"}
 # Errors of the library that are usage errors, as in `mars`.
 USAGE = (SETTINGS, PARAMETERS, FORMULA)
 
@@ -112,7 +112,9 @@ def main() -> None:
         report("out of memory")
         status = 1
     except ImportError as fault:
-        report(f"{fault}{SETUP}" if isinstance(fault, ModuleNotFoundError) else str(fault))
+        extra = EXTRAS.get((fault.name or "").partition(".")[0], "cli")
+        advice = f"; {SETUP} corewar[{extra}]" if isinstance(fault, ModuleNotFoundError) else ""
+        report(f"{fault}{advice}")
         status = 1
     except OSError as fault:
         if not isinstance(fault, BrokenPipeError):
