@@ -3,6 +3,7 @@ from __future__ import annotations
 
 import json
 import random
+import threading
 from collections.abc import Callable
 from concurrent.futures import Executor, Future, ProcessPoolExecutor
 from dataclasses import FrozenInstanceError
@@ -70,6 +71,12 @@ def test_results_are_stored(tmp_path: Path) -> None:
     assert seen == [corewar.Progress(4, 4)] and (challenge.counts == league.matrix[0, 1:]).all()
     CONTEST.challenge(warriors()[4], warriors()[:4], results=path, progress=seen.append)
     assert seen[1] == corewar.Progress(0, 4, 4)
+
+
+def test_no_thread_is_left() -> None:
+    """A process with threads could not be forked, as an `Assembler` does."""
+    CONTEST.league(warriors(), jobs=4)
+    assert threading.active_count() == 1
 
 
 def test_errors() -> None:

@@ -102,4 +102,5 @@ def run_parts(
         for future in out:
             future.cancel()
         if executor is None:
-            pool.shutdown(wait=False, cancel_futures=True)
+            # Threads that have nothing to do end at once, and no other thread is left.
+            pool.shutdown(wait=not out, cancel_futures=True)
