@@ -6,7 +6,7 @@ import random
 import threading
 from collections.abc import Callable
 from concurrent.futures import Executor, Future, ProcessPoolExecutor
-from dataclasses import FrozenInstanceError
+from dataclasses import FrozenInstanceError, replace
 from multiprocessing import get_context
 from pathlib import Path
 from typing import Any
@@ -48,6 +48,8 @@ def test_results_are_those_of_the_command(run: Run, command: str) -> None:
             assert CALLS[command](warriors(), **how).to_dict() == result.to_dict()
     with pytest.raises(FrozenInstanceError):
         result.contest = None
+    arrays = [value for value in vars(result).values() if isinstance(value, np.ndarray)]
+    assert arrays and not any(one.flags.writeable for one in arrays)
 
 
 def test_a_league_is_arrays() -> None:
@@ -65,7 +67,7 @@ def test_a_league_is_arrays() -> None:
 
 def test_results_are_stored(tmp_path: Path) -> None:
     """A challenge finds what a league has stored, and its seeds do not depend on the other warriors."""
-    path, seen = str(tmp_path / "kept.sqlite"), list[corewar.Progress]()
+    path, seen = tmp_path / "kept.sqlite", list[corewar.Progress]()
     league = CONTEST.league(warriors(), results=path)
     challenge = CONTEST.challenge(warriors()[0], warriors()[1:], results=path, progress=seen.append)
     assert seen == [corewar.Progress(4, 4)] and (challenge.counts == league.matrix[0, 1:]).all()
@@ -87,6 +89,10 @@ def test_errors() -> None:
         Contest("unknown")
     with pytest.raises(CorewarError, match="expected 1 or more opponents"):
         CONTEST.compare(warriors()[0], warriors()[1], [])
+    with pytest.raises(CorewarError, match="expected 1 or more jobs, not 0"):
+        CONTEST.league(warriors(), jobs=0)
+    with pytest.raises(MarsError, match="index 1: warrior 2 Start"):
+        CONTEST.league([warriors()[0], replace(warriors()[1], start=99)])
     empty = CONTEST.league([])
     assert empty.records() == [] and str(empty).count("\n") == 0
 

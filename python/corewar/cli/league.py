@@ -70,26 +70,20 @@ EXECUTION_OPTIONS = [
 ]
 
 
-class Waiting:
+class Waiting(ExitStack):
     """Shows the progress of a contest by a bar on a terminal."""
 
     def __init__(self, what: str = "matches", scale: int = 1) -> None:
+        super().__init__()
         self.what, self.scale, self.state = what, scale, Progress(0, 0)
-        self.stack = ExitStack()
         self.advance: Callable[[int], None] | None = None
-
-    def __enter__(self) -> Waiting:
-        return self
-
-    def __exit__(self, *_: object) -> None:
-        self.stack.close()
 
     def __call__(self, state: Progress) -> None:
         if self.advance is None:
             if state.turned:
                 report(OTHER_ORDER.format(state.turned, state.total))
             bar = progress(state.total // self.scale, self.what, state.done // self.scale)
-            self.advance = self.stack.enter_context(bar)
+            self.advance = self.enter_context(bar)
         else:
             self.advance(state.done // self.scale - self.state.done // self.scale)
         self.state = state
@@ -105,16 +99,18 @@ class MatchRunner:
 
     def run(self, call: Callable[..., Result]) -> Result:
         """Returns the result of a method of a contest, with a bar on a terminal."""
-        with Waiting() as waiting, cluster(self.scheduler) if self.scheduler else nullcontext() as executor:
-            try:
-                return call(jobs=self.jobs, executor=executor, results=self.results, progress=waiting)
-            except KeyboardInterrupt:
-                if not self.results:
-                    raise
-                state = waiting.state
-                report(f"{state.done} of {state.total} matches stored; run the same command to continue")
-                # A match that is under way isn't waited for.
-                os._exit(130)
+        waiting = Waiting()
+        try:
+            with waiting, cluster(self.scheduler) if self.scheduler else nullcontext() as executor:
+                found = call(jobs=self.jobs, executor=executor, results=self.results, progress=waiting)
+        except KeyboardInterrupt:
+            if self.results is None:
+                raise
+            state = waiting.state
+            report(f"{state.done} of {state.total} matches stored; run the same command to continue")
+            # A match that is under way isn't waited for.
+            os._exit(130)
+        return found
 
 
 def contest_options(command: Callable[..., Any]) -> Callable[..., Any]:

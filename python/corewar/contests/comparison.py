@@ -11,7 +11,7 @@ from ..engine.rewards import score_of
 from ..engine.warriors import Warrior
 from ..model.printing import printable
 from .matches import Rows
-from .standings import NAMES, Rates, head_of, names_of, rounded
+from .standings import NAMES, Rates, freeze, head_of, names_of, rounded
 from .terms import Terms
 
 # The number of standard errors from which a change is more than chance.
@@ -38,6 +38,9 @@ class Comparison:
     scores: Rates
 
     COLUMNS = (*NAMES, *HEAD)
+
+    def __post_init__(self) -> None:
+        freeze(self)
 
     def change(self, opponents: Rows | list[int] | slice = slice(None)) -> tuple[float, float, float, float]:
         """Returns the scores of both versions for 100 rounds against some of the opponents, or against all, the change,

@@ -1,6 +1,7 @@
 """Contests of many warriors: leagues, challenges, comparisons and melees."""
 from __future__ import annotations
 
+import os
 import random
 from collections.abc import Callable, Iterator, Sequence
 from concurrent.futures import Executor
@@ -12,7 +13,7 @@ from typing import Any
 import numpy as np
 from numpy.typing import ArrayLike, NDArray
 
-from ..engine.outcomes import run_lineups, table_of
+from ..engine.outcomes import check_jobs, run_lineups, table_of
 from ..engine.rewards import survivals
 from ..engine.warriors import Warrior
 from ..model.errors import CorewarError
@@ -46,8 +47,11 @@ class Execution:
 
     jobs: int = 1
     executor: Executor | None = None
-    results: str | None = None
+    results: str | os.PathLike[str] | None = None
     progress: Callable[[Progress], object] | None = None
+
+    def __post_init__(self) -> None:
+        check_jobs(self.jobs)
 
     def report(self, done: int, total: int, turned: int = 0) -> None:
         if self.progress is not None:
@@ -81,7 +85,7 @@ class Contest(Terms):
         *,
         jobs: int = 1,
         executor: Executor | None = None,
-        results: str | None = None,
+        results: str | os.PathLike[str] | None = None,
         progress: Callable[[Progress], object] | None = None,
     ) -> League:
         """Runs a league: every two warriors play a match, of which the earlier one is the first.
@@ -102,7 +106,7 @@ class Contest(Terms):
         *,
         jobs: int = 1,
         executor: Executor | None = None,
-        results: str | None = None,
+        results: str | os.PathLike[str] | None = None,
         progress: Callable[[Progress], object] | None = None,
     ) -> Challenge:
         """Runs a match of a warrior with each of its opponents; the warrior is the first. The rest is as for `league`,
@@ -184,7 +188,7 @@ def run(matches: Matches, how: Execution) -> Iterator[Rows]:
     matches each time these have been run. Raises CorewarError.
     """
     with ExitStack() as stack:
-        stored = stack.enter_context(Results(how.results, matches)) if how.results else None
+        stored = stack.enter_context(Results(os.fspath(how.results), matches)) if how.results else None
         turned = stored.find() if stored else 0
         rows = np.flatnonzero(matches.is_fought)
         done = len(rows)

@@ -11,7 +11,7 @@ import numpy as np
 from numpy.typing import NDArray
 
 from ..engine.calls import fits
-from ..engine.outcomes import run_lineups, table_of
+from ..engine.outcomes import play, run_lineups, table_of
 from ..engine.rewards import score_of, survivals
 from ..engine.warriors import Warrior
 from ..model.errors import SCORE, CorewarError, MarsError
@@ -83,6 +83,8 @@ class Matches:
         self.contest, self.warriors, self.pairs = contest, tuple(warriors), pairs
         self.counts: Counts = np.zeros((len(pairs), 5), np.int64)
         self.is_fought: NDArray[np.bool_] = np.zeros(len(pairs), bool)
+        # An invalid warrior is named by its index.
+        play(warriors, table_of([], 1), contest.run(), np.asarray)
         both = [digests_of(warrior) for warrior in warriors]
         self.digests, self._older = [one for one, _ in both], [other for _, other in both]
         heads = np.array([int.from_bytes(one[:8], "little") for one in self.digests], np.uint64)

@@ -43,6 +43,9 @@ class Standings:
     counts: Numbers
     errors: Rates
 
+    def __post_init__(self) -> None:
+        freeze(self)
+
     @property
     def points(self) -> Numbers:
         """The sums of the points."""
@@ -86,6 +89,13 @@ class Standings:
     def to_dict(self) -> dict[str, Any]:
         """Returns the options, the seed and the rows, as plain values."""
         return {**head_of(self.contest), "warriors": self.records()}
+
+
+def freeze(result: object) -> None:
+    """Makes the arrays of a result read-only."""
+    for value in vars(result).values():
+        if isinstance(value, np.ndarray):
+            value.flags.writeable = False
 
 
 def head_of(contest: Terms) -> dict[str, Any]:

@@ -25,8 +25,8 @@ OUTCOME = np.dtype([("survived", "?"), ("turns", "u4"), ("cycles", "u4"), ("star
 # What it did, if that is counted.
 COUNTS = ("own_turns", "spawned", "executed", "written", "touched")
 COUNTED = np.dtype([*OUTCOME.descr, *((name, "u4") for name in COUNTS)])
-# The number of parts for each thread, so that all end at about the same time, and the maximum rounds of one.
-PARTS, MAX_ROUNDS = 4, 1 << 18
+# The number of parts for each thread, so that all end at about the same time, and the maximum rows of one.
+PARTS, MAX_ROWS = 4, 1 << 19
 
 Array = NDArray[Any]
 Reduce = Callable[[Array], Array]
@@ -83,8 +83,7 @@ def outcomes(
     thread and for errors of an executor; and `MarsError` if a number, a lineup or a warrior is invalid, if the core is
     too small, or if memory runs out.
     """
-    if jobs < 1:
-        raise CorewarError(f"expected 1 or more jobs, not {jobs}")
+    check_jobs(jobs)
     given = settings_of(settings)
     table = table_of([range(len(warriors))] if lineups is None else lineups, seeds)
     table["counting"] = counts
@@ -99,6 +98,12 @@ def outcomes(
             found = np.empty((len(table), *rows.shape[1:]), rows.dtype)
         found[part] = rows
     return finish(np.zeros((0, rounds, run.width), array("MarsOutcome", 0).dtype)) if found is None else found
+
+
+def check_jobs(jobs: int) -> None:
+    """Raises CorewarError for no thread."""
+    if jobs < 1:
+        raise CorewarError(f"expected 1 or more jobs, not {jobs}")
 
 
 def found_of(rows: Array, counts: bool, cycles: int, reduce: Reduce | None) -> Array:
@@ -139,7 +144,7 @@ def run_lineups(
     """
     is_here = executor is None or isinstance(executor, ThreadPoolExecutor)
     turns = max(1, run.rounds * run.settings.cycles * run.width)
-    size = max(1, min((TURNS if is_here else DISTANT_TURNS) // turns, MAX_ROUNDS // max(1, run.rounds)))
+    size = max(1, min((TURNS if is_here else DISTANT_TURNS) // turns, MAX_ROWS // max(1, run.rounds * run.width)))
     if executor is None and jobs > 1:
         size = min(size, max(1, -(-len(table) // (jobs * PARTS))))
     if executor is None and size >= len(table):
