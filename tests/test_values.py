@@ -61,6 +61,13 @@ def test_trace() -> None:
         history.trace(7798, 7799)
 
 
+def test_fates() -> None:
+    """What warriors died on and by in each round, and what those of a tie executed last."""
+    first, *_, last = corewar.fates(fight("dwarf", "imp", rounds=3))
+    assert first == corewar.Death(1, 0, "its line 5: MOV.I 0, 1", "Dwarf, by line 10: MOV bomb, @bomb")
+    assert isinstance(last, corewar.Tie) and (last.warrior, last.round, last.executed) == (1, 2, "cells that it wrote")
+
+
 def test_study() -> None:
     study = corewar.study(corewar.read(EXAMPLES / "dwarf.red"))
     assert (study.written, study.scanned, study.survives, study.hit) == (2000, 0, True, None)

@@ -10,8 +10,10 @@
 The package calls the library that `scripts/library` builds, and requires cffi and NumPy.
 """
 from .analysis.causes import Why
-from .analysis.study import Study, study
-from .analysis.turns import Turn
+from .analysis.endings import Executed
+from .analysis.losses import Death, Tie, fates
+from .analysis.study import Access, Hit, Study, study
+from .analysis.turns import Place, Turn, Write
 from .battle.history import History
 from .battle.rounds import Round, rounds
 from .contests.challenge import Challenge
@@ -32,6 +34,7 @@ from .model.cells import CELL, MODES, MODIFIERS, OPCODES, cell_limits, cell_of, 
 from .model.edits import Edit
 from .model.errors import CorewarError, FileError, MarsError
 from .model.settings import HILLS, MAX_SEED, MAX_WARRIORS, Settings
+from .pages.player import Player
 
 # The version of the kit: of this package, the Debian packages and the library (MARS_VERSION in its header).
 __version__ = "2.0"
@@ -42,9 +45,10 @@ Fault = MarsError
 FileFault = FileError
 
 __all__ = [
-    "CELL", "HILLS", "MAX_SEED", "MAX_WARRIORS", "MODES", "MODIFIERS", "OPCODES", "Assembler", "Battle", "Challenge",
-    "Comparison", "Contest", "CorewarError", "Edit", "FileError", "History", "League", "Limit", "MarsError", "Match",
-    "Melee", "Overrun", "Problem", "Progress", "Round", "Row", "Settings", "Standings", "Study", "Turn", "Warrior",
-    "Why", "assemble", "cell_limits", "cell_of", "cell_text", "columns", "league", "match", "outcomes", "points",
-    "population", "problems", "read", "rounds", "shares", "study",
+    "CELL", "HILLS", "MAX_SEED", "MAX_WARRIORS", "MODES", "MODIFIERS", "OPCODES", "Access", "Assembler", "Battle",
+    "Challenge", "Comparison", "Contest", "CorewarError", "Death", "Edit", "Executed", "FileError", "History", "Hit",
+    "League", "Limit", "MarsError", "Match", "Melee", "Overrun", "Place", "Player", "Problem", "Progress", "Round",
+    "Row", "Settings", "Standings", "Study", "Tie", "Turn", "Warrior", "Why", "Write", "assemble", "cell_limits",
+    "cell_of", "cell_text", "columns", "fates", "league", "match", "outcomes", "points", "population", "problems",
+    "read", "rounds", "shares", "study",
 ]  # fmt: skip

@@ -7,8 +7,10 @@ from collections.abc import Iterable, Iterator, Sequence
 from dataclasses import dataclass
 
 from ..battle.conditions import last_change
-from ..battle.history import NOBODY, History
+from ..battle.history import NOBODY, History, make_distinct
 from ..battle.labels import Sources
+from ..battle.rounds import rounds
+from ..engine.calls import Match
 from .endings import LAST_TURNS, summarize_last_turns
 from .formatting import pluralize
 
@@ -18,7 +20,9 @@ MAX_ROWS = 10
 
 @dataclass(frozen=True)
 class Death:
-    """A warrior that died in a round: its number in the order of the files, and what it died on and by, as text."""
+    """A warrior that died in a round of a match: its number in the order of the match, the number of the round, the
+    `cell` that it died on as it was before it was hit, and what hit it, as text.
+    """
 
     warrior: int
     round: int
@@ -28,11 +32,22 @@ class Death:
 
 @dataclass(frozen=True)
 class Tie:
-    """A warrior that tied in a round: its number in the order of the files, and what it executed last."""
+    """A warrior that tied in a round of a match: its number in the order of the match, the number of the round, and
+    what it executed last, as text.
+    """
 
     warrior: int
     round: int
     executed: str
+
+
+def fates(fight: Match) -> Iterator[Death | Tie]:
+    """Yields how each warrior of a match died in each round or, in a tie, what it executed last. Raises `MarsError` if
+    the match is invalid.
+    """
+    names = make_distinct([warrior.called for warrior in fight.warriors])
+    for one in rounds(fight):
+        yield from fates_of(one.history, names)
 
 
 def fates_of(history: History, names: Sequence[str]) -> Iterator[Death | Tie]:
