@@ -301,6 +301,8 @@ def test_lineups_of_different_lengths() -> None:
     words: dict[str, Any] = {"settings": SMALL, "rounds": 6}
     lineups, seeds = [[0, 1, 2], [3], [2, 1]], [5, 6, 7]
     made = corewar.outcomes(warriors, lineups, seeds=seeds, **words)
+    arrays = [np.array(lineup) for lineup in lineups]
+    assert np.array_equal(made, corewar.outcomes(warriors, arrays, seeds=seeds, **words))
     assert made.shape == (3, 6, 3) and np.array_equal(
         made, corewar.outcomes(warriors, lineups, seeds=seeds, jobs=3, **words)
     )

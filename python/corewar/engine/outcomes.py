@@ -2,7 +2,7 @@
 from __future__ import annotations
 
 import math
-from collections.abc import Callable, Iterator, Sequence
+from collections.abc import Callable, Iterator, Sequence, Sized
 from concurrent.futures import Executor, ThreadPoolExecutor
 from dataclasses import dataclass, replace
 from functools import partial
@@ -213,7 +213,7 @@ def placed(rows: Array, counts: NDArray[np.uint32], shape: tuple[int, int, int])
 
 def table_of(lineups: Any, seeds: ArrayLike) -> Array:
     """Returns lineups in the form that the library expects. Raises ValueError."""
-    lengths = [len(one) for one in lineups if isinstance(one, Sequence)] if isinstance(lineups, Sequence) else []
+    lengths = [len(one) for one in lineups if isinstance(one, Sized)] if isinstance(lineups, Sequence) else []
     if len({*lengths}) > 1 and len(lengths) == len(lineups):
         lineups = [[*one, *[0] * (max(lengths) - len(one))] for one in lineups]
     indices = clamped(lineups, "lineups of whole numbers")
