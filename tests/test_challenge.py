@@ -80,7 +80,8 @@ def test_two_versions(run: Run) -> None:
             "       -  mean of 1\nChance cannot be estimated from one round or for a fixed position; try `-r 100`.\n",
         ),
     ):
-        assert run("challenge", "--sum", "--jobs", 3, *words.split()).stdout.endswith(end), words
+        output = run("challenge", "--sum", "--jobs", 3, *words.split()).stdout
+        assert output.startswith(head) and output.endswith(end) and output.count("\n") == 3, words
 
 
 def test_versions_score_as_in_their_matches(run: Run) -> None:

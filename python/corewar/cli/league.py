@@ -154,9 +154,8 @@ def write_results(result: Any, form: str, output: str | None = None, only_sum: b
     elif form == "json":
         text = json.dumps({name: one for name, one in result.to_dict().items() if name != "matches" or not only_sum})
     else:
-        text = result.matrix_text() if form == "matrix" else str(result)
-        lines = [*map(printable, text.split("\n"))]
-        text = "\n".join(lines[1 + len(result.records()) :] if only_sum else lines)
+        text = result.matrix_text() if form == "matrix" else result.summary if only_sum else str(result)
+        text = "\n".join(map(printable, text.split("\n")))
     data = f"{text}\n".encode("utf-8", "surrogateescape")
     if output:
         replace_file(output, data)

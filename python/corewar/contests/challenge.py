@@ -58,7 +58,12 @@ class Challenge(Standings):
         for number in np.argsort(-self.points, kind="stable").tolist():
             one, counts = self.warriors[number], [*self.counts[number], self.theirs[number]]
             lines.append(f"{text_of(counts)}  {printable(one.file):{width}}  {one.title}")
-        return "\n".join([*lines, f"{text_of(self.sums)}  sum of {len(self.warriors)}"])
+        return "\n".join([*lines, self.summary])
+
+    @property
+    def summary(self) -> str:
+        """The line with the sums."""
+        return f"{text_of(self.sums)}  sum of {len(self.warriors)}"
 
 
 def row_of(warrior: Warrior, counts: tuple[int, ...], error: float) -> dict[str, Any]:

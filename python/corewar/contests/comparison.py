@@ -79,10 +79,17 @@ class Comparison:
 
     def __str__(self) -> str:
         width = max(len(one.file) for one in self.opponents)
-        lines = ["     old      new   change   error  opponent"]
+        head, *rest = self.summary.split("\n")
+        lines = [head]
         for number, one in enumerate(self.opponents):
             lines.append(f"{text_of(*self.change([number]))}  {printable(one.file):{width}}  {one.title}")
-        return "\n".join([*lines, f"{text_of(*self.change())}  mean of {len(self.opponents)}", self.verdict])
+        return "\n".join([*lines, *rest])
+
+    @property
+    def summary(self) -> str:
+        """The table without a line for each opponent."""
+        mean = f"{text_of(*self.change())}  mean of {len(self.opponents)}"
+        return "\n".join(["     old      new   change   error  opponent", mean, self.verdict])
 
     @property
     def verdict(self) -> str:
