@@ -41,7 +41,7 @@ class Explain(Command):
     """A command whose first argument may be `mars`, followed by the arguments of that program."""
 
     def parse_args(self, context: click.Context, words: list[str]) -> list[str]:
-        if words[:1] == ["mars"]:
+        if words[:1] == ["mars"] and not context.resilient_parsing:
             from .mars_args import check_mars_args
 
             click.echo(check_mars_args(words[1:]))

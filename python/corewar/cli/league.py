@@ -22,7 +22,7 @@ from ..engine.warriors import Warrior
 from ..model.errors import FileError
 from ..model.printing import printable
 from .layout import EXECUTION, STATUSES, Command, Number, Option
-from .options import BattleOptions, Output, Picture, battle_options, format_option, match_option, with_options
+from .options import INPUT, BattleOptions, Output, Picture, battle_options, format_option, match_option, with_options
 from .reporting import report, report_error, show
 from .waiting import progress
 
@@ -232,6 +232,7 @@ def league(options: BattleOptions, runner: MatchRunner, order: str, form: str, *
 @click.option("--sum", "only_sum", is_flag=True, help="Print only the sums")
 @click.option(
     "--old",
+    type=INPUT,
     metavar="FILE",
     help="An earlier version of the first file: compare the scores of both against the others, per 100 rounds",
 )

@@ -14,7 +14,7 @@ from ..engine.sources import Limit, read_warriors
 from ..model.errors import CorewarError
 from ..model.settings import Settings, whole
 from .layout import Command, Number
-from .options import LIMIT, BattleOptions, battle_options, core_options, format_option, is_given
+from .options import INPUT, LIMIT, BattleOptions, WarriorName, battle_options, core_options, format_option, is_given
 from .reporting import show, show_value
 from .waiting import progress
 
@@ -41,7 +41,7 @@ def warrior_of(history: History, named: str) -> int:
 )
 @battle_options(one_round=True)
 @click.option(
-    "--of", "named", metavar="WARRIOR", help="Name, file or number of the warrior  [default: all that died or tied]"
+    "--of", "named", type=WarriorName(), help="Name, file or number of the warrior  [default: all that died or tied]"
 )
 @click.option(
     "--turns",
@@ -152,7 +152,7 @@ def changed(options: BattleOptions, named: str, before: int | None) -> None:
 @core_options
 @LIMIT
 @format_option(("text", "json"), "report")
-@click.argument("file")
+@click.argument("file", type=INPUT)
 def study(file: str, settings: Settings, limit: Limit, form: str) -> None:
     """Show where a warrior writes and scans without an opponent.
 

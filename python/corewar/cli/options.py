@@ -10,10 +10,11 @@ from typing import Any
 
 import click
 from click.core import ParameterSource
+from click.shell_completion import CompletionItem
 
 from ..engine.calls import Match
 from ..engine.sources import Limit, read_warriors
-from ..model.errors import FileError
+from ..model.errors import CorewarError, FileError
 from ..model.settings import FORMULA, HILLS, MAX_WARRIORS, NUMBERS, Settings, whole
 from .layout import CORE, MATCH, Number, Option
 
@@ -57,6 +58,29 @@ class Output(click.Path):
         if self.file_okay and not os.path.exists(value) and not os.access(folder, os.W_OK):
             raise FileError(str(folder), "this folder accepts no new file")
         return super().convert(value, param, context)
+
+
+# A file to read. The shell completes its name; what is wrong with it is reported when it is read.
+INPUT = click.Path(readable=False)
+
+
+class WarriorName(click.ParamType):
+    """A warrior of the files: its number, name or file."""
+
+    name = "WARRIOR"
+
+    def shell_complete(self, context: click.Context, param: click.Parameter, incomplete: str) -> list[CompletionItem]:
+        """Offers each warrior of the files before the cursor, by its file if its name has spaces."""
+        found, begun = list[CompletionItem](), incomplete.lower()
+        # Click doesn't read on at an option that still lacks its value.
+        for file in context.params.get("files") or context.args:
+            try:
+                warrior = read_warriors([file], HILLS[context.params.get("hill") or "94nop"])[0]
+            except CorewarError:
+                continue
+            names = [name for name in (warrior.called, warrior.files[2]) if " " not in name]
+            found += [CompletionItem(name, help=warrior.title) for name in names if name.lower().startswith(begun)][:1]
+        return found
 
 
 class Picture(Output):
@@ -212,7 +236,7 @@ def battle_options(*, one_round: bool = False, needs_files: bool = True) -> Deco
             )
 
         files = click.argument(
-            "files", nargs=-1, required=needs_files, metavar="FILE..." if needs_files else "[FILE]..."
+            "files", nargs=-1, required=needs_files, type=INPUT, metavar="FILE..." if needs_files else "[FILE]..."
         )
         return with_options(*CONTEST, *([ROUND] if one_round else []), *SETTINGS, files)(with_settings(wrapper))
 

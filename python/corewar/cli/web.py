@@ -10,7 +10,7 @@ from ..engine.sources import advice_on
 from ..model.header import CHECKOUT, INSTALLED
 from ..model.errors import FileError
 from .layout import Command, Number
-from .options import Output
+from .options import INPUT, Output
 
 # The folders of examples: that of the checkout, and those that may be installed.
 EXAMPLES = [CHECKOUT / "examples", *(folder / "share" / "doc" / "mars" / "examples" for folder in INSTALLED)]
@@ -33,7 +33,7 @@ PORT = 8094
 @click.option(
     "--results", type=Output(dir_okay=False), help="Store results of leagues in this file; skip matches already in it"
 )
-@click.argument("files", nargs=-1, metavar="[FILE]...")
+@click.argument("files", nargs=-1, type=INPUT, metavar="[FILE]...")
 def web(port: int, browser: bool, results: str | None, files: tuple[str, ...]) -> None:
     """Open the site in a browser, with the sources of a folder.
 

@@ -370,6 +370,13 @@ def quit_debugger(session: Session, _: str) -> NoReturn:
     raise QuitDebugger
 
 
+# The reader of lines executes these two.
+COMMANDS["source"] = Command("source FILE", "execute the lines of a file", (), False, lambda *_: [])
+COMMANDS["log"] = Command(
+    "log [FILE]", "log the following lines to a new file, or stop logging", (), False, lambda *_: []
+)
+
+
 def execute(session: Session, line: str) -> list[str]:
     """Executes the command of a line and returns the lines to show. Raises CorewarError, and QuitDebugger."""
     word, rest = split_line(line)

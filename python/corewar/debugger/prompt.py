@@ -5,24 +5,22 @@ from __future__ import annotations
 
 import os
 import sys
-from collections.abc import Callable, Iterable, Iterator
+from collections.abc import Callable, Iterable
 from pathlib import Path
 from typing import TextIO
 
 from prompt_toolkit import PromptSession
 from prompt_toolkit.auto_suggest import AutoSuggestFromHistory
-from prompt_toolkit.completion import CompleteEvent, Completer, Completion
-from prompt_toolkit.document import Document
 from prompt_toolkit.formatted_text import ANSI
 from prompt_toolkit.history import FileHistory, InMemoryHistory
 from prompt_toolkit.lexers import PygmentsLexer
 from pygments.lexers.esoteric import RedcodeLexer
 
-from ..battle.conditions import CELL_CONDITIONS, WARRIOR_CONDITIONS
 from ..engine.sources import read_file
 from ..model.errors import CorewarError
 from ..model.printing import lines_for, printable
-from .commands import COMMANDS, Command, QuitDebugger, execute, find_command, split_line
+from .commands import QuitDebugger, execute, find_command, split_line
+from .completion import CommandCompleter, command_of
 from .session import Session
 
 # The colours of warriors, as a terminal numbers them.
@@ -34,40 +32,6 @@ MAX_DEPTH = 8
 def paint(number: int, text: str) -> str:
     """A warrior's name in its colour."""
     return f"\x1b[{COLOUR_CODES[number % len(COLOUR_CODES)]}m{text}\x1b[0m"
-
-
-class CommandCompleter(Completer):
-    """Completes commands, conditions, labels and names of warriors."""
-
-    def __init__(self, session: Session) -> None:
-        self.session = session
-
-    def get_completions(self, document: Document, _: CompleteEvent) -> Iterator[Completion]:
-        before, word = document.text_before_cursor, document.get_word_before_cursor(WORD=True)
-        for text, summary in self.candidates(before.split(), not word):
-            if text.lower().startswith(word.lower()):
-                yield Completion(text, -len(word), display_meta=summary)
-
-    def candidates(self, words: list[str], is_new: bool) -> Iterator[tuple[str, str]]:
-        """Yields what the last word can be completed to, each with its meaning."""
-        if len(words) + is_new <= 1:
-            yield from ((one.name, one.summary) for one in COMMANDS.values())
-            return
-        if words[0] in ("help", "h"):
-            yield from ((name, "") for name in COMMANDS)
-        command = command_of(words[0])
-        if len(words) + is_new == 2 and command and "CONDITION" in command.usage:
-            yield from ((word, "") for word in (*CELL_CONDITIONS, *WARRIOR_CONDITIONS))
-        yield from ((label, str(address)) for label, address in self.session.sources.addresses.items())
-        yield from ((name, f"warrior {number}") for number, name in enumerate(self.session.names))
-
-
-def command_of(line: str) -> Command | None:
-    """Returns the command of a line, or None."""
-    try:
-        return find_command(line.split()[0])
-    except (IndexError, CorewarError):
-        return None
 
 
 def as_utf8(line: str) -> str:
@@ -141,12 +105,6 @@ class Runner:
                 self.execute_line(line)
         finally:
             self.depth -= 1
-
-
-COMMANDS["source"] = Command("source FILE", "execute the lines of a file", (), False, lambda *_: [])
-COMMANDS["log"] = Command(
-    "log [FILE]", "log the following lines to a new file, or stop logging", (), False, lambda *_: []
-)
 
 
 def run_lines(session: Session, lines: Iterable[str]) -> None:

@@ -1,0 +1,101 @@
+"""Completes a line of the debugger with what its command accepts at the cursor, by the usage of the command."""
+from __future__ import annotations
+
+import re
+from collections.abc import Iterator
+
+from prompt_toolkit.completion import CompleteEvent, Completer, Completion, PathCompleter
+from prompt_toolkit.document import Document
+
+from ..battle.conditions import CELL_CONDITIONS, WARRIOR_CONDITIONS
+from ..explain.words import OPCODES
+from ..model.errors import CorewarError
+from .commands import COMMANDS, Command, find_command
+from .session import Session
+
+# What an argument can be, each with its meaning; None stands for the names of files.
+Choices = dict[str, str] | None
+
+
+class CommandCompleter(Completer):
+    """Completes commands and their arguments."""
+
+    def __init__(self, session: Session) -> None:
+        self.session = session
+
+    def get_completions(self, document: Document, event: CompleteEvent) -> Iterator[Completion]:
+        begun, choices = self.last_argument(document.text_before_cursor.lstrip())
+        if choices is None:
+            yield from PathCompleter().get_completions(Document(begun), event)
+            return
+        for text, meaning in choices.items():
+            # A label of several warriors is offered with their numbers, as in `1.bomb`.
+            label = text.partition(".")[2]
+            if text.lower().startswith(begun.lower()) or begun and label not in choices and label.startswith(begun):
+                yield Completion(text, -len(begun), display_meta=meaning)
+
+    def last_argument(self, line: str) -> tuple[str, Choices]:
+        """Returns the argument that a line ends with, and what it can be."""
+        word, rest = re.match(r"(\S*)\s*(.*)", line).groups()  # type: ignore[union-attr]
+        command = command_of(word)
+        if line == word or command is None:
+            return line, {one.name: one.summary for one in COMMANDS.values()}
+        for kind in [part.strip("[]") for part in command.usage.split()[1:]]:
+            if kind == "CONDITION":
+                return self.condition(rest)
+            begun, more = self.split(rest, kind)
+            if more is None:
+                return begun, self.choices(kind, command)
+            if kind == "LINE":
+                return re.search(r"[\w.]*$", more)[0], self.addresses()  # type: ignore[index]
+            rest = more
+        return rest, {}
+
+    def split(self, rest: str, kind: str) -> tuple[str, str | None]:
+        """Returns the first argument, and what follows it, or None if nothing does. Names can contain spaces."""
+        text, names = rest.lower(), [*map(str.lower, self.session.names)] if "W" in kind else []
+        if kind == "FILE" or any(name.startswith(text) for name in names):
+            return rest, None
+        word = max((name for name in names if text.startswith(f"{name} ")), key=len, default=text.split(" ")[0])
+        return rest[: len(word)], rest[len(word) :].lstrip() if len(word) < len(rest) else None
+
+    def condition(self, rest: str) -> tuple[str, Choices]:
+        """Returns the last argument of a condition, and what it can be."""
+        word, where, by, name = re.match(r"(\S*)\s*(\S*)\s*(\S*)\s*(.*)", rest).groups()  # type: ignore[union-attr]
+        if rest == word:
+            return word, dict.fromkeys((*CELL_CONDITIONS, *WARRIOR_CONDITIONS), "")
+        if word in WARRIOR_CONDITIONS:
+            return rest[len(word) :].lstrip(), self.warriors()
+        if word in CELL_CONDITIONS and rest.endswith(where) and not by:
+            return where.rpartition("..")[2], self.addresses()
+        if word in CELL_CONDITIONS and rest.endswith(by) and not name:
+            return by, {"by": "only in turns of a warrior"}
+        return name, self.warriors() if by == "by" else {}
+
+    def choices(self, kind: str, command: Command) -> Choices:
+        """Returns what an argument can be that is written so in the usage of its command."""
+        numbers = {"delete": len(self.session.breakpoints), "futures": len(self.session.futures)}
+        known: dict[str, Choices] = {
+            "COMMAND": {one.name: one.summary for one in COMMANDS.values()},
+            "FILE": None,
+            "LINE": {name.lower(): meaning for name, meaning in OPCODES.items()},
+            "N": {str(number): "" for number in range(numbers.get(command.name, 0))},
+            "T": {"start": "", "end": ""},
+        }
+        if command.name == "delete":
+            return {**(known["N"] or {}), "all": ""}
+        return known.get(kind, self.addresses() if kind in ("A", "B") else self.warriors() if "W" in kind else {})
+
+    def addresses(self) -> dict[str, str]:
+        return {label: str(address) for label, address in self.session.sources.addresses.items()}
+
+    def warriors(self) -> dict[str, str]:
+        return {name: f"warrior {number}" for number, name in enumerate(self.session.names)}
+
+
+def command_of(line: str) -> Command | None:
+    """Returns the command of a line, or None."""
+    try:
+        return find_command(line.split()[0])
+    except (IndexError, CorewarError):
+        return None
