@@ -22,7 +22,8 @@ from ..engine.warriors import Warrior
 from ..model.errors import FileError
 from ..model.printing import printable
 from .layout import EXECUTION, STATUSES, Command, Number, Option
-from .options import INPUT, BattleOptions, Output, Picture, battle_options, format_option, match_option, with_options
+from .options import FIXED, INPUT, BattleOptions, Output, Picture
+from .options import battle_options, format_option, match_option, with_options
 from .reporting import report, report_error, show
 from .waiting import progress
 
@@ -128,12 +129,18 @@ def contest_options(command: Callable[..., Any]) -> Callable[..., Any]:
     return with_options(*EXECUTION_OPTIONS)(wrapper)
 
 
+def contest_of(options: BattleOptions) -> Contest:
+    """Returns the contest of the options. The matches of a series of pMARS all have its seed."""
+    given = {name: getattr(options, name) for name in ("rounds", "seed", "position", "formula")}
+    same_seed, is_fixed = options.same_seed or options.pmars != "", options.pmars == FIXED
+    return Contest(options.settings, **given, same_seed=same_seed, pmars_fixed=is_fixed)
+
+
 def entrants_of(options: BattleOptions, count: int = 2) -> tuple[Contest, list[Warrior], list[FileError]]:
     """The contest, the warriors of the files for matches of `count`, in order, and the errors of the other files, which
     are reported.
     """
-    given = {name: getattr(options, name) for name in ("rounds", "seed", "position", "formula", "same_seed")}
-    contest, warriors, faults = Contest(options.settings, **given), list[Warrior](), list[FileError]()
+    contest, warriors, faults = contest_of(options), list[Warrior](), list[FileError]()
     with Assembler(options.limit) as assembler:
         for file in options.files:
             try:

@@ -34,6 +34,8 @@ def melee(options: BattleOptions, size: int, lineups: int, form: str, jobs: int)
     The warriors' numbers of matches differ by at most one. The score is the points per 100 rounds; equal scores share a
     rank. A file with an error is reported and left out.
     """
+    if options.pmars:
+        raise click.UsageError(f"the positions of `{options.pmars}` are not for melees")
     if len(options.files) < size:
         wanted = f"expected at least {size} files for matches of {size}"
         raise click.UsageError(f"{wanted}, not {len(options.files)}; see --size")

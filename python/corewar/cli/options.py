@@ -12,11 +12,13 @@ import click
 from click.core import ParameterSource
 from click.shell_completion import CompletionItem
 
+from ..battle.series import seed_of_cells, seed_of_position
 from ..engine.calls import Match
 from ..engine.sources import Limit, read_warriors
 from ..model.errors import CorewarError, FileError
 from ..model.settings import FORMULA, HILLS, MAX_WARRIORS, NUMBERS, Settings, whole
 from .layout import CORE, MATCH, Number, Option
+from .reporting import report
 
 PICTURES = (".png", ".svg", ".pdf")
 Decorator = Callable[[Callable[..., Any]], Callable[..., Any]]
@@ -33,17 +35,28 @@ class BattleOptions:
     seed: int
     position: int | None
     formula: str
+    pmars: str
     round: int
     limit: Limit
     same_seed: bool = False
 
     def fight(self) -> Match:
         """The match of the files. Each file is read once. Raises FileError."""
+        self.check_pmars(len(self.files))
         if len(self.files) > MAX_WARRIORS:
             advice = "`corewar league` and `corewar melee` take more"
             raise click.UsageError(f"a match has at most {MAX_WARRIORS} warriors, not {len(self.files)}; {advice}")
         warriors = read_warriors(self.files, self.settings, self.rounds, self.limit)
-        return Match(warriors, settings=self.settings, rounds=self.rounds, seed=self.seed, position=self.position)
+        fight = Match(warriors, settings=self.settings, rounds=self.rounds, seed=self.seed, position=self.position)
+        if self.pmars == FIXED:
+            fight = replace(fight, seed=seed_of_cells(fight))
+            report(f"the starting positions of `{FIXED}` are those of `--seed {fight.seed}`")
+        return fight
+
+    def check_pmars(self, count: int) -> None:
+        """Raises an error of click if matches of a number of warriors have no series of pMARS."""
+        if self.pmars and count != 2:
+            raise click.UsageError(f"the positions of `{self.pmars}` are for matches of two warriors, not of {count}")
 
 
 class Output(click.Path):
@@ -166,6 +179,10 @@ SETTINGS = [number_option(name, CORE) for name in vars(Settings())]
 HILL = match_option(
     "--hill", type=click.Choice(list(HILLS)), default="94nop", show_default=True, help="Settings of a known hill"
 )
+# The greatest position that pMARS accepts, and its other series by name.
+MAX_PMARS_POSITION, FIXED = 2**30, "pmars -f"
+# The options for starting positions.
+POSITIONS = ("seed", "position", "pmars_position", "pmars_fixed")
 LIMIT = match_option(
     "--source-limit",
     "limit",
@@ -178,6 +195,12 @@ CONTEST = [
     number_option("rounds", MATCH, default=1, show_default=True),
     number_option("seed", MATCH, default=1, show_default=True),
     number_option("position", MATCH),
+    match_option(
+        "--pmars-position",
+        type=Number(1, MAX_PMARS_POSITION),
+        help="Draw the starting positions as `pmars -F N` does: N is that of round 0, and the others follow from it",
+    ),
+    match_option("--pmars-fixed", is_flag=True, help="Draw them as `pmars -f` does, from the cells of both warriors"),
     match_option(
         "--score",
         "formula",
@@ -221,6 +244,23 @@ def core_options(command: Callable[..., Any]) -> Callable[..., Any]:
     return with_options(HILL, *SETTINGS)(with_settings(command))
 
 
+def positions_of(settings: Settings, position: int | None, fixed: bool) -> dict[str, Any]:
+    """Returns the options that select the positions of pMARS. Raises an error of click."""
+    given = [f"--{name.replace('_', '-')}" for name in POSITIONS if is_given(name)]
+    if len(given) > 1 and (fixed or position is not None):
+        raise click.UsageError(f"{' and '.join(given)} exclude each other")
+    if position is None:
+        return {"pmars": FIXED if fixed else ""}
+    if position < settings.distance:
+        message = f"the minimum distance is {settings.distance}"
+        raise click.BadParameter(message, param_hint="--pmars-position")
+    seed = seed_of_position(position, settings)
+    # The series that begins at the minimum distance stays there.
+    same = f"--seed {seed}" if seed else f"-F {position}"
+    report(f"the starting positions of `pmars -F {position}` are those of `{same}`")
+    return {"pmars": f"pmars -F {position}", **({"seed": seed} if seed else {"position": position})}
+
+
 def battle_options(*, one_round: bool = False, needs_files: bool = True) -> Decorator:
     """Adds the options of a match and the files, as the argument `options`; with `one_round` also that of a round."""
 
@@ -228,6 +268,7 @@ def battle_options(*, one_round: bool = False, needs_files: bool = True) -> Deco
         @functools.wraps(command)
         def wrapper(*, files: tuple[str, ...], settings: Settings, limit: Limit, round_: int = 0, **given: Any) -> Any:
             contest: dict[str, Any] = {name: given.pop(name) for name in ("rounds", "seed", "position", "formula")}
+            contest.update(positions_of(settings, given.pop("pmars_position"), given.pop("pmars_fixed")))
             if one_round and round_ >= contest["rounds"] and is_given("rounds"):
                 message = f"a match of {contest['rounds']} has rounds 0 to {contest['rounds'] - 1}"
                 raise click.BadParameter(message, param_hint="--round")

@@ -68,6 +68,8 @@ class Contest(Terms):
     - `formula`: the score of each survivor of a round, as for `match`
     - `same_seed`: whether all matches have the seed itself, as in `mars --league`; otherwise each match of two has a
       seed of its own, which `seed` and the two warriors determine, so that the matches of a warrior are independent
+    - `pmars_fixed`: whether each match of two has the seed of `pmars -f`, which follows from the cells of both;
+      results of these are not stored
 
     Every method takes these by name:
 
@@ -134,9 +136,10 @@ class Contest(Terms):
         """
         if not opponents:
             raise CorewarError("expected 1 or more opponents")
-        pairs = np.stack(np.meshgrid([0, 1], np.arange(2, len(opponents) + 2), indexing="ij"), axis=-1)
+        warriors = [old, new, *opponents]
+        pairs = np.stack(np.meshgrid([0, 1], np.arange(2, len(warriors)), indexing="ij"), axis=-1).reshape(-1, 2)
         finish, how = partial(scores_of, formula=self.formula), Execution(jobs, executor, None, progress)
-        scores = self._play([old, new, *opponents], pairs.reshape(-1, 2), self.seed, finish, how)
+        scores = self._play(warriors, pairs, self.fixed_seeds(warriors, pairs), finish, how)
         return Comparison(self, (old, new), tuple(opponents), scores.reshape(2, len(opponents), self.rounds))
 
     def melee(
@@ -187,6 +190,9 @@ def run(matches: Matches, how: Execution) -> Iterator[Rows]:
     """Runs the matches that are not stored yet. Yields their rows: first those that are stored, then those of some
     matches each time these have been run. Raises CorewarError.
     """
+    if how.results and matches.contest.pmars_fixed:
+        # Positions also follow from whether a source says CMP, by which no result is stored.
+        raise CorewarError("results of matches as by `pmars -f` cannot be stored")
     with ExitStack() as stack:
         stored = stack.enter_context(Results(os.fspath(how.results), matches)) if how.results else None
         turned = stored.find() if stored else 0

@@ -88,7 +88,7 @@ class Matches:
         both = [digests_of(warrior) for warrior in warriors]
         self.digests, self._older = [one for one, _ in both], [other for _, other in both]
         heads = np.array([int.from_bytes(one[:8], "little") for one in self.digests], np.uint64)
-        self.seeds = contest.seeds_of(*heads[pairs].T)
+        self.seeds = contest.seeds_of(*heads[pairs].T) if contest.has_seeds else contest.fixed_seeds(warriors, pairs)
         # A number for each match; it is the same for matches of equal warriors.
         kinds = np.unique(np.array(self.digests, "S32"), return_inverse=True)[1]
         self.same: NDArray[np.intp] = kinds[pairs[:, 0]] * len(warriors) + kinds[pairs[:, 1]]

@@ -161,7 +161,7 @@ class Sums:
         numbers, kinds = np.divmod(keys, max(1, len(sorts)))
         own, other, both = spreads(matches)[:, kinds]
         sums = np.bincount(numbers, ours**2 * own + theirs**2 * other + 2 * ours * theirs * both, self.count)
-        parts, most = np.bincount(numbers, minlength=self.count), 1 if matches.contest.same_seed else len(keys)
+        parts, most = np.bincount(numbers, minlength=self.count), len(keys) if matches.contest.has_seeds else 1
         return np.where((parts > 0) & (parts <= most), np.sqrt(sums.clip(min=0)), np.nan)
 
 

@@ -2,14 +2,17 @@
 from __future__ import annotations
 
 import shlex
+from collections.abc import Sequence
 from dataclasses import dataclass
 
 import numpy as np
 from numpy.typing import NDArray
 
-from ..engine.calls import check_numbers
+from ..battle.series import seed_of_cells
+from ..engine.calls import Match, check_numbers
 from ..engine.outcomes import Run
 from ..engine.rewards import score_of
+from ..engine.warriors import Warrior
 from ..model.settings import FORMULA, MAX_SEED, NUMBERS, Settings, settings_of
 
 # The numbers of the generator SplitMix64, which makes numbers of 64 bits that look random of any numbers.
@@ -26,6 +29,7 @@ class Terms:
     position: int | None
     formula: str
     same_seed: bool
+    pmars_fixed: bool
 
     def __init__(
         self,
@@ -36,9 +40,10 @@ class Terms:
         position: int | None = None,
         formula: str = FORMULA,
         same_seed: bool = False,
+        pmars_fixed: bool = False,
     ) -> None:
         given = {"settings": settings_of(settings), "rounds": rounds, "seed": seed, "position": position}
-        vars(self).update(given, formula=formula, same_seed=same_seed)
+        vars(self).update(given, formula=formula, same_seed=same_seed, pmars_fixed=pmars_fixed)
         # The seeds of matches are made of this one. A formula has a value only if a warrior survives, but both are
         # refused before hours of matches.
         check_numbers(self.settings, rounds, seed, position)
@@ -47,15 +52,15 @@ class Terms:
     @property
     def words(self) -> list[str]:
         """The settings as options of `mars`, without a seed if each match has its own."""
-        seed = None if self.has_seeds else self.seed
+        seed = None if self.has_seeds or self.pmars_fixed else self.seed
         numbers = {**vars(self.settings), "rounds": self.rounds, "seed": seed, "position": self.position}
         given = [f"{NUMBERS[name].word}={number}" for name, number in numbers.items() if number is not None]
-        return [*given, f"--score={self.formula}"]
+        return [*given, f"--score={self.formula}", *(["--pmars-fixed"] if self.pmars_fixed else [])]
 
     @property
     def has_seeds(self) -> bool:
         """Whether each match has a seed of its own; with a given position nothing is drawn."""
-        return not self.same_seed and self.position is None
+        return not self.same_seed and not self.pmars_fixed and self.position is None
 
     @property
     def is_drawn(self) -> bool:
@@ -71,10 +76,15 @@ class Terms:
         """Returns what the engine needs for matches of this number of warriors."""
         return Run(self.settings, self.rounds, self.position, width)
 
+    def fixed_seeds(self, warriors: Sequence[Warrior], pairs: NDArray[np.intp]) -> NDArray[np.int64]:
+        """Returns the seeds of matches of two as `pmars -f` has them, or the seed itself."""
+        if not self.pmars_fixed:
+            return np.full(len(pairs), self.seed)
+        matches = [Match([warriors[number] for number in pair], settings=self.settings) for pair in pairs.tolist()]
+        return np.array([*map(seed_of_cells, matches)], np.int64)
+
     def seeds_of(self, first: NDArray[np.uint64], second: NDArray[np.uint64]) -> NDArray[np.int64]:
-        """Returns the seeds of matches, from the first 8 bytes of the digests of their two warriors."""
-        if not self.has_seeds:
-            return np.full(len(first), self.seed)
+        """Returns seeds of their own for matches, from the first 8 bytes of the digests of their two warriors."""
         start = mixed(np.full(len(first), self.seed, np.uint64))
         return 1 + (mixed(mixed(start ^ first) ^ second) % np.uint64(MAX_SEED)).astype(np.int64)
 

@@ -162,7 +162,12 @@ def portions(numbers: Numbers, warriors: int, size: int) -> Iterator[Numbers]:
     # In each round a seed is drawn for each warrior but the first, and for each but two to put them in another order.
     draws = max(0, 2 * warriors - 3) if not position else 0
     for first in range(0, rounds, size):
-        yield min(size, rounds - first), seed * pow(MULTIPLIER, draws * first, MODULUS) % MODULUS, position
+        yield min(size, rounds - first), seed_after(seed, draws * first), position
+
+
+def seed_after(seed: int, draws: int) -> int:
+    """Returns the seed that is left after a number of draws, or with a negative one the seed before them."""
+    return seed * pow(MULTIPLIER, draws, MODULUS) % MODULUS
 
 
 def fits(points: int) -> bool:

@@ -1,0 +1,48 @@
+"""The series of starting positions of pMARS: the seeds that select them.
+
+Both programs draw from the same generator. pMARS places the second of two warriors by a seed and then draws the next
+one; this kit draws first. So the seed of this kit is the one from which that of pMARS follows.
+"""
+from __future__ import annotations
+
+import re
+
+import numpy as np
+
+from ..engine.calls import Match, seed_after
+from ..engine.warriors import Warrior
+from ..model.cells import MODES, OPCODES
+from ..model.settings import Settings
+from .labels import read_lines
+
+# pMARS's numbers of opcodes and modes; those of modifiers are the same.
+PMARS_OPCODES = "MOV ADD SUB MUL DIV MOD JMZ JMN DJN CMP SLT SPL DAT JMP SEQ SNE NOP".split()
+CMP = re.compile(r"\bcmp\b", re.I)
+PMARS_MODES = dict(zip("#$@<>*{}", (0, 1, 2, 3, 4, 0x82, 0x83, 0x84)))
+
+
+def seed_of_position(position: int, settings: Settings) -> int:
+    """Returns the seed of the series of `pmars -F POSITION` for two warriors. 0 stands for the minimum distance in each
+    round.
+    """
+    return seed_after(position - settings.distance, -1)
+
+
+def seed_of_cells(fight: Match) -> int:
+    """Returns the seed of the series of `pmars -f` for two warriors: a sum over the cells of both, each number combined
+    with its index.
+    """
+    numbers, core = list[int](), fight.settings.core
+    for warrior in fight.warriors:
+        cells = np.frombuffer(warrior.cells_in(core), warrior.cells.dtype).tolist()
+        for (op, modifier, a_mode, b_mode, a, b), text in zip(cells, texts_of(warrior, fight)):
+            # pMARS has two opcodes for SEQ.
+            opcode = PMARS_OPCODES.index("CMP" if CMP.search(text) else OPCODES[op])
+            numbers += opcode << 3 | modifier, PMARS_MODES[MODES[a_mode]], PMARS_MODES[MODES[b_mode]], a, b
+    return sum(number ^ index for index, number in enumerate(numbers))
+
+
+def texts_of(warrior: Warrior, fight: Match) -> list[str]:
+    """Returns the text of the line of each cell without its comment, or "" if it is not known."""
+    texts = (warrior.source or b"").decode("latin-1").split("\n")
+    return [texts[line - 1].partition(";")[0] for line, _ in read_lines(warrior, fight, None)] or [""] * len(warrior)
