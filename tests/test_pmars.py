@@ -89,11 +89,16 @@ def random_cells(dice: random.Random, settings: Settings) -> str:
     return "\n".join([";redcode", ";assert 1", *lines, ""])
 
 
-def different(pmars: Path, file: Path, warrior: Warrior) -> list[tuple[str, str]]:
-    """Returns the cells that a source makes here and in pMARS where they differ, except for CMP."""
+def listed_by(pmars: Path, file: Path) -> list[str]:
+    """Returns the cells of a source as pMARS lists them, with SEQ in place of CMP."""
     listed = run_pmars(pmars, "-r", 0, *words_of(HILLS["94nop"]), file)
     cells = re.findall(r"([A-Z]{3}\.[A-Z]{1,2}) +([#$@<>*{}]) *(-?\d+), ([#$@<>*{}]) *(-?\d+)", listed)
-    theirs = [f"{op} {a_mode}{a}, {b_mode}{b}".replace("CMP", "SEQ") for op, a_mode, a, b_mode, b in cells]
+    return [f"{op} {a_mode}{a}, {b_mode}{b}".replace("CMP", "SEQ") for op, a_mode, a, b_mode, b in cells]
+
+
+def different(pmars: Path, file: Path, warrior: Warrior) -> list[tuple[str, str]]:
+    """Returns the cells that a source makes here and in pMARS where they differ."""
+    theirs = listed_by(pmars, file)
     own = [cell_text(cell, warrior.core) for cell in warrior.cells]
     assert len(own) == len(theirs), file
     return [pair for pair in zip(own, theirs) if pair[0] != pair[1]]
@@ -147,6 +152,132 @@ def test_cells_of_sources(pmars: Path) -> None:
     assert len(found) >= 16
     assert {name for name, differ in found if differ} == {"validate.red"}
     assert all(own.startswith("DAT.F $0") for _, differ in found for own, _ in differ)
+
+
+# Sources in an older style, which this kit reads after `corewar explain --fix`.
+OLD = {
+    "a macro of several lines with a counter": """
+n1    equ     37
+scan  equ     sne.x 200+n*n1, 203+n*n1
+      equ     seq.x 200+n*n1, 203+n*n1
+      equ     mov   #n, found
+n     for     4
+      scan
+      rof
+found dat     0, 0
+""",
+    "the counters of two loops": """
+cell  equ     dat #i*10, #j+first&i
+first01 equ   3
+first02 equ   5
+i     for     2
+j     for     first&i
+      cell
+      rof
+      jmp     i
+      rof
+""",
+    "two loops with one counter": """
+far   equ     (i*100+7)
+i     for     2
+      mov     far, <far
+      rof
+      nop     0, 0
+i     for     3
+      spl     far
+      rof
+""",
+    "an EQU of an EQU": """
+base  equ     (k*k)
+step  equ     base+base
+twice equ     add #step, step
+      equ     sub #base, 1
+k     for     3
+      twice
+      rof
+""",
+    "counts below 0": """
+start mov     0, 1
+      for     1-CURLINE
+      dat     7, 7
+      rof
+pad   for     (9-20)/2
+      dat     8, 8
+      rof
+      for     8-CURLINE
+      dat     9, 9
+      rof
+      jmp     start
+""",
+    "labels in counts, and counters like modifiers": """
+first mov.i   0, 1
+last  jmp     first
+i     for     last-first+1
+      mov.i   i, @i
+      rof
+a b   for     2
+      add.b   #a, b
+      rof
+b     dat     0, 0
+""",
+    "asserts that pMARS skips": """
+;assert start > -1
+;assert
+start spl     0, <-10
+      mov     0, 1
+""",
+    "prose": """
+      for     0
+Strategy: for those who want to know
+it waits: for an imp
+mov for all
+      rof
+      mov     0, 1
+""",
+    "lines that go on": """
+x y   equ     5
+      add     #x, \\
+              y
+z     mov     1, 2
+last z mov    2, 3
+      jmp     z, last
+""",
+    "names with joined counters": """
+to    equ     jmp >-p&i*2, {base&i
+base01 equ    10
+base02 equ    20
+i     for     2
+p&i   to
+      rof
+""",
+    "counts of inner loops": """
+many  equ     (3-i)
+i     for     2
+j     for     many
+      dat     i, j
+      rof
+      rof
+""",
+}
+
+
+@pytest.mark.parametrize("name", OLD)
+def test_sources_in_an_older_style(pmars: Path, tmp_path: Path, run: Run, name: str) -> None:
+    """A fixed source makes in both programs the cells that pMARS makes of the old one."""
+    old, new = tmp_path / "old.red", tmp_path / "new.red"
+    old.write_text(f";redcode{OLD[name]}")
+    done = run("explain", "--fix", old)
+    assert done.returncode == 0, done.stderr
+    new.write_text(done.stdout)
+    cells = listed_by(pmars, old)
+    assert cells and listed_by(pmars, new) == cells
+    assert [cell_text(cell, 8000) for cell in read(new).cells] == cells
+
+
+def test_a_source_of_debian_in_an_older_style(pmars: Path, tmp_path: Path, run: Run) -> None:
+    (tmp_path / "aeka.red").write_text(run("explain", "--fix", DEBIAN / "aeka.red").stdout)
+    cells = [cell_text(cell, 8000) for cell in read(tmp_path / "aeka.red").cells]
+    assert len(cells) == 100 and cells == listed_by(pmars, DEBIAN / "aeka.red")
 
 
 def test_the_options(pmars: Path, run: Run) -> None:

@@ -159,8 +159,7 @@ def compare_file(options: BattleOptions, path: str) -> None:
     """Prints what pMARS reads differently in a file."""
     data = read_file(path)
     with Assembler(options.limit) as assembler:
-        faults = [fault for fault, _ in errors_of(data, loader(options, path, assembler))]
-    notes = pmars_differences(data, faults)
+        notes = pmars_differences(data, loader(options, path, assembler))
     notes = notes or [f"none of the {CHECKED_ROWS} known differences from pMARS was found"]
     write([f"{path}: {note}" for note in notes])
 

@@ -3,12 +3,13 @@ from __future__ import annotations
 
 import re
 from collections.abc import Callable
+from itertools import takewhile
 
 from ..engine.warriors import Warrior
 from ..model.cells import signed
-from ..model.errors import CorewarError
-from .errors import replaced
-from .pmars import loops_of_modifiers
+from ..model.errors import CorewarError, MarsError
+from .errors import kind_of, replaced
+from .pmars import loops_of_modifiers, opens_in_pmars
 from .source import NAME, OPCODES, Line, Loop, Source, read_source
 
 Load = Callable[[bytes], Warrior]
@@ -16,8 +17,8 @@ Load = Callable[[bytes], Warrior]
 Fix = Callable[[Source, list[str], Load], None]
 # The greatest count of a loop.
 MAX_ITERATIONS = 10_000
-# The maximum number of counts that are computed in a source, each by the assembler.
-MAX_COUNTS = 20
+# The maximum number of counts that are computed in a source, each by the assembler, and of EQU names that are moved.
+MAX_COUNTS, MAX_MOVES = 20, 100
 
 
 def fix(data: bytes, load: Load) -> bytes:
@@ -25,7 +26,7 @@ def fix(data: bytes, load: Load) -> bytes:
 
     - `load`: assembles a source; it computes counts
     """
-    for one in (join_lines, separate_labels, drop_names, remove_asserts, move_equates, rename_counters, compute_counts):
+    for one in FIXES:
         lines = data.decode("latin-1").split("\n")
         one(read_source(data), lines, load)
         data = "\n".join(lines).encode("latin-1")
@@ -71,55 +72,85 @@ def separate_labels(source: Source, lines: list[str], _: Load) -> None:
             lines[line.number - 1] = "\n".join(f"{label} {found[1]}" for label in line.labels)
 
 
-def drop_names(source: Source, lines: list[str], _: Load) -> None:
-    """Drops the second of two equal labels."""
+def drop_lines(source: Source, lines: list[str], _: Load) -> None:
+    """Drops each line with a label that an earlier line has, as pMARS does. The labels before it stay."""
     first: dict[str, int] = {name: line.number for name, line in source.equates.items()}
     for line in source.lines:
         if line.unread or line.skipped or line.word in ("FOR", "EQU") or line.rest and not line.operation:
             continue
-        for name in line.labels:
-            if first.setdefault(name, line.number) < line.number:
-                lines[line.number - 1] = re.sub(rf"\b{name}\b\s*:?\s*", "", lines[line.number - 1], count=1)
+        kept = [*takewhile(lambda name: first.setdefault(name, line.number) == line.number, line.labels)]
+        if kept != line.labels:
+            lines[line.number - 1] = " ".join([*kept, f"; {lines[line.number - 1]}"])
 
 
-def remove_asserts(_: Source, lines: list[str], __: Load) -> None:
-    """Replaces an assert without an expression by one that holds."""
-    lines[:] = [re.sub(r"^(\s*;assert)\s*$", r"\1 1", line, flags=re.I) for line in lines]
+def remove_asserts(source: Source, lines: list[str], _: Load) -> None:
+    """Replaces an assert that pMARS doesn't check, without an expression or with a label, by one that holds."""
+    labels = source.labels()
+    for line in source.lines:
+        found = re.match(r"(\s*;assert\b)(.*)", line.text, re.I)
+        if found and (not found[2].strip() or any(name in labels for name in line.operands)):
+            lines[line.number - 1] = f"{found[1]} 1"
+
+
+def comment_prose(source: Source, lines: list[str], _: Load) -> None:
+    """Makes a comment of text in a loop that is skipped, which begins a loop here and not in pMARS."""
+    for line in source.lines:
+        if line.skipped and line.word == "FOR" and len(line.labels) < 2 and not opens_in_pmars(line):
+            lines[line.number - 1] = f"; {lines[line.number - 1]}"
 
 
 def move_equates(source: Source, lines: list[str], _: Load) -> None:
-    """Moves each EQU that has the counter of a later loop into this loop, and joins the counter to its name."""
-    by_counter: dict[str, list[Loop]] = {}
-    for loop in source.loops:
-        by_counter.setdefault(loop.counter, []).append(loop)
-    users: dict[str, list[int]] = {}
-    for line in source.lines:
-        for name in {*line.labels, line.operation, *line.rest}:
-            users.setdefault(name, []).append(line.number)
-    for line, following in zip(source.lines, [*source.lines[1:], Line(0, "")]):
-        loops = [loop for counter in counters_of(line) for loop in by_counter.get(counter, ())]
-        if line.word != "EQU" or len(line.labels) != 1 or following.word == "EQU" and not following.labels:
-            continue
-        if len(loops) != 1 or loops[0].head.number < line.number:
-            continue
-        loop, name = loops[0], line.labels[0]
-        if all(loop.head.number < number < loop.last for number in users[name] if number != line.number):
-            move_equate(lines, line, loop)
+    """Moves each EQU with counters of later loops into the innermost of them, and joins the counters to its name."""
+    for _number in range(MAX_MOVES):
+        users: dict[str, list[Line]] = {}
+        for line in source.lines:
+            for name in {line.operation, *line.rest}:
+                users.setdefault(name, []).append(line)
+        found = ((head, loops_of_users(source, head, users.get(name, []))) for name, head in source.equates.items())
+        moved = next(((head, loops) for head, loops in found if loops), None)
+        if moved is None:
+            return
+        move_equate(source, lines, *moved)
+        source = read_source("\n".join(lines).encode("latin-1"))
+        lines[:] = source.data.decode("latin-1").split("\n")
 
 
-def counters_of(line: Line) -> list[str]:
-    """Returns the parts of the names in a line, each once."""
-    return list(dict.fromkeys(part for token in line.rest if NAME.match(token) for part in token.split("&")))
+def counters_of(source: Source, head: Line, seen: frozenset[str] = frozenset()) -> set[str]:
+    """Returns the parts of the names in an EQU, also in those that it names."""
+    names = {name for line in source.equate(head) for name in line.rest if NAME.match(name)} - seen
+    inner = [counters_of(source, source.equates[name], seen | names) for name in names if name in source.equates]
+    return {part for name in names for part in name.split("&")}.union(*inner)
 
 
-def move_equate(lines: list[str], line: Line, loop: Loop) -> None:
-    """Moves an EQU to the beginning of a loop."""
-    name = line.labels[0]
-    joined = name if loop.counter in name.split("&")[1:] else f"{name}&{loop.counter}"
-    for at in range(loop.head.number, min(loop.last - 1, len(lines))):
-        lines[at] = replace_name(lines[at], name, joined)
-    lines[loop.head.number - 1] += "\n" + replace_name(lines[line.number - 1], name, joined)
-    lines[line.number - 1] = ""
+def loops_of_users(source: Source, head: Line, users: list[Line]) -> list[tuple[Line, list[Loop]]]:
+    """Returns each line that uses an EQU, with the loops around it whose counters the EQU has. Nothing if a line has
+    none, or if the EQU is in a loop itself.
+    """
+    counters = counters_of(source, head)
+    loops = [(line, [one for one in source.loops_around(line.number) if one.counter in counters]) for line in users]
+    movable = len(head.labels) == 1 and not source.loops_around(head.number)
+    return loops if movable and all(around for _, around in loops) else []
+
+
+def move_equate(source: Source, lines: list[str], head: Line, users: list[tuple[Line, list[Loop]]]) -> None:
+    """Moves an EQU to the beginning of the innermost loop around each of the lines that use it."""
+    name, copies = head.labels[0], source.equate(head)
+    texts, words = [lines[line.number - 1] for line in copies], {*re.findall(r"\w+", "\n".join(lines))}
+    for line in copies:
+        lines[line.number - 1] = ""
+    names: dict[int, str] = {}
+    for line, loops in users:
+        inner = loops[-1].head.number
+        if inner not in names:
+            # The names of several loops are distinct.
+            base = name + "_" * len(names)
+            while names and base in words:
+                base += "_"
+            joined = dict.fromkeys([base, *name.split("&")[1:], *(loop.counter for loop in loops)])
+            names[inner] = "&".join(joined)
+            lines[inner - 1] += "\n" + "\n".join([replace_name(texts[0], name, names[inner]), *texts[1:]])
+        at = line.number - 1
+        lines[at] = replace_name(lines[at], name, names[inner])
 
 
 def compute_counts(source: Source, lines: list[str], load: Load) -> None:
@@ -135,6 +166,23 @@ def compute_counts(source: Source, lines: list[str], load: Load) -> None:
                 code, mark, comment = lines[number - 1].partition(";")
                 head = re.match(r"(.*?\bFOR\b)", code, re.I)
                 lines[number - 1] = f"{head[1] if head else 'FOR'} {count} {mark}{comment}".rstrip()
+
+
+def bound_counts(source: Source, lines: list[str], load: Load) -> None:
+    """Writes 0 for each count below 0, as long as one is the error of the source."""
+    for _number in range(MAX_COUNTS):
+        try:
+            load("\n".join(lines).encode("latin-1"))
+            return
+        except CorewarError as fault:
+            # A source may also cost too much.
+            if not isinstance(fault, MarsError):
+                return
+            line = source.lines[fault.line - 1] if 0 < fault.line <= len(source.lines) else Line(0, "")
+            count = "".join(line.rest)
+            if kind_of(fault) != "1 Text 5 BadCount" or line.word != "FOR" or lines[line.number - 1] != line.text:
+                return
+            lines[line.number - 1] = f"{' '.join([*line.labels[-1:], line.operation])} ({count})*(({count})>0)"
 
 
 def value_of(source: Source, number: int, expression: str, load: Load) -> int | None:
@@ -153,3 +201,16 @@ def value_of(source: Source, number: int, expression: str, load: Load) -> int | 
     except (CorewarError, ValueError):
         return None
     return value if is_exact and value <= MAX_ITERATIONS else None
+
+
+FIXES: list[Fix] = [
+    join_lines,
+    separate_labels,
+    drop_lines,
+    remove_asserts,
+    comment_prose,
+    move_equates,
+    rename_counters,
+    compute_counts,
+    bound_counts,
+]

@@ -4,11 +4,10 @@ LANGUAGE.md that a source can show.
 from __future__ import annotations
 
 import re
-from collections.abc import Callable, Iterable, Iterator
+from collections.abc import Callable, Iterator
 
-from ..model.errors import MarsError
-from .errors import kind_of
-from .source import MODIFIERS, NAME, OPCODES, Loop, Source, read_source
+from .errors import errors_of, kind_of
+from .source import EXTENSIONS, MODIFIERS, NAME, OPCODES, Line, Loop, Source, read_source
 
 DIRECTIVE = re.compile(r"\s*;\s+(name|author|assert|redcode)\b", re.I)
 COMMENTED = re.compile(r"\s*;(name|author)\s*(.*)", re.I)
@@ -24,15 +23,16 @@ MAX_LOOPS = 32
 Found = Iterator[tuple[int, str]]
 CHECKS: list[Callable[[Source], Found]] = []
 # What pMARS makes of an error of this kit.
+FAILED = "5 AssertFailed"
 ACCEPTED = {
     "1 Text 5 BadCount": "pMARS reads a count below 0 as 0; write `(count)*(count>0)`.",
     "6 BadOrigin": "pMARS only warns about this start.",
     "7 Empty": "pMARS only warns about a source without instructions.",
-    "5 AssertFailed": "In pMARS this assert may hold: VERSION is 92 there and 80 here.",
+    FAILED: "In pMARS this assert holds: VERSION is 92 there and 80 here.",
     "4 Expression 4 Range": "pMARS may hang on this value.",
 }
 # The number of rows of the table that are looked for: an error shows some of them, and two errors one row.
-CHECKED_ROWS = 28
+CHECKED_ROWS = 29
 
 
 def check(function: Callable[[Source], Found]) -> Callable[[Source], Found]:
@@ -41,18 +41,26 @@ def check(function: Callable[[Source], Found]) -> Callable[[Source], Found]:
     return function
 
 
-def pmars_differences(data: bytes, faults: Iterable[MarsError] = ()) -> list[str]:
+def pmars_differences(data: bytes, load: Callable[[bytes], object] | None = None) -> list[str]:
     """Returns what pMARS reads differently in a source: sentences, each after the number of its line.
 
-    - `faults`: the errors of the source
+    - `load`: assembles a source; without it, errors of the source are not looked for
     """
     source = read_source(data)
     found = {note for one in CHECKS for note in one(source)}
-    for fault in faults:
-        kind, text = kind_of(fault), source.lines[fault.line - 1].text if fault.line <= len(source.lines) else ""
-        if kind in ACCEPTED and (kind != "5 AssertFailed" or "VERSION" in text):
-            found.add((fault.line, ACCEPTED[kind]))
+    if load:
+        faults = faults_of(data, load)
+        if any(kind == FAILED for _, kind in faults):
+            # An assert that also fails with the version of pMARS has another reason.
+            theirs = re.sub(rb"(?im)^\s*;assert\b.*", lambda line: re.sub(rb"\bVERSION\b", b"92", line[0]), data)
+            faults -= {fault for fault in faults_of(theirs, load) if fault[1] == FAILED}
+        found |= {(number, ACCEPTED[kind]) for number, kind in faults if kind in ACCEPTED}
     return [f"line {number}: {note}" if number else note for number, note in sorted(found)]
+
+
+def faults_of(data: bytes, load: Callable[[bytes], object]) -> set[tuple[int, str]]:
+    """Returns the errors of a source, each with the number of its line."""
+    return {(fault.line, kind_of(fault)) for fault, _ in errors_of(data, load)}
 
 
 def split_operands(tokens: list[str]) -> list[list[str]]:
@@ -74,7 +82,8 @@ def without_spaces(tokens: list[str]) -> str:
 @check
 def immediate(source: Source) -> Found:
     for line in source.lines:
-        operands = split_operands(line.operands) if line.word in OPCODES else []
+        # The others don't use the value of their B-operand.
+        operands = split_operands(line.operands) if line.word in OPCODES and line.word not in OPTIONAL else []
         if len(operands) == 2 and operands[0][:1] in (["<"], [">"], ["{"], ["}"]) and operands[1][:1] == ["#"]:
             yield line.number, "pMARS reads the B-operand before the side effect of the A-operand, this kit after it."
 
@@ -89,9 +98,9 @@ def opcodes(source: Source) -> Found:
 @check
 def extensions(source: Source) -> Found:
     for line in source.lines:
-        words = [*([] if line.operation else line.labels), *line.operands]
-        for word in words:
-            if word.upper() in ("LDP", "STP", "PIN") or word in ("PSPACESIZE", "="):
+        words = [word for word in [*line.labels, *line.operands] if word.upper() in EXTENSIONS]
+        for word in [*words, *(word for word in line.operands if word in ("PSPACESIZE", "="))]:
+            if not line.unread and not line.skipped:
                 yield line.number, f"pMARS knows `{word}`; this kit has neither P-space nor registers."
 
 
@@ -155,10 +164,20 @@ def equates(source: Source) -> Found:
 def prose(source: Source) -> Found:
     is_open = any(loop.last > len(source.lines) for loop in source.loops)
     for line in source.lines:
-        if line.skipped and line.word == "FOR" and (len(line.labels) > 1 or line.labels and is_open):
+        if not line.skipped or line.word != "FOR":
+            continue
+        if opens_in_pmars(line) and (len(line.labels) > 1 or line.labels and is_open):
             yield line.number, (
                 "pMARS takes the `for` in this text for a loop and drops what follows; write `;` before it."
             )
+        if not opens_in_pmars(line) and len(line.labels) < 2:
+            yield line.number, "This kit takes the `for` in this text for a loop, pMARS does not; write `;` before it."
+
+
+def opens_in_pmars(line: Line) -> bool:
+    """Returns whether pMARS takes a FOR in text that it skips for a loop: not after a colon or an opcode."""
+    before = re.split(r"\bfor\b", line.code, flags=re.I)[0]
+    return ":" not in before and not any(word.upper() in OPCODES for word in before.split())
 
 
 @check
@@ -170,8 +189,8 @@ def names(source: Source) -> Found:
         if line.word in ("FOR", "EQU") and len(line.labels) > 1:
             yield line.number, f"pMARS accepts several labels before {line.word}; write each on a line of its own."
         for name in line.labels if line.word != "FOR" else []:
-            if name in first:
-                yield line.number, f"pMARS drops this second `{name}` with a warning; use another name."
+            if name in first and name.upper() not in EXTENSIONS:
+                yield line.number, f"pMARS drops this line with a warning, since `{name}` is known; use another name."
             first.setdefault(name, line.number)
         if line.word == "FOR" and line.labels and line.labels[-1] in labels:
             yield line.number, f"pMARS rejects the counter `{line.labels[-1]}`, which is also a label."
@@ -188,7 +207,7 @@ def asserts(source: Source) -> Found:
             yield line.number, "pMARS only warns about an assert without an expression; remove the line."
         for name in line.operands if found else []:
             if name in labels:
-                yield line.number, f"pMARS accepts the label `{name}` in an assert."
+                yield line.number, f"pMARS does not check this assert, since `{name}` is a label; write `;assert 1`."
             if name == "VERSION":
                 yield line.number, "VERSION is 92 in pMARS and 80 here."
 

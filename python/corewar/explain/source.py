@@ -13,8 +13,9 @@ from .sentences import cause_sentence
 
 OPCODES, MODIFIERS, PREDEFINED = [*words.OPCODES], [*words.MODIFIERS], [*words.PREDEFINED]
 OPERATIONS = [*words.OPCODES, *words.DIRECTIVES]
-# Opcodes of other dialects.
-ELSEWHERE = "LDP STP PIN XCH PCT STS".split()
+# Operations of pMARS that this kit lacks, and opcodes of other dialects.
+EXTENSIONS = ["LDP", "STP", "PIN"]
+ELSEWHERE = [*EXTENSIONS, "XCH", "PCT", "STS"]
 # A name with its joins, a number, or punctuation, also such as the language does not have; bytes up to 32 are spaces.
 TOKEN = re.compile(r"(?:\w|&(?=[A-Za-z_]))+|==|!=|<=|>=|&&|\|\||[^\0- ]", re.ASCII)
 NAME = re.compile(r"[A-Za-z_][\w&]*\Z", re.ASCII)
@@ -108,6 +109,13 @@ class Source:
     def is_operand(self, name: str) -> bool:
         """Returns whether an operand of a line has this name. Then it is not a misspelt opcode."""
         return any(name in line.rest for line in self.lines)
+
+    def equate(self, head: Line) -> list[Line]:
+        """The lines of an EQU: the first one, and those without a name that follow."""
+        last = head.number
+        while last < len(self.lines) and self.lines[last].word == "EQU" and not self.lines[last].labels:
+            last += 1
+        return self.lines[head.number - 1 : last]
 
     def loops_around(self, number: int) -> list[Loop]:
         return [loop for loop in self.loops if loop.head.number < number < loop.last]
