@@ -66,6 +66,12 @@ SOURCES = [
     ("mov (1, 2\n", "line 1: 4 Expression 1 Syntax", "Parentheses: 1 opened, 0 closed."),
     ("MOV 0, 1 // the imp\n", "line 1: 4 Expression 1 Syntax", "A comment begins with `;`."),
     ("// a bomber\nmov 0, 1\n", "line 1: 2 Operation", "A comment begins with `;`."),
+    ("# a bomber\nmov 0, 1\n", "line 1: 2 Operation", "A comment begins with `;`."),
+    ("mov 0, 1 # copy\n", "line 1: 4 Expression 1 Syntax", "A comment begins with `;`."),
+    ("s1 = 3364\nmov 0, s1\n", "line 1: 1 Text 2 BadToken", "by EQU: write `s1 EQU 3364`."),
+    ("a mov 0, 1\njmp a:\n", "line 2: 4 Expression 1 Syntax", "write `a` here."),
+    ("i FOR 2\nq&i&01 mov 0, 1\nROF\n", "line 2: 1 Text 2 BadToken", "`01` is no counter."),
+    ("m EQU mov i, 1\n EQU nop\ni FOR 2\nm\nROF\n", "line 4: 4 Expression 2 Unknown", "`i` is a counter in the EQU"),
     ("mod MOV 0, 1\n", "line 1: 4 Expression 1 Syntax", "`mod` is an opcode and cannot be a label"),
     ("my-loop MOV 0, 1\n", "line 1: 2 Operation", "A name cannot contain `-`; write `my_loop`."),
     ("mov 0, \\\n1\n", "line 1: 1 Text 2 BadToken", "`corewar explain --fix` joins it"),
@@ -598,3 +604,29 @@ def test_errors_of_newcomers(source: str, lines: dict[int, str]) -> None:
     """Each error is reported with its word; no error hides another one or causes a false one."""
     found = {fault.line: sentences[0] for fault, sentences in errors_of(source.encode(), assemble)}
     assert found.keys() == lines.keys() and all(found[line].startswith(start) for line, start in lines.items()), found
+
+
+@pytest.mark.parametrize(
+    "text, mark",
+    [
+        ("mov.q 0, 1\n", "       |    ^^"),
+        ("\tmvo 0, 1 ; mvo\n", "       |         ^^^"),
+        ("mov 0 1\n", "       |     ^^^"),
+        ("mov 0,\n", None),
+    ],
+)
+def test_the_word_that_is_wrong_is_marked(text: str, mark: str | None, run: Run, tmp_path: Path) -> None:
+    (tmp_path / "x.red").write_text(f"nop\n{text}nop\n")
+    lines = run("explain", "x.red").stdout.splitlines()
+    assert lines[3] == (mark or "     3 | nop") and lines[2].startswith(">    2 | ")
+
+
+def test_a_number_without_its_sign(run: Run, tmp_path: Path) -> None:
+    """An EQU number is a distance without `#`. If that leads out of the warrior, the number was meant."""
+    (tmp_path / "x.red").write_text("by EQU far*2\nfar EQU 20\nadd by, 1\nadd #by, 1\nmov by, 1\nadd 40, 1\n")
+    hint = "line 3: `by` is the cell 40 cells ahead, outside the warrior; write `#by` for the number 40"
+    assert run("explain", "x.red").stdout == f"x.red: no error\n{hint}\n"
+    (tmp_path / "x.red").write_text(
+        "by EQU 1\nadd by, 1\nsub far, 1\ni FOR 2\nx&i EQU 50*i\nadd x&i, 1\nROF\nfar dat 0, 0\n"
+    )
+    assert run("explain", "x.red").stdout == "x.red: no error\n"

@@ -11,12 +11,13 @@ from typing import Any
 
 import click
 
-from ..engine.calls import encode_source
+from ..engine.calls import encode_source, source_lines
 from ..engine.sources import Assembler, Overrun, read_file, read_warriors
 from ..engine.warriors import Warrior
 from ..explain import CHECKED_ROWS, Problem, errors_of, excerpt, explain_error, explain_kind, fix, pmars_differences
 from ..explain import problem_of, read_faults
 from ..explain.errors import kind_of
+from ..explain.hints import hints_of
 from ..explain.instructions import describe_line, find_instruction
 from ..explain.source import Line, parse_line
 from ..explain.words import DIRECTIVES, OPCODES
@@ -101,7 +102,7 @@ class Explanations:
             write([*lines])
 
     def add_problem(self, head: str, file: str, problem: Problem, source: bytes) -> None:
-        lines = [head, *excerpt(source, problem.line), *problem.advice]
+        lines = [head, *excerpt(source, problem.line, problem.word), *problem.advice]
         self.add(lines, **{"file": file, **asdict(problem)})
 
     def end(self) -> None:
@@ -151,8 +152,16 @@ def explain_file(options: BattleOptions, path: str, shown: Explanations) -> int:
         report_error(unread)
         return 1
     if not found and not shown.is_json:
-        write([f"{path}: no error"])
+        write([f"{path}: no error", *hints_in(options, path)])
     return int(found)
+
+
+def hints_in(options: BattleOptions, path: str) -> list[str]:
+    """Returns what is probably meant otherwise in a file without errors. A pipe cannot be read again."""
+    if path.endswith(".load") or not os.path.isfile(path):
+        return []
+    warrior = read_warriors([path], options.settings, options.rounds, options.limit, 2)[0]
+    return hints_of(warrior, source_lines(warrior.source or b"", options.settings, options.rounds))
 
 
 def compare_file(options: BattleOptions, path: str) -> None:

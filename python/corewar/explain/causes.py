@@ -24,7 +24,10 @@ from .source import (
 )
 
 Cause = Callable[[Source, Line], Iterator[str]]
-COMMENT = re.compile(r"//|/\*")
+# A comment of another language.
+COMMENT = re.compile(r"//|/\*|^\s*#|,.*\w\s+#\s")
+ASSIGNED = re.compile(r"\s*([A-Za-z_]\w*)\s*=\s*(\w.*)", re.ASCII)
+AMPERSAND = re.compile(r"(?<!&)&(?![A-Za-z_&])(\w*)", re.ASCII)
 DASHED = re.compile(r"\s*([A-Za-z_]\w*(?:-\w+)+):?(?=\s)")
 # A character that no token has.
 FOREIGN = re.compile(r"[^\w\0- #$@*{}<>,.+\-/%()&|=!:]", re.ASCII)
@@ -52,6 +55,11 @@ def bad_token(source: Source, line: Line) -> Iterator[str]:
         yield cause_sentence("backslash")
     elif found:
         yield cause_sentence("foreign", word=found[0])
+    elif assigned := ASSIGNED.match(line.code):
+        new = f"{assigned[1]} EQU {assigned[2].rstrip()}"
+        yield Advice(cause_sentence("assign", new=new), line.code.strip(), new)
+    elif alone := AMPERSAND.search(line.code):
+        yield cause_sentence("ampersand", word=alone[1])
     else:
         counters = {loop.counter for loop in source.loops_around(line.number)}
         for token in TOKEN.findall(line.code):
@@ -156,6 +164,8 @@ def syntax(source: Source, line: Line) -> Iterator[str]:
             found = re.search(rf"{re.escape(before)}\s*{re.escape(after)}", line.code)
             old = found[0] if found else ""
             yield Advice(cause_sentence("comma", before=before, after=after), old, f"{before}, {after}")
+    for name in [before for before, after in zip(tokens, tokens[1:]) if after == ":" and NAME.match(before)]:
+        yield Advice(cause_sentence("colon", new=name), f"{name}:", name)
     if tokens.count("(") != tokens.count(")"):
         yield cause_sentence("parentheses", opened=tokens.count("("), closed=tokens.count(")"))
 
@@ -163,6 +173,9 @@ def syntax(source: Source, line: Line) -> Iterator[str]:
 def unknown(source: Source, line: Line) -> Iterator[str]:
     labels, counters = source.labels(), {loop.counter for loop in source.loops_around(line.number)}
     names, seen = [token for token in line.operands if NAME.match(token)], {*PREDEFINED, *counters}
+    if macro := source.equates.get(line.operation):
+        for name in dict.fromkeys(name for one in source.equate(macro) for name in one.rest if name in counters):
+            yield cause_sentence("equ counter", word=name, line=macro.number)
     for name in names:
         if name in seen or "&" in name:
             continue

@@ -11,7 +11,7 @@ from ..engine.sources import Assembler, Limit
 from ..model.errors import ASSEMBLY, MarsError
 from ..model.settings import Settings
 from .meanings import explain_error
-from .source import Advice, Line, Misspelt, Source, read_source
+from .source import Advice, Line, Misspelt, Source, place_of, read_source
 
 # The maximum number of errors that are reported for a source.
 MAX_ERRORS = 10
@@ -62,7 +62,7 @@ class Problem:
     - `error`: the error as `mars` prints it after the line, such as `2 Operation`
     - `source`: the text of the line
     - `advice`: sentences on what is wrong and what to do
-    - `word`, `replacement`: a word of the line, and what to write in its place, or "" if that is not known
+    - `word`, `replacement`: the wrong word of the line, and what to write in its place, or "" if that is not known
     """
 
     line: int
@@ -81,8 +81,11 @@ def problem_of(kind: str, number: int, source: bytes, sentences: Sequence[str]) 
     advice = next((one for one in sentences if isinstance(one, Advice)), None)
     lines = source.split(b"\n")
     text = lines[number - 1].decode("utf-8", "replace").rstrip("\r") if 0 < number <= len(lines) else ""
-    words = (advice.old, advice.new) if advice and advice.line in (0, number) else ("", "")
-    return Problem(number, kind, text, tuple(map(str, sentences)), *words)
+    words = [(advice.old, advice.new)] if advice and advice.line in (0, number) else []
+    # Otherwise it is the first word that the first sentence names.
+    words += [(word, "") for one in sentences[:1] for word in re.findall(r"`([^`]+)`", one)[:1]]
+    words = [pair for pair in words if pair[0] and place_of(pair[0], text) is not None]
+    return Problem(number, kind, text, tuple(map(str, sentences)), *(words or [("", "")])[0])
 
 
 def problems(

@@ -17,8 +17,10 @@ Load = Callable[[bytes], Warrior]
 Fix = Callable[[Source, list[str], Load], None]
 # The greatest count of a loop.
 MAX_ITERATIONS = 10_000
-# The maximum number of counts that are computed in a source, each by the assembler, and of EQU names that are moved.
-MAX_COUNTS, MAX_MOVES = 20, 100
+# The maximum number of counts that are computed in a source, each by the assembler.
+MAX_COUNTS = 20
+# The maximum number of EQU names that are moved, and of lines that are read for it.
+MAX_MOVES, MAX_MOVED_LINES = 100, 100_000
 
 
 def fix(data: bytes, load: Load) -> bytes:
@@ -101,35 +103,42 @@ def comment_prose(source: Source, lines: list[str], _: Load) -> None:
 
 def move_equates(source: Source, lines: list[str], _: Load) -> None:
     """Moves each EQU with counters of later loops into the innermost of them, and joins the counters to its name."""
-    for _number in range(MAX_MOVES):
-        users: dict[str, list[Line]] = {}
+    for _number in range(min(MAX_MOVES, 1 + MAX_MOVED_LINES // len(lines))):
+        counters = counters_of_equates(source)
+        around, users = source.around() if counters else {}, dict[str, list[Line]]()
         for line in source.lines:
-            for name in {line.operation, *line.rest}:
+            for name in {line.operation, *line.rest} & counters.keys():
                 users.setdefault(name, []).append(line)
-        found = ((head, loops_of_users(source, head, users.get(name, []))) for name, head in source.equates.items())
-        moved = next(((head, loops) for head, loops in found if loops), None)
-        if moved is None:
+        for name, own in counters.items():
+            head = source.equates[name]
+            loops = [(line, [one for one in around[line.number] if one.counter in own]) for line in users.get(name, ())]
+            # An EQU in a loop is joined already; outside of loops a name has no counter in pMARS either.
+            if loops and len(head.labels) == 1 and not around[head.number] and all(found for _, found in loops):
+                move_equate(source, lines, head, loops)
+                break
+        else:
             return
-        move_equate(source, lines, *moved)
         source = read_source("\n".join(lines).encode("latin-1"))
         lines[:] = source.data.decode("latin-1").split("\n")
 
 
-def counters_of(source: Source, head: Line, seen: frozenset[str] = frozenset()) -> set[str]:
-    """Returns the parts of the names in an EQU, also in those that it names."""
-    names = {name for line in source.equate(head) for name in line.rest if NAME.match(name)} - seen
-    inner = [counters_of(source, source.equates[name], seen | names) for name in names if name in source.equates]
-    return {part for name in names for part in name.split("&")}.union(*inner)
-
-
-def loops_of_users(source: Source, head: Line, users: list[Line]) -> list[tuple[Line, list[Loop]]]:
-    """Returns each line that uses an EQU, with the loops around it whose counters the EQU has. Nothing if a line has
-    none, or if the EQU is in a loop itself.
-    """
-    counters = counters_of(source, head)
-    loops = [(line, [one for one in source.loops_around(line.number) if one.counter in counters]) for line in users]
-    movable = len(head.labels) == 1 and not source.loops_around(head.number)
-    return loops if movable and all(around for _, around in loops) else []
+def counters_of_equates(source: Source) -> dict[str, set[str]]:
+    """Returns the counters of loops that are parts of names in each EQU that has any, also in those that it names."""
+    counters, found = {loop.counter for loop in source.loops}, dict[str, set[str]]()
+    users: dict[str, list[str]] = {}
+    for name, head in source.equates.items() if counters else ():
+        words = {word for line in source.equate(head) for word in line.rest if NAME.match(word)}
+        found[name] = {part for word in words for part in word.split("&")} & counters
+        for word in words & source.equates.keys():
+            users.setdefault(word, []).append(name)
+    left = [(name, own) for name, own in found.items() if own]
+    while left:
+        name, own = left.pop()
+        for user in users.get(name, ()):
+            if own - found[user]:
+                found[user] |= own
+                left.append((user, own))
+    return {name: own for name, own in found.items() if own}
 
 
 def move_equate(source: Source, lines: list[str], head: Line, users: list[tuple[Line, list[Loop]]]) -> None:

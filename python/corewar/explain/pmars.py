@@ -17,8 +17,6 @@ OPTIONAL = ("DAT", "JMP", "SPL", "NOP")
 MAX_NAME_LENGTH, MAX_LINE_LENGTH = 60, 255
 # An operand in which a product is subtracted and something is added after it.
 MINUS = re.compile(r"[\w)] - (?:[+-] )*\w+(?: [*/%] (?:[+-] )*\w+)+ [+-] ")
-# The most loops around a line.
-MAX_LOOPS = 32
 # What a source has in a line that pMARS reads differently.
 Found = Iterator[tuple[int, str]]
 CHECKS: list[Callable[[Source], Found]] = []
@@ -115,16 +113,11 @@ def modifiers(source: Source) -> Found:
 
 def loops_of_modifiers(source: Source) -> list[Loop]:
     """Returns the loops whose counter has the name of a modifier that is used in the loop."""
-    heads = {loop.head.number: loop for loop in source.loops}
-    open_loops, found = list[Loop](), dict[int, Loop]()
+    found, around = dict[int, Loop](), source.around()
     for line in source.lines:
-        while open_loops and open_loops[-1].last <= line.number:
-            open_loops.pop()
-        for loop in open_loops[-MAX_LOOPS:] if line.rest[:1] == ["."] else []:
+        for loop in around[line.number] if line.rest[:1] == ["."] else []:
             if loop.counter.upper() in MODIFIERS and line.rest[1:2] == [loop.counter]:
                 found[loop.head.number] = loop
-        if line.number in heads:
-            open_loops.append(heads[line.number])
     return [*found.values()]
 
 

@@ -9,6 +9,7 @@ from operator import itemgetter
 from typing import Self
 
 from . import words
+from ..model.printing import printable
 from .sentences import cause_sentence
 
 OPCODES, MODIFIERS, PREDEFINED = [*words.OPCODES], [*words.MODIFIERS], [*words.PREDEFINED]
@@ -21,6 +22,8 @@ TOKEN = re.compile(r"(?:\w|&(?=[A-Za-z_]))+|==|!=|<=|>=|&&|\|\||[^\0- ]", re.ASC
 NAME = re.compile(r"[A-Za-z_][\w&]*\Z", re.ASCII)
 # How many names are compared with a word; a comparison takes 10 to 20 microseconds for each letter.
 MAX_CHOICES = 1000
+# The most loops around a line.
+MAX_LOOPS = 32
 # How many words of a line are compared with the names of operations.
 FIRST_WORDS = 20
 
@@ -117,6 +120,21 @@ class Source:
             last += 1
         return self.lines[head.number - 1 : last]
 
+    def around(self) -> dict[int, list[Loop]]:
+        """Returns the loops around each line, by its number, at most `MAX_LOOPS`."""
+        heads, open_loops, found = (
+            {loop.head.number: loop for loop in self.loops},
+            list[Loop](),
+            dict[int, list[Loop]](),
+        )
+        for line in self.lines:
+            while open_loops and open_loops[-1].last <= line.number:
+                open_loops.pop()
+            found[line.number] = open_loops[-MAX_LOOPS:]
+            if line.number in heads:
+                open_loops.append(heads[line.number])
+        return found
+
     def loops_around(self, number: int) -> list[Loop]:
         return [loop for loop in self.loops if loop.head.number < number < loop.last]
 
@@ -202,8 +220,22 @@ def misspelt(source: Source, line: Line) -> Misspelt | None:
     return Misspelt(cause_sentence("misspelt", word=word, new=meant), word, meant)
 
 
-def excerpt(data: bytes, number: int) -> list[str]:
-    """Returns a line of a source with its neighbours, or nothing if there is no such line."""
-    lines = data.decode("utf-8", "replace").removesuffix("\n").split("\n")
-    shown = [] if not 0 < number <= len(lines) else range(max(1, number - 1), min(len(lines), number + 1) + 1)
-    return [f"{'>' if at == number else ' '} {at:4} | {lines[at - 1].expandtabs()}".rstrip() for at in shown]
+def place_of(word: str, line: str) -> int | None:
+    """Returns the place of a word in a line, before its comment."""
+    whole = rf"(?<!\w){re.escape(word)}(?!\w)" if re.match(r"\w", word) else re.escape(word)
+    found = re.search(whole, line.partition(";")[0])
+    return found.start() if found else None
+
+
+def excerpt(data: bytes, number: int, word: str = "") -> list[str]:
+    """Returns a line of a source with its neighbours and a mark below one of its words, or nothing if there is no such
+    line.
+    """
+    lines = [line.expandtabs() for line in data.decode("utf-8", "replace").removesuffix("\n").split("\n")]
+    found = list[str]()
+    for at in range(max(1, number - 1), min(len(lines), number + 1) + 1) if 0 < number <= len(lines) else ():
+        found.append(f"{'>' if at == number else ' '} {at:4} | {lines[at - 1]}".rstrip())
+        place = place_of(word, lines[at - 1]) if word and at == number else None
+        if place is not None and printable(lines[at - 1]) == lines[at - 1]:
+            found.append(f"       | {' ' * place}{'^' * len(word)}")
+    return found

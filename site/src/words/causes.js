@@ -35,7 +35,7 @@ const OPENING = ["#", "$", "@", "{", "}", "("];
 const FIRST_WORDS = 20;
 
 /** @param {string} text */
-const isComment = (text) => /\/\/|\/\*/.test(codeOf(text));
+const isComment = (text) => /\/\/|\/\*|^\s*#|,.*\w\s+#\s/.test(codeOf(text));
 
 /**
  * Finds a word in place of an operation that is similar to one, or is one of another dialect.
@@ -73,6 +73,10 @@ function badToken(source, line) {
   const [word] = FOREIGN.exec(codeOf(line.text)) ?? [];
   const isContinued = /^[^;]*\\\s*$/.test(line.text) && line.number < source.lines.length;
   if (word) return [{ cause: word === "\\" && isContinued ? "backslash" : "foreign", word }];
+  const [, name, value] = /^\s*([A-Za-z_]\w*)\s*=\s*(\w.*)/.exec(codeOf(line.text)) ?? [];
+  if (name) return [{ cause: "assign", new: `${name} EQU ${value?.trimEnd()}`, word: codeOf(line.text).trim() }];
+  const [, alone] = /(?<!&)&(?![A-Za-z_&])(\w*)/.exec(codeOf(line.text)) ?? [];
+  if (alone !== undefined) return [{ cause: "ampersand", word: alone }];
   const counters = loopsAround(source, line.number).map(({ counter }) => counter);
   return tokensOf(codeOf(line.text)).flatMap((token) => wrongToken(source, line, token, counters) ?? []);
 }
@@ -187,6 +191,8 @@ function syntax(_, line) {
     const isMissing = (before === ")" || isWord(before)) && (OPENING.includes(after) || isWord(after));
     return isMissing ? { cause: "comma", word: after, before, after } : [];
   });
+  const labels = tokens.filter((name, index) => NAME.test(name) && tokens[index + 1] === ":");
+  found.push(...labels.map((name) => ({ cause: "colon", word: `${name}:`, new: name })));
   const [opened, closed] = ["(", ")"].map((one) => tokens.filter((token) => token === one).length);
   return opened === closed ? found : [...found, { cause: "parentheses", opened, closed }];
 }
@@ -196,9 +202,14 @@ function unknown(source, line) {
   const { equates } = source;
   const labels = labelsOf(source);
   const names = operandsOf(line).filter((token) => NAME.test(token));
-  const seen = new Set([...PREDEFINED, ...loopsAround(source, line.number).map(({ counter }) => counter)]);
+  const counters = loopsAround(source, line.number).map(({ counter }) => counter);
+  const seen = new Set([...PREDEFINED, ...counters]);
+  const macro = equates.get(line.operation);
+  const inside = macro ? linesOf(source, macro).flatMap(({ rest }) => rest) : [];
   /** @type {Cause[]} */
-  const found = [];
+  const found = [...new Set(inside)]
+    .filter((word) => counters.includes(word))
+    .map((word) => ({ cause: "equ counter", word, line: macro?.number }));
   for (const name of names) {
     if (seen.has(name) || name.includes("&")) continue;
     seen.add(name);
@@ -209,6 +220,17 @@ function unknown(source, line) {
     else if (line.text.trimStart().startsWith(";")) found.push({ cause: "assert", word: name });
   }
   return found;
+}
+
+/**
+ * Returns the lines of an EQU: the first one, and those without a name that follow.
+ * @param {Source} source
+ * @param {Line} head
+ */
+function linesOf({ lines }, head) {
+  const isMore = (/** @type {Line} */ line) => wordOf(line) === "EQU" && !line.labels.length;
+  const after = lines.slice(head.number).findIndex((line) => !isMore(line));
+  return lines.slice(head.number - 1, after < 0 ? undefined : head.number + after);
 }
 
 /**

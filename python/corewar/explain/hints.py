@@ -1,0 +1,44 @@
+"""Says what is probably meant otherwise in a source without errors."""
+from __future__ import annotations
+
+from collections.abc import Sequence
+
+from ..engine.warriors import Warrior
+from ..model.cells import MODES, signed
+from .source import NAME, PREDEFINED, Line, Source, read_source
+
+# Opcodes that compute with the number of their A-operand.
+COMPUTING = ("ADD", "SUB", "MUL", "DIV", "MOD", "SLT")
+
+
+def hints_of(warrior: Warrior, lines: Sequence[tuple[int, list[str]]]) -> list[str]:
+    """Returns a sentence for each instruction whose A-operand is the EQU name of a number without `#`, if the cell at
+    this distance is none of the warrior: it is empty, and computing with it changes nothing.
+
+    - `lines`: the number of the line, and the labels of each instruction
+    """
+    source, found = read_source(warrior.source or b""), dict[int, str]()
+    for index, ((number, _), cell) in enumerate(zip(lines, warrior.cells)):
+        line, distance = source.lines[number - 1], signed(int(cell["a"]), warrior.core)
+        name = line.operands[0] if line.operands[1:2] == [","] else ""
+        if line.word in COMPUTING and MODES[cell["a_mode"]] == "$" and is_number(source, name):
+            if not 0 <= index + distance < len(warrior):
+                where = f"{abs(distance):,} cell{'s' * (abs(distance) > 1)} {'ahead' if distance > 0 else 'back'}"
+                found[number] = (
+                    f"line {number}: `{name}` is the cell {where}, outside the warrior; "
+                    f"write `#{name}` for the number {distance:,}"
+                )
+    return [*found.values()]
+
+
+def is_number(source: Source, name: str, depth: int = 8) -> bool:
+    """Returns whether a name stands for an expression of numbers."""
+    line: Line | None = source.equates.get(name)
+    names = [one for one in line.rest if NAME.match(one)] if line else []
+    return (
+        line is not None
+        and depth > 0
+        and len(source.equate(line)) == 1
+        and not {*line.rest} & {*MODES, ","} - {"*"}
+        and all(one in PREDEFINED and one != "CURLINE" or is_number(source, one, depth - 1) for one in names)
+    )
