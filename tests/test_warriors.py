@@ -407,6 +407,7 @@ CALLS = [
     "corewar.Contest(rounds=100000).league(two * 2, jobs=2)",
     "corewar.Contest(rounds=100000).melee(two, 2, 9)",
     "corewar.Contest(rounds=100000).compare(*two, two)",
+    "corewar.Contest(every_position=True).challenge(two[0], two * 2, jobs=2)",
 ]
 
 

@@ -5,7 +5,7 @@ import json
 import os
 import re
 from collections.abc import Callable
-from contextlib import ExitStack, nullcontext
+from contextlib import nullcontext
 from dataclasses import dataclass, replace
 from functools import partial, wraps
 from pathlib import Path
@@ -14,7 +14,7 @@ from typing import Any, TypeVar
 import click
 
 from ..contests.cluster import cluster
-from ..contests.contest import Contest, Progress
+from ..contests.contest import Contest
 from ..contests.standings import csv_text
 from ..engine.files import replace_file
 from ..engine.sources import Assembler, read_warrior
@@ -22,14 +22,13 @@ from ..engine.warriors import Warrior
 from ..model.errors import FileError
 from ..model.printing import printable
 from .layout import EXECUTION, STATUSES, Command, Number, Option
-from .options import FIXED, INPUT, BattleOptions, Output, Picture
+from .options import EVERY_POSITION, INPUT, BattleOptions, Output, Picture
 from .options import battle_options, format_option, match_option, with_options
 from .reporting import report, report_error, show
-from .waiting import progress
+from .waiting import PROCESSORS, Waiting
 
 Result = TypeVar("Result")
 ADDRESS = re.compile(r"(tcp://)?(\[[0-9a-fA-F:]+\]|[^\s/:\[\]]+):\d+")
-OTHER_ORDER = "{} of {} matches are stored only with the warriors in the other order; those are different matches"
 LEFT_OUT = f"{STATUSES}; 1 also if a file with an error was left out"
 
 
@@ -47,7 +46,7 @@ JOBS = click.option(
     cls=Option,
     group=EXECUTION,
     type=Number(1, MAX_JOBS),
-    default=len(os.sched_getaffinity(0)),
+    default=PROCESSORS,
     help=f"Number of parallel matches, 1 to {MAX_JOBS}  [default: number of CPUs]",
 )
 EXECUTION_OPTIONS = [
@@ -71,25 +70,6 @@ EXECUTION_OPTIONS = [
 ]
 
 
-class Waiting(ExitStack):
-    """Shows the progress of a contest by a bar on a terminal."""
-
-    def __init__(self, what: str = "matches", scale: int = 1) -> None:
-        super().__init__()
-        self.what, self.scale, self.state = what, scale, Progress(0, 0)
-        self.advance: Callable[[int], None] | None = None
-
-    def __call__(self, state: Progress) -> None:
-        if self.advance is None:
-            if state.turned:
-                report(OTHER_ORDER.format(state.turned, state.total))
-            bar = progress(state.total // self.scale, self.what, state.done // self.scale)
-            self.advance = self.enter_context(bar)
-        else:
-            self.advance(state.done // self.scale - self.state.done // self.scale)
-        self.state = state
-
-
 @dataclass(frozen=True)
 class MatchRunner:
     """Where matches are run, and where their results are stored."""
@@ -98,9 +78,9 @@ class MatchRunner:
     jobs: int
     scheduler: str | None
 
-    def run(self, call: Callable[..., Result]) -> Result:
-        """Returns the result of a method of a contest, with a bar on a terminal."""
-        waiting = Waiting()
+    def run(self, call: Callable[..., Result], what: str = "matches") -> Result:
+        """Returns the result of a method of a contest, with a bar of its matches or battles on a terminal."""
+        waiting = Waiting(what)
         try:
             with waiting, cluster(self.scheduler) if self.scheduler else nullcontext() as executor:
                 found = call(jobs=self.jobs, executor=executor, results=self.results, progress=waiting)
@@ -129,18 +109,11 @@ def contest_options(command: Callable[..., Any]) -> Callable[..., Any]:
     return with_options(*EXECUTION_OPTIONS)(wrapper)
 
 
-def contest_of(options: BattleOptions) -> Contest:
-    """Returns the contest of the options. The matches of a series of pMARS all have its seed."""
-    given = {name: getattr(options, name) for name in ("rounds", "seed", "position", "formula")}
-    same_seed, is_fixed = options.same_seed or options.pmars != "", options.pmars == FIXED
-    return Contest(options.settings, **given, same_seed=same_seed, pmars_fixed=is_fixed)
-
-
 def entrants_of(options: BattleOptions, count: int = 2) -> tuple[Contest, list[Warrior], list[FileError]]:
     """The contest, the warriors of the files for matches of `count`, in order, and the errors of the other files, which
     are reported.
     """
-    contest, warriors, faults = contest_of(options), list[Warrior](), list[FileError]()
+    contest, warriors, faults = options.contest, list[Warrior](), list[FileError]()
     with Assembler(options.limit) as assembler:
         for file in options.files:
             try:
@@ -243,25 +216,28 @@ def league(options: BattleOptions, runner: MatchRunner, order: str, form: str, *
     metavar="FILE",
     help="An earlier version of the first file: compare the scores of both against the others, per 100 rounds",
 )
+@EVERY_POSITION
 @format_option(("table", "csv", "json"))
-def challenge(options: BattleOptions, runner: MatchRunner, only_sum: bool, old: str | None, form: str) -> int:
+def challenge(options: BattleOptions, runner: MatchRunner, old: str | None, is_exact: bool, **shown: Any) -> int:
     """Run a match of the first file against each of the others.
 
     Each row shows the points, wins, ties and losses of the first file, the points of its opponent, and the opponent.
     The last row has the sums. An opponent with an error is reported and left out. If the first file has an error,
-    nothing is run.
+    nothing is run. With `--positions all` each match has every starting position in both orders, so that the results
+    are exact, and a strip shows the score by the distance to the opponent.
     """
+    options = options.everywhere() if is_exact else options
     if old is not None:
-        return print_change(options, runner, only_sum, old, form)
+        return print_change(options, runner, old, **shown)
     contest, warriors, faults = entrants_of(options)
     if not warriors or any(fault.file == options.files[0] for fault in faults):
         return 1
-    result = runner.run(partial(contest.challenge, warriors[0], warriors[1:]))
-    write_results(result, form, only_sum=only_sum)
+    result = runner.run(partial(contest.challenge, warriors[0], warriors[1:]), "battles" if is_exact else "matches")
+    write_results(result, **shown)
     return 1 if faults else 0
 
 
-def print_change(options: BattleOptions, runner: MatchRunner, only_sum: bool, old: str, form: str) -> int:
+def print_change(options: BattleOptions, runner: MatchRunner, old: str, **shown: Any) -> int:
     """Prints the scores of two versions of a warrior, and what the change shows."""
     if runner.results or runner.scheduler:
         raise click.UsageError("--old cannot be used with --results or --scheduler")
@@ -269,7 +245,8 @@ def print_change(options: BattleOptions, runner: MatchRunner, only_sum: bool, ol
     contest, warriors, faults = entrants_of(replace(options, files=(*both, *options.files[1:])))
     if len(warriors) < 3 or any(fault.file in both for fault in faults):
         return 1
-    with Waiting("opponents", 2) as waiting:
+    what, matches = ("battles", 1) if contest.every_position else ("opponents", 2)
+    with Waiting(what, matches) as waiting:
         result = contest.compare(warriors[0], warriors[1], warriors[2:], jobs=runner.jobs, progress=waiting)
-    write_results(result, form, only_sum=only_sum)
+    write_results(result, **shown)
     return 1 if faults else 0

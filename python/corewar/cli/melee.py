@@ -5,9 +5,10 @@ import click
 
 from ..model.settings import MAX_WARRIORS
 from .layout import Command, Number
-from .league import JOBS, LEFT_OUT, Waiting, entrants_of, write_results
+from .league import JOBS, LEFT_OUT, entrants_of, write_results
 from .options import BattleOptions, battle_options, format_option
 from .reporting import report
+from .waiting import Waiting
 
 
 @click.command(

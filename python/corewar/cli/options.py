@@ -13,6 +13,7 @@ from click.core import ParameterSource
 from click.shell_completion import CompletionItem
 
 from ..battle.series import seed_of_cells, seed_of_position
+from ..contests.contest import Contest
 from ..engine.calls import Match
 from ..engine.sources import Limit, read_warriors
 from ..model.errors import CorewarError, FileError
@@ -39,6 +40,28 @@ class BattleOptions:
     round: int
     limit: Limit
     same_seed: bool = False
+    every_position: bool = False
+
+    @property
+    def contest(self) -> Contest:
+        """The contest of the options. The matches of a series of pMARS all have its seed."""
+        return Contest(
+            self.settings,
+            rounds=self.rounds,
+            seed=self.seed,
+            position=self.position,
+            formula=self.formula,
+            same_seed=self.same_seed or self.pmars != "",
+            pmars_fixed=self.pmars == FIXED,
+            every_position=self.every_position,
+        )
+
+    def everywhere(self) -> BattleOptions:
+        """The same options for matches from every position. Raises an error of click for options that draw some."""
+        drawing = ("rounds", "seed", "position", "results", "same_seed", "pmars_position", "pmars_fixed")
+        if given := options_given(*drawing):
+            raise click.UsageError(f"--positions all and {given[0]} exclude each other")
+        return replace(self, every_position=True)
 
     def fight(self) -> Match:
         """The match of the files. Each file is read once. Raises FileError."""
@@ -175,14 +198,21 @@ def format_option(formats: Sequence[str], what: str = "results") -> Decorator:
     )
 
 
+EVERY_POSITION = click.option(
+    "--positions",
+    "is_exact",
+    type=click.Choice(["drawn", "all"]),
+    default="drawn",
+    show_default=True,
+    callback=lambda context, param, given: given == "all",
+    help="Starting positions: drawn ones, or each one in both orders, without chance",
+)
 SETTINGS = [number_option(name, CORE) for name in vars(Settings())]
 HILL = match_option(
     "--hill", type=click.Choice(list(HILLS)), default="94nop", show_default=True, help="Settings of a known hill"
 )
 # The greatest position that pMARS accepts, and its other series by name.
 MAX_PMARS_POSITION, FIXED = 2**30, "pmars -f"
-# The options for starting positions.
-POSITIONS = ("seed", "position", "pmars_position", "pmars_fixed")
 LIMIT = match_option(
     "--source-limit",
     "limit",
@@ -227,6 +257,11 @@ def is_given(parameter: str) -> bool:
     return click.get_current_context().get_parameter_source(parameter) is ParameterSource.COMMANDLINE
 
 
+def options_given(*parameters: str) -> list[str]:
+    """Returns those options of some arguments that are on the command line."""
+    return [f"--{name.replace('_', '-')}" for name in parameters if is_given(name)]
+
+
 def with_settings(command: Callable[..., Any]) -> Callable[..., Any]:
     """Replaces the values of `--hill` and of the core options by the argument `settings`."""
 
@@ -246,7 +281,7 @@ def core_options(command: Callable[..., Any]) -> Callable[..., Any]:
 
 def positions_of(settings: Settings, position: int | None, fixed: bool) -> dict[str, Any]:
     """Returns the options that select the positions of pMARS. Raises an error of click."""
-    given = [f"--{name.replace('_', '-')}" for name in POSITIONS if is_given(name)]
+    given = options_given("seed", "position", "pmars_position", "pmars_fixed")
     if len(given) > 1 and (fixed or position is not None):
         raise click.UsageError(f"{' and '.join(given)} exclude each other")
     if position is None:

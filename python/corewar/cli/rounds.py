@@ -2,7 +2,9 @@
 from __future__ import annotations
 
 import json
+from collections.abc import Sequence
 from dataclasses import astuple, replace
+from shutil import get_terminal_size
 
 import click
 import numpy as np
@@ -10,14 +12,17 @@ import numpy as np
 from ..analysis.captions import command
 from ..analysis.formatting import pluralize
 from ..battle.rounds import count_outcomes, rounds as rounds_of
+from ..contests.exact import distances
 from ..engine.calls import Match, Row, fits, match, portions
 from ..model.printing import printable
 from .layout import Command
-from .options import BattleOptions, Output, battle_options, format_option
-from .waiting import progress
+from .options import EVERY_POSITION, BattleOptions, Output, battle_options, format_option
+from .waiting import PROCESSORS, Waiting, progress
 
 # The number of cycles after which the bar moves, at most a quarter of a second of two warriors.
 CYCLES = 6_000_000
+# The greatest width of a strip.
+MAX_STRIP = 100
 
 
 def rows_of(fought: Match, formula: str) -> list[Row]:
@@ -38,13 +43,37 @@ def rows_of(fought: Match, formula: str) -> list[Row]:
     cls=Command, examples=["corewar fight dwarf.red imp.red", "corewar fight -r 100 --hill 94x one.red two.red"]
 )
 @battle_options()
-def fight(options: BattleOptions) -> None:
+@EVERY_POSITION
+def fight(options: BattleOptions, is_exact: bool) -> None:
     """Run a match and print its results.
 
-    Each row shows the points of a warrior, and the rounds that it won, tied and lost.
+    Each row shows the points of a warrior, and the rounds that it won, tied and lost. With `--positions all` two
+    warriors fight from every starting position in both orders, so that the results are exact, and a strip shows the
+    score of the first one by its distance to the second one.
     """
+    if is_exact:
+        print_exactly(options.everywhere())
+    else:
+        fought = options.fight()
+        print_rows(fought, rows_of(fought, options.formula))
+
+
+def print_exactly(options: BattleOptions) -> None:
+    """Prints the results of two warriors from every position."""
+    if len(options.files) != 2:
+        raise click.UsageError(f"--positions all is for matches of two warriors, not of {len(options.files)}")
     fought = options.fight()
-    rows = rows_of(fought, options.formula)
+    first, second = fought.warriors
+    with Waiting("battles") as waiting:
+        result = options.contest.challenge(first, [second], jobs=PROCESSORS, progress=waiting)
+    points, wins, ties, losses = result.counts[0].tolist()
+    print_rows(fought, [Row(points, wins, ties, losses), Row(int(result.theirs[0]), losses, ties, wins)])
+    room, names = distances(options.settings), [printable(warrior.called) for warrior in fought.warriors]
+    click.echo(f"Score of {names[0]} by the distance to {names[1]}, from {room[0]} to {room[-1]} cells:")
+    click.echo(result.strip(0, min(get_terminal_size().columns, MAX_STRIP)))
+
+
+def print_rows(fought: Match, rows: Sequence[Row]) -> None:
     click.echo("  points   wins   ties losses  warrior")
     for row, warrior in zip(rows, fought.warriors):
         click.echo(f"{row.points:8} {row.wins:6} {row.ties:6} {row.losses:6}  {printable(warrior.title)}")

@@ -1,9 +1,16 @@
 """Waits for what takes long, and shows its progress."""
 from __future__ import annotations
 
+import os
 import sys
 from collections.abc import Callable, Iterator
-from contextlib import contextmanager
+from contextlib import ExitStack, contextmanager
+
+from ..contests.contest import Progress
+from .reporting import report
+
+PROCESSORS = len(os.sched_getaffinity(0))
+OTHER_ORDER = "{} of {} matches are stored only with the warriors in the other order; those are different matches"
 
 
 @contextmanager
@@ -15,9 +22,28 @@ def progress(total: int, what: str, done: int = 0) -> Iterator[Callable[[int], N
         yield lambda count: None
         return
     from rich.console import Console
-    from rich.progress import BarColumn, MofNCompleteColumn, Progress, TimeRemainingColumn
+    from rich.progress import BarColumn, MofNCompleteColumn, Progress as Bar, TimeRemainingColumn
 
     columns = (MofNCompleteColumn(), what, BarColumn(), TimeRemainingColumn())
-    with Progress(*columns, console=Console(stderr=True), transient=True) as bar:
+    with Bar(*columns, console=Console(stderr=True), transient=True) as bar:
         task = bar.add_task("", total=total, completed=done)
         yield lambda count: bar.advance(task, count)
+
+
+class Waiting(ExitStack):
+    """Shows the progress of a contest by a bar on a terminal."""
+
+    def __init__(self, what: str = "matches", scale: int = 1) -> None:
+        super().__init__()
+        self.what, self.scale, self.state = what, scale, Progress(0, 0)
+        self.advance: Callable[[int], None] | None = None
+
+    def __call__(self, state: Progress) -> None:
+        if self.advance is None:
+            if state.turned:
+                report(OTHER_ORDER.format(state.turned, state.total))
+            bar = progress(state.total // self.scale, self.what, state.done // self.scale)
+            self.advance = self.enter_context(bar)
+        else:
+            self.advance(state.done // self.scale - self.state.done // self.scale)
+        self.state = state

@@ -8,8 +8,12 @@ import numpy as np
 
 from ..engine.warriors import Warrior
 from ..model.printing import printable
+from .exact import strip_of
 from .matches import Matches
-from .standings import HEAD, NAMES, RATES, Numbers, Standings, Sums, head_of, names_of, rates_of
+from .standings import HEAD, NAMES, RATES, Numbers, Rates, Standings, Sums, head_of, names_of, rates_of
+
+# The width of a strip in a table.
+STRIP = 32
 
 
 @dataclass(frozen=True, eq=False)
@@ -21,12 +25,15 @@ class Challenge(Standings):
     - `theirs`: the points of the opponents
     - `seeds`: the seeds of the matches
     - `total_error`: the standard error of the warrior's score in all matches
+    - `by_distance`: the warrior's mean points for each distance to each opponent, from the minimum distance on, if the
+      contest has every position, or None
     """
 
     challenger: Warrior
     theirs: Numbers
     seeds: Numbers
     total_error: float
+    by_distance: Rates | None = None
 
     COLUMNS = (*NAMES, *HEAD, "theirs", *RATES)
 
@@ -54,11 +61,17 @@ class Challenge(Standings):
 
     def __str__(self) -> str:
         width = max((len(one.file) for one in self.warriors), default=0)
-        lines = ["  points   wins   ties losses   theirs  opponent"]
+        head = "" if self.by_distance is None else f"{'by distance':{min(STRIP, self.by_distance.shape[1])}}  "
+        lines = [f"  points   wins   ties losses   theirs  {head}opponent"]
         for number in np.argsort(-self.points, kind="stable").tolist():
             one, counts = self.warriors[number], [*self.counts[number], self.theirs[number]]
-            lines.append(f"{text_of(counts)}  {printable(one.file):{width}}  {one.title}")
+            strip = f"{self.strip(number)}  " if head else ""
+            lines.append(f"{text_of(counts)}  {strip}{printable(one.file):{width}}  {one.title}")
         return "\n".join([*lines, self.summary])
+
+    def strip(self, number: int, width: int = STRIP) -> str:
+        """Returns the points by the distance to an opponent as bars, from a loss to a win; "" if they are not known."""
+        return "" if self.by_distance is None else strip_of(self.by_distance[number], self.contest.formula, width)
 
     @property
     def summary(self) -> str:
@@ -75,7 +88,7 @@ def text_of(counts: list[int]) -> str:
     return f"{points:8} {wins:6} {ties:6} {losses:6} {theirs:8}"
 
 
-def challenge_of(matches: Matches) -> Challenge:
+def challenge_of(matches: Matches, by_distance: Rates | None = None) -> Challenge:
     """Returns the challenge of the matches of the first warrior with each of the others."""
     rows, count = np.arange(len(matches)), len(matches)
     scale, first = 100 / matches.contest.rounds, np.zeros_like(rows)
@@ -83,4 +96,5 @@ def challenge_of(matches: Matches) -> Challenge:
     (total,) = Sums(1, first, rows, first, first + 1).errors(matches) * scale / max(1, count)
     challenger, *opponents = matches.warriors
     counts, theirs = matches.counts[:, :4], matches.counts[:, 4]
-    return Challenge(matches.contest, tuple(opponents), counts, errors, challenger, theirs, matches.seeds, float(total))
+    given = counts, errors, challenger, theirs, matches.seeds, float(total), by_distance
+    return Challenge(matches.contest, tuple(opponents), *given)

@@ -95,6 +95,10 @@ class Comparison:
     def verdict(self) -> str:
         """Whether the change is more than chance, in a sentence."""
         _, _, change, error = self.change()
+        better = f"The new version is {'better' if change > 0 else 'worse'}"
+        if self.contest.every_position:
+            kind = better if change else "Both versions score the same"
+            return f"{kind}: these are all starting positions in both orders."
         if np.isnan(error):
             return "Chance cannot be estimated from one round or for a fixed position; try `-r 100`."
         if error == 0:
@@ -103,7 +107,7 @@ class Comparison:
         if size < MIN_STANDARD_ERRORS:
             maybe = "which may be chance. More rounds can detect smaller changes."
             return f"The change is {size:.1f} standard errors, {maybe}"
-        return f"The new version is {'better' if change > 0 else 'worse'}: the change is {size:.1f} standard errors."
+        return f"{better}: the change is {size:.1f} standard errors."
 
 
 def text_of(old: float, new: float, change: float, error: float) -> str:

@@ -20,11 +20,14 @@ from ..model.errors import CorewarError
 from ..model.settings import MAX_SEED, MAX_WARRIORS
 from .challenge import Challenge, challenge_of
 from .comparison import Comparison, scores_of
+from .exact import battles_of, rounds_of, survivors
 from .league import League, league_of
-from .matches import Matches, Rows, all_pairs
+from .matches import Matches, Rows, all_pairs, counts_of
 from .melee import Melee, lineups_of, melee_of
 from .results import Results
 from .terms import Terms
+
+NOT_ALL = "only a challenge and a comparison can have every position"
 
 
 @dataclass(frozen=True)
@@ -53,6 +56,12 @@ class Execution:
     def __post_init__(self) -> None:
         check_jobs(self.jobs)
 
+    def check(self, contest: Terms) -> None:
+        """Raises CorewarError if results of a contest cannot be stored."""
+        # The positions of `pmars -f` also follow from whether a source says CMP, by which no result is stored.
+        if self.results is not None and (contest.pmars_fixed or contest.every_position):
+            raise CorewarError("results with the positions of `pmars -f`, or with every position, cannot be stored")
+
     def report(self, done: int, total: int, turned: int = 0) -> None:
         if self.progress is not None:
             self.progress(Progress(done, total, turned))
@@ -68,8 +77,11 @@ class Contest(Terms):
     - `formula`: the score of each survivor of a round, as for `match`
     - `same_seed`: whether all matches have the seed itself, as in `mars --league`; otherwise each match of two has a
       seed of its own, which `seed` and the two warriors determine, so that the matches of a warrior are independent
-    - `pmars_fixed`: whether each match of two has the seed of `pmars -f`, which follows from the cells of both;
-      results of these are not stored
+    - `pmars_fixed`: whether each match of two has the seed of `pmars -f`, which follows from the cells of both
+    - `every_position`: whether each match of a challenge or comparison has a round for each starting position and each
+      warrior that begins, so that its results are exact; nothing is drawn, and `rounds` is the number of these
+
+    Results of matches with the last two are not stored.
 
     Every method takes these by name:
 
@@ -115,10 +127,16 @@ class Contest(Terms):
         with which it may share a file of results.
         """
         pairs = np.column_stack([np.zeros(len(opponents), np.intp), np.arange(1, len(opponents) + 1)])
-        matches = Matches(self, [warrior, *opponents], pairs)
-        for _ in run(matches, Execution(jobs, executor, results, progress)):
-            pass
-        return challenge_of(matches)
+        matches, how = Matches(self, [warrior, *opponents], pairs), Execution(jobs, executor, results, progress)
+        if not self.every_position:
+            for _ in run(matches, how):
+                pass
+            return challenge_of(matches)
+        how.check(self)
+        rows = self._everywhere(matches.warriors, pairs, how)
+        matches.fill_in(np.arange(len(pairs)), counts_of(rows, self.formula))
+        scores = scores_of(rows, self.formula)
+        return challenge_of(matches, scores.reshape(len(pairs), -1, 2).mean(axis=2))
 
     def compare(
         self,
@@ -139,7 +157,10 @@ class Contest(Terms):
         warriors = [old, new, *opponents]
         pairs = np.stack(np.meshgrid([0, 1], np.arange(2, len(warriors)), indexing="ij"), axis=-1).reshape(-1, 2)
         finish, how = partial(scores_of, formula=self.formula), Execution(jobs, executor, None, progress)
-        scores = self._play(warriors, pairs, self.fixed_seeds(warriors, pairs), finish, how)
+        if self.every_position:
+            scores = finish(self._everywhere(warriors, pairs, how))
+        else:
+            scores = self._play(warriors, pairs, self.fixed_seeds(warriors, pairs), finish, how)
         return Comparison(self, (old, new), tuple(opponents), scores.reshape(2, len(opponents), self.rounds))
 
     def melee(
@@ -160,6 +181,8 @@ class Contest(Terms):
 
         Raises `MarsError`, and `CorewarError` for too few warriors and for errors of an executor.
         """
+        if self.every_position:
+            raise CorewarError(NOT_ALL)
         if not 2 <= size <= min(MAX_WARRIORS, len(warriors)) or lineups < 1:
             raise CorewarError(f"expected 1 or more matches of 2 to 16 of the warriors, not {lineups} of {size}")
         dice = random.Random(self.seed)
@@ -167,6 +190,10 @@ class Contest(Terms):
         seeds = np.array([dice.randint(1, MAX_SEED) for _ in drawn])
         lives = self._play(warriors, drawn, seeds, survivals, Execution(jobs, executor, None, progress))
         return melee_of(self, warriors, drawn, seeds, lives)
+
+    def _everywhere(self, warriors: Sequence[Warrior], pairs: Rows, how: Execution) -> NDArray[Any]:
+        """Returns the survivors of each battle from every position, as rows of a match for each pair."""
+        return rounds_of(self._play(warriors, *battles_of(pairs, self.settings), survivors, how), len(pairs))
 
     def _play(
         self,
@@ -190,9 +217,9 @@ def run(matches: Matches, how: Execution) -> Iterator[Rows]:
     """Runs the matches that are not stored yet. Yields their rows: first those that are stored, then those of some
     matches each time these have been run. Raises CorewarError.
     """
-    if how.results and matches.contest.pmars_fixed:
-        # Positions also follow from whether a source says CMP, by which no result is stored.
-        raise CorewarError("results of matches as by `pmars -f` cannot be stored")
+    how.check(matches.contest)
+    if matches.contest.every_position:
+        raise CorewarError(NOT_ALL)
     with ExitStack() as stack:
         stored = stack.enter_context(Results(os.fspath(how.results), matches)) if how.results else None
         turned = stored.find() if stored else 0

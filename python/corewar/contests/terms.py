@@ -14,6 +14,7 @@ from ..engine.outcomes import Run
 from ..engine.rewards import score_of
 from ..engine.warriors import Warrior
 from ..model.settings import FORMULA, MAX_SEED, NUMBERS, Settings, settings_of
+from .exact import distances
 
 # The numbers of the generator SplitMix64, which makes numbers of 64 bits that look random of any numbers.
 MULTIPLIERS, SHIFTS = (0x9E3779B97F4A7C15, 0xBF58476D1CE4E5B9, 0x94D049BB133111EB), (30, 27, 31)
@@ -30,6 +31,7 @@ class Terms:
     formula: str
     same_seed: bool
     pmars_fixed: bool
+    every_position: bool
 
     def __init__(
         self,
@@ -41,31 +43,36 @@ class Terms:
         formula: str = FORMULA,
         same_seed: bool = False,
         pmars_fixed: bool = False,
+        every_position: bool = False,
     ) -> None:
-        given = {"settings": settings_of(settings), "rounds": rounds, "seed": seed, "position": position}
-        vars(self).update(given, formula=formula, same_seed=same_seed, pmars_fixed=pmars_fixed)
+        given = dict[str, object](rounds=rounds, seed=seed, position=position, formula=formula, same_seed=same_seed)
+        vars(self).update(given, settings=settings_of(settings), pmars_fixed=pmars_fixed, every_position=every_position)
         # The seeds of matches are made of this one. A formula has a value only if a warrior survives, but both are
         # refused before hours of matches.
         check_numbers(self.settings, rounds, seed, position)
         score_of(formula, 2, 0)
+        if every_position:
+            vars(self).update(rounds=2 * len(distances(self.settings)), position=None)
 
     @property
     def words(self) -> list[str]:
         """The settings as options of `mars`, without a seed if each match has its own."""
         seed = None if self.has_seeds or self.pmars_fixed else self.seed
-        numbers = {**vars(self.settings), "rounds": self.rounds, "seed": seed, "position": self.position}
+        drawn = {} if self.every_position else {"rounds": self.rounds, "seed": seed, "position": self.position}
+        numbers = {**vars(self.settings), **drawn}
         given = [f"{NUMBERS[name].word}={number}" for name, number in numbers.items() if number is not None]
-        return [*given, f"--score={self.formula}", *(["--pmars-fixed"] if self.pmars_fixed else [])]
+        more = [("--pmars-fixed", self.pmars_fixed), ("--positions=all", self.every_position)]
+        return [*given, f"--score={self.formula}", *(word for word, is_given in more if is_given)]
 
     @property
     def has_seeds(self) -> bool:
         """Whether each match has a seed of its own; with a given position nothing is drawn."""
-        return not self.same_seed and not self.pmars_fixed and self.position is None
+        return not (self.same_seed or self.pmars_fixed or self.every_position) and self.position is None
 
     @property
     def is_drawn(self) -> bool:
         """Whether rounds differ from each other by chance."""
-        return self.rounds > 1 and self.position is None
+        return self.rounds > 1 and self.position is None and not self.every_position
 
     @property
     def key(self) -> str:
@@ -74,7 +81,7 @@ class Terms:
 
     def run(self, width: int = 2) -> Run:
         """Returns what the engine needs for matches of this number of warriors."""
-        return Run(self.settings, self.rounds, self.position, width)
+        return Run(self.settings, 1 if self.every_position else self.rounds, self.position, width)
 
     def fixed_seeds(self, warriors: Sequence[Warrior], pairs: NDArray[np.intp]) -> NDArray[np.int64]:
         """Returns the seeds of matches of two as `pmars -f` has them, or the seed itself."""

@@ -1,0 +1,77 @@
+"""Matches from every starting position: they are those of each position by itself."""
+from __future__ import annotations
+
+import json
+from pathlib import Path
+
+import numpy as np
+import pytest
+from conftest import EXAMPLES, Run
+
+from corewar.contests.contest import Contest, Progress
+from corewar.contests.exact import LEVELS, distances, strip_of
+from corewar.engine.calls import match
+from corewar.engine.sources import read
+from corewar.engine.warriors import Warrior
+from corewar.model.errors import CorewarError
+from corewar.model.settings import Settings
+
+SMALL = Settings(core=200, cycles=800, longest=20, distance=20)
+
+
+def fighters(*names: str) -> list[Warrior]:
+    return [read(EXAMPLES / f"{name}.red", settings=SMALL) for name in names]
+
+
+@pytest.mark.parametrize("names", [("dwarf", "imp"), ("scanner", "dwarf"), ("imp", "paper")])
+def test_each_position(names: tuple[str, str]) -> None:
+    """Two rounds at each position have each warrior begin once."""
+    contest, (first, second) = Contest(SMALL, every_position=True), fighters(*names)
+    states: list[Progress] = []
+    found = contest.challenge(first, [second, first], jobs=2, progress=states.append)
+    assert contest.rounds == 2 * len(distances(SMALL)) == 322 and (states[-1].done, states[-1].total) == (644, 644)
+    rows = [match([first, second], settings=SMALL, rounds=2, position=place) for place in distances(SMALL)]
+    assert found.by_distance is not None and found.by_distance[0].tolist() == [row[0].points / 2 for row in rows]
+    sums = [sum(getattr(row[0], name) for row in rows) for name in ("points", "wins", "ties", "losses")]
+    assert found.counts[0].tolist() == sums and found.theirs[0] == sum(row[1].points for row in rows)
+    change = contest.compare(second, first, [second, first], jobs=3)
+    assert (change.scores[1].reshape(2, -1, 2).mean(axis=2) == found.by_distance).all()
+    assert np.isnan(found.errors).all() and np.isnan(change.change()[3])
+
+
+def test_what_has_no_every_position(tmp_path: Path) -> None:
+    """A league, a melee and stored results."""
+    contest, warriors = Contest(SMALL, every_position=True), fighters("dwarf", "imp")
+    with pytest.raises(CorewarError):
+        contest.league(warriors)
+    with pytest.raises(CorewarError):
+        contest.melee(warriors, 2)
+    with pytest.raises(CorewarError):
+        contest.challenge(warriors[0], warriors, results=tmp_path / "x.sqlite")
+
+
+def test_strips() -> None:
+    """From a loss to a win; a formula without a value for a win is scaled by what occurs."""
+    scores = np.array([0.0, 1.0, 3.0, 3.0])
+    assert strip_of(scores, "(W*W-1)/S", 4) == LEVELS[0] + LEVELS[2] + LEVELS[7] * 2
+    assert strip_of(scores[:1], "(W*W-1)/S", 9) == LEVELS[0] and strip_of(np.array([2.0]), "S", 9) == LEVELS[7]
+    assert strip_of(scores[:1], "4/(S-1)", 1) == LEVELS[0]
+
+
+def test_the_commands(run: Run) -> None:
+    """A fight has a strip, a challenge one for each opponent, and a change no error."""
+    words = ["--positions", "all", "--hill", "nano"]
+    fight = run("fight", *words, "@dwarf", "@imp").stdout.splitlines()
+    assert fight[1].split()[:4] == ["218", "38", "104", "0"] and len(fight) == 5 and {*fight[4]} <= {*LEVELS}
+    table = run("challenge", *words, "@dwarf", "@imp", "@dwarf").stdout.splitlines()
+    assert table[1].split()[:5] == ["218", "38", "104", "0", "104"] and {*table[1].split()[5]} <= {*LEVELS}
+    data = json.loads(run("challenge", *words, "--format", "json", "@dwarf", "@imp").stdout)
+    assert data["warrior"]["error"] is None and data["warrior"]["rounds"] == 142 and "--positions=all" in data["words"]
+    change = run("challenge", *words, "--old", "@imp", "@dwarf", "@imp").stdout.splitlines()
+    assert change[1].split()[3] == "-" and change[-1] == (
+        "The new version is better: these are all starting positions in both orders."
+    )
+    assert run("fight", *words, "@dwarf").returncode == 2
+    for more in ("--rounds=10", "--seed=3", "-F9", "--pmars-fixed"):
+        refused = run("challenge", *words, more, "@dwarf", "@imp")
+        assert (refused.returncode, refused.stdout) == (2, "") and "exclude each other" in refused.stderr
