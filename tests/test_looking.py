@@ -7,6 +7,7 @@ import signal
 import subprocess
 import sys
 import time
+from concurrent.futures import ProcessPoolExecutor
 from collections import Counter
 from pathlib import Path
 
@@ -15,6 +16,7 @@ import pytest
 from conftest import ENVIRONMENT, EXAMPLES, Run, begin
 
 from corewar.analysis.endings import last_turns, summarize_last_turns
+from corewar.analysis.losses import fates_of_rounds, lost_rounds
 from corewar.battle.history import History
 from corewar.battle.labels import Sources
 from corewar.cli.main import COMMANDS, Commands, commands
@@ -233,7 +235,39 @@ def test_ctrl_c_ends_a_match(tmp_path: Path) -> None:
         time.sleep(0.5)
         process.send_signal(signal.SIGINT)
         _, errors = process.communicate(timeout=20)
-        assert (errors, process.returncode) == ("\ncorewar: stopped\n", 130)
+        assert (
+            re.fullmatch(r"\n?corewar: stopped( after \d+ of 100000 rounds)?\n", errors) and process.returncode == 130
+        )
+
+
+@pytest.mark.parametrize("command", ["fight", "why"])
+def test_ctrl_c_keeps_what_was_played(command: str) -> None:
+    """The rounds so far are those of a shorter match."""
+    files = [str(EXAMPLES / f"{name}.red") for name in ("dwarf", "imp")]
+    ours, theirs = os.openpty()
+    with begin(command, "-r", 20000, *files, env={**ENVIRONMENT, "TERM": "xterm"}, stderr=theirs) as process:
+        os.close(theirs)
+        shown = b""
+        while not re.search(rb"\b[1-9]\d*/\d+", shown):
+            shown += os.read(ours, 4096)
+        process.send_signal(signal.SIGINT)
+        output, _ = process.communicate(timeout=60)
+        assert process.returncode == 130
+    while b" rounds\r\n" not in shown:
+        shown += os.read(ours, 4096)
+    os.close(ours)
+    count = re.findall(rb"stopped after (\d+) of 20000 rounds", shown)[0].decode()
+    expected = begin(command, "-r", count, *files).communicate()[0]
+    assert 0 < int(count) < 20000 and output == expected
+
+
+def test_only_rounds_that_are_not_won_are_looked_at() -> None:
+    fight = Match([read(EXAMPLES / f"{name}.red") for name in ("dwarf", "imp")], rounds=30)
+    rows = match(fight.warriors, rounds=30)
+    assert len(lost_rounds(fight, [0])) == 30 - rows[0].wins and len(lost_rounds(fight, [0, 1])) == 30
+    with ProcessPoolExecutor(3) as pool:
+        one, several = ([*fates_of_rounds(fight, range(30), [0, 1], executor)] for executor in (None, pool))
+    assert one == several and sum(len(fates) for fates in one) == 2 * rows[0].ties + rows[0].wins
 
 
 def test_a_write_that_changes_nothing(run: Run, tmp_path: Path) -> None:

@@ -37,8 +37,8 @@ def test_portions_are_the_match(fight: Match, rounds: int, size: int, fixed: int
 def test_a_fight_in_portions(monkeypatch: pytest.MonkeyPatch) -> None:
     """The table is that of the library, and points that fit only in portions are the same error."""
     fight = Match([read(EXAMPLES / f"{name}.red") for name in ("dwarf", "imp", "paper")], rounds=100)
-    monkeypatch.setattr(module, "CYCLES", 7 * fight.settings.cycles)
-    assert module.rows_of(fight, FORMULA) == match(fight.warriors, rounds=100)
+    monkeypatch.setattr(module, "TURNS", 7 * 3 * fight.settings.cycles)
+    assert module.rows_of(fight, FORMULA) == (match(fight.warriors, rounds=100), 100)
     with pytest.raises(MarsError, match="score 4 Range"):
         module.rows_of(fight, str(2**63 // 20))
 

@@ -4,12 +4,13 @@ from __future__ import annotations
 from collections import Counter
 from collections.abc import Iterator, Sequence
 from dataclasses import dataclass
-from itertools import chain, islice
+from itertools import chain
 
 import numpy as np
 
 from ..battle.history import NOBODY, History
 from ..battle.labels import Line, Sources
+from ..battle.origins import latest, part
 from .formatting import BattleFormatter, pluralize
 
 # How many of the last turns of a warrior are shown, and the most lines of a table.
@@ -26,7 +27,14 @@ def own_turns(history: History, warrior: int, turn: int) -> Iterator[int]:
 
 
 def last_turns(history: History, warrior: int) -> list[int]:
-    return [*islice(own_turns(history, warrior, history.end), LAST_TURNS)]
+    found = np.empty(0, np.int64)
+    for block in history.blocks_back(history.end):
+        own = block.first + 1 + np.flatnonzero(block.records["warrior"] == warrior)
+        found = np.concatenate([found, own[::-1]])
+        if len(found) >= LAST_TURNS:
+            break
+    turns: list[int] = found[:LAST_TURNS].tolist()
+    return turns
 
 
 def executed_at(history: History, turns: Sequence[int]) -> list[int]:
@@ -99,20 +107,19 @@ def summarize_last_turns(history: History, sources: Sources, names: Sequence[str
     """Returns in short what a survivor executed last: lines whose cells are as they were loaded except for their
     numbers, and whose other cells. Names are in the order of turns.
     """
-    turns, counts = last_turns(history, warrior)[::-1], Counter[int | Line | None]()
+    turns, counts = np.array(last_turns(history, warrior)[::-1], np.int64), Counter[int | Line | None]()
     writers = np.full(history.core, NOBODY, np.uint8)
     for block in history.blocks():
         changes = block.changes
         # A warrior that changes numbers of its own code still executes the same line.
-        is_other = changes.warriors != warrior
-        for field in ("op", "modifier", "a_mode", "b_mode"):
-            is_other |= changes.before[field] != changes.after[field]
+        is_other = (changes.warriors != warrior) | changes.alters
         when, where, who = changes.turns[is_other], changes.addresses[is_other], changes.warriors[is_other]
-        own = [turn for turn in turns if block.first < turn <= block.last]
-        for turn, address in zip(own, executed_at(history, own)):
-            found = np.flatnonzero(where[: int(np.searchsorted(when, turn))] == address)
-            writer = int(who[found[-1]] if len(found) else writers[address])
-            counts[writer if writer != NOBODY else sources.lines.get(address)] += 1
+        own = turns[(turns > block.first) & (turns <= block.last)]
+        addresses = block.records["address"][own - block.first - 1].astype(np.int64)
+        found = latest(where, when, addresses, own)
+        wrote = np.where(found >= 0, part(who, found), writers[addresses])
+        for (one, address), count in Counter(zip(wrote.tolist(), addresses.tolist())).items():
+            counts[one if one != NOBODY else sources.lines.get(address)] += count
         writers[where] = who
     often = [what for what, count in counts.items() if count >= MIN_SHARE * len(turns)]
     lines = [(what.warrior, what.number) for what in often if isinstance(what, Line)]

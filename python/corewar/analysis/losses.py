@@ -3,14 +3,19 @@ they executed last if they tied.
 """
 from __future__ import annotations
 
-from collections.abc import Iterable, Iterator, Sequence
+from collections.abc import Collection, Iterable, Iterator, Sequence
+from concurrent.futures import Executor
 from dataclasses import dataclass
+from itertools import chain
+
+import numpy as np
 
 from ..battle.conditions import last_change
 from ..battle.history import NOBODY, History, make_distinct
 from ..battle.labels import Sources
-from ..battle.rounds import rounds
 from ..engine.calls import Match
+from ..engine.outcomes import outcomes
+from ..engine.parts import in_order, run_parts
 from .endings import LAST_TURNS, summarize_last_turns
 from .formatting import pluralize
 
@@ -41,29 +46,48 @@ class Tie:
     executed: str
 
 
-def fates(fight: Match) -> Iterator[Death | Tie]:
-    """Yields how each warrior of a match died in each round or, in a tie, what it executed last. Raises `MarsError` if
-    the match is invalid.
+def fates(
+    fight: Match, *, warriors: Collection[int] | None = None, executor: Executor | None = None
+) -> Iterator[Death | Tie]:
+    """Yields how each warrior of a match died in each round or, in a tie, what it executed last.
+
+    - `warriors`: the numbers of the warriors to look at, or None for all
+    - `executor`: an executor of `concurrent.futures` that looks at the rounds, as for `outcomes`
+
+    Raises `MarsError` if the match is invalid, and `CorewarError` for errors of the executor.
     """
-    names = make_distinct([warrior.called for warrior in fight.warriors])
-    for one in rounds(fight):
-        yield from fates_of(one.history, names)
+    numbers = range(len(fight.warriors)) if warriors is None else warriors
+    yield from chain.from_iterable(fates_of_rounds(fight, lost_rounds(fight, numbers), numbers, executor))
 
 
-def fates_of(history: History, names: Sequence[str]) -> Iterator[Death | Tie]:
-    """Yields how each warrior died or, in a tie, what it executed last.
+def lost_rounds(fight: Match, warriors: Collection[int]) -> list[int]:
+    """Returns the rounds that one of some warriors did not win."""
+    given = {name: value for name, value in vars(fight).items() if name != "seed"}
+    survived = outcomes(**given, seeds=fight.seed)["survived"][0]
+    is_won = survived & (survived.sum(axis=1) == 1)[:, None]
+    return [int(number) for number in np.flatnonzero(~is_won[:, [*warriors]].all(axis=1))]
 
-    - `names`: the names of all warriors in the order of the files
-    """
+
+def fates_of_rounds(
+    fight: Match, rounds: Sequence[int], warriors: Collection[int], executor: Executor | None = None
+) -> Iterator[list[Death | Tie]]:
+    """Yields the fates of some warriors in each of some rounds."""
+    return in_order(run_parts(fates_of, ((fight, number, warriors) for number in rounds), executor=executor))
+
+
+def fates_of(fight: Match, number: int, warriors: Collection[int], _: object = None) -> list[Death | Tie]:
+    """Returns how some warriors died in a round or, in a tie, what they executed last."""
+    history, names = History(fight, number), make_distinct([warrior.called for warrior in fight.warriors])
     # The warriors of a match take turns to begin.
-    order = [(place + history.round) % len(names) for place in range(len(names))]
-    sources, in_turn = Sources(history), [names[number] for number in order]
-    dead = history.ending.deaths["warrior"].tolist()
-    for place in dead:
-        yield Death(order[place], history.round, *cause_of_death(history, sources, in_turn, place))
+    order = [(place + number) % len(names) for place in range(len(names))]
+    sources, in_turn = Sources(history), [names[one] for one in order]
+    dead, found = history.ending.deaths["warrior"].tolist(), list[Death | Tie]()
+    for place in [place for place in dead if order[place] in warriors]:
+        found.append(Death(order[place], number, *cause_of_death(history, sources, in_turn, place)))
     living = [place for place in range(len(names)) if place not in dead]
-    for place in living if len(living) > 1 else []:
-        yield Tie(order[place], history.round, summarize_last_turns(history, sources, in_turn, place))
+    for place in [place for place in living if len(living) > 1 and order[place] in warriors]:
+        found.append(Tie(order[place], number, summarize_last_turns(history, sources, in_turn, place)))
+    return found
 
 
 def cause_of_death(history: History, sources: Sources, names: Sequence[str], warrior: int) -> tuple[str, str]:

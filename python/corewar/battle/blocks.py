@@ -34,6 +34,12 @@ class Changes(Touches):
     before: Cells
     after: Cells
 
+    @cached_property
+    def alters(self) -> NDArray[np.bool_]:
+        """Whether each change is one of more than the numbers of a cell: of its first word."""
+        before, after = (cells.view(np.uint32).reshape(-1, 3)[:, 0] for cells in (self.before, self.after))
+        return np.asarray(before != after)
+
 
 def changes_of(first: int, records: Records) -> Changes:
     """Returns the changes of the turns after `first`. Several writes of a cell in one turn are one change, from the
@@ -41,13 +47,12 @@ def changes_of(first: int, records: Records) -> Changes:
     """
     kinds = records.dtype["change"].base
     places, writes = writes_of(records)
-    rows, address = places // 3, writes[:, 0].copy()
-    before, after = writes[:, 1:4].copy(), writes[:, 4:].copy()
+    rows, address, before, after = places // 3, writes[:, 0], writes[:, 1:4], writes[:, 4:]
     is_last = np.ones(len(rows), bool)
     # A turn has at most three writes, so an earlier one of the same cell is one or two places before.
     for ahead in (1, 2):
         earlier = np.flatnonzero((rows[ahead:] == rows[:-ahead]) & (address[ahead:] == address[:-ahead]))
-        before[earlier + ahead] = writes[earlier, 1:4]
+        before[earlier + ahead] = before[earlier]
         is_last[earlier] = False
     differs = (before[:, 0] != after[:, 0]) | (before[:, 1] != after[:, 1]) | (before[:, 2] != after[:, 2])
     used = np.flatnonzero(is_last & differs)

@@ -4,19 +4,18 @@ from __future__ import annotations
 import click
 
 from ..analysis.causes import describe_change
-from ..analysis.losses import Death, Tie, describe_losses, describe_ties, fates_of
+from ..analysis.losses import Death, Tie, describe_losses, describe_ties, fates_of_rounds, lost_rounds
 from ..analysis.study import WARRIORS, study as study_of
 from ..analysis.formatting import BattleFormatter
 from ..battle.history import History
 from ..battle.labels import Sources
-from ..battle.rounds import rounds as rounds_of
 from ..engine.sources import Limit, read_warriors
 from ..model.errors import CorewarError
 from ..model.settings import Settings, whole
 from .layout import Command, Number
 from .options import INPUT, LIMIT, BattleOptions, WarriorName, battle_options, core_options, format_option, is_given
-from .reporting import show, show_value
-from .waiting import progress
+from .reporting import report, show, show_value
+from .waiting import processes, progress
 
 
 def formatter_of(options: BattleOptions) -> BattleFormatter:
@@ -51,7 +50,7 @@ def warrior_of(history: History, named: str) -> int:
     help="Number of turns to print before its last one, 1 or more",
 )
 @format_option(("text", "json"), "explanations")
-def why(options: BattleOptions, named: str | None, turns: int, form: str) -> None:
+def why(options: BattleOptions, named: str | None, turns: int, form: str) -> int:
     """Explain why a warrior died.
 
     Prints its last turn, the cell that it executed, the turn that last changed this cell, and its turns before that;
@@ -59,8 +58,7 @@ def why(options: BattleOptions, named: str | None, turns: int, form: str) -> Non
     `--round`, counts the lines that killed each warrior, and what it executed last in ties.
     """
     if options.rounds > 1 and not is_given("round_"):
-        print_losses(options, named, form)
-        return
+        return print_losses(options, named, form)
     history = History(options.fight(), options.round)
     died = [int(number) for number in history.ending.deaths["warrior"]]
     living = [number for number in range(len(history.names)) if number not in died]
@@ -71,31 +69,43 @@ def why(options: BattleOptions, named: str | None, turns: int, form: str) -> Non
     elif not died and form == "text":
         click.echo(f"No warrior died; {BattleFormatter(history, Sources(history)).ending()}.")
     show_value([history.why(number, turns) for number in numbers], form)
+    return 0
 
 
-def print_losses(options: BattleOptions, named: str | None, form: str) -> None:
-    """Prints how warriors died and tied in all rounds: the one selected by its name, or all that did."""
+def print_losses(options: BattleOptions, named: str | None, form: str) -> int:
+    """Prints how warriors died and tied in all rounds until Ctrl-C: the one selected by its name, or all that did.
+    Returns the exit status.
+    """
     fight = options.fight()
     first = History(fight)
-    warriors = range(len(first.names)) if named is None else [warrior_of(first, named)]
-    fates = list[Death | Tie]()
-    with progress(options.rounds, "rounds") as advance:
-        for one in rounds_of(fight):
-            fates += fates_of(one.history, first.names)
-            advance(1)
+    warriors = [*range(len(first.names))] if named is None else [warrior_of(first, named)]
+    fates, rounds, done = list[Death | Tie](), lost_rounds(fight, warriors), 0
+    count, status = options.rounds, 0
+    try:
+        with progress(len(rounds), "rounds") as advance, processes(len(rounds)) as executor:
+            for found in fates_of_rounds(fight, rounds, warriors, executor):
+                fates += found
+                done += 1
+                advance(1)
+    except KeyboardInterrupt:
+        if not done:
+            raise
+        count, status = rounds[done], 130
+        report(f"stopped after {count} of {options.rounds} rounds")
     if form == "json":
-        show_value([fate for fate in fates if fate.warrior in warriors])
-        return
+        show_value(fates)
+        return status
     if named is None and not any(isinstance(fate, Death) for fate in fates):
-        click.echo(f"No warrior died in {options.rounds} rounds.")
+        click.echo(f"No warrior died in {count} rounds.")
     for number in warriors:
         own, name = [fate for fate in fates if fate.warrior == number], first.names[number]
         deaths = [fate for fate in own if isinstance(fate, Death)]
         if deaths or named is not None:
-            show(describe_losses(name, options.rounds, deaths))
+            show(describe_losses(name, count, deaths))
         ties = [fate for fate in own if isinstance(fate, Tie)]
         if ties:
-            show(describe_ties(name, options.rounds, ties))
+            show(describe_ties(name, count, ties))
+    return status
 
 
 @click.command(

@@ -14,29 +14,42 @@ from ..analysis.formatting import pluralize
 from ..battle.rounds import count_outcomes, rounds as rounds_of
 from ..contests.exact import distances
 from ..engine.calls import Match, Row, fits, match, portions
+from ..engine.parts import TURNS, in_order, run_parts
 from ..model.printing import printable
 from .layout import Command
 from .options import EVERY_POSITION, BattleOptions, Output, battle_options, format_option
+from .reporting import report
 from .waiting import PROCESSORS, Waiting, progress
 
-# The number of cycles after which the bar moves, at most a quarter of a second of two warriors.
-CYCLES = 6_000_000
 # The greatest width of a strip.
 MAX_STRIP = 100
 
 
-def rows_of(fought: Match, formula: str) -> list[Row]:
-    """The rows of a match, with a bar on a terminal."""
-    counts, count = np.zeros((len(fought.warriors), 4), object), len(fought.warriors)
-    numbers = fought.rounds, fought.seed, fought.position
-    with progress(fought.rounds, "rounds") as advance:
-        for rounds, seed, _ in portions(numbers, count, CYCLES // fought.settings.cycles):
-            part = replace(fought, rounds=rounds, seed=seed)
-            counts += [astuple(row) for row in match(formula=formula, **vars(part))]
-            advance(rounds)
+def rows_of(fought: Match, formula: str) -> tuple[list[Row], int]:
+    """The rows of a match, whose rounds all processors share, and the number of these until Ctrl-C, with a bar on a
+    terminal.
+    """
+    count, numbers = len(fought.warriors), (fought.rounds, fought.seed, fought.position)
+    size = min(TURNS // (fought.settings.cycles * count), fought.rounds // (4 * PROCESSORS))
+    parts = [replace(fought, rounds=rounds, seed=seed) for rounds, seed, _ in portions(numbers, count, size)]
+    counts, done = np.zeros((count, 4), object), 0
+    try:
+        with progress(fought.rounds, "rounds") as advance:
+            found = in_order(run_parts(rows_in, ((part, formula) for part in parts), PROCESSORS))
+            for part, rows in zip(parts, found):
+                counts += [astuple(row) for row in rows]
+                done += part.rounds
+                advance(part.rounds)
+    except KeyboardInterrupt:
+        if not done:
+            raise
     # The library refuses points that do not fit, also if those of each part do.
     is_exact = all(map(fits, counts[:, 0]))
-    return [Row(*row) for row in counts.tolist()] if is_exact else match(formula=formula, **vars(fought))
+    return [Row(*row) for row in counts.tolist()] if is_exact else match(formula=formula, **vars(fought)), done
+
+
+def rows_in(part: Match, formula: str, _: object) -> list[Row]:
+    return match(formula=formula, **vars(part))
 
 
 @click.command(
@@ -44,7 +57,7 @@ def rows_of(fought: Match, formula: str) -> list[Row]:
 )
 @battle_options()
 @EVERY_POSITION
-def fight(options: BattleOptions, is_exact: bool) -> None:
+def fight(options: BattleOptions, is_exact: bool) -> int:
     """Run a match and print its results.
 
     Each row shows the points of a warrior, and the rounds that it won, tied and lost. With `--positions all` two
@@ -53,9 +66,14 @@ def fight(options: BattleOptions, is_exact: bool) -> None:
     """
     if is_exact:
         print_exactly(options.everywhere())
-    else:
-        fought = options.fight()
-        print_rows(fought, rows_of(fought, options.formula))
+        return 0
+    fought = options.fight()
+    rows, done = rows_of(fought, options.formula)
+    print_rows(fought, rows)
+    if done < fought.rounds:
+        report(f"stopped after {done} of {fought.rounds} rounds")
+        return 130
+    return 0
 
 
 def print_exactly(options: BattleOptions) -> None:

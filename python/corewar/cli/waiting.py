@@ -2,9 +2,12 @@
 from __future__ import annotations
 
 import os
+import signal
 import sys
 from collections.abc import Callable, Iterator
+from concurrent.futures import Executor, ProcessPoolExecutor
 from contextlib import ExitStack, contextmanager
+from multiprocessing import get_context
 
 from ..contests.contest import Progress
 from .reporting import report
@@ -47,3 +50,15 @@ class Waiting(ExitStack):
         else:
             self.advance(state.done // self.scale - self.state.done // self.scale)
         self.state = state
+
+
+@contextmanager
+def processes(count: int) -> Iterator[Executor | None]:
+    """Yields processes for a number of calls, or None for few. They are forked, so that the library is not loaded
+    again; Ctrl-C is only raised here.
+    """
+    if PROCESSORS == 1 or count < 2 * PROCESSORS:
+        yield None
+        return
+    with ProcessPoolExecutor(PROCESSORS, get_context("fork"), signal.signal, (signal.SIGINT, signal.SIG_IGN)) as pool:
+        yield pool

@@ -71,6 +71,16 @@ def result_of(future: Future[Any]) -> Any:
     return result
 
 
+def in_order(results: Iterable[tuple[int, Result]]) -> Iterator[Result]:
+    """Yields the results of parts, which may end in any order, in the order of the parts."""
+    early, number = dict[int, Result](), 0
+    for one, result in results:
+        early[one] = result
+        while number in early:
+            yield early.pop(number)
+            number += 1
+
+
 def run_parts(
     function: Callable[..., Result], parts: Iterable[tuple[Any, ...]], jobs: int = 1, executor: Executor | None = None
 ) -> Iterator[tuple[int, Result]]:
