@@ -14,8 +14,25 @@ try:
     from corewar import __version__
     from corewar.cli.layout import Command
     from corewar.cli.main import COMMANDS, Commands, commands
+    from corewar.debugger.commands import COMMANDS as debugger_commands
+    from corewar.debugger.commands import CONDITIONS
 except ImportError as error:
     sys.exit(f"cannot make the man pages: {error}; run scripts/setup")
+
+
+def escaped(text: str) -> str:
+    """A text as roff prints it."""
+    return re.sub(r"^([.'])", r"\\&\1", text.replace("\\", "\\e").replace("-", "\\-"), flags=re.M)
+
+
+def debugger() -> str:
+    """The sections of the debugger's commands and of its file."""
+    entries = ""
+    for one in debugger_commands.values():
+        short = f" ({', '.join(one.short)})" if one.short else ""
+        entries += f".TP\n.B {escaped(one.usage)}\n{escaped(one.summary + short)}\n"
+    file = ".TP\n.I $XDG_STATE_HOME/corewar/debug\nThe lines that were typed, by default below\n.IR ~/.local/state .\n"
+    return f".SH COMMANDS\n{entries}.PP\n.EX\n{escaped(CONDITIONS)}\n.EE\n.SH FILES\n{file}"
 
 
 def sections(command: Command) -> str:
@@ -39,7 +56,7 @@ def main(folder: str) -> None:
     for name, command in pages.items():
         assert isinstance(command, Command)
         with open(os.path.join(folder, f"{name}.1"), "a") as page:
-            page.write(sections(command))
+            page.write((debugger() if name == "corewar-debug" else "") + sections(command))
 
 
 main(sys.argv[1])

@@ -106,7 +106,7 @@ def test_versions_for_programs(run: Run) -> None:
     assert "".join(found) == rows + mean and result["rounds"] == 4
     assert result["before"] == {"file": "dead.red", "name": "Dead", "author": "Anonymous"}
     assert "matches" not in json.loads(run(*words, "--format", "json", "--sum").stdout)
-    unknown = run("challenge", "--old", "dead.red", "--format", "csv", "stay.red", "stay.red").stdout
+    unknown = run("challenge", "-r", 1, "--old", "dead.red", "--format", "csv", "stay.red", "stay.red").stdout
     assert unknown == heads + "stay.red,Stay,Anonymous,0.0,100.0,100.0,\n"
 
 
@@ -177,6 +177,7 @@ def test_errors_of_files(run: Run) -> None:
     for files in (["broken.red", "stay.red"], ["broken.red", "broken.red"]):
         done = run("challenge", *files)
         assert (done.returncode, done.stdout) == (1, "") and "broken.red: line 1: 2 Operation" in done.stderr
+    assert run("challenge", "--format", "json", "stay.red", "stay.red").stdout.find('"rounds": 100') > 0
     done = run("challenge", "stay.red")
     assert done.returncode == 2 and "expected at least two files" in done.stderr
 

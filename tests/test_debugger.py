@@ -78,8 +78,10 @@ def test_searches_go_both_ways() -> None:
     execute(session, "goto 0")
     assert execute(session, "c")[0] == "changes 3 (bomb):"
     assert refused(session, "delete") == "no breakpoint ``; expected a number or `all`"
-    assert execute(session, "d 0") == ["breakpoint 0: dies Imp"]
-    assert execute(session, "d all") == execute(session, "break") == ["no breakpoint is set"]
+    assert execute(session, "d 0") == ["breakpoint 1: dies Imp"]
+    assert execute(session, "b at 2")[1:] == ["breakpoint 2: at 2"]
+    assert execute(session, "d all") == ["all breakpoints are deleted"]
+    assert execute(session, "break") == ["no breakpoint is set"]
     assert refused(session, "rc dies imp") == "not found before turn 1"
     assert refused(session, "c dies nobody") == "no warrior `nobody`; the warriors are 0 Dwarf, 1 Imp"
     assert refused(session, "break sees 3").startswith("expected a condition: at, changes or reads A")
@@ -158,12 +160,16 @@ def test_edits_make_futures() -> None:
 
 def test_reports() -> None:
     session = session_of("dwarf", "imp")
-    assert execute(session, "show") == ["turn 0, cycle 0, battle of 7798 turns", "Dwarf: 1 process", "Imp: 1 process"]
+    assert execute(session, "show") == [
+        "turn 0, cycle 0, battle of 7798 turns",
+        "Dwarf: 1 process; 4 cells loaded at 0",
+        "Imp: 1 process; 1 cell loaded at 1305",
+    ]
     execute(session, "run")
     assert execute(session, "show") == [
         "turn 7798, cycle 3899, battle over",
-        "Dwarf: 1 process",
-        "Imp: died in turn 7798",
+        "Dwarf: 1 process; 4 cells loaded at 0",
+        "Imp: died in turn 7798; 1 cell loaded at 1305",
     ]
     assert execute(session, "why")[:4] == [
         "Imp died in turn 7798:",
@@ -201,7 +207,7 @@ def test_words_are_separated_by_any_whitespace() -> None:
 def test_over_a_pipe(run: Run) -> None:
     done = run("debug", "@dwarf", "@imp", input="step\n\nbad\nundo\nlog kept\nstep 2\nlog\nquit\nstep\n")
     lines = done.stdout.splitlines()
-    assert (done.returncode, done.stderr) == (0, "")
+    assert (done.returncode, done.stderr) == (1, "")
     assert lines[0].startswith("turn 1: Dwarf") and lines[2] == "unknown command `bad`; `help` lists all commands"
     assert lines[-1] == "next: Dwarf at 1: MOV.I $2, @2    ; 10: MOV bomb, @bomb"
     again = run("debug", "@dwarf", "@imp", "--turn", 4, input="source kept\nsource nowhere\n")
@@ -286,7 +292,7 @@ def test_control_characters_of_sources_are_not_shown(run: Run, tmp_path: Path) -
     """They are whitespace of the language, so that a valid warrior can have them."""
     (tmp_path / "esc.red").write_bytes(b"c DAT 0, \x1bc\x07\x00 ; \x1b[2J\n")
     shown = run("debug", "esc.red", "@imp", input="list\nedit 0 dat \x1bc\n\x1b[2J\n")
-    assert shown.returncode == 0 and "; 1: c DAT 0, c" in shown.stdout and "\x1b" not in shown.stdout + shown.stderr
+    assert shown.returncode == 1 and "; 1: c DAT 0, c" in shown.stdout and "\x1b" not in shown.stdout + shown.stderr
 
 
 def test_a_killed_command_leaves_no_process(tmp_path: Path) -> None:
@@ -341,3 +347,10 @@ def test_labels_of_several_warriors() -> None:
     there = session.sources.addresses["1.bomb"]
     assert execute(session, "edit 2 mov 0.bomb, @1.bomb+1")[0].endswith(f"-> MOV.I $1, @{there - 1}")
     assert "incomplete" in refused(session, "edit 2 jmp 2.bomb")
+
+
+def test_the_status_of_a_script(run: Run) -> None:
+    """It is 1 if any command fails; the others are executed."""
+    done = run("debug", "@imp", input="foo\nstep\n")
+    assert done.returncode == 1 and done.stdout.splitlines()[1].startswith("turn 1: ")
+    assert run("debug", "@imp", input="step\nquit\nfoo\n").returncode == 0

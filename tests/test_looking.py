@@ -449,7 +449,7 @@ def test_study(run: Run, tmp_path: Path) -> None:
 def test_a_terminal_breaks_lines_at_spaces(run: Run, tmp_path: Path) -> None:
     """Without a terminal, lines are not broken."""
     pexpect = pytest.importorskip("pexpect", reason="package python3-pexpect")
-    environment = {**os.environ, "TERM": "xterm", "XDG_STATE_HOME": str(tmp_path)}
+    environment = {**os.environ, "TERM": "xterm", "XDG_STATE_HOME": str(tmp_path), "NO_COLOR": "1"}
     scanner = str(EXAMPLES / "scanner.red")
     for words in (["study", scanner], ["explain", "ADD #step, {ptr"], ["why", scanner, str(EXAMPLES / "silk.red")]):
         whole = run(*words).stdout
@@ -462,3 +462,51 @@ def test_a_terminal_breaks_lines_at_spaces(run: Run, tmp_path: Path) -> None:
         assert " ".join(lines).split() == whole.split()
     assert broken("help  list all commands", 16) == "help  list all\n      commands"
     assert broken("  a sentence of words", 16) == "  a sentence of\n      words"
+
+
+def test_colours(run: Run) -> None:
+    """They are for terminals, and can be forced or turned off."""
+    forced = run("--color", "always", "trace", "--turns", 1, "@dwarf", "@imp").stdout
+    plain = run("trace", "--turns", 1, "@dwarf", "@imp").stdout
+    assert "\x1b[94mImp\x1b[0m" in forced and re.sub(r"\x1b\[\d*m", "", forced) == plain
+    for when, environment in (("never", ENVIRONMENT), ("auto", {**ENVIRONMENT, "NO_COLOR": "1"})):
+        ours, theirs = os.openpty()
+        words = ["--color", when, "trace", "--turns", 1, EXAMPLES / "imp.red"]
+        with begin(*words, env=environment, stdout=theirs):
+            os.close(theirs)
+            assert b"\x1b[9" not in os.read(ours, 4096)
+        os.close(ours)
+
+
+def test_a_reader_that_has_enough() -> None:
+    words = ["trace", "--from", 1, "--turns", 5000, EXAMPLES / "dwarf.red", EXAMPLES / "imp.red"]
+    with begin(*words) as process:
+        assert process.stdout and process.stdout.readline().startswith("turn 1: ")
+        process.stdout.close()
+        assert process.stderr and (process.stderr.read(), process.wait()) == ("", 0)
+
+
+def test_help_is_a_command(run: Run) -> None:
+    assert run("help").stdout == run("--help").stdout and run("help", "why").stdout == run("why", "--help").stdout
+    assert run("help", "whi").stderr.endswith("unknown command `whi`; did you mean `why`?\n")
+
+
+def test_a_first_folder(run: Run, tmp_path: Path) -> None:
+    """The warrior is that of the tutorial, and the command that is named runs."""
+    done = run("new", "mine")
+    assert done.returncode == 0 and "next: corewar challenge mine/first.red mine/examples\n" in done.stdout
+    tutorial = (EXAMPLES.parent / "docs" / "user" / "TUTORIAL.md").read_text()
+    assert (tmp_path / "mine" / "first.red").read_text() in tutorial
+    assert len(run("challenge", "-r", 1, "mine/first.red", "mine/examples").stdout.splitlines()) == 15
+    again = run("new", "mine")
+    assert (again.returncode, again.stderr) == (1, "corewar: mine: already exists\n")
+
+
+def test_positions_of_rounds(run: Run) -> None:
+    """They are what `-F` accepts, and for more warriors the addresses of all but the first."""
+    lines = run("rounds", "-r", 2, "@dwarf", "@imp").stdout.splitlines()
+    assert lines[1:3] == ["warrior 1: Imp by A. K. Dewdney, 1 cell", lines[2]] and "position" in lines[2]
+    for number, line in enumerate(lines[3:5]):
+        same = run("rounds", "-r", 2, "-F", line.split()[1], "@dwarf", "@imp").stdout.splitlines()[3 + number]
+        assert same.split()[4] == line.split()[4]
+    assert len(run("rounds", "@dwarf", "@imp", "@paper").stdout.splitlines()[4].split()[1:3]) == 2

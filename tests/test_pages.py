@@ -185,8 +185,8 @@ def test_a_figure_is_the_picture(run: Run, tmp_path: Path, monkeypatch: pytest.M
 def test_rounds(run: Run, tmp_path: Path) -> None:
     done = run("rounds", "-r", 3, "@dwarf", "@imp", "--pages", "match")
     lines = done.stdout.splitlines()
-    assert done.returncode == 0 and lines[0] == "warrior 0: Dwarf by A. K. Dewdney"
-    assert lines[3].startswith("    0 win  loss     7798  corewar debug -r 3 ")
+    assert done.returncode == 0 and lines[0] == "warrior 0: Dwarf by A. K. Dewdney, 4 cells"
+    assert lines[3].startswith("    0 1305      win  loss     7798  corewar debug -r 3 ")
     assert lines[4].startswith("    1 ") and "--round 1" in lines[4]
     table = run("fight", "-r", 3, "@dwarf", "@imp").stdout.splitlines()
     assert table[1].split()[1:4] == ["2", "1", "0"] and "Dwarf by A. K. Dewdney: 2 wins, 1 tie, 0 losses" in lines

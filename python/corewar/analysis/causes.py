@@ -113,9 +113,8 @@ def describe_hit(formatter: BattleFormatter, warrior: int) -> Iterator[str]:
 
 def first_hit(history: History, warrior: int) -> int | None:
     """Returns the first turn in which another warrior changed a cell where one was loaded."""
-    own = history.warriors[warrior]
-    first = (int(history.state(0).queues[warrior][0]) - own.start) % history.core
-    last = (first + len(own) - 1) % history.core
+    first, length = history.loaded(warrior)
+    last = (first + length - 1) % history.core
     others = [number for number in range(len(history.warriors)) if number != warrior]
     found = search(history, [Condition("changes", first, last, other) for other in others], 0) if others else None
     return found and found[0]

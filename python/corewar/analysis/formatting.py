@@ -14,6 +14,14 @@ from .turns import Place, Turn, Write
 # How many of many texts are shown, and how many processes around one that was edited.
 MAX_LISTED, MAX_PROCESSES = 8, 20
 
+# The colours of warriors, as a terminal numbers them.
+COLOUR_CODES = (91, 94, 92, 93, 95, 96, 31, 34, 32, 33, 35, 36)
+
+
+def paint(number: int, text: str) -> str:
+    """A warrior's name in its colour."""
+    return f"\x1b[{COLOUR_CODES[number % len(COLOUR_CODES)]}m{text}\x1b[0m"
+
 
 def list_some(texts: Sequence[str]) -> str:
     """Returns the first ones of many texts, and how many more there are."""
@@ -142,11 +150,10 @@ class BattleFormatter:
     def warrior_states(self, turn: int) -> Iterator[str]:
         """Describes the state of each warrior."""
         for number, name in enumerate(self.names):
-            death = self.history.death(number)
-            if death is not None and death <= turn:
-                yield f"{name}: died in turn {death}"
-            else:
-                yield f"{name}: {pluralize(len(self.history.block(turn).queue(number, turn)), 'process')}"
+            death, start, length = self.history.death(number), *self.history.loaded(number)
+            processes = pluralize(len(self.history.block(turn).queue(number, turn)), "process")
+            state = processes if death is None or death > turn else f"died in turn {death}"
+            yield f"{name}: {state}; {pluralize(length, 'cell')} loaded at {start}"
 
     def queue(self, turn: int, warrior: int, process: int | None = None) -> str:
         """Describes the addresses of the processes of a warrior: all, or if there are many only those around one."""

@@ -308,12 +308,17 @@ class History:
 
     def _loaded(self) -> tuple[Owners, NDArray[np.int64]]:
         """Returns the owners and the turns of the start."""
-        owners, start = np.full(self.core, NOBODY, np.uint8), Battle(self.fight, self.round)
-        for number, warrior in enumerate(self.warriors):
-            first = int(start.queues[number][0]) - warrior.start
-            owners[(first + np.arange(len(warrior))) % self.core] = number
+        owners = np.full(self.core, NOBODY, np.uint8)
+        for number in range(len(self.warriors)):
+            first, length = self.loaded(number)
+            owners[(first + np.arange(length)) % self.core] = number
         owners[self.changed_by_hand(0)] = BY_HAND
         return owners, np.zeros(self.core, np.int64)
+
+    def loaded(self, warrior: int) -> tuple[int, int]:
+        """Returns the address at which a warrior was loaded, and its length."""
+        start, loaded = self.segments[0].run.at(0), self.warriors[warrior]
+        return (int(start.queues[warrior][0]) - loaded.start) % self.core, len(loaded)
 
     def changed_by_hand(self, turn: int) -> NDArray[np.intp]:
         """Returns the addresses of the cells that the edits after a turn changed."""

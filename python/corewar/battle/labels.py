@@ -7,7 +7,6 @@ from dataclasses import dataclass
 from functools import cached_property
 from weakref import WeakKeyDictionary
 
-from ..engine.battles import Battle
 from ..engine.calls import Match, source_lines
 from ..engine.warriors import Warrior
 from ..model.errors import CorewarError, MarsError
@@ -41,10 +40,9 @@ class Sources:
     def __init__(self, history: History, count: int | None = None) -> None:
         self.lines: dict[int, Line] = {}
         self._labels: list[tuple[int, str, int]] = []
-        start = Battle(history.fight, history.round)
         self._origins: WeakKeyDictionary[History, Origins] = WeakKeyDictionary()
         for number, warrior in enumerate(history.warriors):
-            first = int(start.queues[number][0]) - warrior.start
+            first, _ = history.loaded(number)
             texts = (warrior.source or b"").decode("latin-1").split("\n")
             for place, (line, labels) in enumerate(read_lines(warrior, history.fight, count)):
                 address = (first + place) % history.core

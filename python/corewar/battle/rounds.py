@@ -22,9 +22,16 @@ class Round:
     history: History
     outcomes: tuple[str, ...]
 
+    @property
+    def starts(self) -> list[int]:
+        """The address of the first cell of each warrior, in the order of the match."""
+        count, number = len(self.outcomes), self.history.round
+        return [self.history.loaded((place - number) % count)[0] for place in range(count)]
+
     def to_dict(self) -> dict[str, Any]:
-        """Returns its number, the outcomes and its number of turns, as plain values."""
-        return {"round": self.history.round, "outcomes": [*self.outcomes], "turns": self.history.end}
+        """Returns its number, the addresses, the outcomes and its number of turns, as plain values."""
+        outcomes, history = [*self.outcomes], self.history
+        return {"round": history.round, "starts": self.starts, "outcomes": outcomes, "turns": history.end}
 
 
 def rounds(fight: Match) -> Iterator[Round]:

@@ -1,7 +1,6 @@
 """`debug`: the debugger at a prompt, or over a pipe."""
 from __future__ import annotations
 
-import os
 import sys
 
 import click
@@ -10,6 +9,7 @@ from ..battle.history import History
 from ..battle.labels import Sources
 from .layout import Command, Number
 from .options import BattleOptions, battle_options
+from .reporting import is_coloured
 
 EXAMPLES = ["corewar debug dwarf.red imp.red", "printf 'continue dies imp\\nwhy\\n' | corewar debug dwarf.red imp.red"]
 
@@ -17,11 +17,11 @@ EXAMPLES = ["corewar debug dwarf.red imp.red", "printf 'continue dies imp\\nwhy\
 @click.command(cls=Command, examples=EXAMPLES)
 @battle_options(one_round=True)
 @click.option("--turn", type=Number(0), default=0, show_default=True, help="Turn to start at, 0 or more")
-def debug(options: BattleOptions, turn: int) -> None:
+def debug(options: BattleOptions, turn: int) -> int:
     """Step through a battle, forwards and backwards.
 
     At the prompt, `help` lists the commands and `help COMMAND` explains one. If standard input is not a terminal,
-    commands are read from it, one per line.
+    commands are read from it, one per line; the exit status is 1 if one of them failed.
     """
     from ..debugger.prompt import is_terminal, run_lines, run_prompt
     from ..debugger.session import Session
@@ -29,7 +29,7 @@ def debug(options: BattleOptions, turn: int) -> None:
     history = History(options.fight(), options.round)
     session = Session(history, Sources(history), turn=min(turn, history.end))
     if not is_terminal():
-        run_lines(session, sys.stdin)
-        return
+        return run_lines(session, sys.stdin)
     click.echo(" against ".join(history.names) + "; `help` lists the commands")
-    run_prompt(session, not os.environ.get("NO_COLOR"))
+    run_prompt(session, is_coloured())
+    return 0

@@ -22,7 +22,7 @@ from ..engine.warriors import Warrior
 from ..model.errors import FileError
 from ..model.printing import printable
 from .layout import EXECUTION, STATUSES, Command, Number, Option
-from .options import EVERY_POSITION, INPUT, BattleOptions, Output, Picture
+from .options import EVERY_POSITION, INPUT, BattleOptions, Decorator, Output, Picture
 from .options import battle_options, format_option, match_option, with_options
 from .reporting import report, report_error, show
 from .waiting import PROCESSORS, Waiting
@@ -94,19 +94,24 @@ class MatchRunner:
         return found
 
 
-def contest_options(command: Callable[..., Any]) -> Callable[..., Any]:
-    """Adds the options of a match, the files and the execution options, as the arguments `options` and `runner`."""
+def contest_options(rounds: int) -> Decorator:
+    """Adds the options of a match of `rounds` by default, the files and the execution options, as the arguments
+    `options` and `runner`.
+    """
 
-    @battle_options()
-    @wraps(command)
-    def wrapper(
-        options: BattleOptions, results: str | None, jobs: int, scheduler: str | None, same_seed: bool, **given: Any
-    ) -> Any:
-        if len(options.files) < 2:
-            raise click.UsageError("expected at least two files")
-        return command(replace(options, same_seed=same_seed), MatchRunner(results, jobs, scheduler), **given)
+    def decorate(command: Callable[..., Any]) -> Callable[..., Any]:
+        @battle_options(rounds=rounds)
+        @wraps(command)
+        def wrapper(
+            options: BattleOptions, results: str | None, jobs: int, scheduler: str | None, same_seed: bool, **given: Any
+        ) -> Any:
+            if len(options.files) < 2:
+                raise click.UsageError("expected at least two files")
+            return command(replace(options, same_seed=same_seed), MatchRunner(results, jobs, scheduler), **given)
 
-    return with_options(*EXECUTION_OPTIONS)(wrapper)
+        return with_options(*EXECUTION_OPTIONS)(wrapper)
+
+    return decorate
 
 
 def entrants_of(options: BattleOptions, count: int = 2) -> tuple[Contest, list[Warrior], list[FileError]]:
@@ -153,7 +158,7 @@ def write_results(result: Any, form: str, output: str | None = None, only_sum: b
     ],
     statuses=LEFT_OUT,
 )
-@contest_options
+@contest_options(rounds=1)
 @click.option(
     "--order",
     type=click.Choice(["points", "files"]),
@@ -202,13 +207,13 @@ def league(options: BattleOptions, runner: MatchRunner, order: str, form: str, *
 @click.command(
     cls=Command,
     examples=[
-        "corewar challenge -r 100 mine.red hill/*.red",
-        "corewar challenge --sum -r 100 mine.red hill/*.red",
+        "corewar challenge mine.red hill/*.red",
+        "corewar challenge --sum --positions all mine.red hill/*.red",
         "corewar challenge --old before.red -r 500 mine.red hill/*.red",
     ],
     statuses=LEFT_OUT,
 )
-@contest_options
+@contest_options(rounds=100)
 @click.option("--sum", "only_sum", is_flag=True, help="Print only the sums")
 @click.option(
     "--old",

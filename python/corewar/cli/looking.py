@@ -3,24 +3,25 @@ from __future__ import annotations
 
 import click
 
-from ..analysis.causes import describe_change
+from ..analysis.causes import describe_change, describe_death
 from ..analysis.losses import Death, Tie, describe_losses, describe_ties, fates_of_rounds, lost_rounds
 from ..analysis.study import WARRIORS, study as study_of
-from ..analysis.formatting import BattleFormatter
+from ..analysis.formatting import BattleFormatter, paint
 from ..battle.history import History
 from ..battle.labels import Sources
 from ..engine.sources import Limit, read_warriors
 from ..model.errors import CorewarError
+from ..model.printing import printable
 from ..model.settings import Settings, whole
 from .layout import Command, Number
 from .options import INPUT, LIMIT, BattleOptions, WarriorName, battle_options, core_options, format_option, is_given
-from .reporting import report, show, show_value
+from .reporting import is_coloured, report, show, show_value
 from .waiting import processes, progress
 
 
 def formatter_of(options: BattleOptions) -> BattleFormatter:
     history = History(options.fight(), options.round)
-    return BattleFormatter(history, Sources(history))
+    return BattleFormatter(history, Sources(history), *([paint] if is_coloured() else []))
 
 
 def warrior_of(history: History, named: str) -> int:
@@ -59,7 +60,8 @@ def why(options: BattleOptions, named: str | None, turns: int, form: str) -> int
     """
     if options.rounds > 1 and not is_given("round_"):
         return print_losses(options, named, form)
-    history = History(options.fight(), options.round)
+    formatter = formatter_of(options)
+    history = formatter.history
     died = [int(number) for number in history.ending.deaths["warrior"]]
     living = [number for number in range(len(history.names)) if number not in died]
     # The warriors that died, and in a tie those that live.
@@ -67,8 +69,11 @@ def why(options: BattleOptions, named: str | None, turns: int, form: str) -> int
     if named is not None:
         numbers = [warrior_of(history, named)]
     elif not died and form == "text":
-        click.echo(f"No warrior died; {BattleFormatter(history, Sources(history)).ending()}.")
-    show_value([history.why(number, turns) for number in numbers], form)
+        show([f"No warrior died; {formatter.ending()}."])
+    if form == "json":
+        show_value([history.why(number, turns) for number in numbers])
+    else:
+        show(line for number in numbers for line in describe_death(formatter, number, turns))
     return 0
 
 
@@ -170,4 +175,8 @@ def study(file: str, settings: Settings, limit: Limit, form: str) -> None:
     turn, and the stride from one to the next. Also finds the first turn in which the warrior hits its own code.
     """
     (warrior,) = read_warriors([file], settings, limit=limit, warriors=WARRIORS)
-    show_value(study_of(warrior, settings=settings), form)
+    found = study_of(warrior, settings=settings)
+    if form == "json":
+        show_value(found)
+    else:
+        show(map(printable, str(found).split("\n")))

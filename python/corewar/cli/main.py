@@ -18,7 +18,7 @@ from .reporting import report, report_error
 
 # The commands by groups, each with its module in this folder, which is imported only when the command is used.
 GROUPS = {
-    "Play": {"fight": "rounds", "debug": "debugging", "web": "web"},
+    "Play": {"new": "starting", "fight": "rounds", "debug": "debugging", "web": "web"},
     "Look": {
         "why": "looking",
         "trace": "looking",
@@ -51,6 +51,11 @@ class Commands(Command, click.Group):
         found: click.Command = getattr(import_module(f".{COMMANDS[name]}", __package__), name)
         return found
 
+    def parse_args(self, context: click.Context, words: list[str]) -> list[str]:
+        if words[:1] == ["help"]:
+            words = [*words[1:2], "--help"]
+        return super().parse_args(context, words)
+
     def resolve_command(
         self, context: click.Context, words: list[str]
     ) -> tuple[str | None, click.Command | None, list[str]]:
@@ -69,12 +74,19 @@ class Commands(Command, click.Group):
                 formatter.write_dl([(name, one.get_short_help_str(width).rstrip(".")) for name, one in found if one])
 
 
-EXAMPLES = ["corewar fight -r 100 dwarf.red imp.red", "corewar why dwarf.red imp.red", "corewar COMMAND --help"]
+EXAMPLES = ["corewar fight -r 100 dwarf.red imp.red", "corewar why dwarf.red imp.red", "corewar help why"]
 
 
 @click.command(cls=Commands, context_settings=HELP, examples=EXAMPLES)
+@click.option(
+    "--color",
+    type=click.Choice(["auto", "always", "never"]),
+    default="auto",
+    show_default=True,
+    help="Colour the names of warriors: on a terminal unless NO_COLOR is set, always or never",
+)
 @click.version_option(__version__, prog_name="corewar", help="Print the version")
-def commands() -> None:
+def commands(color: str) -> None:
     """Run, debug and visualise Core War battles on a verified simulator."""
 
 
@@ -88,6 +100,17 @@ def open_streams() -> None:
             stream.reconfigure(errors="replace")
 
 
+def run() -> int | None:
+    """Runs the command, and returns its exit status. Click exits by itself if standard output has no reader any more,
+    such as `head`, which is no error.
+    """
+    try:
+        status: int | None = commands.main(prog_name="corewar", standalone_mode=False)
+        return status
+    except SystemExit:
+        return 0
+
+
 def main() -> None:
     """Runs the command. Errors are reported in one line, and no traceback reaches a user."""
     open_streams()
@@ -95,7 +118,7 @@ def main() -> None:
     if signal.getsignal(signal.SIGINT) == signal.SIG_DFL:
         signal.signal(signal.SIGINT, signal.default_int_handler)
     try:
-        status = commands.main(prog_name="corewar", standalone_mode=False)
+        status = run()
         sys.stdout.flush()
         sys.exit(status or 0)
     except click.ClickException as fault:
@@ -117,9 +140,9 @@ def main() -> None:
         report(f"{fault}{advice}")
         status = 1
     except OSError as fault:
-        if not isinstance(fault, BrokenPipeError):
+        status = int(not isinstance(fault, BrokenPipeError))
+        if status:
             report(": ".join(str(part) for part in (fault.filename, fault.strerror) if part is not None))
-        status = 1
     # Matches that are under way aren't waited for. All output was flushed when it was written; what standard output did
     # not accept is not written again.
     os._exit(status)

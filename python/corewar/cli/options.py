@@ -221,8 +221,6 @@ LIMIT = match_option(
     help="Limits for assembling a source: CPU seconds and megabytes  [default: 10,1000]",
 )
 CONTEST = [
-    HILL,
-    number_option("rounds", MATCH, default=1, show_default=True),
     number_option("seed", MATCH, default=1, show_default=True),
     number_option("position", MATCH),
     match_option(
@@ -296,8 +294,11 @@ def positions_of(settings: Settings, position: int | None, fixed: bool) -> dict[
     return {"pmars": f"pmars -F {position}", **({"seed": seed} if seed else {"position": position})}
 
 
-def battle_options(*, one_round: bool = False, needs_files: bool = True) -> Decorator:
-    """Adds the options of a match and the files, as the argument `options`; with `one_round` also that of a round."""
+def battle_options(*, one_round: bool = False, needs_files: bool = True, rounds: int = 1) -> Decorator:
+    """Adds the options of a match and the files, as the argument `options`; with `one_round` also that of a round.
+
+    - `rounds`: the number of rounds if it is not given
+    """
 
     def decorate(command: Callable[..., Any]) -> Callable[..., Any]:
         @functools.wraps(command)
@@ -314,6 +315,8 @@ def battle_options(*, one_round: bool = False, needs_files: bool = True) -> Deco
         files = click.argument(
             "files", nargs=-1, required=needs_files, type=INPUT, metavar="FILE..." if needs_files else "[FILE]..."
         )
-        return with_options(*CONTEST, *([ROUND] if one_round else []), *SETTINGS, files)(with_settings(wrapper))
+        count = number_option("rounds", MATCH, default=rounds, show_default=True)
+        match = [HILL, count, *CONTEST, *([ROUND] if one_round else [])]
+        return with_options(*match, *SETTINGS, files)(with_settings(wrapper))
 
     return decorate

@@ -2,6 +2,7 @@
 from __future__ import annotations
 
 import json
+import os
 import sys
 from collections.abc import Iterable, Sequence
 from dataclasses import asdict
@@ -14,20 +15,21 @@ from ..model.errors import CorewarError, FileError, MarsError
 from ..model.printing import lines_for, printable
 
 
+def is_coloured() -> bool:
+    """Returns whether standard output has colours: as `--color` says, or by default on a terminal without NO_COLOR."""
+    when = click.get_current_context().find_root().params.get("color")
+    automatic = sys.stdout.isatty() and not os.environ.get("NO_COLOR") and os.environ.get("TERM") != "dumb"
+    return when == "always" or when != "never" and automatic
+
+
 def show(lines: Iterable[str]) -> None:
     """Writes lines to standard output."""
-    click.echo(lines_for(sys.stdout, lines))
+    click.echo(lines_for(sys.stdout, lines), color=is_coloured())
 
 
-def show_value(value: Any, form: str = "json") -> None:
-    """Writes a value, or a list of values, as text or as JSON."""
-    if form == "json":
-        values = [asdict(one) for one in value] if isinstance(value, list) else asdict(value)
-        click.echo(json.dumps(values))
-    else:
-        show(
-            printable(line) for one in (value if isinstance(value, list) else [value]) for line in str(one).split("\n")
-        )
+def show_value(value: Any) -> None:
+    """Writes a value, or a list of values, as JSON."""
+    click.echo(json.dumps([asdict(one) for one in value] if isinstance(value, list) else asdict(value)))
 
 
 def report(text: str) -> None:

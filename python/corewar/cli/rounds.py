@@ -112,7 +112,7 @@ def print_rows(fought: Match, rows: Sequence[Row]) -> None:
 def rounds(options: BattleOptions, pages: str | None, form: str) -> None:
     """Print the outcome of every round, with the command to debug it.
 
-    The outcomes are in the order of the files.
+    The positions, of all warriors but the first, and the outcomes are in the order of the files.
     """
     fought = options.fight()
     if form == "json":
@@ -121,8 +121,9 @@ def rounds(options: BattleOptions, pages: str | None, form: str) -> None:
     width = 5 * len(fought.warriors)
     titles = [printable(warrior.title) for warrior in fought.warriors]
     for number, title in enumerate(titles):
-        click.echo(f"warrior {number}: {title}")
-    click.echo(f"round {'outcome':{width}} {'turns':>7}  command to debug it")
+        click.echo(f"warrior {number}: {title}, {pluralize(len(fought.warriors[number]), 'cell')}")
+    places = max(9, 6 * (len(titles) - 1))
+    click.echo(f"round {'position':{places}} {'outcome':{width}} {'turns':>7}  command to debug it")
     if pages:
         from ..pages.match import Pages
 
@@ -130,7 +131,9 @@ def rounds(options: BattleOptions, pages: str | None, form: str) -> None:
     outcomes = []
     for one in rounds_of(fought):
         outcome, words = "".join(f"{what:5}" for what in one.outcomes), printable(command(one.history, "debug"))
-        click.echo(f"{one.history.round:5} {outcome:{max(width, 7)}} {one.history.end:7}  {words}")
+        # The first warrior is at address 0.
+        position = " ".join(map(str, one.starts[1:]))
+        click.echo(f"{one.history.round:5} {position:{places}} {outcome:{max(width, 7)}} {one.history.end:7}  {words}")
         outcomes.append(one.outcomes)
         if pages:
             written.add(one)

@@ -156,7 +156,7 @@ def continue_back(session: Session, rest: str) -> Iterator[str]:
 
 
 def search_from_here(session: Session, rest: str, forward: bool) -> Iterator[str]:
-    conditions = [session.condition(rest.split())] if rest else session.breakpoints
+    conditions = [session.condition(rest.split())] if rest else [*session.breakpoints.values()]
     yield f"{session.describe_condition(session.search(conditions, forward))}:"
     yield from show_position(session)
 
@@ -164,10 +164,10 @@ def search_from_here(session: Session, rest: str, forward: bool) -> Iterator[str
 @command("break [CONDITION]", "set a breakpoint for continue, or list all breakpoints", "b")
 def set_break(session: Session, rest: str) -> Iterator[str]:
     if rest:
-        session.breakpoints.append(session.condition(rest.split()))
+        session.breakpoints[max(session.breakpoints, default=-1) + 1] = session.condition(rest.split())
     if not session.breakpoints:
         yield "no breakpoint is set"
-    for number, condition in enumerate(session.breakpoints):
+    for number, condition in session.breakpoints.items():
         yield f"breakpoint {number}: {session.describe_condition(condition)}"
 
 
@@ -177,10 +177,10 @@ def delete(session: Session, rest: str) -> Iterator[str]:
         session.breakpoints.clear()
     else:
         number = whole(rest)
-        if number is None or number >= len(session.breakpoints):
+        if number is None or number not in session.breakpoints:
             raise CorewarError(f"no breakpoint `{rest}`; expected a number or `all`")
         del session.breakpoints[number]
-    yield from set_break(session, "")
+    yield from set_break(session, "") if session.breakpoints else ["all breakpoints are deleted"]
 
 
 @command("undo", "undo the last move or edit", "u", repeats=True)

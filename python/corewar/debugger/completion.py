@@ -74,12 +74,12 @@ class CommandCompleter(Completer):
 
     def choices(self, kind: str, command: Command) -> Choices:
         """Returns what an argument can be that is written so in the usage of its command."""
-        numbers = {"delete": len(self.session.breakpoints), "futures": len(self.session.futures)}
+        numbers = {"delete": self.session.breakpoints, "futures": range(len(self.session.futures))}
         known: dict[str, Choices] = {
             "COMMAND": {one.name: one.summary for one in COMMANDS.values()},
             "FILE": None,
             "LINE": {name.lower(): meaning for name, meaning in OPCODES.items()},
-            "N": {str(number): "" for number in range(numbers.get(command.name, 0))},
+            "N": {str(number): "" for number in numbers.get(command.name, ())},
             "T": {"start": "", "end": ""},
         }
         if command.name == "delete":

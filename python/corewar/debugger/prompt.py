@@ -16,6 +16,7 @@ from prompt_toolkit.history import FileHistory, InMemoryHistory
 from prompt_toolkit.lexers import PygmentsLexer
 from pygments.lexers.esoteric import RedcodeLexer
 
+from ..analysis.formatting import paint
 from ..engine.sources import read_file
 from ..model.errors import CorewarError
 from ..model.printing import lines_for, printable
@@ -23,15 +24,8 @@ from .commands import QuitDebugger, execute, find_command, split_line
 from .completion import CommandCompleter, command_of
 from .session import Session
 
-# The colours of warriors, as a terminal numbers them.
-COLOUR_CODES = (91, 94, 92, 93, 95, 96, 31, 34, 32, 33, 35, 36)
 # How deep `source` may be nested.
 MAX_DEPTH = 8
-
-
-def paint(number: int, text: str) -> str:
-    """A warrior's name in its colour."""
-    return f"\x1b[{COLOUR_CODES[number % len(COLOUR_CODES)]}m{text}\x1b[0m"
 
 
 def as_utf8(line: str) -> str:
@@ -55,7 +49,7 @@ class Runner:
     def __init__(self, session: Session, show: Callable[[str], None]) -> None:
         self.session, self.show = session, show
         self.log: TextIO | None = None
-        self.depth = 0
+        self.depth, self.has_failed = 0, False
 
     def execute_line(self, line: str) -> None:
         """Executes a line and shows the result. Raises QuitDebugger."""
@@ -70,6 +64,7 @@ class Runner:
                 self.show("\n".join(execute(self.session, line)))
                 self.log_line(line.strip())
         except CorewarError as fault:
+            self.has_failed = True
             self.show("\n".join(map(printable, str(fault).split("\n"))))
 
     def start_log(self, file: str) -> None:
@@ -107,14 +102,15 @@ class Runner:
             self.depth -= 1
 
 
-def run_lines(session: Session, lines: Iterable[str]) -> None:
-    """Executes lines that don't come from a terminal. An empty one does nothing."""
+def run_lines(session: Session, lines: Iterable[str]) -> int:
+    """Executes lines that don't come from a terminal. An empty one does nothing. Returns the exit status."""
     runner = Runner(session, lambda text: print(text, flush=True))
     try:
         for line in lines:
             runner.execute_line(line)
     except QuitDebugger:
-        return
+        pass
+    return int(runner.has_failed)
 
 
 def state_file() -> Path | None:

@@ -33,7 +33,7 @@ class Session:
     turn: int = 0
     past: list[tuple[History, int]] = field(default_factory=list)
     undone: list[tuple[History, int]] = field(default_factory=list)
-    breakpoints: list[Condition] = field(default_factory=list)
+    breakpoints: dict[int, Condition] = field(default_factory=dict)
     futures: list[History] = field(default_factory=list)
 
     def __post_init__(self) -> None:
