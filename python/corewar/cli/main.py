@@ -18,7 +18,7 @@ from .reporting import report, report_error
 
 # The commands by groups, each with its module in this folder, which is imported only when the command is used.
 GROUPS = {
-    "Play": {"new": "starting", "fight": "rounds", "debug": "debugging", "web": "web"},
+    "Play": {"new": "starting", "fight": "rounds", "watch": "watching", "debug": "debugging", "web": "web"},
     "Look": {
         "why": "looking",
         "trace": "looking",
