@@ -99,6 +99,7 @@ uninstall:
 	rm -rf $(documents) $(package)/corewar $(to)/share/corewar
 
 packages: $(PROGRAM) $(LIBRARY) $(SITE)
+	@dpkg-checkbuilddeps packaging/debian/control || { echo "packing needs more packages: scripts/setup --all, as root, installs them" >&2; exit 1; }
 	rm -rf build/package
 	mkdir -p build/package/licences
 	cp -R packaging/debian build/package

@@ -194,9 +194,10 @@ def test_one_list_of_packages(tmp_path: Path) -> None:
     required = needed | pictures
     control = (TOP / "packaging" / "debian" / "control").read_text().partition("Package: corewar")[2]
     assert {*re.findall(r"^ (python3-[\w-]+),$", control, re.M)} == needed
-    assert pictures | {f"python3-{name}" for name in extras["cluster"]} == {
-        *re.findall(r"python3-[\w-]+", re.findall(r"^Recommends: (.*)$", control, re.M)[0])
-    }
+    for relation, extra in (("Recommends", "pictures"), ("Suggests", "cluster")):
+        assert {f"{relation}: python3-{name}" for name in extras[extra]} == {
+            *re.findall(f"^{relation}: .*", control, re.M)
+        }
     # With this stub, no package is installed.
     (tmp_path / "dpkg-query").write_text("#!/bin/sh\n")
     (tmp_path / "dpkg-query").chmod(0o755)

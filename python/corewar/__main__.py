@@ -2,6 +2,16 @@
 import signal
 import sys
 
+# The extra of the wheel that has a module, if it is not `cli`.
+EXTRAS = {"matplotlib": "pictures"}
+
+
+def missing_module(error: ModuleNotFoundError) -> str:
+    """Says what to install for a missing module."""
+    module = (error.name or "").partition(".")[0]
+    debian, extra = f"Debian's python3-{module.replace('_', '-')}", EXTRAS.get(module, "cli")
+    return f"{error}; install {debian}, or all with scripts/setup, or with pip corewar[{extra}]"
+
 
 def main() -> None:
     """Runs the command, or reports that it cannot be loaded."""
@@ -11,7 +21,7 @@ def main() -> None:
     try:
         from corewar.cli.main import main as run
     except ModuleNotFoundError as error:
-        sys.exit(f"corewar: {error}; install the dependencies of corewar with scripts/setup, or with pip corewar[cli]")
+        sys.exit(f"corewar: {missing_module(error)}")
     except ImportError as error:
         sys.exit(f"corewar: {error}")
     run()

@@ -10,6 +10,7 @@ from importlib import import_module
 import click
 
 from .. import __version__
+from ..__main__ import missing_module
 from ..model.errors import FORMULA, PARAMETERS, SETTINGS, CorewarError, MarsError
 from ..model.printing import printable
 from .layout import Command
@@ -33,8 +34,6 @@ GROUPS = {
     "Editors": {"lsp": "editing"},
 }
 COMMANDS = {name: module for group in GROUPS.values() for name, module in group.items()}
-# What to do about a missing module: the extra of the wheel that has it, if it is not `cli`.
-SETUP, EXTRAS = "install the dependencies of corewar with scripts/setup, or with pip", {"matplotlib": "pictures"}
 # Errors of the library that are usage errors, as in `mars`.
 USAGE = (SETTINGS, PARAMETERS, FORMULA)
 
@@ -135,9 +134,7 @@ def main() -> None:
         report("out of memory")
         status = 1
     except ImportError as fault:
-        extra = EXTRAS.get((fault.name or "").partition(".")[0], "cli")
-        advice = f"; {SETUP} corewar[{extra}]" if isinstance(fault, ModuleNotFoundError) else ""
-        report(f"{fault}{advice}")
+        report(missing_module(fault) if isinstance(fault, ModuleNotFoundError) else str(fault))
         status = 1
     except OSError as fault:
         status = int(not isinstance(fault, BrokenPipeError))

@@ -20,6 +20,10 @@ from .calls import assemble, encode_source
 from .warriors import Warrior, read_load
 
 
+# Where the system says how much memory a process has, and what is taken for it in a chroot without that.
+STATM, MUCH_MEMORY = "/proc/self/statm", 4_000_000_000
+
+
 @dataclass(frozen=True)
 class Limit:
     """The limits for assembling one source: `seconds` of CPU time, and `megabytes` of memory, 1 or more of each. Raises
@@ -130,9 +134,7 @@ def serve(pipe: Connection, limit: Limit, other: Connection | None) -> None:
     signal.signal(signal.SIGINT, signal.SIG_IGN)
     threading.Thread(target=end_with_parent, daemon=True).start()
     # The limit is for what a source adds to the memory that the process has at its start.
-    with open("/proc/self/statm") as file:
-        taken = int(file.read().split()[0]) * resource.getpagesize()
-    lower_limit(resource.RLIMIT_AS, taken + limit.megabytes * 1_000_000)
+    lower_limit(resource.RLIMIT_AS, taken_memory() + limit.megabytes * 1_000_000)
     lower_limit(resource.RLIMIT_CORE, 0)
     while True:
         try:
@@ -146,6 +148,15 @@ def serve(pipe: Connection, limit: Limit, other: Connection | None) -> None:
             pipe.send(assemble_or_error(*given))
         except BrokenPipeError:
             return
+
+
+def taken_memory() -> int:
+    """Returns the bytes of memory that this process has, or more than it has if the system doesn't say."""
+    try:
+        with open(STATM) as file:
+            return int(file.read().split()[0]) * resource.getpagesize()
+    except OSError:
+        return MUCH_MEMORY
 
 
 def end_with_parent() -> None:
