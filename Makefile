@@ -56,14 +56,18 @@ site: $(SITE)
 $(SITE): $(WASM) $(PARTS)
 	node site/build.mjs $(WASM) build/site
 
-man:
+# The man page of mars, and its completion.
+mars = $(COREWAR) packaging/mars.py $(PROGRAM) build/man build/completion
+
+man: $(PROGRAM)
 	rm -rf build/man
 	mkdir -p build/man
-	cp docs/mars.1 build/man
+	$(mars)
 	$(COREWAR) packaging/man.py build/man
 
-completion:
+completion: $(PROGRAM)
 	mkdir -p build/completion
+	$(mars)
 	_COREWAR_COMPLETE=bash_source $(COREWAR) -m corewar >build/completion/corewar.bash
 # A function that zsh loads on demand also has to complete when it is loaded.
 	_COREWAR_COMPLETE=zsh_source $(COREWAR) -m corewar | sed 's/^compdef _corewar_completion corewar;/_corewar_completion "$$@"/' >build/completion/_corewar
@@ -84,11 +88,11 @@ install: $(PROGRAM) $(LIBRARY) $(SITE) man completion editors
 	$(call copy,python,$(package),corewar)
 	$(call copy,build,$(package)/corewar/pages,site)
 	install -D -m 644 -t $(to)/share/man/man1 build/man/*.1
-	install -D -m 644 packaging/completion/mars.bash $(bash)/mars
+	install -D -m 644 build/completion/mars.bash $(bash)/mars
 	install -D -m 644 build/completion/corewar.bash $(bash)/corewar
-	install -D -m 644 -t $(zsh) packaging/completion/_mars build/completion/_corewar
+	install -D -m 644 -t $(zsh) build/completion/_mars build/completion/_corewar
 	set -e; for file in $$(find build/share -type f -printf '%P\n'); do install -D -m 644 build/share/$$file $(to)/share/$$file; done
-	$(call copy,.,$(documents),--exclude=mars.1 README.md CONTRIBUTING.md CHANGELOG.md docs examples)
+	$(call copy,.,$(documents),README.md CONTRIBUTING.md CHANGELOG.md docs examples)
 
 uninstall:
 	rm -f $(to)/bin/mars $(to)/bin/corewar $(to)/lib/libmars.so $(to)/lib/libmars.so.2 $(to)/lib/libmars.a

@@ -211,26 +211,21 @@ def test_one_list_of_packages(tmp_path: Path) -> None:
 def test_man_pages_are_well_formed(prefix: Path) -> None:
     require({"mandoc": "mandoc", "groff": "groff-base"})
     for path in sorted((prefix / "share/man/man1").iterdir()):
-        level = ["-W", "style" if path.name == "mars.1" else "error"]
-        for words in (["mandoc", "-T", "lint", *level], ["groff", "-man", "-Tascii", "-z", "-ww"]):
+        for words in (["mandoc", "-T", "lint", "-W", "error"], ["groff", "-man", "-Tascii", "-z", "-ww"]):
             done = subprocess.run([*words, str(path)], capture_output=True, text=True)
             assert (done.stdout, done.stderr, done.returncode) == ("", "", 0)
 
 
-def page_text() -> str:
-    """Returns the words of the page of `mars`, without requests, fonts and escapes."""
-    lines = []
-    for line in (TOP / "docs" / "mars.1").read_text("ascii").split("\n"):
-        alternates = re.match(r"\.(B|I)[RBI] ", line)
-        line = re.sub(r"^\.\w+ ?", "", line)
-        pieces = re.findall(r'"([^"]*)"|(\S+)', line) if alternates else []
-        lines.append("".join(quoted or plain for quoted, plain in pieces) if alternates else line)
-    return re.sub(r"\s+", " ", re.sub(r"\\f\w", "", " ".join(lines)).replace("\\-", "-").replace("\\e", "\\"))
+def page_text(prefix: Path) -> str:
+    """Returns the words of the page of `mars`, as it is shown."""
+    require({"mandoc": "mandoc"})
+    page = subprocess.run(["mandoc", "-T", "utf8", prefix / "share/man/man1/mars.1"], capture_output=True, text=True)
+    return re.sub(r"\s+", " ", re.sub(".\b", "", page.stdout))
 
 
-def test_page_of_mars_has_the_options() -> None:
+def test_page_of_mars_has_the_options(prefix: Path) -> None:
     """Each option of the help is in the page, with its range and default."""
-    text = page_text()
+    text = page_text(prefix)
     help_text = subprocess.run([PROGRAM, "--help"], capture_output=True, text=True).stdout
     words = re.findall(r"^ +(--?[\w-]+)(?: <(\w+)>)? +(.*)$", help_text, re.M)
     assert len(words) == 18
@@ -240,9 +235,9 @@ def test_page_of_mars_has_the_options() -> None:
             assert part.rstrip("]").strip() in text, word
 
 
-def test_page_of_mars_has_the_commands_and_errors() -> None:
+def test_page_of_mars_has_the_commands_and_errors(prefix: Path) -> None:
     """Each command of the debugger, refusal and error of the documents is in the page."""
-    text = page_text()
+    text = page_text(prefix)
     reference, language = ((TOP / "docs" / "user" / name).read_text() for name in ("REFERENCE.md", "LANGUAGE.md"))
     tables = reference[reference.index("## Debugger commands") : reference.index("## What a source can cost")]
     rows = re.findall(r"^\| (`[a-z].*?`) \|", tables[: tables.index("| Refusal |")], re.M)
