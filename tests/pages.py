@@ -547,6 +547,19 @@ def test_strangers_names_are_no_html(page: Browser, site: str) -> None:
     assert page.value("document.querySelectorAll('img').length") == 0
 
 
+def test_the_list_has_the_names_of_warriors(page: Browser) -> None:
+    """The rest of the page knows sources by these."""
+    page.press("e")
+    names = "[...document.querySelectorAll('#names button')].map(one => one.textContent)"
+    found = page.value(names)
+    assert {"dwarf", "scanner Lookout", "vampire Dusk"} <= {*found}
+    page.run("corewar.shelf.show(corewar.shelf.find('scanner.red'))")
+    page.run(
+        "const {mirror} = corewar.shelf.editor; mirror.setValue(mirror.getValue().replace('Lookout', 'Far Sight'))"
+    )
+    page.until(f"{names}.includes('scanner • Far Sight')")
+
+
 def test_the_editor_shows_errors_and_fights(page: Browser, site: str) -> None:
     page.press("e")
     page.run(

@@ -50,6 +50,8 @@ import { errorWords } from "./host.js";
  */
 const GUESTS = ["guest", "lesson"];
 const KINDS = { own: "", example: "example", guest: "from a link", lesson: "lesson" };
+/** A line with the name of the warrior; the last one counts. */
+const NAME = /^\s*;name\s+(\S.*?)\s*$/gim;
 const NEW = [";redcode-94", ";name My first warrior", ";author ", "; What does it do?", ""];
 NEW.push("start   MOV     0, 1            ; copies itself to the next cell", "        END     start", "");
 
@@ -299,7 +301,7 @@ export class Shelf {
       };
       const isShown = entry === this.shown;
       const show = { className: "bare", onclick: () => this.show(entry), "aria-current": String(isShown) };
-      const button = make("button", show, titleOf(entry));
+      const button = make("button", show, ...titleOf(entry));
       const label = make("label", { title: "Select" }, box);
       return make("li", { className: isShown ? "shown" : "" }, label, button, make("small", {}, KINDS[kind]));
     });
@@ -357,7 +359,7 @@ export class Shelf {
     if (!shown) return;
     const text = shown.doc.getValue();
     const button = element("names").querySelector(".shown button");
-    if (button) button.textContent = titleOf(shown);
+    if (button) button.replaceChildren(...titleOf(shown));
     const isChanged = isEdited(shown);
     const count = this.removed.length;
     element("restore").hidden = !isChanged && count === 0;
@@ -442,8 +444,17 @@ const sourceOf = ({ name, doc }) => ({ name, text: doc.getValue() });
 /** @param {OpenSource} entry */
 const isEdited = ({ kind, doc, saved }) => kind === "example" && doc.getValue() !== saved;
 
-/** @param {OpenSource} entry */
-const titleOf = ({ name, doc, saved }) => name.replace(/\.red$/, "") + (doc.getValue() === saved ? "" : " •");
+/**
+ * Returns the name of a source in the list, and that of its warrior, as the rest of the page has it, if it is another.
+ * @param {OpenSource} entry
+ */
+function titleOf({ name, doc, saved }) {
+  const text = doc.getValue();
+  const stem = name.replace(/\.red$/, "");
+  const warrior = [...text.matchAll(NAME)].at(-1)?.[1] ?? stem;
+  const isOther = warrior.toLowerCase() !== stem.toLowerCase();
+  return [stem + (text === saved ? "" : " •"), isOther ? make("small", {}, ` ${warrior}`) : ""];
+}
 
 /**
  * Returns the text of a file: UTF-8, or Latin-1 if it is not.
