@@ -572,6 +572,11 @@ def test_the_editor_shows_errors_and_fights(page: Browser, site: str) -> None:
         "MVO",
         "bom",
     ]
+    page.click("#fault button:nth-of-type(2)")
+    code = (
+        "const {mirror} = corewar.shelf.editor, {line, ch} = mirror.getCursor(); return [line, ch, mirror.hasFocus()]"
+    )
+    assert page.run(code) == [1, 8, True]
     page.run("corewar.shelf.editor.mirror.setValue(given[0]); corewar.shelf.editor.mirror.focus()", "MOV 0, 1 ; mine\n")
     page.until("!document.getElementById('fault').classList.contains('bad')")
     page.press("Enter", held="Control")

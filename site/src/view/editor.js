@@ -96,13 +96,15 @@ export class Editor {
   }
 
   /**
-   * Shows a line.
+   * Shows a line, and writes on from a word of it if that is given.
    * @param {number} line
+   * @param {number} [word] where it begins
    */
-  showLine(line) {
+  showLine(line, word) {
     this.mirror.refresh();
     this.mirror.scrollIntoView({ line: line - 1, ch: 0 }, 80);
-    this.mirror.setCursor(line - 1, 0);
+    this.mirror.setCursor(line - 1, word ?? 0);
+    if (word !== undefined) this.mirror.focus();
   }
 
   /**

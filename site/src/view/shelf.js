@@ -387,8 +387,11 @@ export class Shelf {
     element("fault").classList.toggle("bad", this.isBroken);
     const sorted = [...errors].sort((one, other) => one.line - other.line);
     // A source without an instruction has its error in no line.
-    const where = (/** @type {number} */ line) => (line ? make("b", {}, `Line ${line}: `) : "");
-    const messages = sorted.flatMap((one) => [where(one.line), withCode(one.text), make("br")]);
+    const where = (/** @type {Explained} */ { line, from }) => {
+      const show = () => this.editor.showLine(line, from);
+      return line ? [make("button", { className: "link", onclick: show }, `Line ${line}`), ": "] : [];
+    };
+    const messages = sorted.flatMap((one) => [...where(one), withCode(one.text), make("br")]);
     const size = made && `${made.name || shown.name}: ${made.cells.length} of ${settings.longest} cells`;
     refill(element("fault"), ...messages, size);
     host.checked();
