@@ -923,7 +923,7 @@ def test_control_and_enter_start_one_battle(page: Browser) -> None:
 
 def test_what_is_scrolled_and_opened_keeps_its_keys(page: Browser) -> None:
     page.press(" ")
-    page.run("document.querySelectorAll('#lessons .lesson button')[2].click()")
+    page.run("document.querySelectorAll('#lessons .lesson button')[1].click()")
     page.until("document.querySelector('#lesson-box summary') && corewar.session.way === 1")
     page.run("document.querySelector('#lesson-box summary').focus()")
     page.press(" ")
@@ -1206,25 +1206,28 @@ def test_many_warriors(page: Browser) -> None:
 
 def test_a_lesson_is_checked(page: Browser) -> None:
     page.click("[data-view=learn]")
-    check = "document.querySelectorAll('#lessons .lesson')[given[0]].querySelector('.main').click()"
-    verdict = "document.querySelectorAll('#lessons .verdict')[%d].textContent === '%s'"
+    # A lesson is checked beside its battle. The list leads there, first to the first one.
+    main = "[...document.querySelectorAll('#lessons button')].map(one => one.className)"
+    assert page.value(main) == ["main"] + [""] * 9
+    begin = "document.querySelectorAll('#lessons button')[given[0]].click()"
+    check = "document.querySelector('#lesson-box .main').click()"
+    verdict = "document.querySelector('#lesson-box .verdict').textContent === '%s'"
+    page.run(begin, 1)
+    page.until("corewar.session.way === 1 && corewar.session.end === 7798")
     go_to_turn(page, 536)
-    page.run(check, 1)
-    page.until(verdict % (1, "No warrior dies in turn 536."))
+    page.run(check)
+    page.until(verdict % "No warrior dies in turn 536.")
     go_to_turn(page, 7798)
-    page.run(check, 1)
-    page.until(verdict % (1, "Correct: a warrior dies in this turn."))
-    page.run("document.querySelectorAll('#lessons .lesson')[3].querySelector('button').click()")
+    page.run(check)
+    page.until(verdict % "Correct: a warrior dies in this turn.")
+    page.run(begin, 3)
     page.until("corewar.shelf.shown.name.startsWith('a-tie')")
-    page.run(check, 3)
+    page.run(check)
     counts = "1 cell; won %d, tied %d and lost %d of 100 rounds."
     lost = f"{counts % (0, 0, 100)} The goal is to survive 100. Watch a lost round"
-    page.until(verdict % (3, lost))
-    page.run(
-        "corewar.shelf.editor.mirror.setValue('MOV 0, 1\\n');"
-        "document.querySelectorAll('#lessons .lesson')[3].querySelector('.main').click()"
-    )
-    page.until(verdict % (3, f"{counts % (0, 100, 0)} Well done."))
+    page.until(verdict % lost)
+    page.run(f"corewar.shelf.editor.mirror.setValue('MOV 0, 1\\n'); {check}")
+    page.until(verdict % f"{counts % (0, 100, 0)} Well done.")
     assert page.text("progress") == "2 of 10 done Continue: Watch an imp"
     page.click("[data-view=learn]")
     page.click("#progress button")
@@ -1295,7 +1298,11 @@ def test_a_narrow_page_shows_lessons(narrow: Browser) -> None:
     narrow.press("Escape")
     narrow.run("document.querySelector('#lessons .lesson button').click()")
     narrow.until("corewar.session.fight.warriors.length === 1 && corewar.session.isSettled")
-    narrow.run("corewar.session.jump(corewar.session.end)")
+    narrow.until("document.getElementById('lesson-box').checkVisibility()")
+    # Its button leads to the battle.
+    narrow.run("document.querySelector('#lesson-box button').click()")
+    narrow.until("document.getElementById('battle').checkVisibility() && corewar.session.way === 1")
+    narrow.run("document.querySelector('[data-tab=lesson]').click(); corewar.session.jump(corewar.session.end)")
     narrow.until("corewar.session.turn === corewar.session.end && corewar.session.isSettled")
     narrow.run("document.querySelector('#lesson-box .main').click()")
     narrow.until("document.querySelector('#lesson-box .main').textContent === 'Next lesson'")

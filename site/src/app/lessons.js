@@ -49,7 +49,7 @@ export class Lessons {
   }
 
   #list() {
-    refill(element("lessons"), ...this.lessons.map((lesson) => this.#card(lesson)));
+    refill(element("lessons"), ...this.lessons.map((lesson) => this.#card(lesson, false)));
     this.#showProgress();
   }
 
@@ -77,18 +77,21 @@ export class Lessons {
       this.host.left();
     };
     const close = make("button", { className: "link", onclick: leave }, "Close lesson");
-    refill(element("lesson-box"), this.#card(lesson, "h2"), close);
+    refill(element("lesson-box"), this.#card(lesson, true), close);
   }
 
   /**
+   * Returns what a lesson says, and a button that opens it; one that is open is checked.
    * @param {Lesson} lesson
-   * @param {"h2" | "h3"} heading
+   * @param {boolean} isOpen
    */
-  #card(lesson, heading = "h3") {
+  #card(lesson, isOpen) {
     const isDone = this.done.has(lesson.id);
+    const isNext = !isOpen && lesson === this.lessons.find(({ id }) => !this.done.has(id));
     const verdict = make("p", { className: "verdict", role: "status" }, isDone ? "Done." : "");
     const card = make("article", { className: `lesson${isDone ? " done" : ""}` });
-    const begin = make("button", { onclick: () => this.begin(lesson) }, lesson.start ? "Begin" : "Watch");
+    const go = { className: isNext ? "main" : "", onclick: () => this.begin(lesson, isOpen) };
+    const begin = make("button", go, lesson.start ? "Begin" : "Watch");
     const judge = make("button", { className: isDone ? "" : "main" }, "Check");
     judge.onclick = async () => {
       verdict.textContent = "Checking …";
@@ -101,20 +104,19 @@ export class Lessons {
     const hint = make("details", {}, make("summary", {}, "Hint"), make("p", {}, withCode(lesson.hint)));
     const paragraphs = lesson.text.map((text) => make("p", {}, withCode(text)));
     const parts = lesson.hint ? [...paragraphs, hint] : paragraphs;
-    const row = make("p", { className: "row" }, begin, judge);
-    card.append(make(heading, {}, `${this.lessons.indexOf(lesson) + 1}. ${lesson.title}`), ...parts, verdict, row);
+    const row = make("p", { className: "row" }, begin, isOpen && judge);
+    const heading = make(isOpen ? "h2" : "h3", {}, `${this.lessons.indexOf(lesson) + 1}. ${lesson.title}`);
+    card.append(heading, ...parts, verdict, row);
     return card;
   }
 
   /**
-   * Keeps that a lesson is done. Beside the battle the next one is offered.
+   * Keeps that a lesson is done, and offers the next one.
    * @param {Lesson} lesson
    * @param {HTMLElement} card
    */
   #pass(lesson, card) {
     this.keep([...this.done.add(lesson.id)]);
-    this.#showProgress();
-    if (element("lessons").contains(card)) return;
     this.#list();
     const next = this.lessons[this.lessons.indexOf(lesson) + 1];
     const row = card.querySelector(".row");
@@ -133,8 +135,11 @@ export class Lessons {
     return entry && { name: entry.name, text: entry.doc.getValue() };
   }
 
-  /** @param {Lesson} lesson */
-  begin(lesson) {
+  /**
+   * @param {Lesson} lesson
+   * @param {boolean} isRead whether its text is already shown
+   */
+  begin(lesson, isRead = false) {
     const { shelf } = this.host;
     const name = `${lesson.id}.red`;
     if (lesson.start && !shelf.find(name)) {
@@ -147,8 +152,9 @@ export class Lessons {
     if (entry) this.host.edit();
     this.show(this.lessons.indexOf(lesson) + 1);
     const fought = this.host.fight(sources, TERMS);
-    // On a narrow page it is one of the tabs.
-    this.host.read();
+    // On a narrow page it is one of the tabs, and leads to the others.
+    if (!isRead) this.host.read();
+    else if (entry) this.host.edit();
     element("lesson-box").focus({ preventScroll: true });
     element("side").scrollTo(0, 0);
     return fought;
