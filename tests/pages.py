@@ -273,6 +273,9 @@ def test_edits_make_futures(page: Browser) -> None:
     page.run("document.querySelector('#futures .link').click()")
     page.until("corewar.session.beside?.view && !document.getElementById('other').hidden")
     assert page.text("other-name") == "Future 0 at turn 7,790"
+    bottom = "document.getElementById('%s').getBoundingClientRect().bottom"
+    own, other, stage = (page.value(bottom % name) for name in ("own-name", "other-name", "stage"))
+    assert max(own, other) <= stage + 1
     page.click("#alone")
     page.until("document.getElementById('other').hidden")
 
@@ -511,6 +514,8 @@ def test_a_battle_is_embedded(page: Browser, site: str, tmp_path: Path) -> None:
         page.until("document.documentElement.scrollWidth <= innerWidth && document.documentElement.scrollHeight <= 400")
         stage, core = page.value(boxes)
         assert core["height"] > 150 and stage["bottom"] <= 400
+        track, play = page.value(boxes.replace("'stage', 'core'", "'track', 'play'"))
+        assert stage["bottom"] <= track["top"] and track["bottom"] <= play["top"] and play["bottom"] <= 400
     finally:
         page.resize(1280, 800)
     text = page.run("return pageWith(await shared(corewar.session))")
@@ -1271,6 +1276,14 @@ def test_nothing_moves_while_the_page_begins(page: Browser, site: str) -> None:
             assert page.value(f"{play}.top > 0 && {play}.bottom <= innerHeight"), width
     finally:
         page.resize(1280, 800)
+
+
+def test_a_narrow_page_shows_the_whole_strip(narrow: Browser) -> None:
+    """The core leaves room for it above the controls."""
+    boxes = "['core', 'track', 'controls'].map(id => document.getElementById(id).getBoundingClientRect())"
+    for width, height in ((390, 844), (412, 915), (768, 1024)):
+        narrow.resize(width, height)
+        narrow.until(f"(([core, track, controls]) => track.bottom <= controls.top + 1 && core.height > 200)({boxes})")
 
 
 def test_a_narrow_page_has_tabs(narrow: Browser) -> None:

@@ -166,10 +166,17 @@ export class Theatre {
     element("other").hidden = !isTwo;
     const width = isTwo && !isNarrow() ? stage.clientWidth / 2 : stage.clientWidth;
     // On a narrow page one is below the other.
-    const most = Math.min(innerHeight * (isTwo ? 0.3 : 0.5), stage.clientWidth * 1.05);
-    const height = isNarrow() ? most : stage.clientHeight;
+    const most = Math.min(isTwo ? innerHeight * 0.3 : this.#roomOfNarrow(), stage.clientWidth * 1.05);
+    const height = isNarrow() ? most : stage.clientHeight - element("own-name").offsetHeight;
     for (const core of isTwo ? [this.core, this.other] : [this.core]) core.fit(session.opened.core, width, height);
     this.#recolour();
+  }
+
+  /** What the rest of the battle leaves of a narrow page, so that the strip and the controls are in sight, too. */
+  #roomOfNarrow() {
+    const rest = element("battle").offsetHeight - element("stage").offsetHeight;
+    const around = element("top").offsetHeight + element("tabs").offsetHeight;
+    return Math.max(innerHeight * 0.35, innerHeight - rest - around);
   }
 
   #recolour() {
