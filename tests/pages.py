@@ -161,6 +161,10 @@ def test_the_end_leads_to_the_death(page: Browser) -> None:
     page.until("corewar.session.pinned === 5203 && corewar.session.turn === 7797 && corewar.session.isSettled")
     lines = page.value("[...document.querySelectorAll('#chain li')].map(one => one.textContent)")
     assert [line[:5] for line in lines] == ["7,795", "7,796", "7,797", "7,798"]
+    page.until("document.getElementById('caption').textContent === 'Dwarf wrote DAT.F #0, #-2800 to 5,203.'")
+    # What can be done at the end can still be done.
+    shown = "['why-now', 'again', 'next-fight'].map(id => document.getElementById(id).checkVisibility())"
+    assert page.value(shown) == [False, True, True]
     assert lines[2].startswith("7,797Dwarf wrote DAT.F #0, #-2800 to 5,203.")
     assert "MOV bomb, @bomb dwarf.red, line 10" in lines[2]
     page.run("corewar.showDesk(true)")
@@ -186,7 +190,7 @@ def test_breakpoints_stop_play(page: Browser) -> None:
     play = "corewar.session.setRate(given[1]); corewar.session.play(given[0])"
     page.run(play, 1, 3000)
     page.until("corewar.session.way === 0 && corewar.session.turn === 4 && corewar.session.isSettled")
-    assert page.text("caption") == "Breakpoint: at 2."
+    page.until("document.getElementById('caption').textContent === 'Breakpoint: cell 2 is executed next.'")
     page.run("corewar.session.toggleBreak({word: 'at', first: 2}); corewar.session.pin(5203)")
     assert page.value("document.querySelector('#editor .break')") is None
     page.until("document.querySelector('#listing .focus .break')")
@@ -200,6 +204,7 @@ def test_breakpoints_stop_play(page: Browser) -> None:
     answer(page, "break changes 103")
     page.run(play, -1, 100000)
     page.until("corewar.session.way === 0 && corewar.session.turn === 147")
+    page.until("document.getElementById('caption').textContent === 'Breakpoint: cell 103 was changed.'")
     answer(page, "delete all")
     page.run(play, -1, 100000)
     page.until("corewar.session.way === 0 && corewar.session.turn === 0")

@@ -1,8 +1,8 @@
 /** The core, the strip of time and the controls: what moves. */
 import { CELL_WORDS, NOBODY, cellText, isEmpty, readCell } from "../model/cells.js";
-import { captionWords, number, place, standingWords, writtenWords } from "../words/battle.js";
+import { captionWords, haltWords, number, place, standingWords, writtenWords } from "../words/battle.js";
 import { instructionWords } from "../words/instruction.js";
-import { conditionWords } from "./commands.js";
+import { linkWords } from "../words/why.js";
 import { Core } from "./core.js";
 import { buttons, element, isNarrow, make, onClick, placeTip, refill, typed } from "./dom.js";
 import { Palette } from "./palette.js";
@@ -60,7 +60,8 @@ export class Theatre {
     this.#listenToCore();
     session.listen((change) => {
       if (change === "turn") this.#notice = "";
-      if (session.halted) this.#notice = `Breakpoint: ${conditionWords(session, session.halted)}.`;
+      const isThere = session.turn === session.wanted;
+      if (session.halted && isThere) this.#notice = `Breakpoint: ${haltWords(session.halted, session.known)}.`;
       if (change === "battle") this.#open();
       if (change === "look") this.#recolour();
       if (change === "look" || change === "battle") this.#findHits();
@@ -289,18 +290,19 @@ export class Theatre {
   }
 
   /**
-   * Shows what can be done at the end of the battle.
+   * Shows what can be done at the end of the battle, and while a death is explained.
    * @param {boolean} isOver
    */
   #showEnding(isOver) {
-    const { opened, known } = this.session;
-    element("ending").hidden = !isOver;
+    const { opened, known, chain } = this.session;
+    element("ending").hidden = !isOver && !chain;
     element("caption").style.color = "";
-    if (!isOver || !opened) return;
+    if (!opened) return;
     const dead = new Set(opened.deaths.map(({ warrior }) => warrior));
+    element("why-now").hidden = dead.size === 0 || chain !== null;
+    if (!isOver || chain || known.names.length - dead.size !== 1) return;
     const winner = known.names.findIndex((_, who) => !dead.has(who));
-    if (known.names.length - dead.size === 1) element("caption").style.color = this.palette?.text[winner] ?? "";
-    element("why-now").hidden = dead.size === 0;
+    element("caption").style.color = this.palette?.text[winner] ?? "";
   }
 
   /** Marks on the strip where playing stops. */
@@ -333,9 +335,11 @@ export class Theatre {
    * @param {View} view
    */
   #drawCaption({ turn, processes, owned }) {
-    const { opened, known, way } = this.session;
+    const { opened, known, way, chain } = this.session;
     if (!opened) return;
-    const caption = this.#notice || captionWords(turn, opened.events, known, { processes, cells: owned });
+    const link = chain?.links.find((one) => one.turn === turn);
+    const happens = link && linkWords(link, known).replaceAll("`", "");
+    const caption = this.#notice || happens || captionWords(turn, opened.events, known, { processes, cells: owned });
     const isNumber = caption.includes("%");
     const now = performance.now();
     if (caption === this.#caption || (way && isNumber && now - this.#saidAt < 500)) return;
