@@ -1054,7 +1054,18 @@ def test_a_number_is_tuned(page: Browser, tmp_path: Path) -> None:
     page.until("location.hash === '#bench' && corewar.bench.tune.results.length === 400")
     for name, value in (("from", -3), ("to", 8), ("step", 1)):
         page.run(f"document.getElementById('tune-{name}').value = {value}")
+    page.run(
+        """const {pool} = corewar, ask = pool.ask.bind(pool);
+        window.sizes = [];
+        pool.ask = (job, given, ...rest) => {
+            if (job === "sweep") sizes.push(given[1].length);
+            return ask(job, given, ...rest);
+        };"""
+    )
     page.run("await corewar.bench.tune.sweep()")
+    # Values appear soon: the first jobs are small.
+    assert page.value("sizes") == [1, 1, 1, 1, 2, 2, 4, 4, 4, 4]
+    assert page.text("tune-note").startswith("480 of 480 rounds in ")
     found = page.value("corewar.bench.tune.results.map(({value, row}) => [value, row?.points ?? null])")
     # The source asserts that the core size is a multiple of the number.
     assert [value for value, points in found if points is None] == [-3, 0, 3, 6, 7]
@@ -1127,6 +1138,20 @@ def test_a_league_that_fails_says_why(page: Browser) -> None:
     note = page.text("league-note")
     assert re.fullmatch(r"0 of \d+ matches, 1 round each, in 0\.0 s; error: The score formula is not valid\.", note)
     assert page.value("document.getElementById('league-stop').hidden && document.getElementById('league-done').hidden")
+
+
+def test_a_league_that_runs_has_an_order(page: Browser) -> None:
+    """By points per round: some warriors have fought more matches than others."""
+    page.run("corewar.terms.value = {...corewar.terms.value, rounds: 1}")
+    page.run("corewar.show('league'); await corewar.league.hold()")
+    page.run(
+        """const row = (points, wins, ties, losses) => ({points, wins, ties, losses});
+        corewar.league.against = [[null, row(0, 0, 0, 1), row(4, 1, 1, 0)], [row(3, 1, 0, 0), null, null],
+          [row(1, 0, 1, 1), null, null]];
+        corewar.league.draw();"""
+    )
+    points = "[...document.querySelectorAll('#league-table tr')].slice(1).map(row => row.cells[2].textContent)"
+    assert page.value(points) == ["3", "4", "1"]
 
 
 def test_a_match_of_the_league_is_watched(page: Browser) -> None:

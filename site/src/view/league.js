@@ -163,10 +163,12 @@ export class League {
     this.#later();
   }
 
-  /** Draws the table, the most points first. Rows and columns have the ranks of the warriors. */
+  /** Draws the table, the most points per round first. Rows and columns have the ranks of the warriors. */
   draw() {
     const sums = this.against.map((line) => sumOf(line));
-    const order = [...sums.keys()].sort((one, other) => sums[other][0] - sums[one][0]);
+    // Until all matches have ended, some warriors have fought more rounds than others.
+    const means = sums.map(([points, ...counts]) => points / Math.max(1, counts[0] + counts[1] + counts[2]));
+    const order = [...sums.keys()].sort((one, other) => means[other] - means[one]);
     this.#drawProgress();
     const isPicture = order.length > MAX_TABLE_SIZE;
     element("league-picture").hidden = !isPicture;

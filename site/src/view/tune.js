@@ -14,10 +14,12 @@ import { allOf, errorWords } from "./host.js";
 /** @typedef {import("../engine/warrior.js").Warrior} Warrior */
 /** @typedef {{value: number, row: Row | null, left: number}} Result `left` counts the matches that are not done */
 
-/** The number of values at first, at most, and of each job. */
+/** The number of values at first, and at most. */
 const AROUND = 400;
 const MAX_VALUES = 20_000;
+/** The number of values of a job: those of the first ones are few, so that values appear soon. */
 const BATCH = 8;
+const FIRST_BATCHES = [1, 1, 2, 4];
 /** The mark of the number in its document. */
 const MARK = { className: "tuned", inclusiveRight: true, clearWhenEmpty: false };
 /** A number, with its sign unless that is a minus between two operands. */
@@ -162,7 +164,9 @@ export class Tune {
     if (!warriors.length) throw new Error("There is no opponent.");
     this.results.forEach((result) => (result.left = warriors.length));
     const order = spread(this.results.length).map((index) => this.results[index]);
-    const batches = inBatches(order, BATCH);
+    const few = FIRST_BATCHES.map((size) => order.splice(0, size)).filter(({ length }) => length);
+    const batches = [...few, ...inBatches(order, BATCH)];
+    const all = pluralize(this.results.length * warriors.length * terms.rounds, "round");
     let done = 0;
     const fight = async (/** @type {Result[]} */ batch, /** @type {Warrior} */ warrior) => {
       const values = batch.map(({ value }) => value);
@@ -171,7 +175,7 @@ export class Tune {
       this.#best = best;
       batch.forEach((result, index) => add(result, rows[index]));
       done += batch.length * terms.rounds;
-      this.#note = `${pluralize(done, "round")} in ${((performance.now() - began) / 1000).toFixed(1)} s`;
+      this.#note = `${number(done)} of ${all} in ${((performance.now() - began) / 1000).toFixed(1)} s`;
       this.#later();
     };
     await allOf(batches.flatMap((batch) => warriors.map((warrior) => fight(batch, warrior))));
