@@ -230,6 +230,8 @@ def test_the_strip_is_a_picture_or_curves(page: Browser, site: str) -> None:
         prototype.fillText = function(text, ...rest) { texts.push(text); return fillText.call(this, text, ...rest) };"""
     )
     fight(page, "silk", "scanner")
+    page.mouse(1, 1)
+    assert float(page.value("getComputedStyle(document.getElementById('curves')).opacity")) > 0.8
     page.run("document.getElementById('curves').click()")
     # Samples have fewer.
     most = page.value("Math.max(...corewar.session.opened.events.map(({count, kind}) => kind === 'most' ? count : 0))")

@@ -14,7 +14,7 @@ import { BY_HAND, NOBODY } from "../model/cells.js";
 
 /** How many columns a cell shines after it is written, and how bright a band of old cells, and fresh ones, are. */
 const AFTERGLOW = 7;
-const OLD = 0.44;
+const OLD = 0.5;
 const FRESH = 0.62;
 /** The maximum number of processes of a warrior whose places shine. */
 const MAX_SHINING = 24;
@@ -89,7 +89,7 @@ export class Painter {
     this.#weighProcesses(place);
     const { owners, old, fresh, squares, cells } = this;
     // One fresh cell of many is visible, too.
-    const share = Math.max(0.35, 1.4 / cells);
+    const share = Math.max(0.9, 1.4 / cells);
     for (let row = 0; row < rows; row++) {
       owner[at + row] = NOBODY;
       let most = 0;
@@ -97,7 +97,7 @@ export class Painter {
         const index = owners * row + who;
         if (old[index] === 0 && fresh[index] === 0) continue;
         const shining = fresh[index] ? (squares[index] / fresh[index]) * (1 - Math.exp(-share * fresh[index])) : 0;
-        const bright = OLD * (old[index] / cells) ** 0.7 + FRESH * shining;
+        const bright = OLD * Math.sqrt(old[index] / cells) + FRESH * shining;
         if (bright <= most) continue;
         most = bright;
         owner[at + row] = who < owners - 1 ? who : BY_HAND;
