@@ -19,9 +19,9 @@ export const TOUCHED_WORDS = MarsTouched.size / 4;
 export const WARRIOR = MarsRecord.warrior / 4;
 export const ADDRESS = MarsRecord.address / 4;
 export const DIED = MarsRecord.died / 4;
-export const CHANGES = MarsRecord.changes / 4;
+const CHANGES = MarsRecord.changes / 4;
 export const QUEUED = MarsRecord.queued / 4;
-export const CHANGE = MarsRecord.change / 4;
+const CHANGE = MarsRecord.change / 4;
 export const PROCESS = MarsRecord.process / 4;
 const CHANGE_WORDS = 1 + 2 * CELL_WORDS;
 /** The number of turns that are played by one call: their records have 1 MB. */

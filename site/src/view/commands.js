@@ -286,7 +286,7 @@ const undo = (session) => session.undo().then(() => here(session));
 /** @type {Act} */
 const redo = (session) => session.redo().then(() => here(session));
 
-export const COMMANDS = [
+const COMMANDS = [
   command("step [N|W]", "execute one turn, N turns, or up to W's next turn", (s, rest) => step(s, rest, 1), "s", "n"),
   command("reverse-step [N|W]", "step back in the same way", (s, rest) => step(s, rest, -1), "rs", "back"),
   command("run [N]", "execute N turns, or all that are left", run, "r"),

@@ -18,9 +18,9 @@ import { MarsError } from "../model/errors.js";
 /** What a job that was dropped fails with. */
 export class Stopped extends Error {}
 /** What a call that takes too long fails with; its worker is ended. */
-export class TimedOut extends Error {}
+class TimedOut extends Error {}
 /** What opening a battle fails with that the user does not wait for. */
-export class Cancelled extends Error {}
+class Cancelled extends Error {}
 
 class WorkerClient {
   /** @type {Map<number, Waiting>} */
@@ -115,7 +115,7 @@ const OPENING = ["open", "edit"];
  * The desk in a worker of its own. If a call takes too long, the worker is ended, and another one opens the last
  * battle, with its futures.
  */
-export class RemoteDesk {
+class RemoteDesk {
   /**
    * The calls that opened the battle and made its futures.
    * @type {{call: string, given: unknown[]}[]}
