@@ -566,10 +566,14 @@ def test_the_list_has_the_names_of_warriors(page: Browser) -> None:
     found = page.value(names)
     assert {"dwarf", "scanner Lookout", "vampire Dusk"} <= {*found}
     page.run("corewar.shelf.show(corewar.shelf.find('scanner.red'))")
+    top = page.value("document.getElementById('editor').getBoundingClientRect().top")
     page.run(
         "const {mirror} = corewar.shelf.editor; mirror.setValue(mirror.getValue().replace('Lookout', 'Far Sight'))"
     )
     page.until(f"{names}.includes('scanner • Far Sight')")
+    # The text that is edited stays in its place, also as the example can be restored.
+    page.until("!document.getElementById('restore').hidden")
+    assert page.value("document.getElementById('editor').getBoundingClientRect().top") == top
 
 
 def test_the_editor_shows_errors_and_fights(page: Browser, site: str) -> None:
@@ -1062,9 +1066,13 @@ def test_a_number_is_tuned(page: Browser, tmp_path: Path) -> None:
         pool.ask = (job, given, ...rest) => {
             if (job === "sweep") sizes.push(given[1].length);
             return ask(job, given, ...rest);
-        };"""
+        };
+        window.texts = [];
+        const {prototype} = CanvasRenderingContext2D, {fillText} = prototype;
+        prototype.fillText = function(text, ...rest) { texts.push(text); return fillText.call(this, text, ...rest) };"""
     )
     page.run("await corewar.bench.tune.sweep()")
+    assert {"-2", "0", "8"} <= {*page.value("texts")} and not {"-3", "-1", "-0"} & {*page.value("texts")}
     # Values appear soon: the first jobs are small.
     assert page.value("sizes") == [1, 1, 1, 1, 2, 2, 4, 4, 4, 4]
     assert page.text("tune-note").startswith("480 of 480 rounds in ")

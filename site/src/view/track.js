@@ -5,7 +5,7 @@
  */
 import { number } from "../words/battle.js";
 import { BREAK } from "./core.js";
-import { clamp, debounce } from "./dom.js";
+import { clamp, debounce, roundStep } from "./dom.js";
 import { Picture } from "./picture.js";
 
 /** @typedef {import("../battle/overview.js").Overview} Overview */
@@ -284,9 +284,7 @@ export class Track {
    * @param {Drawing} drawing
    */
   #drawScale({ context, width, bottom, x }) {
-    const minimum = (this.last - this.first) / (width / 90);
-    const power = 10 ** Math.floor(Math.log10(Math.max(1, minimum)));
-    const step = [1, 2, 5, 10].map((times) => times * power).find((value) => value >= minimum) ?? power;
+    const step = roundStep((this.last - this.first) / (width / 90));
     context.fillStyle = "#8793a2";
     context.font = FONT;
     for (let turn = Math.ceil(this.first / step) * step; turn <= this.last; turn += step) {

@@ -2,7 +2,19 @@
 import { number, pluralize } from "../words/battle.js";
 import { readSource } from "../words/source.js";
 import { Stopped } from "../worker/pool.js";
-import { clamp, colourOf, element, make, onClick, placeTip, refill, throttle, typed, withCode } from "./dom.js";
+import {
+  clamp,
+  colourOf,
+  element,
+  make,
+  onClick,
+  placeTip,
+  refill,
+  roundStep,
+  throttle,
+  typed,
+  withCode,
+} from "./dom.js";
 import { allOf, errorWords } from "./host.js";
 
 /** @typedef {import("codemirror").Position} Position */
@@ -292,20 +304,25 @@ export class Tune {
   }
 
   /**
+   * Draws round values, as many as there is room for.
    * @param {CanvasRenderingContext2D} context
    * @param {number} width
    * @param {string} colour
    */
   #drawValues(context, width, colour) {
     const { results } = this;
+    if (!results.length) return;
     context.fillStyle = colour;
     context.globalAlpha = 0.7;
-    const count = Math.min(results.length, Math.floor(width / 90));
-    for (let k = 0; k < count; k++) {
-      const index = Math.round((k * (results.length - 1)) / Math.max(1, count - 1));
-      context.textAlign = k === 0 ? "left" : k === count - 1 ? "right" : "center";
-      const at = k === 0 ? 2 : k === count - 1 ? width - 2 : ((index + 0.5) / results.length) * width;
-      context.fillText(number(results[index].value), at, HEIGHT - 4);
+    const [first, last] = [results[0].value, results[results.length - 1].value];
+    const step = roundStep((last - first) / (width / 90));
+    const side = width / results.length;
+    for (let value = Math.ceil(first / step) * step; value <= last; value += step) {
+      const at = side * (((value - first) / Math.max(1, last - first)) * (results.length - 1) + 0.5);
+      const room = context.measureText(number(value)).width / 2 + 2;
+      context.textAlign = at < room ? "left" : at > width - room ? "right" : "center";
+      // Zero has no sign.
+      context.fillText(number(value || 0), clamp(at, 2, width - 2), HEIGHT - 4);
     }
   }
 }
