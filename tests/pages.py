@@ -221,7 +221,8 @@ def test_the_strip_is_a_picture_or_curves(page: Browser, site: str) -> None:
     page.until(f"(() => {{ const given = [0]; {code} }})()")
     (red, green, blue), empty = page.run(code, 0)
     assert blue > red and blue > 60 and max(empty) < 20
-    page.run("corewar.theatre.track.show(7000, 7798)")
+    # While a battle plays, the strip follows it.
+    page.run("corewar.session.stop(); corewar.theatre.track.show(7000, 7798)")
     page.until(f"(() => {{ const given = [7000]; {code} }})()")
     page.run("corewar.theatre.track.show(0, 7798)")
     page.run(
@@ -800,8 +801,12 @@ def test_two_windows_lose_nothing(pair: Browser) -> None:
     page.run(code, 1, "warrior.red", "MOV 0, 1 ; changed")
     page.until("frames[0].corewar.shelf.find('warrior.red').doc.getValue() === 'MOV 0, 1 ; changed'")
     # Of two changes of a source at once both stay.
-    for window, text in enumerate(("MOV 0, 2 ; here", "MOV 0, 3 ; there")):
-        page.run(code, window, "warrior.red", text)
+    both = """given[0].forEach((text, index) => {
+        const {shelf} = frames[index].corewar;
+        shelf.show(shelf.find("warrior.red"));
+        shelf.editor.mirror.setValue(text);
+      });"""
+    page.run(both, ["MOV 0, 2 ; here", "MOV 0, 3 ; there"])
     texts = (
         "frames[%d].corewar.shelf.sources.map(({doc}) => doc.getValue()).filter(text => / ; t?here/.test(text)).sort()"
     )
