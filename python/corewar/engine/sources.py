@@ -42,19 +42,24 @@ class Overrun(CorewarError):
     """Assembling a source took more than a limit."""
 
 
+class Terminated(Overrun):
+    """The process that assembles was asked to end."""
+
+
 class Assembler:
     """A process that assembles sources within limits, one after the other. It is started for the first one, and again
-    after a limit has ended it. `with Assembler() as assembler:` ends it. If the program has threads, the process is a
-    new one of Python, which imports the program's main module again.
+    after a limit or an exception such as `KeyboardInterrupt` has ended it. After a fork, and for a copy that is
+    pickled, each side has a process of its own. `with Assembler() as assembler:` ends it. If the program has threads,
+    the process is a new one of Python, which imports the program's main module again.
 
     - `limit`: the limits for each source
     """
 
     def __init__(self, limit: Limit = Limit()) -> None:
         self.limit = limit
-        self._lock = threading.Lock()
-        self._process: Any = None
-        self._pipe: Connection | None = None
+        # By the number of the process that asks: after a fork, two would read each other's answers from one pipe, and
+        # a lock that another thread holds at the fork would stay locked.
+        self._servers: dict[int, Server] = {}
 
     def __enter__(self) -> Assembler:
         return self
@@ -62,14 +67,14 @@ class Assembler:
     def __exit__(self, *_: object) -> None:
         self.end()
 
+    def __reduce__(self) -> tuple[type[Assembler], tuple[Limit]]:
+        return Assembler, (self.limit,)
+
     def end(self) -> None:
-        """Ends the process, if there is one. The next source starts another."""
-        if self._process is not None:
-            assert self._pipe is not None
-            self._pipe.close()
-            self._process.kill()
-            self._process.join()
-            self._process = None
+        """Ends the process, if there is one, after the source that it assembles. The next source starts another."""
+        server = self._server()
+        with server.lock:
+            server.end()
 
     def assemble(
         self,
@@ -85,22 +90,54 @@ class Assembler:
         """
         data = encode_source(source)
         given = {"settings": settings_of(settings), "rounds": rounds, "warriors": warriors}
-        with self._lock:
-            if self._process is None:
-                self._begin()
-            assert self._pipe is not None
+        server = self._server()
+        with server.lock:
             try:
-                self._pipe.send((data, given))
-                result: Warrior | Exception = self._pipe.recv()
-            except (EOFError, OSError):
-                raise self._overrun() from None
+                result = server.ask(data, given)
+            except Terminated:
+                # Not for this source: Python ends the children of a process also when a fork of it ends.
+                result = server.ask(data, given)
         if isinstance(result, Warrior):
             return replace(result, file=os.fsdecode(file), source=data)
         if isinstance(result, MarsError) and result.code == MEMORY:
             raise Overrun(f"assembling takes more than {self.limit.megabytes} MB of memory")
         raise result
 
-    def _begin(self) -> None:
+    def _server(self) -> Server:
+        return self._servers.setdefault(os.getpid(), Server(self.limit))
+
+
+class Server:
+    """The process of an `Assembler`, if there is one, and the pipe to it. Its lock is taken by those who call."""
+
+    def __init__(self, limit: Limit) -> None:
+        self.limit, self.lock = limit, threading.Lock()
+        self._running: tuple[Any, Connection] | None = None
+
+    def ask(self, source: bytes, given: dict[str, Any]) -> Warrior | Exception:
+        """Returns the answer of the process for a source. Raises Overrun."""
+        process, pipe = self._running or self._begin()
+        # A process of which an answer may be left in the pipe is not used again, whatever interrupts this.
+        self._running = None
+        try:
+            pipe.send((source, given))
+            result: Warrior | Exception = pipe.recv()
+        except (EOFError, OSError):
+            pipe.close()
+            process.join()
+            raise self._overrun(process.exitcode) from None
+        except BaseException:
+            stop(process, pipe)
+            raise
+        self._running = process, pipe
+        return result
+
+    def end(self) -> None:
+        running, self._running = self._running, None
+        if running:
+            stop(*running)
+
+    def _begin(self) -> tuple[Any, Connection]:
         # A missing library is reported by this call, and not by the process.
         library()
         # A process with threads is not forked, since the new process calls the library.
@@ -109,21 +146,33 @@ class Assembler:
         ours, theirs = context.Pipe()
         # A forked process also has our end, and does not notice that we have ended until it closes it.
         process = context.Process(target=serve, args=(theirs, self.limit, ours if way == "fork" else None), daemon=True)
+        # The workers of a `multiprocessing.Pool` may start no process, since it might outlive them; this one does not.
+        current = multiprocessing.current_process()
+        is_daemon = current.daemon
         try:
+            if is_daemon:
+                current.daemon = False
             process.start()
         except OSError as fault:
             raise CorewarError(f"cannot start the assembler: {fault.strerror}") from None
+        finally:
+            if is_daemon:
+                current.daemon = True
         theirs.close()
-        self._pipe, self._process = ours, process
+        return process, ours
 
-    def _overrun(self) -> Overrun:
-        """Returns why the process has ended, and removes it."""
-        self._process.join()
-        code = self._process.exitcode
-        self.end()
+    def _overrun(self, code: int) -> Overrun:
+        """Returns why the process has ended."""
         if code == -signal.SIGXCPU:
             return Overrun(f"assembling takes more than {self.limit.seconds} s of CPU time")
-        return Overrun(f"the assembler was ended by signal {-code}" if code < 0 else "the assembler has failed")
+        kind = Terminated if code == -signal.SIGTERM else Overrun
+        return kind(f"the assembler was ended by signal {-code}" if code < 0 else "the assembler has failed")
+
+
+def stop(process: Any, pipe: Connection) -> None:
+    pipe.close()
+    process.kill()
+    process.join()
 
 
 def serve(pipe: Connection, limit: Limit, other: Connection | None) -> None:
