@@ -6,16 +6,20 @@ usage: examples/hill.py [--size N] [--rounds N] [--settings NAME] STATE [FILE]..
 Each FILE, a source or a load file, plays a match against every warrior on the hill. If there are then more than N
 warriors, the last of the table is pushed off, which may be the newcomer; the age of the others is the number of
 challenges that they have survived. The first challenge makes STATE, a JSON file, with the options [default: 20
-warriors, 100 rounds, settings of 94nop], and each one replaces it as a whole. Without FILE the hill is only printed. It
-requires the package `corewar` with its library.
+warriors, 100 rounds, settings of 94nop], and each one replaces it as a whole. Several processes may challenge at once:
+each waits for the one before it, by a lock on STATE.lock. A source has 5 seconds of CPU time and 500 MB.
+Without FILE the hill is only printed. It requires the package `corewar` with its library.
 """
 from __future__ import annotations
 
 import argparse
+import fcntl
 import json
 import os
 import random
 import sys
+from collections.abc import Iterator
+from contextlib import contextmanager
 from typing import Any
 
 sys.path.insert(0, os.path.join(os.path.dirname(os.path.realpath(__file__)), "..", "python"))
@@ -24,6 +28,8 @@ try:
 except ImportError as fault:
     sys.exit(f"hill: {fault}; install the dependencies of corewar with scripts/setup")
 
+# The limits for assembling the source of a newcomer, who may be a stranger.
+LIMIT = corewar.Limit(5, 500)
 # A hill, and a warrior of it, as they are in the file.
 Hill = dict[str, Any]
 Entry = dict[str, Any]
@@ -68,6 +74,26 @@ def challenge(hill: Hill, newcomer: corewar.Warrior) -> list[Entry]:
     return pushed_off
 
 
+@contextmanager
+def locked(path: str) -> Iterator[None]:
+    """Waits until no other process challenges a hill. The hill itself is replaced, so another file is locked."""
+    with open(f"{path}.lock", "a") as file:
+        # Not `flock`, whose lock the process of the assembler would inherit.
+        fcntl.lockf(file, fcntl.LOCK_EX)
+        yield
+
+
+def read(path: str, new: Hill) -> Hill:
+    """Returns the hill of a file, or a new one if there is no such file."""
+    if not os.path.exists(path):
+        return new
+    with open(path) as file:
+        hill = json.load(file)
+    if not isinstance(hill, dict) or not hill.keys() >= new.keys():
+        sys.exit(f"hill: {path} is not a hill")
+    return hill
+
+
 def replace(path: str, hill: Hill) -> None:
     """Replaces the file of a hill as a whole, so that it is complete at any time."""
     with open(f"{path}.new", "w") as file:
@@ -94,17 +120,17 @@ def given() -> argparse.Namespace:
 def main() -> None:
     words = given()
     new = {"settings": words.settings, "rounds": words.rounds, "size": words.size, "challenges": 0, "warriors": []}
-    hill: Hill = new
-    if os.path.exists(words.state):
-        with open(words.state) as file:
-            hill = json.load(file)
-        if not isinstance(hill, dict) or not hill.keys() >= new.keys():
-            sys.exit(f"hill: {words.state} is not a hill")
-    for path in words.files:
-        pushed_off = challenge(hill, corewar.read(path, settings=hill["settings"], rounds=hill["rounds"]))
-        replace(words.state, hill)
-        for one in pushed_off:
-            print(f"{one['title']} is pushed off at age {one['age']}")
+    hill = read(words.state, new)
+    with corewar.Assembler(LIMIT) as assembler:
+        for path in words.files:
+            # From reading the hill to replacing it, so that no challenge of another process is lost between.
+            with locked(words.state):
+                hill = read(words.state, new)
+                newcomer = assembler.read(path, settings=hill["settings"], rounds=hill["rounds"])
+                pushed_off = challenge(hill, newcomer)
+                replace(words.state, hill)
+            for one in pushed_off:
+                print(f"{one['title']} is pushed off at age {one['age']}")
     print("  rank   score   won  tied  lost    age  warrior")
     for rank, one in enumerate(hill["warriors"], 1):
         score, wins, ties = rates(one, hill["rounds"])

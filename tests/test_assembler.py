@@ -8,9 +8,10 @@ import subprocess
 import sys
 import threading
 import time
+from pathlib import Path
 
 import pytest
-from conftest import ENVIRONMENT
+from conftest import ENVIRONMENT, EXAMPLES
 from costly import slow
 
 import corewar
@@ -104,3 +105,21 @@ def test_threads() -> None:
         thread.join()
     assert not wrong
     SHARED.end()
+
+
+def test_files(tmp_path: Path) -> None:
+    """They are read as by `corewar.read`, and a source that takes more than a limit is an error of its file."""
+    (tmp_path / "slow.red").write_text(slow())
+    (tmp_path / "bad.red").write_text("foo 1\n")
+    (tmp_path / "imp.load").write_bytes(corewar.read(EXAMPLES / "imp.red").load)
+    with Assembler(corewar.Limit(1, 500)) as assembler:
+        for path in (EXAMPLES / "dwarf.red", tmp_path / "imp.load"):
+            found, expected = (call(path, settings="tiny", rounds=3) for call in (assembler.read, corewar.read))
+            assert (found, found.file, found.source) == (expected, expected.file, expected.source)
+        for name, error in (
+            ("bad", "line 1: 2 Operation"),
+            ("none", "No such file or directory"),
+            ("slow", "assembling takes more than 1 s of CPU time"),
+        ):
+            with pytest.raises(corewar.FileError, match=f"{name}.red: {error}"):
+                assembler.read(tmp_path / f"{name}.red")

@@ -7,10 +7,12 @@ import subprocess
 import sys
 from pathlib import Path
 from types import SimpleNamespace
+from typing import Any
 
 import numpy as np
 import pytest
 from conftest import ENVIRONMENT, EXAMPLES
+from costly import slow
 
 import corewar
 
@@ -77,6 +79,27 @@ def test_errors_of_a_hill(tmp_path: Path, words: list[object], status: int, erro
     done = run("hill.py", "hill.json", *words, cwd=tmp_path)
     assert (done.returncode, done.stdout) == (status, "") and error in done.stderr and "Traceback" not in done.stderr
     assert (tmp_path / "hill.json").read_bytes() == before
+
+
+def test_challenges_at_once(tmp_path: Path) -> None:
+    """Each waits for the one before it, and none is lost."""
+    command = [sys.executable, str(EXAMPLES / "hill.py"), "--rounds", "20", "hill.json"]
+    options: dict[str, Any] = {"cwd": tmp_path, "env": ENVIRONMENT, "stdout": subprocess.PIPE, "text": True}
+    begun = [subprocess.Popen([*command, file, file], **options) for file in FILES]
+    for process in begun:
+        process.communicate(timeout=120)
+    hill = json.loads((tmp_path / "hill.json").read_text())
+    assert [process.returncode for process in begun] == [0] * 5 and hill["challenges"] == len(hill["warriors"]) == 10
+    assert sorted(one["age"] for one in hill["warriors"]) == [*range(10)]
+
+
+def test_a_hill_limits_sources(tmp_path: Path) -> None:
+    """A source of a stranger that takes too long is an error, and later ones may challenge."""
+    (tmp_path / "slow.red").write_text(slow())
+    done = run("hill.py", "hill.json", "slow.red", cwd=tmp_path)
+    error = "hill: slow.red: assembling takes more than 5 s of CPU time\n"
+    assert (done.returncode, done.stdout, done.stderr) == (1, "", error) and not (tmp_path / "hill.json").exists()
+    assert run("hill.py", "hill.json", FILES[0], cwd=tmp_path).returncode == 0
 
 
 def test_files_that_are_no_hill(tmp_path: Path) -> None:

@@ -103,6 +103,19 @@ class Assembler:
             raise Overrun(f"assembling takes more than {self.limit.megabytes} MB of memory")
         raise result
 
+    def read(
+        self,
+        path: str | os.PathLike[str],
+        *,
+        settings: Settings | str = "94nop",
+        rounds: int = 1,
+        warriors: int = 2,
+    ) -> Warrior:
+        """Reads a warrior from a file as `corewar.read` does, and returns it. Raises `FileError`, also if the source
+        takes more than a limit, and `MarsError` if the settings are invalid.
+        """
+        return read_warrior(self.assemble, os.fsdecode(path), settings_of(settings), rounds, warriors)
+
     def _server(self) -> Server:
         return self._servers.setdefault(os.getpid(), Server(self.limit))
 
@@ -295,6 +308,6 @@ def read(
     - `settings`, `rounds`, `warriors`: as for `assemble`
 
     Raises `FileError` if the file cannot be read or has an error, and `MarsError` if the settings are invalid. There is
-    no limit of time and memory.
+    no limit of time and memory: use the `read` of an `Assembler` for sources of strangers.
     """
     return read_warrior(assemble, os.fsdecode(path), settings_of(settings), rounds, warriors)
