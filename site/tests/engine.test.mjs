@@ -166,6 +166,40 @@ test("out of memory is an error like any other, and calls succeed once memory is
   assert.equal(full.match([imp, imp], { settings: HILLS.nano })[0].ties, 1);
 });
 
+test("a size that is none is a RangeError, and changes nothing", () => {
+  const imp = mars.assemble("MOV 0, 1");
+  const battle = mars.start([imp, imp]);
+  for (const rows of [-1, -(2 ** 40), 0.5, NaN, Infinity, 2 ** 60]) {
+    for (const name of ["records", "touched"]) {
+      assert.throws(() => mars.play(battle, 50, { [name]: rows }), RangeError, `${name}: ${rows}`);
+    }
+  }
+  assert.equal(battle.turns, 0);
+  assert.deepEqual(mars.assemble("MOV 0, 1"), imp);
+});
+
+test("after a trap all calls are refused", async () => {
+  const { instance } = await WebAssembly.instantiate(code, {});
+  const freed = [];
+  const trapped = new Mars({
+    exports: {
+      ...instance.exports,
+      mars_check: () => {
+        throw new WebAssembly.RuntimeError("unreachable");
+      },
+      mars_free: (block) => freed.push(block),
+    },
+  });
+  const imp = trapped.assemble("MOV 0, 1");
+  const battle = trapped.start([imp, imp]);
+  freed.length = 0;
+  assert.throws(() => trapped.check(battle), WebAssembly.RuntimeError);
+  for (const act of [() => trapped.assemble("MOV 0, 1"), () => trapped.play(battle, 1), () => trapped.match([imp])]) {
+    assert.throws(act, { message: "the machine has failed in an earlier call; load it again" });
+  }
+  assert.deepEqual(freed, []);
+});
+
 test("blocks of the heap never overlap, even when the memory is full", async () => {
   const { instance } = await WebAssembly.instantiate(code, {});
   const { memory, mars_alloc: alloc, mars_free: free } = instance.exports;

@@ -61,6 +61,8 @@ export class Mars {
   #blocks = [];
   /** @type {Exports} */
   #exports;
+  /** Whether a call has trapped: the module may then be in the middle of a change of its memory. */
+  #failed = false;
 
   /** @param {WebAssembly.Instance} instance */
   constructor(instance) {
@@ -212,7 +214,7 @@ export class Mars {
    * the records and of the touched cells of the first turns, as MarsRecord and MarsTouched of include/mars.h.
    * @param {Battle} battle
    * @param {number} turns
-   * @param {{records?: number, touched?: number}} rows how many turns to report at most
+   * @param {{records?: number, touched?: number}} rows how many turns to report at most; a RangeError if below 0
    */
   play(battle, turns, { records = 0, touched = 0 } = {}) {
     return this.#within(() => {
@@ -272,24 +274,29 @@ export class Mars {
   }
 
   /**
-   * Returns what `act` returns, and gives back the memory that it took.
+   * Returns what `act` returns, and gives back the memory that it took. After a trap all calls are refused.
    * @template T
    * @param {() => T} act
    * @returns {T}
    */
   #within(act) {
+    if (this.#failed) throw new Error("the machine has failed in an earlier call; load it again");
     try {
       return act();
+    } catch (error) {
+      this.#failed = error instanceof WebAssembly.RuntimeError;
+      throw error;
     } finally {
-      for (const block of this.#blocks.splice(0)) this.#exports.mars_free(block);
+      for (const block of this.#failed ? [] : this.#blocks.splice(0)) this.#exports.mars_free(block);
     }
   }
 
   /**
-   * Allocates a block until the end of the call.
+   * Allocates a block until the end of the call. Throws a RangeError if the size is not one.
    * @param {number} size in bytes
    */
   #allocate(size) {
+    if (!(Number.isSafeInteger(size) && size >= 0)) throw new RangeError(`expected a size of 0 or more, not ${size}`);
     const block = this.#exports.mars_alloc(BigInt(Math.max(1, size)));
     if (!block) throw errorOf(OUT_OF_MEMORY);
     this.#blocks.push(block);
