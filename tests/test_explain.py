@@ -3,6 +3,7 @@ from __future__ import annotations
 
 import os
 import re
+import signal
 import subprocess
 import time
 from collections.abc import Callable, Iterator
@@ -11,7 +12,9 @@ from random import Random
 
 import pytest
 from conftest import TOP, Run
+from costly import slow
 
+import corewar
 from corewar.engine.calls import assemble
 from corewar.explain import CHECKED_ROWS, errors_of, explain_error, explain_kind, fix, pmars_differences, read_faults
 from corewar.explain.instructions import describe_instruction
@@ -21,6 +24,7 @@ from corewar.model.errors import ASSEMBLY, FORMULA, LINEUP, WARRIOR, MarsError
 from corewar.model.header import names
 from corewar.model.settings import Settings
 
+TOO_LONG = "reading the source takes more than 1 s of CPU time"
 # A source, the error that the library finds in it, and a part of the explanation.
 SOURCES = [
     # Misspelt opcodes, also if another line has the error.
@@ -630,3 +634,40 @@ def test_a_number_without_its_sign(run: Run, tmp_path: Path) -> None:
         "by EQU 1\nadd by, 1\nsub far, 1\ni FOR 2\nx&i EQU 50*i\nadd x&i, 1\nROF\nfar dat 0, 0\n"
     )
     assert run("explain", "x.red").stdout == "x.red: no error\n"
+
+
+@pytest.mark.parametrize(
+    "words, source",
+    [
+        ([], "a NOP\n" * 150_000),
+        (["--format", "json"], "a NOP\n" * 150_000),
+        (["--pmars"], "a NOP\n" * 150_000),
+        (["--fix"], "i FOR 1\nMOV.i 0, 1\nROF\n" * 40_000),
+    ],
+)
+def test_the_limit_is_for_explanations_too(run: Run, tmp_path: Path, words: list[str], source: str) -> None:
+    """What the command itself makes of a source takes no longer than assembling it may."""
+    (tmp_path / "large.red").write_text(source)
+    (tmp_path / "bad.red").write_text("foo 1\n")
+    done = run("explain", *words, "--source-limit", 1, "large.red", timeout=60)
+    assert done.returncode == 1 and done.stderr == f"corewar: large.red: {TOO_LONG}\n"
+    if not words:
+        done = run("explain", "--source-limit", 1, "large.red", "bad.red", timeout=60)
+        assert "bad.red: line 1: 2 Operation" in done.stdout and TOO_LONG in done.stderr
+
+
+def test_the_limit_is_for_all_sources_together() -> None:
+    """A count of a loop takes half the time of the limit, and there are twenty."""
+    costly = slow().replace("FOR 6\nFOR 10000", "FOR 1\nFOR 4000")
+    with corewar.Assembler(corewar.Limit(2, 500), is_total=True) as assembler:
+        with pytest.raises(corewar.Overrun, match="takes more than 2 s of CPU time"):
+            for _ in range(40):
+                assembler.assemble(costly)
+        with pytest.raises(corewar.Overrun, match="takes more than 2 s of CPU time"):
+            assembler.assemble("NOP")
+
+
+def test_problems_have_the_limit() -> None:
+    with pytest.raises(corewar.Overrun, match=TOO_LONG):
+        corewar.problems("a NOP\n" * 150_000, limit=corewar.Limit(1, 500))
+    assert signal.getitimer(signal.ITIMER_PROF) == (0, 0)

@@ -6,13 +6,15 @@ import os
 import re
 import sys
 from collections.abc import Callable, Iterator, Sequence
+from contextlib import contextmanager
 from dataclasses import asdict, dataclass, field
 from typing import Any
 
 import click
 
 from ..engine.calls import encode_source, source_lines
-from ..engine.sources import Assembler, Overrun, read_file, read_warriors
+from ..engine.deadline import deadline
+from ..engine.sources import Assembler, Overrun, read_file, read_warrior, read_warriors
 from ..engine.warriors import Warrior
 from ..explain import CHECKED_ROWS, Problem, errors_of, excerpt, explain_error, explain_kind, fix, pmars_differences
 from ..explain import problem_of, read_faults
@@ -144,10 +146,11 @@ def explain_file(options: BattleOptions, path: str, shown: Explanations) -> int:
     """Assembles a file, and explains its errors. Returns the exit status."""
     found = False
     try:
-        for fault, text, sentences in errors_in(options, path):
-            problem = problem_of(kind_of(fault), fault.line, text, sentences)
-            shown.add_problem(f"{path}: {fault}", path, problem, text)
-            found = True
+        with limited(options, path) as assembler:
+            for fault, text, sentences in errors_in(options, path, assembler):
+                problem = problem_of(kind_of(fault), fault.line, text, sentences)
+                shown.add_problem(f"{path}: {fault}", path, problem, text)
+                found = True
     except FileError as unread:
         report_error(unread)
         return 1
@@ -167,7 +170,7 @@ def hints_in(options: BattleOptions, path: str) -> list[str]:
 def compare_file(options: BattleOptions, path: str) -> None:
     """Prints what pMARS reads differently in a file."""
     data = read_file(path)
-    with Assembler(options.limit) as assembler:
+    with limited(options, path) as assembler:
         notes = pmars_differences(data, loader(options, path, assembler))
     notes = notes or [f"none of the {CHECKED_ROWS} known differences from pMARS was found"]
     write([f"{path}: {note}" for note in notes])
@@ -176,7 +179,7 @@ def compare_file(options: BattleOptions, path: str) -> None:
 def fix_file(options: BattleOptions, path: str) -> int:
     """Prints a fixed source, and reports the errors that are left. Returns the exit status."""
     data = read_file(path)
-    with Assembler(options.limit) as assembler:
+    with limited(options, path) as assembler:
         load = loader(options, path, assembler)
         fixed = fix(data, load)
         errors = [*errors_of(fixed, load)]
@@ -199,10 +202,22 @@ def loader(options: BattleOptions, path: str, assembler: Assembler) -> Callable[
     return load
 
 
-def errors_in(options: BattleOptions, path: str) -> Iterator[tuple[MarsError, bytes, list[str]]]:
+@contextmanager
+def limited(options: BattleOptions, path: str) -> Iterator[Assembler]:
+    """Yields an assembler for a file, and limits the time of all that it assembles and of all that is made of the file
+    besides. Raises FileError.
+    """
+    try:
+        with Assembler(options.limit, is_total=True) as assembler, deadline(options.limit):
+            yield assembler
+    except Overrun as overrun:
+        raise FileError(path, str(overrun)) from None
+
+
+def errors_in(options: BattleOptions, path: str, assembler: Assembler) -> Iterator[tuple[MarsError, bytes, list[str]]]:
     """Yields the errors of a file, each with the text of the file and its explanation. Raises FileError."""
     try:
-        read_warriors([path], options.settings, options.rounds, options.limit, 2)
+        read_warrior(assembler.assemble, path, options.settings, options.rounds)
         return
     except FileError as left:
         if not isinstance(left.fault, MarsError):
@@ -211,9 +226,8 @@ def errors_in(options: BattleOptions, path: str) -> Iterator[tuple[MarsError, by
     if fault.code != ASSEMBLY:
         yield fault, text, explain_error(fault, text)
         return
-    with Assembler(options.limit) as assembler:
-        for error, sentences in errors_of(text, loader(options, path, assembler)):
-            yield error, text, sentences
+    for error, sentences in errors_of(text, loader(options, path, assembler)):
+        yield error, text, sentences
 
 
 def explain_input(options: BattleOptions, shown: Explanations) -> int:
@@ -231,8 +245,9 @@ def explain_input(options: BattleOptions, shown: Explanations) -> int:
         raise CorewarError("no error message found in the input")
     for message, path, number, kind in found:
         source = read_file(path) if os.path.isfile(path) else b""
-        problem = problem_of(kind, number, source, explain_kind(kind, number, source))
-        shown.add_problem(message, path, problem, source)
+        with limited(options, path):
+            problem = problem_of(kind, number, source, explain_kind(kind, number, source))
+            shown.add_problem(message, path, problem, source)
     return 0
 
 

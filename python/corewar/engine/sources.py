@@ -53,10 +53,11 @@ class Assembler:
     the process is a new one of Python, which imports the program's main module again.
 
     - `limit`: the limits for each source
+    - `is_total`: whether the limit of time is for all sources together
     """
 
-    def __init__(self, limit: Limit = Limit()) -> None:
-        self.limit = limit
+    def __init__(self, limit: Limit = Limit(), is_total: bool = False) -> None:
+        self.limit, self.is_total = limit, is_total
         # By the number of the process that asks: after a fork, two would read each other's answers from one pipe, and
         # a lock that another thread holds at the fork would stay locked.
         self._servers: dict[int, Server] = {}
@@ -67,8 +68,8 @@ class Assembler:
     def __exit__(self, *_: object) -> None:
         self.end()
 
-    def __reduce__(self) -> tuple[type[Assembler], tuple[Limit]]:
-        return Assembler, (self.limit,)
+    def __reduce__(self) -> tuple[type[Assembler], tuple[Limit, bool]]:
+        return Assembler, (self.limit, self.is_total)
 
     def end(self) -> None:
         """Ends the process, if there is one, after the source that it assembles. The next source starts another."""
@@ -117,18 +118,21 @@ class Assembler:
         return read_warrior(self.assemble, os.fsdecode(path), settings_of(settings), rounds, warriors)
 
     def _server(self) -> Server:
-        return self._servers.setdefault(os.getpid(), Server(self.limit))
+        return self._servers.setdefault(os.getpid(), Server(self.limit, self.is_total))
 
 
 class Server:
     """The process of an `Assembler`, if there is one, and the pipe to it. Its lock is taken by those who call."""
 
-    def __init__(self, limit: Limit) -> None:
-        self.limit, self.lock = limit, threading.Lock()
+    def __init__(self, limit: Limit, is_total: bool) -> None:
+        self.limit, self.is_total, self.lock = limit, is_total, threading.Lock()
         self._running: tuple[Any, Connection] | None = None
+        self._is_spent = False
 
     def ask(self, source: bytes, given: dict[str, Any]) -> Warrior | Exception:
         """Returns the answer of the process for a source. Raises Overrun."""
+        if self._is_spent:
+            raise self._overrun(-signal.SIGXCPU)
         process, pipe = self._running or self._begin()
         # A process of which an answer may be left in the pipe is not used again, whatever interrupts this.
         self._running = None
@@ -158,7 +162,8 @@ class Server:
         context: Any = multiprocessing.get_context(way)
         ours, theirs = context.Pipe()
         # A forked process also has our end, and does not notice that we have ended until it closes it.
-        process = context.Process(target=serve, args=(theirs, self.limit, ours if way == "fork" else None), daemon=True)
+        args = (theirs, self.limit, self.is_total, ours if way == "fork" else None)
+        process = context.Process(target=serve, args=args, daemon=True)
         # The workers of a `multiprocessing.Pool` may start no process, since it might outlive them; this one does not.
         current = multiprocessing.current_process()
         is_daemon = current.daemon
@@ -177,6 +182,7 @@ class Server:
     def _overrun(self, code: int) -> Overrun:
         """Returns why the process has ended."""
         if code == -signal.SIGXCPU:
+            self._is_spent = self.is_total
             return Overrun(f"assembling takes more than {self.limit.seconds} s of CPU time")
         kind = Terminated if code == -signal.SIGTERM else Overrun
         return kind(f"the assembler was ended by signal {-code}" if code < 0 else "the assembler has failed")
@@ -188,7 +194,7 @@ def stop(process: Any, pipe: Connection) -> None:
     process.join()
 
 
-def serve(pipe: Connection, limit: Limit, other: Connection | None) -> None:
+def serve(pipe: Connection, limit: Limit, is_total: bool, other: Connection | None) -> None:
     """Assembles the sources from a pipe until its other end is closed."""
     if other is not None:
         other.close()
@@ -198,14 +204,17 @@ def serve(pipe: Connection, limit: Limit, other: Connection | None) -> None:
     # The limit is for what a source adds to the memory that the process has at its start.
     lower_limit(resource.RLIMIT_AS, taken_memory() + limit.megabytes * 1_000_000)
     lower_limit(resource.RLIMIT_CORE, 0)
+    is_limited = False
     while True:
         try:
             given = pipe.recv()
         except (EOFError, OSError):
             return
-        used = resource.getrusage(resource.RUSAGE_SELF)
-        # The limit of the system is for the whole life of the process, and in whole seconds.
-        lower_limit(resource.RLIMIT_CPU, int(used.ru_utime + used.ru_stime) + 1 + limit.seconds)
+        if not (is_limited and is_total):
+            used = resource.getrusage(resource.RUSAGE_SELF)
+            # The limit of the system is for the whole life of the process, and in whole seconds.
+            lower_limit(resource.RLIMIT_CPU, int(used.ru_utime + used.ru_stime) + 1 + limit.seconds)
+            is_limited = True
         try:
             pipe.send(assemble_or_error(*given))
         except BrokenPipeError:

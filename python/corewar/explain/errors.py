@@ -7,6 +7,7 @@ from dataclasses import dataclass
 from typing import Any
 
 from ..engine.calls import encode_source
+from ..engine.deadline import deadline
 from ..engine.sources import Assembler, Limit
 from ..model.errors import ASSEMBLY, MarsError
 from ..model.settings import Settings
@@ -99,12 +100,12 @@ def problems(
     """Returns the errors of a source, at most ten, each with what `corewar explain` says; none if it is right.
 
     - `settings`, `rounds`, `warriors`: as for `assemble`
-    - `limit`: the limits for assembling it
+    - `limit`: the limits for assembling it; what else it costs has the same limit of time, but only in the main thread
 
     Raises `Overrun` if a limit is exceeded, and `MarsError` if the settings are invalid.
     """
     data, given = encode_source(source), dict[str, Any](settings=settings, rounds=rounds, warriors=warriors)
-    with Assembler(limit) as assembler:
+    with Assembler(limit, is_total=True) as assembler, deadline(limit):
         found = [*errors_of(data, lambda text: assembler.assemble(text, **given))]
     for fault, _ in found:
         if fault.code != ASSEMBLY:
