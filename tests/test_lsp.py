@@ -240,6 +240,23 @@ def test_a_source_that_costs_too_much(editor: Editor) -> None:
     assert editor.write(GOOD) == []
 
 
+def test_a_source_that_is_too_large(editor: Editor) -> None:
+    """Its only error says so, and the server continues."""
+    (found,) = editor.write("NOP\n" * 5_000_000)
+    assert found["message"] == "larger than 1,048,576 bytes" and found["range"]["start"]["line"] == 0
+    assert editor.about("codeAction", range=found["range"])["result"] == []
+    assert editor.write(GOOD) == [] and editor.write("\n" * 60_000 + "NOP\n") == []
+
+
+def test_answers_have_a_limit(editor: Editor) -> None:
+    """An answer that takes too long is an error, and so is a source whose errors take too long."""
+    (found,) = editor.write("a NOP\n" * 150_000)
+    assert found["message"] == "reading the source takes more than 2 s of CPU time"
+    answer = editor.about("codeAction", range=found["range"])
+    assert answer["error"]["message"] == "reading the source takes more than 2 s of CPU time"
+    assert editor.write(GOOD) == []
+
+
 def test_a_large_source() -> None:
     """Loops, names of iterations and long lines: the test would not end if they took quadratic time."""
     loops = "".join(f"i{n} FOR 1\nx{n}&i{n} NOP x{n}01\nROF\n" for n in range(10_000))

@@ -6,14 +6,16 @@ import sys
 import traceback
 from typing import Any
 
-from ..engine.sources import Assembler, Limit
+from ..engine.deadline import deadline
+from ..engine.sources import Assembler, Limit, Overrun
 from ..model.errors import CorewarError
 from ..model.settings import Settings
 from .answers import ANSWERS, LEGEND, Params, diagnostic
-from .text import Text
+from .text import Error, Text
 from .wire import Message, Wire
 
-# Errors are looked for if nothing comes for this many seconds. A source is assembled within these limits.
+# Errors are looked for if nothing comes for this many seconds. A source is assembled within these limits, and what
+# else an answer takes has the same limit of time.
 IDLE_SECONDS, LIMIT = 0.05, Limit(2, 500)
 CAPABILITIES = {
     "textDocumentSync": {"openClose": True, "change": 1},
@@ -66,7 +68,8 @@ class Server:
         if method is None:
             return
         try:
-            answer = {"result": self.answer(method, params)}
+            with deadline(LIMIT):
+                answer = {"result": self.answer(method, params)}
         except NotImplementedError:
             answer = {"error": {"code": NO_METHOD, "message": f"{method} is not supported"}}
         except CorewarError as refused:
@@ -94,9 +97,15 @@ class Server:
             self.texts.pop(uri, None)
         else:
             text = (params.get("contentChanges") or [params["textDocument"]])[-1]["text"]
-            self.texts[uri] = Text(text, self.assembler.assemble, self.settings)
+            # If reading the text takes too long, that is its error.
+            self.texts[uri] = self.text("", f"reading the source takes more than {LIMIT.seconds} s of CPU time")
+            self.changed.add(uri)
+            self.texts[uri] = self.text(text)
         self.changed.add(uri)
         return None
+
+    def text(self, text: str, refused: str = "") -> Text:
+        return Text(text, self.assembler.assemble, self.settings, refused)
 
     def send_errors(self) -> None:
         """Sends the errors of the sources that have changed."""
@@ -104,7 +113,10 @@ class Server:
             uri = self.changed.pop()
             try:
                 text = self.texts.get(uri)
-                found = [diagnostic(text, error) for error in text.errors] if text else []
+                with deadline(LIMIT):
+                    found = [diagnostic(text, error) for error in text.errors] if text else []
+            except Overrun as overrun:
+                found = [diagnostic(self.text(""), Error(str(overrun), []))]
             except Exception:
                 traceback.print_exc()
                 continue

@@ -14,12 +14,12 @@ from ..explain.errors import kind_of
 from ..explain.source import Advice, Source, read_source
 from ..model.cells import cell_text
 from ..model.errors import CorewarError
-from ..model.settings import HILLS, Settings
+from ..model.settings import HILLS, MAX_FILE_SIZE, Settings
 from ..engine.warriors import Warrior
 from .names import Names, Token
 
 # A comment that names a hill.
-HILL = re.compile(r"^\s*;redcode-(\w+)", re.I | re.M)
+HILL = re.compile(r"^[^\S\n]*;redcode-(\w+)", re.I | re.M)
 WIDE = re.compile("[\U00010000-\U0010ffff]")
 FIELDS = re.compile(r"DAT\.F #(-?\d+), #(-?\d+)")
 # The numbers of expressions are below this.
@@ -47,12 +47,17 @@ class Text:
     """The text of a source. A comment such as `;redcode-tiny` selects the settings of that hill.
 
     Lines count from 1 and columns from 0, in characters. Positions of the protocol count both from 0, in UTF-16 units.
+
+    - `refused`: why a text is not read, which is then its only error
     """
 
-    def __init__(self, text: str, assemble: Callable[..., Warrior], settings: Settings) -> None:
+    def __init__(self, text: str, assemble: Callable[..., Warrior], settings: Settings, refused: str = "") -> None:
+        self.data = text.encode("utf-8", "replace")
+        self.refused = refused or (f"larger than {MAX_FILE_SIZE:,} bytes" if len(self.data) > MAX_FILE_SIZE else "")
+        if self.refused:
+            text, self.data = "", b""
         hill = HILL.search(text)
         self.settings = HILLS.get(hill[1].lower(), settings) if hill else settings
-        self.data = text.encode("utf-8", "replace")
         self.source: Source = read_source(self.data)
         self._assemble = assemble
         # The columns of the characters of a line that have two units.
@@ -110,6 +115,8 @@ class Text:
 
     @cached_property
     def errors(self) -> list[Error]:
+        if self.refused:
+            return [Error(self.refused, [])]
         found: list[Error] = []
         try:
             for fault, sentences in errors_of(self.data, self.load):

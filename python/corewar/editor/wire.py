@@ -23,7 +23,7 @@ class Wire:
 
     def receive(self) -> Message | None:
         """Returns the next message, or None at the end of the stream. Raises ValueError if it is not a JSON object."""
-        left, body = 0, b""
+        left, body = 0, bytearray()
         while (line := self._reader.readline()) != b"\r\n":
             if not line:
                 return None
@@ -33,7 +33,8 @@ class Wire:
             piece = self._reader.read(left)
             if not piece:
                 return None
-            body, left = body + piece, left - len(piece)
+            body += piece
+            left -= len(piece)
         message = json.loads(body)
         if not isinstance(message, dict):
             raise ValueError("a message is not an object")
