@@ -152,6 +152,9 @@ def test_wrong_requests(site: Site) -> None:
     for length in (str(1 << 40), "9" * 5000, "-1"):
         assert site.ask("api/league", None, "POST", **{"Content-Length": length})[0] == 413
     assert site.ask("api/other", {}, "POST")[0] == site.ask("other", {}, "PUT")[0] == 404
+    assert site.ask("x" * 300 + ".js")[0] == 404
+    status, answer = site.ask("api/league", {**fight("imp", "dwarf"), "rounds": 0}, "POST")
+    assert status == 400 and b"settings 1 Rounds" in answer
 
 
 def test_sources_are_those_of_the_folder_now(site: Site) -> None:
@@ -183,6 +186,13 @@ def test_sources_are_saved_to_their_files(site: Site) -> None:
     assert status == 400 and answer["fault"].endswith(": File name too long")
     assert site.save("new.red", "DAT 0, 0\n", "")[0] == 200
     assert (site.folder / "new.red").read_text() == "DAT 0, 0\n"
+
+
+def test_a_file_that_is_too_large_is_not_read(site: Site) -> None:
+    with open(site.folder / "huge.red", "wb") as file:
+        file.truncate(1 << 40)
+    answer = {"fault": "huge.red is larger than 1048576 bytes; not saved"}
+    assert site.save("huge.red", "NOP\n", "") == (400, answer)
 
 
 def test_a_new_source_does_not_change_the_key_of_the_folder(tmp_path: Path) -> None:

@@ -88,6 +88,9 @@ class Folder:
         # A pipe or a device could be read without end.
         if path.exists() and not path.is_file():
             raise CorewarError(f"{name} is not a regular file; not saved")
+        # The page was never sent more of a file.
+        if path.exists() and path.stat().st_size > MAX_FILE_SIZE:
+            raise CorewarError(f"{name} is larger than {MAX_FILE_SIZE} bytes; not saved")
         there = digest(path.read_bytes()) if path.exists() else ""
         if there != seen:
             raise ChangedOnDisk(name, there)

@@ -2,6 +2,7 @@
 from __future__ import annotations
 
 import json
+import os
 import secrets
 import webbrowser
 from collections.abc import Callable, Iterator
@@ -109,7 +110,8 @@ class Handler(BaseHTTPRequestHandler):
 
     def _send_file(self, name: str) -> None:
         path = self.served.site / name
-        if path.parent != self.served.site or path.suffix not in TYPES or not path.is_file():
+        # Unlike that of a path, this `isfile` accepts a name that is too long.
+        if path.parent != self.served.site or path.suffix not in TYPES or not os.path.isfile(path):
             return self._refuse(404, "not found")
         body = path.read_bytes()
         if name == "index.html":
