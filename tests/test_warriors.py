@@ -155,6 +155,15 @@ def test_a_core_without_cells() -> None:
             corewar.cell_text(CELL, core)
 
 
+@pytest.mark.parametrize("text", ("A\0", "A\0B", "\0", "A\n"))
+@pytest.mark.parametrize("field", ("name", "author"))
+def test_names_with_control_characters(field: str, text: str) -> None:
+    """They are refused, and not cut off at a 0."""
+    warrior = Warrior.from_cells(assemble_cells(), **{field: text})  # type: ignore[arg-type]
+    with pytest.raises(MarsError, match="warrior 5 Name"):
+        str(warrior)
+
+
 def test_an_assembler_is_as_the_call() -> None:
     """It returns the same warriors and raises the same errors, and continues after an error."""
     sources: list[Any] = ["DAT WARRIORS", b"DAT 0 ; \xff", os.fsdecode(b"DAT 0 ; \xff"), "FOO 1", "MOV 0, 1", 5]

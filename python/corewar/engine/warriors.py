@@ -79,8 +79,9 @@ class Warrior:
     @cached_property
     def load(self) -> bytes:
         """The load file. Raises `MarsError` if a name, the start or a cell is invalid."""
-        # The library refuses a name of more than 60 bytes.
-        names = [name.encode(errors="surrogatepass")[:64] for name in (self.name, self.author)]
+        # The library refuses a name of more than 60 bytes, or with a control character; but 0 would end it.
+        given_names = [name.replace("\0", "\n") for name in (self.name, self.author)]
+        names = [name.encode(errors="surrogatepass")[:64] for name in given_names]
         program = library()[0].new("MarsProgram *", [[len(self), clamp(self.start)], *names])
         given = [
             settings_struct(Settings(core=self.core, longest=self.core, distance=self.core)),
