@@ -671,3 +671,10 @@ def test_problems_have_the_limit() -> None:
     with pytest.raises(corewar.Overrun, match=TOO_LONG):
         corewar.problems("a NOP\n" * 150_000, limit=corewar.Limit(1, 500))
     assert signal.getitimer(signal.ITIMER_PROF) == (0, 0)
+
+
+def test_only_an_earlier_label_is_no_counter_of_pmars() -> None:
+    loop, label = "i FOR 2\nDAT i, 0\nROF\n", "i DAT 0, 0\n"
+    note = "line 2: pMARS rejects the counter `i`, a label of an earlier line."
+    assert note in pmars_differences((label + loop).encode())
+    assert pmars_differences((loop + label).encode()) == []

@@ -185,8 +185,8 @@ def names(source: Source) -> Found:
             if name in first and name.upper() not in EXTENSIONS:
                 yield line.number, f"pMARS drops this line with a warning, since `{name}` is known; use another name."
             first.setdefault(name, line.number)
-        if line.word == "FOR" and line.labels and line.labels[-1] in labels:
-            yield line.number, f"pMARS rejects the counter `{line.labels[-1]}`, which is also a label."
+        if line.word == "FOR" and line.labels and labels.get(line.labels[-1], line).number < line.number:
+            yield line.number, f"pMARS rejects the counter `{line.labels[-1]}`, a label of an earlier line."
         if re.match(r"\s*\w+\s+:", line.code):
             yield line.number, "pMARS rejects a space before the `:` of a label."
 
