@@ -678,3 +678,13 @@ def test_only_an_earlier_label_is_no_counter_of_pmars() -> None:
     note = "line 2: pMARS rejects the counter `i`, a label of an earlier line."
     assert note in pmars_differences((label + loop).encode())
     assert pmars_differences((loop + label).encode()) == []
+
+
+def test_a_fix_reports_what_is_left(run: Run, tmp_path: Path) -> None:
+    """The source is assembled now, but to other cells than in pMARS."""
+    (tmp_path / "left.red").write_text(" DAT #5\np q FOR 2\nDAT 0, 0\nROF\n")
+    done = run("explain", "--fix", "left.red")
+    note = "line 1: pMARS reads `DAT #0, #5`, this kit `DAT $0, #5`; write both operands."
+    assert (done.returncode, done.stderr) == (0, f"corewar: left.red: left as it is: {note}\n")
+    (tmp_path / "done.red").write_text("p q FOR 2\nDAT 0, 0\nROF\n")
+    assert run("explain", "--fix", "done.red").stderr == ""

@@ -177,13 +177,18 @@ def compare_file(options: BattleOptions, path: str) -> None:
 
 
 def fix_file(options: BattleOptions, path: str) -> int:
-    """Prints a fixed source, and reports the errors that are left. Returns the exit status."""
+    """Prints a fixed source, and reports the errors, or else the differences from pMARS, that are left. Returns the
+    exit status.
+    """
     data = read_file(path)
     with limited(options, path) as assembler:
         load = loader(options, path, assembler)
         fixed = fix(data, load)
         errors = [*errors_of(fixed, load)]
+        left = [] if errors else pmars_differences(fixed)
     click.echo(fixed, nl=False)
+    for note in left:
+        report(f"{path}: left as it is: {note}")
     for fault, sentences in errors:
         report(f"{path}: not fixed: {fault}")
         report_sentences(sentences)
