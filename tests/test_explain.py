@@ -331,6 +331,8 @@ DIFFERENT = [
     ("prose in a `FOR 0` whose second", "FOR 0\nwait for it\nROF\nnop 0\n", "takes the `for` in this text"),
     ("several labels before", "a b EQU 2\nnop 0\n", "several labels before EQU"),
     ("a name twice", "a nop 0\na nop 0\n", "drops this line with a warning, since `a` is known"),
+    ("an EQU without a name", "a nop 0\n EQU 5\n", "has no name, and follows no other EQU"),
+    ("a label in a loop", "FOR 2\na nop 0\nROF\n", "drops this line, with a warning, in later iterations"),
     ("a label in `;assert`", "a nop 0\n;assert a == 0\n", "does not check this assert, since `a`"),
     ("`;assert VERSION", ";assert VERSION >= 90\nnop 0\n", "VERSION is 92"),
     ("a label before ROF", "FOR 2\nnop 0\nx ROF\n", "a label before ROF"),
@@ -381,6 +383,13 @@ FIXED = [
     (";assert\nnop 0\n", "nop 0\n"),
     ("e equ i*2\ni FOR 2\nmov.i e, i\nROF\n", "mov.i 2, 1\nmov.i 4, 2\n"),
     ("e equ i*2\nnop e\ni FOR 2\nnop e\nROF\n", None),
+    ("e equ i*2\nFOR 2\ni FOR 2\nmov.i e, i\nROF\nROF\n", "mov.i 2, 1\nmov.i 4, 2\n" * 2),
+    ("e equ nop i\n\n equ nop 9\ni FOR 2\ne\nROF\n;assert\n", "nop 1\nnop 9\nnop 2\nnop 9\n"),
+    ("e equ x&i\ni FOR 2\nnop i\nROF\n", "nop 1\nnop 2\n"),
+    ("a nop a\na equ 5\nnop a\n", "nop 0\nnop -1\n"),
+    ("a nop 0\na equ nop 1\n\n equ nop 2\nb a\nnop a, b\n", "nop 0\nnop -1, 0\n"),
+    ("a nop 0\n equ 5\n equ 6\nnop a\n", "nop 0\nnop -1\n"),
+    ("FOR 0\nend of it\nROF\na nop 0\na jmp a\n", "nop 0\n"),
 ]
 
 

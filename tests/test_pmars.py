@@ -250,6 +250,39 @@ i     for     2
 p&i   to
       rof
 """,
+    "labels that are later EQU names": """
+start spl     0, <-10
+size  mov     0, size
+size  equ     mov     5, 6
+
+      equ     mov     7, 8
+top   size
+start equ     8
+      jmp     start, top
+      equ     9
+""",
+    "a counter of an inner loop": """
+far   equ     mov     n, i*10+n
+
+; The next line belongs to it.
+      equ     spl     far&i
+far01 equ     30
+far02 equ     40
+      for     2
+n     for     2
+i     for     n
+      far
+      rof
+      rof
+      rof
+""",
+    "a loop that ends in prose": """
+      for     0
+end of it, and for me
+      rof
+last  mov     0, last
+last  jmp     last
+""",
     "counts of inner loops": """
 many  equ     (3-i)
 i     for     2

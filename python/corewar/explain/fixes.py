@@ -75,14 +75,23 @@ def separate_labels(source: Source, lines: list[str], _: Load) -> None:
 
 
 def drop_lines(source: Source, lines: list[str], _: Load) -> None:
-    """Drops each line with a label that an earlier line has, as pMARS does. The labels before it stay."""
-    first: dict[str, int] = {name: line.number for name, line in source.equates.items()}
+    """Drops what pMARS drops: each line with a name that an earlier line has, from that name on, and each EQU without a
+    name that follows no other EQU. The labels before the name stay.
+    """
+    first, dropped, is_equate = dict[str, int](), set[str](), False
     for line in source.lines:
-        if line.unread or line.skipped or line.word in ("FOR", "EQU") or line.rest and not line.operation:
+        if line.unread or line.skipped or not line.code.strip():
             continue
-        kept = [*takewhile(lambda name: first.setdefault(name, line.number) == line.number, line.labels)]
-        if kept != line.labels:
+        continues, is_equate = is_equate, line.word == "EQU"
+        if line.word == "FOR" or line.rest and not line.operation or is_equate and not line.labels and continues:
+            continue
+        # The name of an EQU that was dropped is no operation, but a label again.
+        names = line.labels + [line.operation] * (line.operation in dropped)
+        kept = [*takewhile(lambda name: first.setdefault(name, line.number) == line.number, names)]
+        if kept != names or is_equate and not names:
             lines[line.number - 1] = " ".join([*kept, f"; {lines[line.number - 1]}"])
+            dropped.update(names[len(kept) :] if is_equate else ())
+            is_equate = False
 
 
 def remove_asserts(source: Source, lines: list[str], _: Load) -> None:
@@ -111,15 +120,23 @@ def move_equates(source: Source, lines: list[str], _: Load) -> None:
                 users.setdefault(name, []).append(line)
         for name, own in counters.items():
             head = source.equates[name]
-            loops = [(line, [one for one in around[line.number] if one.counter in own]) for line in users.get(name, ())]
+            loops = [(line, loops_of(around[line.number], own)) for line in users.get(name, ())]
             # An EQU in a loop is joined already; outside of loops a name has no counter in pMARS either.
-            if loops and len(head.labels) == 1 and not around[head.number] and all(found for _, found in loops):
+            if len(head.labels) == 1 and not around[head.number] and all(found for _, found in loops):
+                if not loops and not any("&" in word for line in source.equate(head) for word in line.rest):
+                    continue
                 move_equate(source, lines, head, loops)
                 break
         else:
             return
         source = read_source("\n".join(lines).encode("latin-1"))
         lines[:] = source.data.decode("latin-1").split("\n")
+
+
+def loops_of(around: list[Loop], counters: set[str]) -> list[Loop]:
+    """Returns the loops from the outermost one to the innermost one that has one of these counters."""
+    last = max((at for at, loop in enumerate(around) if loop.counter in counters), default=-1)
+    return around[: last + 1]
 
 
 def counters_of_equates(source: Source) -> dict[str, set[str]]:
@@ -142,24 +159,41 @@ def counters_of_equates(source: Source) -> dict[str, set[str]]:
 
 
 def move_equate(source: Source, lines: list[str], head: Line, users: list[tuple[Line, list[Loop]]]) -> None:
-    """Moves an EQU to the beginning of the innermost loop around each of the lines that use it."""
+    """Moves an EQU to the beginning of the innermost loop around each of the lines that use it. Its name is joined to
+    the counters of all loops around it, since each iteration defines it once more. If no line uses it, it is removed.
+    """
     name, copies = head.labels[0], source.equate(head)
     texts, words = [lines[line.number - 1] for line in copies], {*re.findall(r"\w+", "\n".join(lines))}
     for line in copies:
         lines[line.number - 1] = ""
     names: dict[int, str] = {}
+    counters: dict[int, str] = {}
     for line, loops in users:
         inner = loops[-1].head.number
+        for loop in loops:
+            number = loop.head.number
+            if number not in counters and not loop.counter:
+                counters[number] = new_name("n", words)
+                lines[number - 1] = f"{counters[number]} {lines[number - 1].lstrip()}"
+            counters.setdefault(number, loop.counter)
         if inner not in names:
             # The names of several loops are distinct.
             base = name + "_" * len(names)
             while names and base in words:
                 base += "_"
-            joined = dict.fromkeys([base, *name.split("&")[1:], *(loop.counter for loop in loops)])
-            names[inner] = "&".join(joined)
+            own = [counters[loop.head.number] for loop in loops]
+            names[inner] = "&".join(dict.fromkeys([base, *name.split("&")[1:], *own]))
             lines[inner - 1] += "\n" + "\n".join([replace_name(texts[0], name, names[inner]), *texts[1:]])
         at = line.number - 1
         lines[at] = replace_name(lines[at], name, names[inner])
+
+
+def new_name(name: str, words: set[str]) -> str:
+    """Returns a name that is not one of the words of a source, and enters it into them."""
+    while name in words:
+        name += "_"
+    words.add(name)
+    return name
 
 
 def compute_counts(source: Source, lines: list[str], load: Load) -> None:

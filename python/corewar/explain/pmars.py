@@ -21,7 +21,7 @@ MINUS = re.compile(r"[\w)] - (?:[+-] )*\w+(?: [*/%] (?:[+-] )*\w+)+ [+-] ")
 Found = Iterator[tuple[int, str]]
 CHECKS: list[Callable[[Source], Found]] = []
 # What pMARS makes of an error of this kit.
-FAILED = "5 AssertFailed"
+FAILED, DUPLICATE = "5 AssertFailed", "1 Text 7 Duplicate"
 ACCEPTED = {
     "1 Text 5 BadCount": "pMARS reads a count below 0 as 0; write `(count)*(count>0)`.",
     "6 BadOrigin": "pMARS only warns about this start.",
@@ -29,8 +29,9 @@ ACCEPTED = {
     FAILED: "In pMARS this assert holds: VERSION is 92 there and 80 here.",
     "4 Expression 4 Range": "pMARS may hang on this value.",
 }
+REPEATED = "pMARS drops this line, with a warning, in later iterations of its loop; join the counter to the name."
 # The number of rows of the table that are looked for: an error shows some of them, and two errors one row.
-CHECKED_ROWS = 29
+CHECKED_ROWS = 31
 
 
 def check(function: Callable[[Source], Found]) -> Callable[[Source], Found]:
@@ -53,6 +54,8 @@ def pmars_differences(data: bytes, load: Callable[[bytes], object] | None = None
             theirs = re.sub(rb"(?im)^\s*;assert\b.*", lambda line: re.sub(rb"\bVERSION\b", b"92", line[0]), data)
             faults -= {fault for fault in faults_of(theirs, load) if fault[1] == FAILED}
         found |= {(number, ACCEPTED[kind]) for number, kind in faults if kind in ACCEPTED}
+        repeated = {number for number, kind in faults if kind == DUPLICATE and source.loops_around(number)}
+        found |= {(number, REPEATED) for number in repeated - {number for number, _ in found}}
     return [f"line {number}: {note}" if number else note for number, note in sorted(found)]
 
 
@@ -134,10 +137,15 @@ def counts(source: Source) -> Found:
 
 @check
 def equates(source: Source) -> Found:
-    last = {loop.counter: loop.head.number for loop in source.loops}
+    last, is_equate = {loop.counter: loop.head.number for loop in source.loops}, False
     for line in source.lines:
-        if line.word != "EQU":
+        if line.unread or line.skipped or not line.code.strip():
             continue
+        continues, is_equate = is_equate, line.word == "EQU"
+        if not is_equate:
+            continue
+        if not line.labels and not continues:
+            yield line.number, "pMARS drops this EQU with a warning: it has no name, and follows no other EQU."
         words = [word.upper() for word in line.rest]
         if "FOR" in words or "ROF" in words:
             yield line.number, "pMARS accepts FOR and ROF in the text of an EQU; write the loop itself."

@@ -114,11 +114,14 @@ class Source:
         return any(name in line.rest for line in self.lines)
 
     def equate(self, head: Line) -> list[Line]:
-        """The lines of an EQU: the first one, and those without a name that follow."""
-        last = head.number
-        while last < len(self.lines) and self.lines[last].word == "EQU" and not self.lines[last].labels:
-            last += 1
-        return self.lines[head.number - 1 : last]
+        """The lines of an EQU: the first one, and those without a name that follow. Empty lines may be between them."""
+        found = [head]
+        for line in self.lines[head.number :]:
+            if line.word == "EQU" and not line.labels:
+                found.append(line)
+            elif line.code.strip():
+                break
+        return found
 
     def around(self) -> dict[int, list[Loop]]:
         """Returns the loops around each line, by its number, at most `MAX_LOOPS`."""
@@ -170,11 +173,11 @@ def read_source(data: bytes) -> Source:
             line.unread = cause_sentence("before redcode", line=first)
         elif end:
             line.unread = cause_sentence("after end", line=end)
-        elif line.word == "END":
-            end = number
         elif line.skipped and (line.word not in ("FOR", "ROF") or len(line.labels) > 1):
             # In a loop that is skipped, only a first or second word begins another one.
             continue
+        elif line.word == "END":
+            end = number
         elif line.word == "EQU" and line.labels:
             source.equates.setdefault(line.labels[-1], line)
         elif line.word == "FOR":
