@@ -55,6 +55,11 @@ def fight(hill: Hill, newcomer: corewar.Warrior) -> Any:
     return corewar.outcomes([newcomer, *others], lineups, **given)["survived"]
 
 
+def ranked(warriors: list[Entry], rounds: int) -> list[Entry]:
+    """Returns warriors in the order of their scores. Of equal scores the one that was above stays above."""
+    return sorted(warriors, key=lambda one: rates(one, rounds)[0], reverse=True)
+
+
 def challenge(hill: Hill, newcomer: corewar.Warrior) -> list[Entry]:
     """Lets a newcomer challenge the hill. Returns the warriors that are pushed off."""
     hill["challenges"] += 1
@@ -65,12 +70,14 @@ def challenge(hill: Hill, newcomer: corewar.Warrior) -> list[Entry]:
         wins, losses = (int(lives) - ties for lives in survived.sum(axis=0))
         new["against"][other["number"]], other["against"][new["number"]] = [wins, ties], [losses, ties]
         other["age"] += 1
-    # Of equal scores the older one stays above.
-    table = sorted([*hill["warriors"], new], key=lambda one: rates(one, hill["rounds"])[0], reverse=True)
-    hill["warriors"], pushed_off = table[: hill["size"]], table[hill["size"] :]
+    hill["warriors"] = ranked([*hill["warriors"], new], hill["rounds"])
+    pushed_off: list[Entry] = hill["warriors"][hill["size"] :]
+    del hill["warriors"][hill["size"] :]
     for one in hill["warriors"]:
         for left in pushed_off:
             del one["against"][left["number"]]
+    # Without the matches against those that left, the scores are others.
+    hill["warriors"] = ranked(hill["warriors"], hill["rounds"])
     return pushed_off
 
 

@@ -46,6 +46,15 @@ def test_a_hill(tmp_path: Path) -> None:
             assert other["against"][one["number"]][1] == ties
 
 
+def test_a_hill_is_ordered_by_the_scores_that_it_shows(tmp_path: Path) -> None:
+    """They change when a warrior is pushed off."""
+    files = [EXAMPLES / f"{name}.red" for name in ("dwarf", "imp", "silk", "paper")] * 2
+    for number in range(1, len(files) + 1):
+        done = run("hill.py", "--size", 3, "--rounds", 100, "hill.json", files[number - 1], cwd=tmp_path)
+        scores = [float(line.split()[1]) for line in done.stdout.partition(HEAD)[2].splitlines()[1:]]
+        assert len(scores) == min(number, 3) and scores == sorted(scores, reverse=True)
+
+
 def test_a_hill_is_the_same_in_steps(tmp_path: Path) -> None:
     """One challenge at a time, from sources or load files, gives the same file; without a file nothing changes."""
     whole = run("hill.py", "--size", 3, "--rounds", 20, "whole.json", *FILES, cwd=tmp_path)
