@@ -352,7 +352,7 @@ DIFFERENT = [
     ("`;name`, `;author`", ";name " + "n" * 61 + "\nnop 0\n", "60 bytes"),
     ("one operand with opcodes", "mov 1\n", "with this number of operands"),
     ("a last line with only a label", "jmp last\nlast\n", "drops a last line"),
-    ("a counter with the name of a label", "i nop 0\ni FOR 2\nnop i\nROF\n", "rejects the counter `i`"),
+    ("a counter with the name of an earlier label", "i nop 0\ni FOR 2\nnop i\nROF\n", "rejects the counter `i`"),
     ("lines and names of more", f"nop 0, {'+'.join(['1'] * 130)}\n", "truncates lines"),
 ]
 # Rows that no source can show.

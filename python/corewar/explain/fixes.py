@@ -160,7 +160,7 @@ def counters_of_equates(source: Source) -> dict[str, set[str]]:
 
 def move_equate(source: Source, lines: list[str], head: Line, users: list[tuple[Line, list[Loop]]]) -> None:
     """Moves an EQU to the beginning of the innermost loop around each of the lines that use it. Its name is joined to
-    the counters of all loops around it, since each iteration defines it once more. If no line uses it, it is removed.
+    the counters of all loops around it, since each iteration defines it again. If no line uses it, it is removed.
     """
     name, copies = head.labels[0], source.equate(head)
     texts, words = [lines[line.number - 1] for line in copies], {*re.findall(r"\w+", "\n".join(lines))}

@@ -21,7 +21,7 @@ export function errorOf(code, details) {
  * Returns the text of an error: after its line or its index, such as `line 2: 2 Operation`, if it has one.
  * @param {Numbers} error
  */
-function errorText(error) {
+export function errorText(error) {
   const { code, line, warrior } = error;
   if (code === ASSEMBLY || code === LOAD) return `line ${line}: ${errorName(error)}`;
   return code === WARRIOR || code === LINEUP ? `index ${warrior}: ${errorName(error)}` : errorName(error);
