@@ -59,7 +59,7 @@ def defined() -> Iterator[tuple[str, str]]:
         yield spelled(name), number
     yield "DONE", "0"
     for name, number in {**cases("mars_c/Codes", "block_fault_of"), **cases("mars_c/Codes", "fault_of")}.items():
-        if name not in ("NoSuchEdit", "History"):
+        if name not in ("NoSuchEdit", "History", "Pasts"):
             yield {"Capacity": "ROOM"}.get(name, spelled(name)), number
     for kind, definition in ERRORS.items():
         numbers = cases("mars_c/Codes", f"{definition}_number")
@@ -67,6 +67,9 @@ def defined() -> Iterator[tuple[str, str]]:
     yield "EDIT_NO_SUCH_EDIT", "1"
     for name, number in cases("mars_c/Blocks", "Means").items():
         yield {"Spawn": "ADD_PROCESS"}.get(name, spelled(name)), number
+    for kind, prefix in (("way", ""), ("number", "NUMBER_")):
+        numbers = cases("mars_c/Following", f"{kind}_index")
+        yield from ((prefix + spelled(name), number) for name, number in numbers.items())
     for name, (file, before) in LIMITS.items():
         yield name, re.findall(rf"^{before} (\d+)", definitions(file), re.M)[0]
 

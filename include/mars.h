@@ -1,4 +1,5 @@
-/* The Core War kit as a library: an assembler, matches, leagues, populations, the debugger, records of turns, and battles as values.
+/* The Core War kit as a library: an assembler, matches, leagues, populations, the debugger, records of turns, searches for turns, and
+ * battles as values.
  *
  * Each call returns 0 (MARS_DONE) if it succeeds. Otherwise it returns the number of an error, stores this number with details in
  * `*fault`, and leaves rows, buffers, cells and battles unchanged. An error has the same number in every call. If there are several errors,
@@ -77,7 +78,8 @@ enum {
     MARS_BLOCK = 11,     /* the words are not a battle: MARS_BLOCK_.. */
     MARS_EDIT = 12,      /* the edit is impossible: MARS_EDIT_.. */
     MARS_WARRIOR = 13,   /* the cells, the start or a name of `fault->warrior` is wrong: MARS_WARRIOR_.. */
-    MARS_LINEUP = 14     /* the lineup with the index `fault->warrior` is wrong: MARS_LINEUP_.. */
+    MARS_LINEUP = 14,    /* the lineup with the index `fault->warrior` is wrong: MARS_LINEUP_.. */
+    MARS_CONDITION = 15  /* the condition with the index `fault->warrior` has a way or a number that does not exist */
 };
 enum {
     MARS_SETTINGS_ROUNDS = 1,
@@ -273,6 +275,42 @@ typedef struct {
     uint32_t address[8]; /* in this order; unused ones are 0 */
 } MarsTouched;
 
+/* The past of a cell. The library writes `owner` and `turn` when a turn changes the cell, and copies `origin` with an instruction; it
+ * gives no meaning to them otherwise. So the caller sets them first: at the start of a battle `owner` to the warrior that was loaded there,
+ * or to a number of its own, from 16 on, `turn` to 0, and `origin` to the address. After an edit it sets those of the cells that the edit
+ * changed, for example to another number of its own, the number of turns so far, and an origin that no other cell has, from the core size
+ * on. */
+typedef struct {
+    uint32_t owner;  /* warrior that changed the cell last. A change makes it another cell: a write of the same cell is none */
+    uint32_t turn;   /* number of the turn that changed it last, from 1 */
+    uint32_t origin; /* where its instruction was at first. Only MOV.I copies an instruction; all others change numbers */
+} MarsPast;
+
+/* The ways in which a turn uses a cell. It reads the cells of MarsTouched that it does not write. */
+enum { MARS_EXECUTES = 1, MARS_CHANGES, MARS_READS };
+
+/* The numbers of a turn, and of a cell that it uses. The past is that before the turn. */
+enum {
+    MARS_NUMBER_WARRIOR = 1, /* of the turn */
+    MARS_NUMBER_QUEUED,      /* processes that the turn queued: 2 if it split, 0 if its process ended */
+    MARS_NUMBER_DIED,        /* 1 if the warrior died, else 0 */
+    MARS_NUMBER_ADDRESS,     /* of the cell */
+    MARS_NUMBER_OWNER,
+    MARS_NUMBER_TURN,
+    MARS_NUMBER_ORIGIN,
+    MARS_NUMBER_OPCODE,      /* before the turn */
+    MARS_NUMBER_NEW_OPCODE   /* after it */
+};
+
+/* A condition: the number of a cell that a turn uses in this way is one from `first` to `last`. If `last` is smaller, the range goes
+ * around: it has the numbers from `first` on and those up to `last`. So {.., n + 1, n - 1} is any number but n. */
+typedef struct {
+    uint32_t way;
+    uint32_t number;
+    uint32_t first;
+    uint32_t last;
+} MarsCondition;
+
 /* A death: the warrior, and the number of turns that all warriors had executed, including its last one. */
 typedef struct {
     uint32_t warrior;
@@ -287,7 +325,8 @@ typedef struct {
     uint32_t expression; /* of MARS_ASSEMBLY_EXPRESSION and MARS_TEXT_EXPRESSION: MARS_EXPRESSION_.. */
     uint64_t line;       /* line of a source or a load file, from 1; of MARS_BLOCK_CELL: address of the first wrong cell; of
                             MARS_WARRIOR_CELL and MARS_WARRIOR_FIELD: index of the first wrong cell */
-    uint64_t warrior;    /* of MARS_WARRIOR and MARS_LINEUP: index, from 0; of MARS_BLOCK_QUEUE: first warrior whose queue is wrong */
+    uint64_t warrior;    /* of MARS_WARRIOR, MARS_LINEUP and MARS_CONDITION: index, from 0; of MARS_BLOCK_QUEUE: first warrior whose
+                            queue is wrong */
 } MarsFault;
 
 /* A battle: a block of 32-bit words that the caller owns. The block has the whole state of the battle, without pointers or padding,
@@ -420,6 +459,23 @@ uint32_t mars_start(const MarsSettings *settings,
  * are too few. */
 uint32_t mars_play(uint32_t *battle, size_t words, uint32_t turns,
                    MarsRecord *records, size_t record_count, MarsTouched *touched, size_t touched_count, MarsFault *fault);
+
+/* Executes turns as mars_play, keeps the past of each cell in place, and finds the turns that meet all conditions. Conditions on the same
+ * way are about one and the same cell; without conditions every turn meets them. *count is the number of turns that meet them, and the
+ * numbers of the first ones, counted as in MarsBattle, are written to the front of `found`, as far as there are places; the others stay.
+ * `past_count` must be the core size. Returns MARS_CONDITION first, then MARS_BLOCK and MARS_ROOM as mars_play, then MARS_SETTINGS
+ * (MARS_SETTINGS_ROWS) for a wrong `past_count`.
+ *
+ * The turns in which warrior 1 makes a cell of warrior 0 a DAT:
+ *
+ *     MarsCondition hit[] = {{MARS_CHANGES, MARS_NUMBER_WARRIOR, 1, 1}, {MARS_CHANGES, MARS_NUMBER_OWNER, 0, 0},
+ *                            {MARS_CHANGES, MARS_NUMBER_NEW_OPCODE, MARS_DAT, MARS_DAT}};
+ *     mars_follow(battle, words, turns, pasts, core, hit, 3, found, 100, &count, error);
+ *
+ * The turns that execute a copy of what was loaded at `line`: {MARS_EXECUTES, MARS_NUMBER_ORIGIN, line, line}. */
+uint32_t mars_follow(uint32_t *battle, size_t words, uint32_t turns, MarsPast *pasts, size_t past_count,
+                     const MarsCondition *conditions, size_t condition_count,
+                     uint32_t *found, size_t found_count, uint32_t *count, MarsFault *fault);
 
 /* Makes an edit of a battle in place, also if the battle is over. A dead warrior stays dead. Returns MARS_EDIT with
  * MARS_EDIT_NO_SUCH_EDIT first, then MARS_BLOCK and MARS_ROOM as mars_play, then MARS_EDIT with the first of the other numbers that

@@ -43,7 +43,8 @@ static const char PLACES[] = "4 x01\n4 x02\n4 x03\n6\n7\n";
 static const char LINES[] = "step\nrun 5\nundo\nshow\nlist 0 5\nquit\n";
 static const char FORMULA[] = "(W*W-1)/S";
 static const MarsEdit EDIT = {4, 1, 0, 5, {0, 0, 0, 0, 0, 0}};
-enum { WORDS = 64 + 3 * 800 + 3 * 800, CELLS = 5, CALLS = 13 };
+static const MarsCondition CONDITIONS[] = {{MARS_CHANGES, MARS_NUMBER_ADDRESS, 780, 20}, {MARS_CHANGES, MARS_NUMBER_WARRIOR, 1, 2}};
+enum { WORDS = 64 + 3 * 800 + 3 * 800, CELLS = 5, CALLS = 14 };
 static MarsCell cells[17 * CELLS];
 static MarsWarrior warriors[17]; /* the same warrior several times */
 static MarsProgram program;
@@ -62,6 +63,9 @@ typedef struct {
     MarsTouched touched[9];
     MarsCell cells[20];
     uint32_t battle[WORDS];
+    MarsPast pasts[800];
+    uint32_t found[9];
+    uint32_t count;
     MarsProgram program;
     MarsFault fault;
     uint32_t answer;
@@ -90,6 +94,7 @@ static void call(int which, Left *got) {
     if (which == 10) got->answer = mars_edit(got->battle, WORDS, &EDIT, &got->fault);
     if (which == 11) got->answer = mars_check(got->battle, WORDS, &got->fault);
     if (which == 12) got->answer = mars_debug(got->battle, WORDS, 50, lines, strlen(LINES), got->text, sizeof got->text, &got->length, &got->fault);
+    if (which == 13) got->answer = mars_follow(got->battle, WORDS, 200, got->pasts, 800, CONDITIONS, 2, got->found, 9, &got->count, &got->fault);
 }
 
 static int is_kept(const Left *got, const Left *blank) {
@@ -146,6 +151,7 @@ static int are_nulls_taken(void) {
         && mars_start(settings, cells, all, warriors, 3, 0, NULL, 0, &got.fault) == MARS_ROOM
         && mars_debug(block, WORDS, 9, NULL, 0, NULL, 0, &got.length, &got.fault) == MARS_DONE && got.length == 0
         && mars_play(got.battle, 0, 1, NULL, 0, NULL, 0, &got.fault) == MARS_BLOCK && got.fault.number == MARS_BLOCK_SHORT
+        && mars_follow(got.battle, 0, 1, NULL, 0, NULL, 0, NULL, 0, &got.count, &got.fault) == MARS_BLOCK && got.fault.number == MARS_BLOCK_SHORT
         && mars_check(NULL, 0, &got.fault) == MARS_BLOCK && got.fault.number == MARS_BLOCK_SHORT;
 }
 
@@ -193,6 +199,32 @@ static int are_battles_values(void) {
         && mars_play(once.battle, WORDS - 1, 1, NULL, 0, NULL, 0, &once.fault) == MARS_ROOM
         && mars_check(once.battle, battle->words, &once.fault) == MARS_DONE
         && mars_check(once.battle, battle->words - 1, &once.fault) == MARS_BLOCK && once.fault.number == 1;
+}
+
+/* A battle that is followed is the battle that is played, and the past and the turns that are found are those of its records. */
+static int are_turns_found(void) {
+    static MarsRecord records[500];
+    static MarsPast pasts[800];
+    Left followed, played;
+    uint32_t count = 0;
+    prepare(13, &followed), prepare(9, &played);
+    memset(followed.pasts, 0, sizeof followed.pasts), memset(pasts, 0, sizeof pasts);
+    if (mars_play(played.battle, WORDS, 500, records, 500, NULL, 0, &played.fault) != MARS_DONE) return 0;
+    if (mars_follow(followed.battle, WORDS, 500, followed.pasts, 800, CONDITIONS, 2, followed.found, 9, &followed.count, &followed.fault) != MARS_DONE) return 0;
+    for (uint32_t turn = 0; turn < 500; turn++) {
+        int is_found = 0;
+        for (uint32_t i = 0; i < records[turn].changes; i++) {
+            uint32_t address = records[turn].change[i].address, first = i, last = i;
+            for (uint32_t j = 0; j < records[turn].changes; j++)
+                if (records[turn].change[j].address == address) first = j < first ? j : first, last = j > last ? j : last;
+            if (!memcmp(&records[turn].change[first].before, &records[turn].change[last].after, sizeof(MarsCell))) continue;
+            pasts[address] = (MarsPast){records[turn].warrior, turn + 1, 0};
+            is_found |= records[turn].warrior >= 1 && records[turn].warrior <= 2 && (address >= 780 || address <= 20);
+        }
+        if (is_found && count < 9 && followed.found[count] != turn + 1) return 0;
+        count += is_found;
+    }
+    return count > 0 && count == followed.count && !memcmp(pasts, followed.pasts, sizeof pasts) && !memcmp(followed.battle, played.battle, sizeof played.battle);
 }
 
 /* The lines of a source's instructions, and the same error as when it is assembled. */
@@ -254,10 +286,10 @@ int main(void) {
             passed += is_so, failed += !is_so;
             if (!is_so) printf("call %d, %s refused\n", which, each ? "all from one on" : "one");
         }
-    int others[] = {mars_version() == MARS_VERSION, are_faults_cleared(), are_nulls_taken(), are_lines_reported(), are_loads_read(), are_outcomes_rows(), are_mistakes_reported_in_order(), are_battles_values()};
+    int others[] = {mars_version() == MARS_VERSION, are_faults_cleared(), are_nulls_taken(), are_lines_reported(), are_loads_read(), are_outcomes_rows(), are_mistakes_reported_in_order(), are_battles_values(), are_turns_found()};
     for (size_t i = 0; i < sizeof others / sizeof *others; i++) {
         passed += others[i], failed += !others[i];
-        if (!others[i]) printf("%s\n", (const char *[]){"the version", "errors of calls that succeed", "null pointers", "the lines of a source", "load files", "outcomes", "the order of mistakes", "battles as values"}[i]);
+        if (!others[i]) printf("%s\n", (const char *[]){"the version", "errors of calls that succeed", "null pointers", "the lines of a source", "load files", "outcomes", "the order of mistakes", "battles as values", "turns that are found"}[i]);
     }
     printf("%d passed, %d failed\n", passed, failed);
     return failed != 0;

@@ -197,6 +197,8 @@ class Battle:
     what: int = 1
     address: int = 0
     buffer: int = 1000
+    way: int = 1
+    pasts: int = 800
 
 
 def battle(arguments: Battle) -> tuple[NDArray[Any], tuple[Any, int]]:
@@ -221,6 +223,16 @@ def edit(arguments: Battle, fault: Any) -> tuple[int, NDArray[Any]]:
     return library()[1].mars_edit(*block, change, fault), words
 
 
+def follow(arguments: Battle, fault: Any) -> tuple[int, NDArray[Any]]:
+    words, block = battle(arguments)
+    pasts, found = array("MarsPast", arguments.pasts), array("uint32_t", 1)
+    conditions = filled("MarsCondition", [(1, 4, 0, 0), (arguments.way, 9, 0, 0)])
+    given = [*slice_of("MarsPast", pasts), *conditions, *slice_of("uint32_t", found)]
+    code = library()[1].mars_follow(*block, 1, *given, library()[0].new("uint32_t *"), fault)
+    assert not pasts.view(np.uint32).any() and not found.any()
+    return code, words
+
+
 def debug(arguments: Battle, fault: Any) -> tuple[int, NDArray[Any]]:
     words, block = battle(arguments)
     _, buffer = untouched("uint8_t", arguments.buffer)
@@ -232,6 +244,7 @@ def debug(arguments: Battle, fault: Any) -> tuple[int, NDArray[Any]]:
 BLOCK = [other("mark", 1, 11, 2), other("words", 2500, 10, 0)]
 ON_BATTLES = {
     "mars_play": (play, BLOCK),
+    "mars_follow": (follow, [other("way", 4, 15, 0, 1), *BLOCK, other("pasts", 799, 2, 7)]),
     "mars_edit": (edit, [other("what", 5, 12, 1), *BLOCK, other("address", 800, 12, 2)]),
     "mars_debug": (debug, [other("history", 0, 2, 6), BLOCK[0], other("buffer", 10, 10, 0)]),
 }
@@ -246,5 +259,7 @@ def test_battles(name: str) -> None:
             make(arguments)
         before, _ = battle(arguments)
         code, words = run(arguments, fault)
-        assert (code, fault.code, fault.number, fault.problem, fault.line) == (first[2][0], *first[2][:2], 0, 0)
+        number, warrior = first[2][1:]
+        assert code == fault.code == first[2][0]
+        assert (fault.number, fault.problem, fault.line, fault.warrior) == (number, 0, 0, warrior)
         assert (words == before).all()

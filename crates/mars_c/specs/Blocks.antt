@@ -14,7 +14,7 @@ use Rattle.mars_c.specs.Codes.{block_fault_of}
 use Rattle.mars_c.specs.Records.{recorded}
 use Rattle.mars_c.specs.Refusals.{AreWarriors, IsOutOfRange, RefusesRound}
 use Rattle.mars_c.specs.declared.faults.BlockRefusal.{BlockRefusal}
-use Rattle.mars_c.specs.declared.faults.BlockRefusal.TheVariants.{OutOfMemory, Block, Capacity, NoSuchEdit, Edit as OfEdit, History}
+use Rattle.mars_c.specs.declared.faults.BlockRefusal.TheVariants.{OutOfMemory, Block, Capacity, NoSuchEdit, Edit as OfEdit, History, Condition, Pasts}
 use Rattle.mars_c.specs.declared.faults.CallRefusal.{CallRefusal}
 use Rattle.mars_c.specs.declared.faults.MarsFault.{MarsFault}
 use Rattle.mars_c.specs.declared.cells.MarsCell.{MarsCell}
@@ -76,6 +76,8 @@ RefusesWords words Capacity = ⊥
 RefusesWords words NoSuchEdit = ⊥
 RefusesWords words (OfEdit fault) = ⊥
 RefusesWords words History = ⊥
+RefusesWords words (Condition index) = ⊥
+RefusesWords words Pasts = ⊥
 
 -- `refusal` is a reason for which no turn is executed in the words: they do not begin with a block, or have less capacity than
 -- its battle needs.
@@ -86,6 +88,8 @@ RefusesPlay words Capacity = (s : State) × Spells s words × (length words < ca
 RefusesPlay words NoSuchEdit = ⊥
 RefusesPlay words (OfEdit fault) = ⊥
 RefusesPlay words History = ⊥
+RefusesPlay words (Condition index) = ⊥
+RefusesPlay words Pasts = ⊥
 
 -- `refusal` is a reason for which an edit of the words is rejected: the numbers mean no edit, the words cannot be played, or
 -- the edit itself has an error.
@@ -96,6 +100,8 @@ RefusesEdit words numbers Capacity = RefusesPlay words Capacity
 RefusesEdit words numbers NoSuchEdit = (e : Edit) → Means numbers e → ⊥
 RefusesEdit words numbers (OfEdit fault) = (s : State) × (e : Edit) × IsPlayable s words × Means numbers e × (edit_fault s e ≡ Some fault)
 RefusesEdit words numbers History = ⊥
+RefusesEdit words numbers (Condition index) = ⊥
+RefusesEdit words numbers Pasts = ⊥
 
 -- The error is that of a refusal for which `Refuses` holds.
 abbrev pub Reports : (BlockRefusal → Type 0) → MarsFault → Type 0

@@ -8,6 +8,7 @@ pub mod Contests
 pub mod Records
 pub mod Touches
 pub mod Blocks
+pub mod Following
 pub mod Debugging
 pub mod Refusals
 pub mod Outcomes

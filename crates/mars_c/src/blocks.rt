@@ -92,7 +92,7 @@ pub fn check(alloc: Global, words: &[u32]) -> Result<(), BlockRefusal>
 }
 
 /// Returns the battle whose block the words begin with, if they have the capacity that the battle needs.
-fn take(alloc: Global, words: &[u32]) -> Result<Battle, BlockRefusal>
+pub fn take(alloc: Global, words: &[u32]) -> Result<Battle, BlockRefusal>
     ensures battle { IfOk result (λ battle. IsPlayable battle words.now) }
     ensures refused { IfErr result (RefusesPlay words.now) }
 {
@@ -108,7 +108,7 @@ fn take(alloc: Global, words: &[u32]) -> Result<Battle, BlockRefusal>
 }
 
 /// Writes the block of a battle. The words have the capacity that it needs.
-fn put(battle: &Battle, words: &mut [u32])
+pub fn put(battle: &Battle, words: &mut [u32])
     requires { capacity_of battle.now ≤ length words.old }
     ensures { IsWritten battle.now words.old words.new }
 {

@@ -49,6 +49,10 @@ pub enum BlockRefusal {
     Edit(EditFault),
     /// The history is not from 1 to 1,000,000 places.
     History,
+    /// The numbers at this index, from 0, mean no condition.
+    Condition(usize),
+    /// The number of pasts is not the size of the core.
+    Pasts,
 }
 
 /// An error as the caller gets it. Fields that do not apply are 0.
@@ -65,7 +69,7 @@ pub struct MarsFault {
     pub expression: u32,
     /// Line of a source or a load file, from 1; index of a wrong cell of a warrior, or address of a wrong cell of a block.
     pub line: u64,
-    /// Index of a warrior or a lineup, from 0.
+    /// Index of a warrior, a lineup or a condition, from 0.
     pub warrior: u64,
 }
 
@@ -171,6 +175,11 @@ pub fn block_fault(refusal: BlockRefusal) -> MarsFault
         BlockRefusal::NoSuchEdit => numbered(12, 1),
         BlockRefusal::Edit(fault) => numbered(12, edit_number(fault)),
         BlockRefusal::History => numbered(2, 6),
+        BlockRefusal::Condition(index) => MarsFault {
+            warrior: index as u64,
+            ..numbered(15, 0)
+        },
+        BlockRefusal::Pasts => numbered(2, 7),
     }
 }
 

@@ -3,7 +3,7 @@ pub mod Alike
 pub mod Apart
 pub mod ApartAlone
 pub mod ApartPairs
-pub mod Listed
+pub mod Copied
 pub mod MovedStart
 pub mod Near
 pub mod ReferenceCode

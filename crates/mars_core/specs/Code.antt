@@ -8,3 +8,4 @@ pub mod Distances
 pub mod Tags
 pub mod Words
 pub mod Frequent
+pub mod Searches

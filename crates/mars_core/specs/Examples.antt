@@ -3,6 +3,8 @@ pub mod Edits
 pub mod Apart
 pub mod Reach
 pub mod Touched
+pub mod Pasts
+pub mod Searches
 pub mod Ends
 pub mod Validity
 pub mod Starts

@@ -14,10 +14,12 @@ pub mod Block
 pub mod Shape
 pub mod Leads
 pub mod Record
+pub mod Past
+pub mod Touched
+pub mod Search
 -- Definitions that only the laws use, and no contract of a call.
 pub mod Moved
 pub mod Reach
-pub mod Touched
 pub mod Apart
 pub mod ReferenceCode
 pub mod Laws

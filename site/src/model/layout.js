@@ -27,7 +27,20 @@ export const BLOCK = 11;
 export const EDIT = 12;
 export const WARRIOR = 13;
 export const LINEUP = 14;
-export const RESULTS = ["DONE", "OUT_OF_MEMORY", "SETTINGS", "PARAMETERS", "FORMULA", "ASSEMBLY", "LOAD", "PLACEMENT", "BATTLE", "SCORE", "ROOM", "BLOCK", "EDIT", "WARRIOR", "LINEUP"];
+export const CONDITION = 15;
+export const RESULTS = ["DONE", "OUT_OF_MEMORY", "SETTINGS", "PARAMETERS", "FORMULA", "ASSEMBLY", "LOAD", "PLACEMENT", "BATTLE", "SCORE", "ROOM", "BLOCK", "EDIT", "WARRIOR", "LINEUP", "CONDITION"];
+export const EXECUTES = 1;
+export const CHANGES = 2;
+export const READS = 3;
+export const NUMBER_WARRIOR = 1;
+export const NUMBER_QUEUED = 2;
+export const NUMBER_DIED = 3;
+export const NUMBER_ADDRESS = 4;
+export const NUMBER_OWNER = 5;
+export const NUMBER_TURN = 6;
+export const NUMBER_ORIGIN = 7;
+export const NUMBER_OPCODE = 8;
+export const NUMBER_NEW_OPCODE = 9;
 export const MARK = 22167885;
 export const SET_CELL = 1;
 export const MOVE_PROCESS = 2;
@@ -139,6 +152,21 @@ export const MarsTouched = {
   size: 36,
   count: 0,
   address: 4,
+};
+
+export const MarsPast = {
+  size: 12,
+  owner: 0,
+  turn: 4,
+  origin: 8,
+};
+
+export const MarsCondition = {
+  size: 16,
+  way: 0,
+  number: 4,
+  first: 8,
+  last: 12,
 };
 
 export const MarsDeath = {

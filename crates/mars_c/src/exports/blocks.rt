@@ -1,5 +1,5 @@
 //! The functions on blocks that C calls. `include/mars.h` documents them.
-ghost use Rattle.std.specs.Prelude.{◌≡◌, ◌≢◌, ◌+◌, ◌*◌, Ok};
+ghost use Rattle.std.specs.Prelude.{◌≡◌, ◌≢◌, ◌+◌, ◌*◌, Ok, length};
 ghost use Rattle.mars_cell.specs.Parameters.{Parameters};
 ghost use Rattle.mars_cell.specs.ParameterFaults.{checked_parameters};
 ghost use Rattle.mars_core.specs.State.{State};
@@ -7,6 +7,7 @@ ghost use Rattle.mars_core.specs.Turn.{after_turns};
 ghost use Rattle.mars_core.specs.Block.{Spells, head_words};
 ghost use Rattle.mars_c.specs.Blocks.{HoldsEdited, HoldsStart, IsPlayable, IsWritten, OverflowsStart, RefusesEdit, RefusesPlay, RefusesStart, RefusesWords, Reports, played_rows};
 ghost use Rattle.mars_c.specs.Debugging.{Debugs, RefusesDebugging};
+ghost use Rattle.mars_c.specs.Following.{IsFollowed, RefusesFollow};
 ghost use Rattle.mars_c.specs.Programs.{HoldsText, OverflowsText};
 ghost use Rattle.mars_c.specs.Records.{turn_row};
 ghost use Rattle.mars_c.specs.Refusals.{AreWarriors, HasCause};
@@ -15,15 +16,18 @@ ghost use Rattle.mars_c.specs.Touches.{touched_row};
 
 use crate::blocks::{check, edit_in, play_in, put_if_fits, started, words_of};
 use crate::cells::MarsCell;
+use crate::conditions::MarsCondition;
 use crate::debugging::transcript;
 use crate::edits::MarsEdit;
 use crate::entrants::Entrants;
 use crate::exports::{answer, copy_to_buffer};
 use crate::faults::{MarsFault, block_fault, given, to_c_fault};
+use crate::following::follow_in;
 use crate::records::MarsRecord;
 use crate::settings::MarsSettings;
 use crate::touches::MarsTouched;
 use crate::warriors::MarsWarrior;
+use mars_core::Past;
 use std::alloc::Global;
 
 /// Returns the maximum length of the block of a battle in words, or 0 if the settings and the number of warriors allow no
@@ -78,6 +82,32 @@ pub extern "C" fn mars_play(
 {
     match play_in(alloc, battle, turns, records, touched) {
         Ok(()) => answer(fault, given(true)),
+        Err(refusal) => answer(fault, block_fault(refusal)),
+    }
+}
+
+/// Executes turns of the battle in a block, keeps the past of each cell, and finds the turns that meet all conditions.
+#[unsafe(no_mangle)]
+pub extern "C" fn mars_follow(
+    alloc: Global,
+    battle: &mut [u32],
+    turns: u32,
+    pasts: &mut [Past],
+    conditions: &[MarsCondition],
+    found: &mut [u32],
+    count: &mut u32,
+    fault: &mut MarsFault,
+) -> u32
+    ensures code { result ≡ fault.new.code }
+    ensures refused { result ≢ 0 → Reports (RefusesFollow battle.old conditions.now (length pasts.old)) fault.new }
+    ensures done { result ≡ 0 → IsFollowed turns conditions.now battle.old battle.new pasts.old pasts.new found.old found.new count.new }
+    ensures kept { result ≢ 0 → (battle.new ≡ battle.old) × (pasts.new ≡ pasts.old) × (found.new ≡ found.old) × (count.new ≡ count.old) }
+{
+    match follow_in(alloc, battle, turns, pasts, conditions, found) {
+        Ok(total) => {
+            *count = total;
+            answer(fault, given(true))
+        }
         Err(refusal) => answer(fault, block_fault(refusal)),
     }
 }

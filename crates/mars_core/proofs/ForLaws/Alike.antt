@@ -24,7 +24,7 @@ use Rattle.mars_core.specs.Touched.{pointed_addresses, touched}
 use Rattle.mars_core.specs.Turn.{Execution, after_effect, execution_of}
 use Rattle.mars_core.specs.declared.machine.writes.CellChange.{CellChange}
 use Rattle.mars_core.proofs.Folding.{after_none}
-use Rattle.mars_core.proofs.ForLaws.Listed.{listed, Parts, parts_of, map-listed}
+use Rattle.mars_core.proofs.Listed.{listed, Parts, parts_of, map-listed}
 
 -- Each address of the first core has an address `there` in the second. The map is injective on near addresses; all addresses that
 -- the first instruction touches are near.

@@ -19,8 +19,9 @@ use Rattle.mars_core.specs.Validity.{IsCore, IsValid}
 use Rattle.mars_core.proofs.ForLaws.Alike.{AlikeExecution}
 use Rattle.mars_core.proofs.CallerLemmas.{shape-turn_of}
 use Rattle.mars_core.proofs.Fights.{valid_after, shape_after, others_stay}
-use Rattle.mars_core.proofs.ForLaws.Listed.{All-left, All-right}
-use Rattle.mars_core.proofs.ForLaws.Touched.{Near, itself, both, front_inside, untouched_stays}
+use Rattle.mars_core.proofs.Listed.{All-left, All-right}
+use Rattle.mars_core.proofs.ForLaws.Touched.{Near, itself, both, untouched_stays}
+use Rattle.mars_core.proofs.TouchedInside.{front_inside}
 use Rattle.mars_core.proofs.Turns.{turn_valid, same_eq, eq_same, other_eq}
 
 -- One process in two cores that are the same in a part that contains all that it touches.

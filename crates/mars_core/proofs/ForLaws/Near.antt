@@ -14,7 +14,8 @@ use Rattle.mars_core.specs.Turn.{front_of, front_execution, execution_of, execut
 use Rattle.mars_core.specs.Validity.{IsCore, IsValid}
 use Rattle.mars_core.specs.declared.machine.writes.CellChange.{CellChange}
 use Rattle.mars_core.proofs.Folding.{after_none}
-use Rattle.mars_core.proofs.ForLaws.Touched.{touched_here, untouched_cells, rewritten_beside}
+use Rattle.mars_core.proofs.ForLaws.Touched.{untouched_cells, rewritten_beside}
+use Rattle.mars_core.proofs.TouchedInside.{touched_here}
 use Rattle.mars_core.proofs.Rewritten.{execution_replays}
 use Rattle.mars_core.proofs.Fits.{folded_inside}
 use Rattle.mars_core.proofs.Inside.{execution_here}

@@ -15,7 +15,7 @@ use Rattle.mars_core.specs.Turn.{front_of, front_execution, accepted, queue_afte
 use Rattle.mars_core.specs.Validity.{IsCore, IsQueue, IsValid}
 use Rattle.mars_core.specs.declared.machine.clock.Clock.{Clock}
 use Rattle.mars_core.proofs.ForLaws.Alike.{Corresponds, Alike, AlikeExecution, execution_alike}
-use Rattle.mars_core.proofs.ForLaws.Touched.{touched_inside}
+use Rattle.mars_core.proofs.TouchedInside.{touched_inside}
 use Rattle.mars_core.proofs.CallerLemmas.{shape-turn_of}
 use Rattle.mars_core.proofs.Fits.{address_inside}
 use Rattle.mars_core.proofs.Turns.{running, turn_valid, filled_length, queue_fits}

@@ -1,27 +1,19 @@
-use Rattle.std.proofs.Common.{◌≡◌, ℕ, List, [], ◌∷◌, ◌++◌, ap, ◌∙◌, refl, arith}
+use Rattle.std.proofs.Common.{◌≡◌, ℕ, List, [], ◌∷◌, ◌++◌, ap, ◌∙◌}
 use Rattle.std.proofs.lemmas.List.{append_assoc}
 use Rattle.mars_core.specs.Addresses.{address_after}
 use Rattle.mars_core.specs.Code.Operands.{a_evaluated, b_evaluated}
 use Rattle.mars_core.specs.State.{cell_at}
 use Rattle.mars_core.specs.Touched.{pointed_addresses, touched}
-use Rattle.mars_core.proofs.Inside.{operands_inside}
-use Rattle.mars_core.proofs.Restored.{origin-operands}
 use Rattle.mars_core.proofs.machine.touched.touched.Goals as goal
 
 -- Appending one by one and appending a list give the same list.
 in_order : (xs ys : List ℕ) (r s w : ℕ) → ((xs ++ r ∷ [] ++ ys) ++ s ∷ []) ++ w ∷ [] ≡ xs ++ r ∷ ys ++ s ∷ w ∷ []
 in_order xs ys r s w = append_assoc _ (s ∷ []) (w ∷ []) ∙ ap (λ l. l ++ s ∷ w ∷ []) (append_assoc xs (r ∷ []) ys)
 
-pub restore_cells-requires : goal.restore_cells-requires
-restore_cells-requires c =
-    let both = c.evaluate_both-operands.ensures in
-    rw (c.as_slice.ensures.value, both.changes refl, both.core.size)
-    (operands_inside c.args.params.now (omega (arith, c.requires.pc)) c.args.core.now c.args.pc c.cell-instruction.result)
-
 pub returns-clause-addresses : goal.returns-clause-addresses
 unfolding touched
 returns-clause-addresses c =
-    let both = c.evaluate_both-operands.ensures in
+    let both = c.operands_at-operands.ensures in
     let p = c.args.params.now in
     let pc = c.args.pc in
     let i = cell_at c.args.core.now pc in
@@ -42,9 +34,3 @@ returns-clause-addresses c =
       c.cell_at.ensures,
     )
     (in_order (pc ∷ pointed_addresses p pc i.a_mode i.a) (pointed_addresses p pc i.b_mode i.b) (at a.read) (at b.read) (at b.write))
-
-pub returns-clause-core : goal.returns-clause-core
-returns-clause-core c =
-    let both = c.evaluate_both-operands.ensures in
-    rw (c.restore_cells.ensures, c.as_slice.ensures.value, both.changes refl, both.core_is)
-    (origin-operands c.args.params.now c.args.core.now c.args.pc c.cell-instruction.result)

@@ -1,0 +1,55 @@
+-- Searches for turns.
+use Rattle.std.specs.Prelude.{◌≡◌, ℕ, [], ◌∷◌, true, false, refl}
+use Rattle.mars_cell.specs.declared.instruction.Op.TheVariants.{Mov, Spl}
+use Rattle.mars_cell.specs.declared.instruction.Modifier.TheVariants.{B, I}
+use Rattle.mars_cell.specs.declared.instruction.Mode.TheVariants.{Direct, BPostincrement}
+use Rattle.mars_core.specs.Past.{copy_by, pasts_after}
+use Rattle.mars_core.specs.Search.{filled, found_in, is_within, meets}
+use Rattle.mars_core.specs.State.{State}
+use Rattle.mars_core.specs.declared.search.Condition.{Condition}
+use Rattle.mars_core.specs.declared.search.Number.{Number}
+use Rattle.mars_core.specs.declared.search.Number.TheVariants.{Warrior, Queued, Address, Origin, Opcode, NewOpcode}
+use Rattle.mars_core.specs.declared.search.Way.{Way}
+use Rattle.mars_core.specs.declared.search.Way.TheVariants.{Executes, Changes, Reads}
+use Rattle.mars_core.specs.Examples.{the_machine, battle_of, cell_of, numbers, imp, of_eight, eight, lone}
+use Rattle.mars_core.specs.Examples.Pasts.{all_loaded}
+
+abbrev where_ : Way → Number → ℕ → ℕ → Condition
+where_ way number first last = record { way = way; number = number; first = first; last = last }
+
+-- A range whose last number is the smaller one goes around.
+pub ranges_go_around : (is_within 6 1 7 ≡ true) × (is_within 6 1 1 ≡ true) × (is_within 6 1 3 ≡ false) × (is_within 3 3 3 ≡ true)
+ranges_go_around = (refl, refl, refl, refl)
+
+-- Two imps in turn: the second one executes copies of the first from its second turn on, which is turn 4.
+abbrev two_imps : State
+two_imps = battle_of of_eight (eight (imp ∷ imp ∷ [])) ((0 ∷ []) ∷ (1 ∷ []) ∷ [])
+
+pub copies_are_found_where_they_are_executed : (found_in (where_ Executes Origin 0 0 ∷ where_ Executes Warrior 1 1 ∷ []) 6 two_imps all_loaded ≡ 2 ∷ 4 ∷ 6 ∷ [])
+    × (found_in (where_ Changes Address 2 2 ∷ []) 6 two_imps all_loaded ≡ 2 ∷ [])
+unfolding the_machine copy_by pasts_after
+copies_are_found_where_they_are_executed = (refl, refl)
+
+-- `MOV.I $0, >1` changes two cells: the one that it increments, and the one that becomes a MOV. No cell is both.
+abbrev two_changes : State
+two_changes = lone of_eight (eight (cell_of Mov I Direct 0 BPostincrement 1 ∷ numbers 0 3 ∷ [])) (0 ∷ [])
+
+pub conditions_on_a_way_are_about_one_cell : (meets (where_ Changes Address 1 1 ∷ []) two_changes all_loaded ≡ true)
+    × (meets (where_ Changes NewOpcode 1 1 ∷ []) two_changes all_loaded ≡ true)
+    × (meets (where_ Changes Address 1 1 ∷ where_ Changes NewOpcode 1 1 ∷ []) two_changes all_loaded ≡ false)
+    × (meets (where_ Executes Address 0 0 ∷ where_ Changes Opcode 0 0 ∷ where_ Changes NewOpcode 1 1 ∷ []) two_changes all_loaded ≡ true)
+unfolding the_machine copy_by pasts_after
+conditions_on_a_way_are_about_one_cell = (refl, refl, refl, refl)
+
+-- It touches cell 1 and writes it, so it does not read it.
+pub written_cells_are_not_read : (meets (where_ Reads Address 1 1 ∷ []) two_changes all_loaded ≡ false) × (meets (where_ Reads Address 0 0 ∷ []) two_changes all_loaded ≡ true)
+unfolding the_machine copy_by pasts_after
+written_cells_are_not_read = (refl, refl)
+
+-- `SPL.B $1, $0`: a turn that splits, and one that kills its warrior.
+pub splits_and_deaths_are_found : found_in (where_ Executes Queued 2 2 ∷ []) 1 (lone of_eight (eight (cell_of Spl B Direct 1 Direct 0 ∷ [])) (0 ∷ [])) all_loaded ≡ 1 ∷ []
+unfolding the_machine copy_by pasts_after
+splits_and_deaths_are_found = refl
+
+pub rows_are_filled_as_far_as_there_are : (filled (4 ∷ 6 ∷ []) (0 ∷ 0 ∷ 0 ∷ []) ≡ 4 ∷ 6 ∷ 0 ∷ []) × (filled (4 ∷ 6 ∷ []) (0 ∷ []) ≡ 4 ∷ [])
+rows_are_filled_as_far_as_there_are = (refl, refl)

@@ -1,0 +1,85 @@
+-- Searches for turns: conditions on the cells that a turn executes, changes or reads, and the turns that meet them.
+use Rattle.std.specs.Prelude.{ℕ, zero, suc, ◌+◌, Bool, true, false, ◌&&◌, ◌||◌, not, ◌==◌, nat_le, if◌then◌else◌, List, [], ◌∷◌, ◌++◌, length, drop, take, filter}
+use Rattle.std.specs.List.{list_all, list_any, range_with_len}
+use Rattle.mars_cell.specs.Cells.{op_index}
+use Rattle.mars_core.specs.State.{State, cell_at, queue_of, is_over_of}
+use Rattle.mars_core.specs.Touched.{touched_in_turn}
+use Rattle.mars_core.specs.Turn.{front_of, turn_of, turn_record}
+use Rattle.mars_core.specs.Past.{changes, past_at, pasts_after}
+use Rattle.mars_core.specs.declared.machine.writes.CellChange.{CellChange}
+use Rattle.mars_core.specs.declared.past.Past.{Past}
+use Rattle.mars_core.specs.declared.search.Condition.{Condition}
+use Rattle.mars_core.specs.declared.search.Number.{Number}
+use Rattle.mars_core.specs.declared.search.Number.TheVariants.{Warrior, Queued, Died, Address, Owner, Turn, Origin, Opcode, NewOpcode}
+use Rattle.mars_core.specs.declared.search.Way.{Way}
+use Rattle.mars_core.specs.declared.search.Way.TheVariants.{Executes, Changes, Reads}
+
+-- The turn of the state `s` writes the cell at the address.
+abbrev pub writes : State → ℕ → Bool
+writes s address = list_any (λ (write : CellChange). write.address == address) (turn_record s).cells.items
+
+-- The turn uses the cell in this way. What it writes, also if that changes nothing, it does not read.
+abbrev pub uses : Way → State → ℕ → Bool
+uses Executes s address = front_of (queue_of s.queues s.next) == address
+uses Changes s address = changes s address
+uses Reads s address = list_any (λ touched. touched == address) (touched_in_turn s) && not (writes s address)
+
+-- A number of the turn and of a cell that it uses. The owner, the turn and the origin are those before the turn.
+abbrev pub number_of : Number → State → List Past → ℕ → ℕ
+number_of Warrior s pasts address = s.next
+number_of Queued s pasts address = length (turn_record s).queued.items
+number_of Died s pasts address = if (turn_record s).died then 1 else 0
+number_of Address s pasts address = address
+number_of Owner s pasts address = (past_at pasts address).owner
+number_of Turn s pasts address = (past_at pasts address).turn
+number_of Origin s pasts address = (past_at pasts address).origin
+number_of Opcode s pasts address = op_index (cell_at s.core address).op
+number_of NewOpcode s pasts address = op_index (cell_at (turn_of s).core address).op
+
+-- The number is one from `first` to `last`, or, if `last` is the smaller one, not between them.
+abbrev pub is_within : ℕ → ℕ → ℕ → Bool
+is_within first last number =
+    if nat_le first last then nat_le first number && nat_le number last else nat_le first number || nat_le number last
+
+-- The condition holds for a cell that the turn uses.
+abbrev pub holds : State → List Past → ℕ → Condition → Bool
+holds s pasts address condition = is_within condition.first condition.last (number_of condition.number s pasts address)
+
+-- The ways are the same.
+abbrev pub is_same : Way → Way → Bool
+is_same Executes Executes = true
+is_same Changes Changes = true
+is_same Reads Reads = true
+is_same _ _ = false
+
+-- Any of the conditions is on a cell that a turn uses in this way.
+abbrev pub are_on : Way → List Condition → Bool
+are_on way conditions = list_any (λ (condition : Condition). is_same way condition.way) conditions
+
+-- Those of the conditions that are on a cell that a turn uses in this way.
+abbrev pub on : Way → List Condition → List Condition
+on way conditions = filter (λ (condition : Condition). is_same way condition.way) conditions
+
+-- The turn uses a cell in this way for which all conditions on such a cell hold.
+abbrev pub one_meets : Way → List Condition → State → List Past → Bool
+one_meets way conditions s pasts =
+    list_any (λ address. uses way s address && list_all (holds s pasts address) (on way conditions)) (range_with_len 0 s.params.core_size)
+
+-- The turn meets all conditions: for each way on which there are conditions, it uses a cell for which they hold. So all conditions
+-- on the same way are about the same cell.
+abbrev pub meets : List Condition → State → List Past → Bool
+meets conditions s pasts =
+    (not (are_on Executes conditions) || one_meets Executes conditions s pasts)
+    && (not (are_on Changes conditions) || one_meets Changes conditions s pasts)
+    && (not (are_on Reads conditions) || one_meets Reads conditions s pasts)
+
+-- The numbers of those of the next `n` turns that meet all conditions.
+abbrev pub found_in : List Condition → ℕ → State → List Past → List ℕ
+found_in conditions zero s pasts = []
+found_in conditions (suc n) s pasts =
+    if is_over_of s then []
+    else (if meets conditions s pasts then (s.turns + 1) ∷ [] else []) ++ found_in conditions n (turn_of s) (pasts_after s pasts)
+
+-- The rows with these numbers in the first ones, as far as there are rows.
+abbrev pub filled : List ℕ → List ℕ → List ℕ
+filled numbers rows = take (length rows) numbers ++ drop (length numbers) rows

@@ -1,0 +1,89 @@
+//! The past of each cell: who changed it last and when, and from which cell its instruction was copied (`specs/Past`).
+ghost use Rattle.std.specs.Prelude.{◌≡◌, ◌<◌, All, IfSome, length, if◌then◌else◌, not, ℕ};
+ghost use Rattle.mars_core.specs.Effect.{are_equal_cells};
+ghost use Rattle.mars_core.specs.Past.{comes_from, past_at};
+ghost use Rattle.mars_core.specs.Record.{restored};
+ghost use Rattle.mars_core.specs.State.{cell_at as spec_cell_at};
+ghost use Rattle.mars_core.specs.declared.machine.copy.CellCopy.{CellCopy as Copied};
+ghost use Rattle.mars_core.specs.declared.machine.writes.CellChange.{CellChange as Change};
+
+use crate::machine::copy::CellCopy;
+use crate::machine::places::cell_at;
+use crate::machine::writes::CellChange;
+use crate::packed::PackedCell;
+
+/// The past of a cell.
+#[repr(C)]
+#[derive(Clone, Copy, Debug, PartialEq, Eq)]
+pub struct Past {
+    /// The warrior that changed the cell last, or was loaded there.
+    pub owner: u32,
+    /// The number of the turn that changed it last, from 1.
+    pub turn: u32,
+    /// Where its instruction comes from: the address at which it was loaded.
+    pub origin: u32,
+}
+
+/// Gives the cell that a copy writes the origin of the cell that it copies.
+#[inline(always)]
+pub fn note_copy(pasts: &mut [Past], copy: Option<CellCopy>)
+    requires inside { IfSome copy (λ (one : Copied). one.from < length pasts.old × one.to < length pasts.old) }
+    ensures { (a : ℕ) → a < length pasts.old
+        → past_at pasts.new a ≡ record (past_at pasts.old a) { origin = (past_at pasts.old (comes_from copy a)).origin } }
+{
+    if let Some(copy) = copy {
+        let origin = pasts[copy.from as usize].origin;
+        pasts[copy.to as usize].origin = origin;
+    }
+}
+
+/// Returns the cell at an address before the writes that led to the core.
+#[inline(always)]
+pub fn cell_before(core: &[PackedCell], writes: &[CellChange], address: u32) -> PackedCell
+    requires inside { address < length core.now }
+    ensures { result ≡ spec_cell_at (restored writes.now core.now) address }
+{
+    for write in writes {
+        if write.address == address {
+            return write.before;
+        }
+    }
+    cell_at(core, address)
+}
+
+/// Returns whether the cell at an address is another one than before the writes that led to the core.
+#[inline(always)]
+pub fn is_changed(core: &[PackedCell], writes: &[CellChange], address: u32) -> bool
+    requires inside { address < length core.now }
+    ensures { result ≡ not (are_equal_cells (spec_cell_at (restored writes.now core.now) address) (spec_cell_at core.now address)) }
+{
+    !cell_before(core, writes, address).equals(cell_at(core, address))
+}
+
+/// Notes the owner and the turn of each cell that is another one than before the writes that led to the core.
+#[inline(always)]
+pub fn note_changes(
+    pasts: &mut [Past],
+    core: &[PackedCell],
+    writes: &[CellChange],
+    owner: u32,
+    turn: u32,
+)
+    requires size { length pasts.old ≡ length core.now }
+    requires inside { All (λ (write : Change). write.address < length core.now) writes.now }
+    ensures { (a : ℕ) → a < length pasts.old → past_at pasts.new a
+        ≡ (if not (are_equal_cells (spec_cell_at (restored writes.now core.now) a) (spec_cell_at core.now a))
+        then record { owner = owner; turn = turn; origin = (past_at pasts.old a).origin } else past_at pasts.old a) }
+{
+    for write in writes {
+        let address = write.address;
+        if is_changed(core, writes, address) {
+            let origin = pasts[address as usize].origin;
+            pasts[address as usize] = Past {
+                owner,
+                turn,
+                origin,
+            };
+        }
+    }
+}
