@@ -3,13 +3,16 @@
 The ten matches are of two warriors of examples/, or of the paper and the stone of race.rattle (here in capitals), 4,000
 cells apart in a core of 8000, in which no warrior dies for 20,000 cycles: from imps, which keep one process, to papers,
 whose queues fill. A count is that of 20,001 cycles minus that of one, divided by the turns in between. A time is that
-of 501 rounds of 20,000 cycles minus that of one, the minimum of some runs, in which the programs alternate so that
-other work on the machine disturbs both. The last lines are the geometric means, and the allocations of a match of PAPER
-and PAPER, which do not grow with the rounds.
+of one long round minus that of one cycle, the minimum of some runs, in which the programs alternate so that other work
+on the machine disturbs both. The round is as long as no warrior dies, 400,000 cycles at most, and both programs must
+report its result: pMARS keeps `-F` in the first round only, so in several rounds the programs would fight different
+battles. The last lines are the geometric means, and the allocations of a match of PAPER and PAPER, which do not grow
+with the rounds.
 """
 from __future__ import annotations
 
 import argparse
+import re
 import sys
 import tempfile
 from statistics import geometric_mean
@@ -18,7 +21,7 @@ from program import find_program
 
 from .tools import allocations, find_pmars, instructions, run_well, warrior
 
-CYCLES, ROUNDS = 20_000, 500
+CYCLES, LONG = 20_000, 400_000
 MATCHES = """imp imp, dwarf imp, PAPER PAPER, STONE STONE, boot STONE, bomber silk, gate silk, quick PAPER,
     paper vampire, spiral PAPER"""
 
@@ -29,8 +32,7 @@ def words_of(files: list[str], cycles: int = CYCLES, rounds: int = 1) -> list[st
 
 def refuse_deaths(program: str, files: list[str]) -> None:
     """Exits if a warrior dies in the match, since the number of turns would be unknown."""
-    rows = run_well([program, *words_of(files, CYCLES + 1)]).output.decode().splitlines()[1:]
-    if any(row.split()[1:4] != ["0", "1", "0"] for row in rows):
+    if not survived(program, files, CYCLES + 1):
         sys.exit(f"measure: a warrior dies in {' '.join(files)}")
 
 
@@ -40,14 +42,38 @@ def count(program: str, files: list[str]) -> float:
     return (long - short) / (2 * CYCLES)
 
 
+def survived(program: str, files: list[str], cycles: int) -> bool:
+    """Whether both warriors live for this number of cycles."""
+    output = run_well([program, *words_of(files, cycles)]).output.decode()
+    if found := re.search(r"Results: (\d+) (\d+) (\d+)", output):
+        return found.groups() == ("0", "0", "1")
+    return all(row.split()[1:4] == ["0", "1", "0"] for row in output.splitlines()[1:])
+
+
+def long_round(programs: list[str], files: list[str]) -> int:
+    """Returns for how many cycles no warrior dies, LONG at most. Exits unless that is so in all programs."""
+    least, most = CYCLES, LONG
+    while least < most:
+        middle = (least + most + 1) // 2
+        if survived(programs[0], files, middle):
+            least = middle
+        else:
+            most = middle - 1
+    for program in programs:
+        if not survived(program, files, least) or (least < LONG and survived(program, files, least + 1)):
+            sys.exit(f"measure: {program} fights another battle of {' '.join(files)}")
+    return least
+
+
 def times(programs: list[str], files: list[str], runs: int) -> list[float]:
     """Returns the nanoseconds of a turn of each program."""
+    cycles = long_round(programs, files)
     least = [[float("inf")] * 2 for _ in programs]
     for _ in range(runs):
         for program, best in zip(programs, least):
-            for index, rounds in enumerate((1, ROUNDS + 1)):
-                best[index] = min(best[index], run_well([program, *words_of(files, rounds=rounds)]).cpu)
-    return [(long - short) / (2 * CYCLES * ROUNDS) * 1e9 for short, long in least]
+            for index, length in enumerate((1, cycles)):
+                best[index] = min(best[index], run_well([program, *words_of(files, length)]).cpu)
+    return [(long - short) / (2 * (cycles - 1)) * 1e9 for short, long in least]
 
 
 def measure(words: argparse.Namespace) -> None:
