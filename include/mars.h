@@ -325,8 +325,8 @@ typedef struct {
     uint32_t expression; /* of MARS_ASSEMBLY_EXPRESSION and MARS_TEXT_EXPRESSION: MARS_EXPRESSION_.. */
     uint64_t line;       /* line of a source or a load file, from 1; of MARS_BLOCK_CELL: address of the first wrong cell; of
                             MARS_WARRIOR_CELL and MARS_WARRIOR_FIELD: index of the first wrong cell */
-    uint64_t warrior;    /* of MARS_WARRIOR, MARS_LINEUP and MARS_CONDITION: index, from 0; of MARS_BLOCK_QUEUE: first warrior whose
-                            queue is wrong */
+    uint64_t warrior;    /* of MARS_WARRIOR, MARS_LINEUP, MARS_CONDITION and MARS_EDIT: index, from 0; of MARS_BLOCK_QUEUE: first
+                            warrior whose queue is wrong */
 } MarsFault;
 
 /* A battle: a block of 32-bit words that the caller owns. The block has the whole state of the battle, without pointers or padding,
@@ -481,6 +481,11 @@ uint32_t mars_follow(uint32_t *battle, size_t words, uint32_t turns, MarsPast *p
  * MARS_EDIT_NO_SUCH_EDIT first, then MARS_BLOCK and MARS_ROOM as mars_play, then MARS_EDIT with the first of the other numbers that
  * applies. */
 uint32_t mars_edit(uint32_t *battle, size_t words, const MarsEdit *edit, MarsFault *fault);
+
+/* Makes edits of a battle in place, one after another, all or none: to fill cells, for example. An edit is possible or not after those before
+ * it. Returns the errors of mars_edit, with the index of the first wrong edit in `fault->warrior`: first MARS_EDIT_NO_SUCH_EDIT of any edit,
+ * then those of the battle, then those of the edits in turn. */
+uint32_t mars_edits(uint32_t *battle, size_t words, const MarsEdit *edits, size_t edit_count, MarsFault *fault);
 
 /* Checks that the first words are a battle. Returns MARS_BLOCK if not. */
 uint32_t mars_check(const uint32_t *battle, size_t words, MarsFault *fault);

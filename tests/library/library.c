@@ -43,8 +43,10 @@ static const char PLACES[] = "4 x01\n4 x02\n4 x03\n6\n7\n";
 static const char LINES[] = "step\nrun 5\nundo\nshow\nlist 0 5\nquit\n";
 static const char FORMULA[] = "(W*W-1)/S";
 static const MarsEdit EDIT = {4, 1, 0, 5, {0, 0, 0, 0, 0, 0}};
+/* Fills three cells, then moves a process there and kills it. */
+static const MarsEdit EDITS[] = {{1, 0, 0, 5, {1, 6, 1, 1, 0, 1}}, {1, 0, 0, 6, {1, 6, 1, 1, 0, 1}}, {1, 0, 0, 7, {1, 6, 1, 1, 0, 1}}, {2, 2, 0, 6, {0, 0, 0, 0, 0, 0}}, {3, 1, 0, 0, {0, 0, 0, 0, 0, 0}}};
 static const MarsCondition CONDITIONS[] = {{MARS_CHANGES, MARS_NUMBER_ADDRESS, 780, 20}, {MARS_CHANGES, MARS_NUMBER_WARRIOR, 1, 2}};
-enum { WORDS = 64 + 3 * 800 + 3 * 800, CELLS = 5, CALLS = 14 };
+enum { WORDS = 64 + 3 * 800 + 3 * 800, CELLS = 5, CALLS = 15 };
 static MarsCell cells[17 * CELLS];
 static MarsWarrior warriors[17]; /* the same warrior several times */
 static MarsProgram program;
@@ -95,6 +97,7 @@ static void call(int which, Left *got) {
     if (which == 11) got->answer = mars_check(got->battle, WORDS, &got->fault);
     if (which == 12) got->answer = mars_debug(got->battle, WORDS, 50, lines, strlen(LINES), got->text, sizeof got->text, &got->length, &got->fault);
     if (which == 13) got->answer = mars_follow(got->battle, WORDS, 200, got->pasts, 800, CONDITIONS, 2, got->found, 9, &got->count, &got->fault);
+    if (which == 14) got->answer = mars_edits(got->battle, WORDS, EDITS, 5, &got->fault);
 }
 
 static int is_kept(const Left *got, const Left *blank) {
@@ -152,6 +155,7 @@ static int are_nulls_taken(void) {
         && mars_debug(block, WORDS, 9, NULL, 0, NULL, 0, &got.length, &got.fault) == MARS_DONE && got.length == 0
         && mars_play(got.battle, 0, 1, NULL, 0, NULL, 0, &got.fault) == MARS_BLOCK && got.fault.number == MARS_BLOCK_SHORT
         && mars_follow(got.battle, 0, 1, NULL, 0, NULL, 0, NULL, 0, &got.count, &got.fault) == MARS_BLOCK && got.fault.number == MARS_BLOCK_SHORT
+        && mars_edits(got.battle, 0, NULL, 0, &got.fault) == MARS_BLOCK && got.fault.number == MARS_BLOCK_SHORT
         && mars_check(NULL, 0, &got.fault) == MARS_BLOCK && got.fault.number == MARS_BLOCK_SHORT;
 }
 
@@ -227,6 +231,21 @@ static int are_turns_found(void) {
     return count > 0 && count == followed.count && !memcmp(pasts, followed.pasts, sizeof pasts) && !memcmp(followed.battle, played.battle, sizeof played.battle);
 }
 
+/* Edits in one call are those in several, and if one is impossible none is made. */
+static int are_edits_all_or_none(void) {
+    Left once, several;
+    MarsEdit wrong[5];
+    prepare(14, &once), prepare(14, &several), memcpy(wrong, EDITS, sizeof wrong);
+    wrong[1].cell.op = 16, wrong[4].place = 1;
+    if (mars_edits(once.battle, WORDS, wrong, 5, &once.fault) != MARS_EDIT || once.fault.number != MARS_EDIT_NO_SUCH_EDIT || once.fault.warrior != 1) return 0;
+    wrong[1] = EDITS[1];
+    if (mars_edits(once.battle, WORDS, wrong, 5, &once.fault) != MARS_EDIT || once.fault.number != MARS_EDIT_NO_SUCH_PROCESS || once.fault.warrior != 4) return 0;
+    if (memcmp(once.battle, several.battle, sizeof once.battle) || mars_edits(once.battle, WORDS, EDITS, 5, &once.fault) != MARS_DONE) return 0;
+    for (int i = 0; i < 5; i++)
+        if (mars_edit(several.battle, WORDS, &EDITS[i], &several.fault) != MARS_DONE) return 0;
+    return !memcmp(once.battle, several.battle, 4 * ((const MarsBattle *)once.battle)->words);
+}
+
 /* The lines of a source's instructions, and the same error as when it is assembled. */
 static int are_lines_reported(void) {
     Left got, other;
@@ -286,10 +305,10 @@ int main(void) {
             passed += is_so, failed += !is_so;
             if (!is_so) printf("call %d, %s refused\n", which, each ? "all from one on" : "one");
         }
-    int others[] = {mars_version() == MARS_VERSION, are_faults_cleared(), are_nulls_taken(), are_lines_reported(), are_loads_read(), are_outcomes_rows(), are_mistakes_reported_in_order(), are_battles_values(), are_turns_found()};
+    int others[] = {mars_version() == MARS_VERSION, are_faults_cleared(), are_nulls_taken(), are_lines_reported(), are_loads_read(), are_outcomes_rows(), are_mistakes_reported_in_order(), are_battles_values(), are_turns_found(), are_edits_all_or_none()};
     for (size_t i = 0; i < sizeof others / sizeof *others; i++) {
         passed += others[i], failed += !others[i];
-        if (!others[i]) printf("%s\n", (const char *[]){"the version", "errors of calls that succeed", "null pointers", "the lines of a source", "load files", "outcomes", "the order of mistakes", "battles as values", "turns that are found"}[i]);
+        if (!others[i]) printf("%s\n", (const char *[]){"the version", "errors of calls that succeed", "null pointers", "the lines of a source", "load files", "outcomes", "the order of mistakes", "battles as values", "turns that are found", "several edits"}[i]);
     }
     printf("%d passed, %d failed\n", passed, failed);
     return failed != 0;

@@ -223,6 +223,13 @@ def edit(arguments: Battle, fault: Any) -> tuple[int, NDArray[Any]]:
     return library()[1].mars_edit(*block, change, fault), words
 
 
+def edits(arguments: Battle, fault: Any) -> tuple[int, NDArray[Any]]:
+    words, block = battle(arguments)
+    cell = (0, 0, 0, 0, 0, 0)
+    changes = filled("MarsEdit", [(1, 0, 0, 7, cell), (arguments.what, 0, 0, arguments.address, cell)])
+    return library()[1].mars_edits(*block, *changes, fault), words
+
+
 def follow(arguments: Battle, fault: Any) -> tuple[int, NDArray[Any]]:
     words, block = battle(arguments)
     pasts, found = array("MarsPast", arguments.pasts), array("uint32_t", 1)
@@ -246,6 +253,7 @@ ON_BATTLES = {
     "mars_play": (play, BLOCK),
     "mars_follow": (follow, [other("way", 4, 15, 0, 1), *BLOCK, other("pasts", 799, 2, 7)]),
     "mars_edit": (edit, [other("what", 5, 12, 1), *BLOCK, other("address", 800, 12, 2)]),
+    "mars_edits": (edits, [other("what", 5, 12, 1, 1), *BLOCK, other("address", 800, 12, 2, 1)]),
     "mars_debug": (debug, [other("history", 0, 2, 6), BLOCK[0], other("buffer", 10, 10, 0)]),
 }
 

@@ -1,16 +1,20 @@
--- The capacity of a block is still enough after turns and edits.
+-- The capacity of a block is still enough after turns and edits, and lists of edits.
 use Rattle.std.specs.Prelude.{MatchOption, Result}
 use Rattle.mars_core.specs.declared.record.Atom.{Atom}
 use Rattle.mars_core.specs.declared.battle.edit.EditFault.{EditFault}
-use Rattle.std.proofs.Common.{Option, None, Some, Ok, Err, ◌≡◌, ℕ, zero, suc, ◌+◌, ◌*◌, ◌-◌, ◌≤◌, ◌∙◌, Bool, true, false, List, [], ◌∷◌, length, ap, refl, arith}
+use Rattle.std.proofs.Common.{Option, None, Some, Ok, Err, ◌≡◌, ℕ, zero, suc, ◌+◌, ◌*◌, ◌-◌, ◌≤◌, ◌∙◌, ◌<◌, Bool, true, false, List, [], ◌∷◌, ◌++◌, length, get_or, take, add-one, ap, sym, refl, arith}
+use Rattle.std.proofs.Math.Seq.{take-suc}
+use Rattle.std.proofs.lemmas.Fn.{FoldsTo-push}
+use Rattle.std.specs.List.{AllZip, FoldsTo}
 use Rattle.mars_cell.specs.Parameters.{Parameters}
 use Rattle.mars_core.specs.State.{State, is_over_of}
 use Rattle.mars_core.specs.Turn.{turn_of, after_turns}
-use Rattle.mars_core.specs.Edit.{edited}
+use Rattle.mars_core.specs.Edit.{edit_fault, edited}
 use Rattle.mars_core.specs.Shape.{SameShape}
 use Rattle.mars_core.specs.declared.battle.edit.Edit.{Edit}
 use Rattle.mars_core.proofs.CallerLemmas.{shape-turn_of, shape-edited}
-use Rattle.mars_c.specs.Blocks.{capacity_of, played_rows}
+use Rattle.mars_c.specs.Blocks.{Makes, Means, capacity_of, played_rows}
+use Rattle.mars_c.specs.declared.edits.MarsEdit.{MarsEdit}
 use Rattle.mars_c.proofs.Played.{add_turns, over_stays, turn_first}
 
 capacity_alike : (s t : State) → SameShape s t → capacity_of s ≡ capacity_of t
@@ -41,7 +45,36 @@ none_played row_of zero s [] none = refl
 none_played row_of (suc turns) s [] none = refl
 none_played row_of turns s (row ∷ rows) none = absurd (omega (arith, none))
 
+-- Several edits keep the capacity, too.
+pub capacity_makes : (s t : State) (edits : List Edit) → FoldsTo Makes s edits t → capacity_of t ≡ capacity_of s
+capacity_makes s t [] is = ap capacity_of (sym is)
+capacity_makes s t (e ∷ edits) (j, made, on) = capacity_makes j t edits on ∙ ap capacity_of made.1 ∙ capacity_edited s e
+
+-- An edit of a list was made, or has an error.
+pub makes_next : (s t new : State) (edits : List Edit) (i : ℕ) (e d : Edit) → FoldsTo Makes s (take i edits) t → i < length edits → get_or edits i d ≡ e
+    → edit_fault t e ≡ None → new ≡ edited t e → FoldsTo Makes s (take (i + 1) edits) new
+makes_next s t new edits i e d before inside is none made =
+    rw (add-one, take-suc edits i d inside, is) (FoldsTo-push Makes s (take i edits) t e new before (none, made))
+
+zip_push : (numbers : List MarsEdit) (edits : List Edit) (one : MarsEdit) (e : Edit) → AllZip Means numbers edits → Means one e
+    → AllZip Means (numbers ++ one ∷ []) (edits ++ e ∷ [])
+zip_push [] [] one e before means = (means, tt)
+zip_push [] (x ∷ edits) one e before means = absurd before
+zip_push (n ∷ numbers) [] one e before means = absurd before
+zip_push (n ∷ numbers) (x ∷ edits) one e before means = (before.0, zip_push numbers edits one e before.1 means)
+
+-- The numbers of one more edit mean it.
+pub mean_next : (numbers : List MarsEdit) (edits : List Edit) (i : ℕ) (one d : MarsEdit) (e : Edit) → AllZip Means (take i numbers) edits → i < length numbers
+    → get_or numbers i d ≡ one → Means one e → AllZip Means (take (i + 1) numbers) (edits ++ e ∷ [])
+mean_next numbers edits i one d e before inside is means =
+    rw (add-one, take-suc numbers i d inside, is) (zip_push (take i numbers) edits one e before means)
+
 -- The record of an edit that was made shows that it had no error.
 pub edit_made : (o : Option EditFault) (r : Result Atom EditFault) (x y : Atom) (new state old : State) → r ≡ Ok x → MatchOption o (r ≡ Ok y) (λ fault. r ≡ Err fault) → MatchOption o (new ≡ state) (λ _. new ≡ old) → new ≡ state
 edit_made None r x y new state old is answer made = made
 edit_made (Some fault) r x y new state old is answer made = absurd (cc)
+
+-- An edit that was made had no error.
+pub edit_possible : (o : Option EditFault) (r : Result Atom EditFault) (x y : Atom) → r ≡ Ok x → MatchOption o (r ≡ Ok y) (λ fault. r ≡ Err fault) → o ≡ None
+edit_possible None r x y is answer = refl
+edit_possible (Some fault) r x y is answer = absurd (cc)

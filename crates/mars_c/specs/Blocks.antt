@@ -1,12 +1,14 @@
 -- Battles as blocks of 32-bit words that the caller owns: their capacity, what calls write to them, the edits that numbers
 -- mean, and why calls are rejected. The definitions allow `OutOfMemory` as a refusal of every call,
 -- because an allocation may fail.
-use Rattle.std.specs.Prelude.{◌≡◌, ◌≢◌, ◌≤◌, ◌<◌, ◌⊎◌, ◌+◌, ◌*◌, ℕ, ⊤, List, ◌++◌, length, drop, take, None, Some}
+use Rattle.std.specs.Prelude.{◌≡◌, ◌≢◌, ◌≤◌, ◌<◌, ◌⊎◌, ◌+◌, ◌*◌, ℕ, ⊤, List, ◌++◌, length, drop, take, None, Some, slice_get}
+use Rattle.std.specs.List.{AllZip, FoldsTo}
 use Rattle.mars_core.specs.State.{State}
 use Rattle.mars_core.specs.Block.{Spells, block_of, head_words}
 use Rattle.mars_core.specs.Edit.{edited, edit_fault}
 use Rattle.mars_core.specs.declared.battle.block.BlockFault.TheVariants as block
 use Rattle.mars_core.specs.declared.battle.edit.Edit.{Edit}
+use Rattle.mars_core.specs.declared.battle.edit.EditFault.{EditFault}
 use Rattle.mars_core.specs.declared.battle.edit.Edit.TheVariants as edit
 use Rattle.mars_c.specs.Battles.{IsStart}
 use Rattle.mars_c.specs.Cells.{plain_cell}
@@ -63,6 +65,15 @@ abbrev pub HoldsEdited : MarsEdit → List ℕ → List ℕ → Type 0
 HoldsEdited numbers before after = (s : State) × (e : Edit) × IsPlayable s before × Means numbers e
     × (edit_fault s e ≡ None) × IsWritten (edited s e) before after
 
+-- The edit is possible in the battle `s`, and makes it `t`.
+abbrev pub Makes : State → Edit → State → Type 0
+Makes s e t = (edit_fault s e ≡ None) × (t ≡ edited s e)
+
+-- The words `after` hold the battle of the words `before` after the edits that the numbers mean, one after another.
+abbrev pub HoldsEdits : List MarsEdit → List ℕ → List ℕ → Type 0
+HoldsEdits numbers before after = (s : State) × (edits : List Edit) × (t : State) × IsPlayable s before × AllZip Means numbers edits
+    × FoldsTo Makes s edits t × IsWritten t before after
+
 -- `refusal` is a reason for which the battle of round `round` of these warriors is not started.
 abbrev pub RefusesStart : MarsSettings → List MarsCell → List MarsWarrior → ℕ → CallRefusal → Type 0
 RefusesStart settings cells entrants round refusal =
@@ -73,8 +84,8 @@ abbrev pub RefusesWords : List ℕ → BlockRefusal → Type 0
 RefusesWords words OutOfMemory = ⊤
 RefusesWords words (Block fault) = (fault ≢ block.OutOfMemory) × ((s : State) → Spells s words → ⊥)
 RefusesWords words Capacity = ⊥
-RefusesWords words NoSuchEdit = ⊥
-RefusesWords words (OfEdit fault) = ⊥
+RefusesWords words (NoSuchEdit index) = ⊥
+RefusesWords words (OfEdit index fault) = ⊥
 RefusesWords words History = ⊥
 RefusesWords words (Condition index) = ⊥
 RefusesWords words Pasts = ⊥
@@ -85,8 +96,8 @@ abbrev pub RefusesPlay : List ℕ → BlockRefusal → Type 0
 RefusesPlay words OutOfMemory = ⊤
 RefusesPlay words (Block fault) = RefusesWords words (Block fault)
 RefusesPlay words Capacity = (s : State) × Spells s words × (length words < capacity_of s)
-RefusesPlay words NoSuchEdit = ⊥
-RefusesPlay words (OfEdit fault) = ⊥
+RefusesPlay words (NoSuchEdit index) = ⊥
+RefusesPlay words (OfEdit index fault) = ⊥
 RefusesPlay words History = ⊥
 RefusesPlay words (Condition index) = ⊥
 RefusesPlay words Pasts = ⊥
@@ -97,11 +108,46 @@ abbrev pub RefusesEdit : List ℕ → MarsEdit → BlockRefusal → Type 0
 RefusesEdit words numbers OutOfMemory = ⊤
 RefusesEdit words numbers (Block fault) = RefusesWords words (Block fault)
 RefusesEdit words numbers Capacity = RefusesPlay words Capacity
-RefusesEdit words numbers NoSuchEdit = (e : Edit) → Means numbers e → ⊥
-RefusesEdit words numbers (OfEdit fault) = (s : State) × (e : Edit) × IsPlayable s words × Means numbers e × (edit_fault s e ≡ Some fault)
+RefusesEdit words numbers (NoSuchEdit index) = ((e : Edit) → Means numbers e → ⊥) × (index ≡ 0)
+RefusesEdit words numbers (OfEdit index fault) = (s : State) × (e : Edit) × IsPlayable s words × Means numbers e
+    × (edit_fault s e ≡ Some fault) × (index ≡ 0)
 RefusesEdit words numbers History = ⊥
 RefusesEdit words numbers (Condition index) = ⊥
 RefusesEdit words numbers Pasts = ⊥
+
+-- The numbers mean edits.
+abbrev pub AreEdits : List MarsEdit → Type 0
+AreEdits numbers = (edits : List Edit) × AllZip Means numbers edits
+
+-- `refusal` is a reason for which the numbers are no edits: those at this index are the first ones that mean none.
+abbrev pub IsNoEdit : List MarsEdit → BlockRefusal → Type 0
+IsNoEdit numbers OutOfMemory = ⊤
+IsNoEdit numbers (NoSuchEdit index) = AreEdits (take index numbers)
+    × ((one : MarsEdit) × (slice_get numbers index ≡ Some one) × ((e : Edit) → Means one e → ⊥))
+IsNoEdit numbers (Block fault) = ⊥
+IsNoEdit numbers Capacity = ⊥
+IsNoEdit numbers (OfEdit index fault) = ⊥
+IsNoEdit numbers History = ⊥
+IsNoEdit numbers (Condition index) = ⊥
+IsNoEdit numbers Pasts = ⊥
+
+-- The edit at this index has this error, after those before it were made in the battle `s`.
+abbrev pub Fails : State → List Edit → ℕ → EditFault → Type 0
+Fails s edits index fault = (t : State) × (e : Edit) × FoldsTo Makes s (take index edits) t × (slice_get edits index ≡ Some e)
+    × (edit_fault t e ≡ Some fault)
+
+-- `refusal` is the first reason for which several edits of the words are rejected: numbers that mean no edit, words that cannot be
+-- played, or an edit that has an error after those before it.
+abbrev pub RefusesEdits : List ℕ → List MarsEdit → BlockRefusal → Type 0
+RefusesEdits words numbers OutOfMemory = ⊤
+RefusesEdits words numbers (NoSuchEdit index) = IsNoEdit numbers (NoSuchEdit index)
+RefusesEdits words numbers (Block fault) = AreEdits numbers × RefusesPlay words (Block fault)
+RefusesEdits words numbers Capacity = AreEdits numbers × RefusesPlay words Capacity
+RefusesEdits words numbers (OfEdit index fault) = (s : State) × (edits : List Edit) × IsPlayable s words × AllZip Means numbers edits
+    × Fails s edits index fault
+RefusesEdits words numbers History = ⊥
+RefusesEdits words numbers (Condition index) = ⊥
+RefusesEdits words numbers Pasts = ⊥
 
 -- The error is that of a refusal for which `Refuses` holds.
 abbrev pub Reports : (BlockRefusal → Type 0) → MarsFault → Type 0

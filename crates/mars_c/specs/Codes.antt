@@ -219,8 +219,8 @@ block_fault_of (refused.Block fault) = record {
   warrior = block_warrior fault;
 }
 block_fault_of refused.Capacity = numbered 10 0
-block_fault_of refused.NoSuchEdit = numbered 12 1
-block_fault_of (refused.Edit fault) = numbered 12 (edit_number fault)
+block_fault_of (refused.NoSuchEdit index) = record { code = 12; number = 1; problem = 0; expression = 0; line = 0; warrior = index }
+block_fault_of (refused.Edit index fault) = record { code = 12; number = edit_number fault; problem = 0; expression = 0; line = 0; warrior = index }
 block_fault_of refused.History = numbered 2 6
 block_fault_of (refused.Condition index) = record { code = 15; number = 0; problem = 0; expression = 0; line = 0; warrior = index }
 block_fault_of refused.Pasts = numbered 2 7

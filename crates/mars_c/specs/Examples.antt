@@ -99,7 +99,7 @@ pub blocks_are_reported : (block_fault_of (blocks.Block (block.Cell 7)) ≡ reco
 blocks_are_reported = (refl, refl, refl)
 
 -- The error has the first and the last number of an edit.
-pub edits_are_reported : (block_fault_of blocks.NoSuchEdit ≡ numbered 12 1) × (block_fault_of (blocks.Edit Address) ≡ numbered 12 2) × (block_fault_of (blocks.Edit QueueFull) ≡ numbered 12 7)
+pub edits_are_reported : (block_fault_of (blocks.NoSuchEdit 0) ≡ numbered 12 1) × (block_fault_of (blocks.Edit 0 Address) ≡ numbered 12 2) × (block_fault_of (blocks.Edit 3 QueueFull) ≡ record (numbered 12 7) { warrior = 3 })
 edits_are_reported = (refl, refl, refl)
 
 -- The edit kills the process at index 2 of warrior 1, whatever the address and the cell are.

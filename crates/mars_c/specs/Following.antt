@@ -66,8 +66,8 @@ IsNoCondition conditions (Condition index) = AreConditions (take index condition
     × (slice_get conditions index ≡ Some numbers) × ((condition : ConditionValue) → plain_condition condition ≢ numbers))
 IsNoCondition conditions (Block fault) = ⊥
 IsNoCondition conditions Capacity = ⊥
-IsNoCondition conditions NoSuchEdit = ⊥
-IsNoCondition conditions (Edit fault) = ⊥
+IsNoCondition conditions (NoSuchEdit index) = ⊥
+IsNoCondition conditions (Edit index fault) = ⊥
 IsNoCondition conditions History = ⊥
 IsNoCondition conditions Pasts = ⊥
 
@@ -79,6 +79,6 @@ RefusesFollow words conditions pasts (Condition index) = IsNoCondition condition
 RefusesFollow words conditions pasts (Block fault) = AreConditions conditions × RefusesPlay words (Block fault)
 RefusesFollow words conditions pasts Capacity = AreConditions conditions × RefusesPlay words Capacity
 RefusesFollow words conditions pasts Pasts = AreConditions conditions × ((s : State) × IsPlayable s words × (pasts ≢ s.params.core_size))
-RefusesFollow words conditions pasts NoSuchEdit = ⊥
-RefusesFollow words conditions pasts (Edit fault) = ⊥
+RefusesFollow words conditions pasts (NoSuchEdit index) = ⊥
+RefusesFollow words conditions pasts (Edit index fault) = ⊥
 RefusesFollow words conditions pasts History = ⊥

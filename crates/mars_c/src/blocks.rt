@@ -1,26 +1,27 @@
 //! Battles as blocks of words that the caller owns: starting, playing, editing and checking them.
 ghost use Rattle.std.specs.Prelude.{◌≡◌, ◌≢◌, ◌≤◌, ◌<◌, ◌+◌, ◌*◌, IfErr, IfOk, Ok, OnErr, OnOk, false, length, true};
+ghost use Rattle.std.specs.List.{FoldsTo};
 ghost use Rattle.mars_cell.specs.Parameters.{Parameters};
 ghost use Rattle.mars_cell.specs.ParameterFaults.{checked_parameters};
 ghost use Rattle.mars_core.specs.State.{State};
 ghost use Rattle.mars_core.specs.Turn.{after_turns};
 ghost use Rattle.mars_core.specs.Block.{Spells, head_words};
 ghost use Rattle.mars_c.specs.Battles.{IsStart};
-ghost use Rattle.mars_c.specs.Blocks.{HoldsEdited, IsPlayable, IsWritten, RefusesEdit, RefusesPlay, RefusesStart, RefusesWords, capacity_of, played_rows};
+ghost use Rattle.mars_c.specs.Blocks.{Fails, HoldsEdited, HoldsEdits, IsPlayable, IsWritten, Makes, RefusesEdit, RefusesEdits, RefusesPlay, RefusesStart, RefusesWords, capacity_of, played_rows};
 ghost use Rattle.mars_c.specs.Records.{turn_row};
 ghost use Rattle.mars_c.specs.Refusals.{AreWarriors};
 ghost use Rattle.mars_c.specs.Settings.{parameters_in};
 ghost use Rattle.mars_c.specs.Touches.{touched_row};
 
 use crate::battles::start_of;
-use crate::edits::{MarsEdit, edit_of};
+use crate::edits::{MarsEdit, edit_of, edits_of};
 use crate::entrants::Entrants;
 use crate::faults::{BlockRefusal, CallRefusal};
 use crate::playing::{TurnRow, fill_turn_rows};
 use crate::records::MarsRecord;
 use crate::settings::{MarsSettings, parameters, warriors_fault};
 use crate::touches::MarsTouched;
-use mars_core::{Battle, BlockFault, max_words};
+use mars_core::{Battle, BlockFault, Edit, EditFault, max_words};
 use std::alloc::Global;
 
 /// Returns the maximum length of the block of a battle in words, or 0 if the settings and the number of warriors allow no
@@ -202,7 +203,7 @@ pub fn edit_in(alloc: Global, words: &mut [u32], numbers: &MarsEdit) -> Result<(
 {
     let edit = match edit_of(numbers) {
         Some(edit) => edit,
-        None => return Err(BlockRefusal::NoSuchEdit),
+        None => return Err(BlockRefusal::NoSuchEdit(0)),
     };
     let mut battle = match take(alloc, words) {
         Ok(battle) => battle,
@@ -213,6 +214,51 @@ pub fn edit_in(alloc: Global, words: &mut [u32], numbers: &MarsEdit) -> Result<(
             put(&battle, words);
             Ok(())
         }
-        Err(fault) => Err(BlockRefusal::Edit(fault)),
+        Err(fault) => Err(BlockRefusal::Edit(0, fault)),
+    }
+}
+
+/// Makes edits of a battle, one after another, up to the first that is impossible.
+///
+/// # Errors
+///
+/// Returns the index of that edit, and its error.
+fn make(battle: &mut Battle, edits: &[Edit]) -> Result<(), (usize, EditFault)>
+    ensures made { OnOk result (FoldsTo Makes battle.old edits.now battle.new) }
+    ensures refused { IfErr result (λ error. Fails battle.old edits.now error.0 error.1) }
+{
+    for i in 0..edits.len() {
+        if let Err(fault) = battle.edit(edits[i]) {
+            return Err((i, fault));
+        }
+    }
+    Ok(())
+}
+
+/// Makes edits of the battle in a block, one after another: all or none.
+///
+/// # Errors
+///
+/// In this order: `NoSuchEdit`, `Block`, `Capacity`, `Edit`; `OutOfMemory` if an allocation fails. The words are unchanged
+/// then.
+pub fn edits_in(alloc: Global, words: &mut [u32], numbers: &[MarsEdit]) -> Result<(), BlockRefusal>
+    ensures done { OnOk result (HoldsEdits numbers.now words.old words.new) }
+    ensures refused { IfErr result (RefusesEdits words.old numbers.now) }
+    ensures kept { OnErr result (words.new ≡ words.old) }
+{
+    let edits = match edits_of(alloc, numbers) {
+        Ok(edits) => edits,
+        Err(refusal) => return Err(refusal),
+    };
+    let mut battle = match take(alloc, words) {
+        Ok(battle) => battle,
+        Err(refusal) => return Err(refusal),
+    };
+    match make(&mut battle, &edits) {
+        Ok(()) => {
+            put(&battle, words);
+            Ok(())
+        }
+        Err((index, fault)) => Err(BlockRefusal::Edit(index, fault)),
     }
 }

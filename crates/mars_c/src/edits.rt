@@ -1,10 +1,13 @@
 //! Edits as numbers.
-ghost use Rattle.std.specs.Prelude.{IfNone, IfSome};
+ghost use Rattle.std.specs.Prelude.{IfErr, IfNone, IfOk, IfSome};
+ghost use Rattle.std.specs.List.{AllZip};
 ghost use Rattle.mars_core.specs.declared.battle.edit.Edit.{Edit as EditValue};
-ghost use Rattle.mars_c.specs.Blocks.{Means};
+ghost use Rattle.mars_c.specs.Blocks.{IsNoEdit, Means};
 
 use crate::cells::{MarsCell, cell_of};
+use crate::faults::BlockRefusal;
 use mars_core::Edit;
+use std::alloc::Global;
 
 /// An edit of a battle. Each kind of edit reads only the fields that it needs.
 #[repr(C)]
@@ -42,4 +45,25 @@ pub fn edit_of(numbers: &MarsEdit) -> Option<Edit>
         4 => Some(Edit::Spawn(warrior, address)),
         _ => None,
     }
+}
+
+/// Returns the edits that the numbers mean.
+///
+/// # Errors
+///
+/// Returns `NoSuchEdit` with the index of the first numbers that mean none, and `OutOfMemory` if an allocation fails.
+pub fn edits_of(alloc: Global, numbers: &[MarsEdit]) -> Result<Vec<Edit>, BlockRefusal>
+    ensures edits { IfOk result (λ edits. AllZip Means numbers.now edits.items) }
+    ensures refused { IfErr result (IsNoEdit numbers.now) }
+{
+    let mut edits = Vec::new(alloc);
+    for i in 0..numbers.len() {
+        let Some(edit) = edit_of(&numbers[i]) else {
+            return Err(BlockRefusal::NoSuchEdit(i));
+        };
+        if edits.push(edit).is_err() {
+            return Err(BlockRefusal::OutOfMemory);
+        }
+    }
+    Ok(edits)
 }

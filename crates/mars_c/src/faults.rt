@@ -44,9 +44,10 @@ pub enum BlockRefusal {
     Block(BlockFault),
     /// The words have less capacity than the battle needs.
     Capacity,
-    /// The numbers mean no edit.
-    NoSuchEdit,
-    Edit(EditFault),
+    /// The numbers at this index, from 0, mean no edit.
+    NoSuchEdit(usize),
+    /// Error of the edit with this index, from 0.
+    Edit(usize, EditFault),
     /// The history is not from 1 to 1,000,000 places.
     History,
     /// The numbers at this index, from 0, mean no condition.
@@ -69,7 +70,7 @@ pub struct MarsFault {
     pub expression: u32,
     /// Line of a source or a load file, from 1; index of a wrong cell of a warrior, or address of a wrong cell of a block.
     pub line: u64,
-    /// Index of a warrior, a lineup or a condition, from 0.
+    /// Index of a warrior, a lineup, a condition or an edit, from 0.
     pub warrior: u64,
 }
 
@@ -84,6 +85,16 @@ fn numbered(code: u32, number: u32) -> MarsFault
         expression: 0,
         line: 0,
         warrior: 0,
+    }
+}
+
+/// Returns the error with this code and number of an argument with this index; the other fields are 0.
+fn indexed(code: u32, number: u32, index: usize) -> MarsFault
+    ensures { result ≡ record (spec_numbered code number) { warrior = index } }
+{
+    MarsFault {
+        warrior: index as u64,
+        ..numbered(code, number)
     }
 }
 
@@ -125,10 +136,7 @@ fn entrant(index: usize, fault: EntrantFault) -> MarsFault
 fn lineup(index: usize, fault: LineupFault) -> MarsFault
     ensures { result ≡ fault_of (variant.Lineup index fault) }
 {
-    MarsFault {
-        warrior: index as u64,
-        ..numbered(14, lineup_number(fault))
-    }
+    indexed(14, lineup_number(fault), index)
 }
 
 /// Converts the reason for which a call failed to the error that the caller gets.
@@ -172,13 +180,10 @@ pub fn block_fault(refusal: BlockRefusal) -> MarsFault
         BlockRefusal::OutOfMemory => numbered(1, 0),
         BlockRefusal::Block(fault) => block(fault),
         BlockRefusal::Capacity => numbered(10, 0),
-        BlockRefusal::NoSuchEdit => numbered(12, 1),
-        BlockRefusal::Edit(fault) => numbered(12, edit_number(fault)),
+        BlockRefusal::NoSuchEdit(index) => indexed(12, 1, index),
+        BlockRefusal::Edit(index, fault) => indexed(12, edit_number(fault), index),
         BlockRefusal::History => numbered(2, 6),
-        BlockRefusal::Condition(index) => MarsFault {
-            warrior: index as u64,
-            ..numbered(15, 0)
-        },
+        BlockRefusal::Condition(index) => indexed(15, 0, index),
         BlockRefusal::Pasts => numbered(2, 7),
     }
 }

@@ -223,7 +223,7 @@ no_warrior_16 s words cell (Spawn warrior address) playable m = let e : 3 ≡ 4 
 
 pub no_warrior_16_is_killed : (words after : List ℕ) (cell : MarsCell) (fault : EditFault)
     → (HoldsEdited (kill cell) words after → ⊥)
-    × (RefusesEdit words (kill cell) (refused.Edit fault) → fault ≡ NoSuchWarrior)
+    × (RefusesEdit words (kill cell) (refused.Edit 0 fault) → fault ≡ NoSuchWarrior)
 no_warrior_16_is_killed words after cell fault = (
   λ h. let e : ◌≡◌ {A = Option EditFault} None (Some NoSuchWarrior) = sym h.4 ∙ no_warrior_16 h.0 words cell h.1 h.2 h.3 in cc,
   λ r. let e : Some fault ≡ Some NoSuchWarrior = sym r.4 ∙ no_warrior_16 r.0 words cell r.1 r.2 r.3 in cc,
@@ -231,7 +231,7 @@ no_warrior_16_is_killed words after cell fault = (
 
 -- No edit of words that are no battle, and none that the numbers do not mean, has an error of its own.
 pub no_error_of_an_edit : (words : List ℕ) (n : MarsEdit) (cell : MarsCell) (fault : EditFault)
-    → (RefusesEdit (0 ∷ words) n (refused.Edit fault) → ⊥) × (RefusesEdit words (numbers 5 cell) (refused.Edit fault) → ⊥)
+    → (RefusesEdit (0 ∷ words) n (refused.Edit 0 fault) → ⊥) × (RefusesEdit words (numbers 5 cell) (refused.Edit 0 fault) → ⊥)
 no_error_of_an_edit words n cell fault = (λ r. no_mark r.0 words r.2, λ r. no_edit_5 cell r.1 r.3)
 
 -- 4,194,368 words are enough for every battle.

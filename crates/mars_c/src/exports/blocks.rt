@@ -5,7 +5,7 @@ ghost use Rattle.mars_cell.specs.ParameterFaults.{checked_parameters};
 ghost use Rattle.mars_core.specs.State.{State};
 ghost use Rattle.mars_core.specs.Turn.{after_turns};
 ghost use Rattle.mars_core.specs.Block.{Spells, head_words};
-ghost use Rattle.mars_c.specs.Blocks.{HoldsEdited, HoldsStart, IsPlayable, IsWritten, OverflowsStart, RefusesEdit, RefusesPlay, RefusesStart, RefusesWords, Reports, played_rows};
+ghost use Rattle.mars_c.specs.Blocks.{HoldsEdited, HoldsEdits, HoldsStart, IsPlayable, IsWritten, OverflowsStart, RefusesEdit, RefusesEdits, RefusesPlay, RefusesStart, RefusesWords, Reports, played_rows};
 ghost use Rattle.mars_c.specs.Debugging.{Debugs, RefusesDebugging};
 ghost use Rattle.mars_c.specs.Following.{IsFollowed, RefusesFollow};
 ghost use Rattle.mars_c.specs.Programs.{HoldsText, OverflowsText};
@@ -14,7 +14,7 @@ ghost use Rattle.mars_c.specs.Refusals.{AreWarriors, HasCause};
 ghost use Rattle.mars_c.specs.Settings.{parameters_in};
 ghost use Rattle.mars_c.specs.Touches.{touched_row};
 
-use crate::blocks::{check, edit_in, play_in, put_if_fits, started, words_of};
+use crate::blocks::{check, edit_in, edits_in, play_in, put_if_fits, started, words_of};
 use crate::cells::MarsCell;
 use crate::conditions::MarsCondition;
 use crate::debugging::transcript;
@@ -126,6 +126,25 @@ pub extern "C" fn mars_edit(
     ensures kept { result ≢ 0 → battle.new ≡ battle.old }
 {
     match edit_in(alloc, battle, edit) {
+        Ok(()) => answer(fault, given(true)),
+        Err(refusal) => answer(fault, block_fault(refusal)),
+    }
+}
+
+/// Makes edits of the battle in a block, all or none.
+#[unsafe(no_mangle)]
+pub extern "C" fn mars_edits(
+    alloc: Global,
+    battle: &mut [u32],
+    edits: &[MarsEdit],
+    fault: &mut MarsFault,
+) -> u32
+    ensures code { result ≡ fault.new.code }
+    ensures refused { result ≢ 0 → Reports (RefusesEdits battle.old edits.now) fault.new }
+    ensures done { result ≡ 0 → HoldsEdits edits.now battle.old battle.new }
+    ensures kept { result ≢ 0 → battle.new ≡ battle.old }
+{
+    match edits_in(alloc, battle, edits) {
         Ok(()) => answer(fault, given(true)),
         Err(refusal) => answer(fault, block_fault(refusal)),
     }
