@@ -429,6 +429,11 @@ uint32_t mars_population(const MarsSettings *settings, const uint8_t *formula, s
                          const MarsCell *cells, size_t cell_count, const MarsWarrior *warriors, size_t warrior_count,
                          MarsRow *rows, size_t row_count, MarsFault *fault);
 
+/* Returns in *value the points of each survivor of a round of W = `warriors` warriors and S = `survivors` survivors, as mars_match computes
+ * them: the value of the formula, or 0 if there are no survivors. Returns MARS_FORMULA, then MARS_SCORE if the formula has no value for
+ * these numbers. */
+uint32_t mars_score(const uint8_t *formula, size_t formula_length, uint32_t warriors, uint32_t survivors, int64_t *value, MarsFault *fault);
+
 /* Runs the match of each lineup, and returns how each of its warriors fares in each round; if the lineup is counting, also what it does,
  * for which 3 bytes for each cell and warrior are allocated. `cells` has the cells of all warriors; a lineup names up to 16 of them. The
  * outcomes are those of the first lineup's first round, in the order of the lineup, then those of its other rounds, then those of the other

@@ -46,7 +46,7 @@ static const MarsEdit EDIT = {4, 1, 0, 5, {0, 0, 0, 0, 0, 0}};
 /* Fills three cells, then moves a process there and kills it. */
 static const MarsEdit EDITS[] = {{1, 0, 0, 5, {1, 6, 1, 1, 0, 1}}, {1, 0, 0, 6, {1, 6, 1, 1, 0, 1}}, {1, 0, 0, 7, {1, 6, 1, 1, 0, 1}}, {2, 2, 0, 6, {0, 0, 0, 0, 0, 0}}, {3, 1, 0, 0, {0, 0, 0, 0, 0, 0}}};
 static const MarsCondition CONDITIONS[] = {{MARS_CHANGES, MARS_NUMBER_ADDRESS, 780, 20}, {MARS_CHANGES, MARS_NUMBER_WARRIOR, 1, 2}};
-enum { WORDS = 64 + 3 * 800 + 3 * 800, CELLS = 5, CALLS = 15 };
+enum { WORDS = 64 + 3 * 800 + 3 * 800, CELLS = 5, CALLS = 16 };
 static MarsCell cells[17 * CELLS];
 static MarsWarrior warriors[17]; /* the same warrior several times */
 static MarsProgram program;
@@ -68,12 +68,13 @@ typedef struct {
     MarsPast pasts[800];
     uint32_t found[9];
     uint32_t count;
+    int64_t value;
     MarsProgram program;
     MarsFault fault;
     uint32_t answer;
 } Left;
 
-/* What is there before a call: the calls from 9 on take a battle. */
+/* What is there before a call: most of the calls from 9 on take a battle. */
 static void prepare(int which, Left *got) {
     memset(got, 7, sizeof *got);
     if (which >= 9) memcpy(got->battle, block, sizeof block);
@@ -98,6 +99,7 @@ static void call(int which, Left *got) {
     if (which == 12) got->answer = mars_debug(got->battle, WORDS, 50, lines, strlen(LINES), got->text, sizeof got->text, &got->length, &got->fault);
     if (which == 13) got->answer = mars_follow(got->battle, WORDS, 200, got->pasts, 800, CONDITIONS, 2, got->found, 9, &got->count, &got->fault);
     if (which == 14) got->answer = mars_edits(got->battle, WORDS, EDITS, 5, &got->fault);
+    if (which == 15) got->answer = mars_score(formula, bytes, 3, 2, &got->value, &got->fault);
 }
 
 static int is_kept(const Left *got, const Left *blank) {
@@ -148,6 +150,7 @@ static int are_nulls_taken(void) {
         && mars_write_load(settings, cells, CELLS, &program, NULL, 0, &got.length, &got.fault) == MARS_ROOM && got.length == load_length
         && mars_match(settings, NULL, 0, cells, all, warriors, 3, got.rows, 3, &got.fault) == MARS_FORMULA && got.fault.number == MARS_EXPRESSION_SYNTAX
         && mars_match(settings, formula, bytes, NULL, 0, &none, 1, got.rows, 1, &got.fault) == MARS_WARRIOR && got.fault.number == MARS_WARRIOR_LENGTH
+        && mars_score(NULL, 0, 2, 1, &got.value, &got.fault) == MARS_FORMULA && got.fault.number == MARS_EXPRESSION_SYNTAX
         && mars_league(settings, formula, bytes, NULL, 0, NULL, 0, NULL, 0, &got.fault) == MARS_DONE
         && mars_population(settings, formula, bytes, cells, all, warriors, 3, NULL, 0, &got.fault) == MARS_DONE
         && mars_outcomes(settings, NULL, 0, NULL, 0, NULL, 0, NULL, 0, &got.fault) == MARS_DONE
@@ -231,6 +234,30 @@ static int are_turns_found(void) {
     return count > 0 && count == followed.count && !memcmp(pasts, followed.pasts, sizeof pasts) && !memcmp(followed.battle, played.battle, sizeof played.battle);
 }
 
+/* The value of a formula is the points of a match that ends so, and its errors are those of that match. */
+static int are_scores_points(void) {
+    static const char *const formulas[] = {"(W*W-1)/S", "S-W*100", "7/(S-2)", "9223372036854775807+S", "W+", "X"};
+    MarsSettings settings = SETTINGS;
+    const MarsCell lives = {MARS_JMP, MARS_B, MARS_DIRECT, MARS_DIRECT, 0, 0}, dies = {MARS_DAT, MARS_F, MARS_DIRECT, MARS_DIRECT, 0, 0};
+    settings.rounds = 1;
+    for (size_t i = 0; i < sizeof formulas / sizeof *formulas; i++)
+        for (uint32_t survivors = 1; survivors <= 3; survivors++) {
+            const MarsCell each[] = {lives, survivors > 1 ? lives : dies, survivors > 2 ? lives : dies};
+            const MarsWarrior one[] = {{1, 0}, {1, 0}, {1, 0}};
+            MarsRow rows[3];
+            MarsFault fault, other;
+            int64_t value = 0;
+            const uint8_t *text = (const uint8_t *)formulas[i];
+            uint32_t scored = mars_score(text, strlen(formulas[i]), 3, survivors, &value, &fault);
+            uint32_t fought = mars_match(&settings, text, strlen(formulas[i]), each, 3, one, 3, rows, 3, &other);
+            if (scored != fought || memcmp(&fault, &other, sizeof fault) || (scored == MARS_DONE && value != rows[0].points)) return 0;
+        }
+    /* Without survivors the formula is only read. */
+    int64_t none = 1;
+    MarsFault fault;
+    return mars_score((const uint8_t *)"W/S", 3, 3, 0, &none, &fault) == MARS_DONE && none == 0 && mars_score((const uint8_t *)"W+", 2, 3, 0, &none, &fault) == MARS_FORMULA;
+}
+
 /* Edits in one call are those in several, and if one is impossible none is made. */
 static int are_edits_all_or_none(void) {
     Left once, several;
@@ -305,10 +332,10 @@ int main(void) {
             passed += is_so, failed += !is_so;
             if (!is_so) printf("call %d, %s refused\n", which, each ? "all from one on" : "one");
         }
-    int others[] = {mars_version() == MARS_VERSION, are_faults_cleared(), are_nulls_taken(), are_lines_reported(), are_loads_read(), are_outcomes_rows(), are_mistakes_reported_in_order(), are_battles_values(), are_turns_found(), are_edits_all_or_none()};
+    int others[] = {mars_version() == MARS_VERSION, are_faults_cleared(), are_nulls_taken(), are_lines_reported(), are_loads_read(), are_outcomes_rows(), are_mistakes_reported_in_order(), are_battles_values(), are_turns_found(), are_edits_all_or_none(), are_scores_points()};
     for (size_t i = 0; i < sizeof others / sizeof *others; i++) {
         passed += others[i], failed += !others[i];
-        if (!others[i]) printf("%s\n", (const char *[]){"the version", "errors of calls that succeed", "null pointers", "the lines of a source", "load files", "outcomes", "the order of mistakes", "battles as values", "turns that are found", "several edits"}[i]);
+        if (!others[i]) printf("%s\n", (const char *[]){"the version", "errors of calls that succeed", "null pointers", "the lines of a source", "load files", "outcomes", "the order of mistakes", "battles as values", "turns that are found", "several edits", "scores"}[i]);
     }
     printf("%d passed, %d failed\n", passed, failed);
     return failed != 0;

@@ -1,5 +1,5 @@
--- The results of matches, leagues and populations.
-use Rattle.std.specs.Prelude.{◌≡◌, ℕ, drop, List, map, None, Ok, Result, take, length}
+-- The results of matches, leagues and populations, and the value of a score formula.
+use Rattle.std.specs.Prelude.{◌≡◌, ◌==◌, ℕ, ℤ, if◌then◌else◌, pos, drop, List, map, None, Ok, Result, take, length}
 use Rattle.mars_cell.specs.Warriors.{WarriorValue}
 use Rattle.mars_match.specs.Leagues.{league_of}
 use Rattle.mars_match.specs.Populations.{population_of}
@@ -9,12 +9,23 @@ use Rattle.mars_match.specs.declared.fault.MatchFault.{MatchFault}
 use Rattle.mars_match.specs.declared.setup.Setup.{Setup}
 use Rattle.mars_match.specs.declared.table.Sum.{Sum}
 use Rattle.mars_match.specs.Placement.{FitsTwo}
+use Rattle.redcode_asm.specs.Formula.{formula_of, score_of}
+use Rattle.redcode_text.specs.Tokens.{Scanned}
+use Rattle.redcode_text.specs.declared.fault.ExprFault.{ExprFault}
 use Rattle.mars_c.specs.Settings.{IsSetup}
 use Rattle.mars_c.specs.Entrants.{AreEntrants}
 use Rattle.mars_c.specs.declared.cells.MarsCell.{MarsCell}
 use Rattle.mars_c.specs.declared.warriors.MarsWarrior.{MarsWarrior}
 use Rattle.mars_c.specs.declared.rows.MarsRow.{MarsRow}
 use Rattle.mars_c.specs.declared.settings.MarsSettings.{MarsSettings}
+
+-- The points of each survivor of a round with these numbers of warriors and survivors. Without survivors the formula is not evaluated.
+abbrev pub points_each : Scanned → ℕ → ℕ → Result ℤ ExprFault
+points_each formula warriors survivors = if survivors == 0 then Ok (pos 0) else score_of formula (pos warriors) (pos survivors)
+
+-- `points` are those of each survivor by the formula `text`.
+abbrev pub IsScore : List ℕ → ℕ → ℕ → ℤ → Type 0
+IsScore text warriors survivors points = (formula : Scanned) × (formula_of text ≡ Ok formula) × (points_each formula warriors survivors ≡ Ok points)
 
 -- A row as numbers.
 abbrev pub plain_row : RowValue → MarsRow

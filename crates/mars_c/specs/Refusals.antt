@@ -16,13 +16,14 @@ use Rattle.mars_match.specs.declared.placement.PlaceFault.TheVariants as place
 use Rattle.mars_match.specs.declared.setup.Setup.{Setup}
 use Rattle.redcode_asm.specs.Formula.{formula_of}
 use Rattle.redcode_asm.specs.Assembly.{assembly}
+use Rattle.redcode_text.specs.Tokens.{Scanned}
 use Rattle.redcode_asm.specs.declared.fault.AsmFault.{AsmFault}
 use Rattle.redcode_asm.specs.declared.fault.AsmProblem.{AsmProblem}
 use Rattle.redcode_asm.specs.declared.fault.AsmProblem.TheVariants as problem
 use Rattle.mars_c.specs.Settings.{AreRounds, IsSeed, IsSetup, parameters_in, position_of}
 use Rattle.mars_c.specs.Battles.{round_start_state}
 use Rattle.mars_c.specs.Codes.{fault_of}
-use Rattle.mars_c.specs.Contests.{population}
+use Rattle.mars_c.specs.Contests.{points_each, population}
 use Rattle.mars_c.specs.Entrants.{AreEntrants, IsNoEntrant, Reads, is_name, named}
 use Rattle.mars_c.specs.declared.faults.MarsFault.{MarsFault}
 use Rattle.mars_c.specs.declared.faults.CallRefusal.{CallRefusal}
@@ -108,6 +109,13 @@ abbrev pub RefusesEntry : MarsSettings → List ℕ → ℕ → List MarsCell �
 RefusesEntry s text warriors cells entrants (Settings fault) = IsOutside s warriors cells entrants fault
 RefusesEntry s text warriors cells entrants (Formula fault) = formula_of text ≡ Err fault
 RefusesEntry s text warriors cells entrants other = RefusesWarriors s cells entrants other
+
+-- `refusal` is the reason for which a survivor has no points by the formula `text`: the error of the formula, or of its value.
+abbrev pub RefusesScore : List ℕ → ℕ → ℕ → CallRefusal → Type 0
+RefusesScore text warriors survivors OutOfMemory = ⊤
+RefusesScore text warriors survivors (Formula fault) = formula_of text ≡ Err fault
+RefusesScore text warriors survivors (Score fault) = (formula : Scanned) × (formula_of text ≡ Ok formula) × (points_each formula warriors survivors ≡ Err fault)
+RefusesScore text warriors survivors other = ⊥
 
 -- The refusal of a match with this error.
 abbrev pub fight_refusal : MatchFault → CallRefusal

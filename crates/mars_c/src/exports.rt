@@ -3,10 +3,10 @@
 //! A function that writes a result returns 0 if it succeeds; otherwise it stores the error in `fault` and returns its code.
 ghost use Rattle.std.specs.Prelude.{◌≡◌, ◌≢◌, ◌≤◌, ◌<◌, ◌++◌, drop, false, length, map, true};
 ghost use Rattle.mars_c.specs.Cells.{plain_cell};
-ghost use Rattle.mars_c.specs.Contests.{HoldsLeague, HoldsMatch, HoldsSums};
+ghost use Rattle.mars_c.specs.Contests.{HoldsLeague, HoldsMatch, HoldsSums, IsScore};
 ghost use Rattle.mars_c.specs.Outcomes.{HoldsOutcomes, RefusesOutcomes};
 ghost use Rattle.mars_c.specs.Programs.{AreLines, BeginsWith, HoldsProgram, HoldsText, IsAssembled, IsLoadFile, IsLoaded, Overflows, OverflowsProgram, OverflowsText};
-ghost use Rattle.mars_c.specs.Refusals.{HasCause, RefusesLeague, RefusesLoad, RefusesMatch, RefusesPopulation, RefusesSource, RefusesWriting};
+ghost use Rattle.mars_c.specs.Refusals.{HasCause, RefusesLeague, RefusesLoad, RefusesMatch, RefusesPopulation, RefusesScore, RefusesSource, RefusesWriting};
 
 mod blocks;
 
@@ -18,6 +18,7 @@ use crate::faults::{MarsFault, given, to_c_fault};
 use crate::outcomes::{MarsLineup, MarsOutcome, outcomes_into};
 use crate::population::population_into;
 use crate::rows::MarsRow;
+use crate::scores::score;
 use crate::settings::MarsSettings;
 use crate::warriors::{Made, MarsProgram, MarsWarrior};
 use std::alloc::Global;
@@ -230,6 +231,30 @@ pub extern "C" fn mars_population(
 {
     match population_into(alloc, settings, formula, Entrants { cells, warriors }, rows) {
         Ok(()) => answer(fault, given(true)),
+        Err(refusal) => answer(fault, to_c_fault(refusal)),
+    }
+}
+
+/// Returns the points of each survivor of a round, by a formula.
+#[unsafe(no_mangle)]
+pub extern "C" fn mars_score(
+    alloc: Global,
+    formula: &[u8],
+    warriors: u32,
+    survivors: u32,
+    value: &mut i64,
+    fault: &mut MarsFault,
+) -> u32
+    ensures code { result ≡ fault.new.code }
+    ensures refused { result ≢ 0 → HasCause (RefusesScore formula.now warriors survivors) fault.new }
+    ensures done { result ≡ 0 → IsScore formula.now warriors survivors value.new }
+    ensures kept { result ≢ 0 → value.new ≡ value.old }
+{
+    match score(alloc, formula, warriors, survivors) {
+        Ok(score) => {
+            *value = score;
+            answer(fault, given(true))
+        }
         Err(refusal) => answer(fault, to_c_fault(refusal)),
     }
 }

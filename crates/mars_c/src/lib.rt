@@ -26,6 +26,7 @@ mod population;
 mod ranges;
 mod records;
 mod rows;
+mod scores;
 mod settings;
 mod touches;
 mod warriors;

@@ -47,10 +47,10 @@ class Terms:
     ) -> None:
         given = dict[str, object](rounds=rounds, seed=seed, position=position, formula=formula, same_seed=same_seed)
         vars(self).update(given, settings=settings_of(settings), pmars_fixed=pmars_fixed, every_position=every_position)
-        # The seeds of matches are made of this one. A formula has a value only if a warrior survives, but both are
-        # refused before hours of matches.
+        # The seeds of matches are made of this one. An invalid number, and a formula that is wrong or has no value for a
+        # win, are refused before hours of matches.
         check_numbers(self.settings, rounds, seed, position)
-        score_of(formula, 2, 0)
+        score_of(formula, 2, 1)
         if every_position:
             vars(self).update(rounds=2 * len(distances(self.settings)), position=None)
 

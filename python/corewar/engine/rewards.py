@@ -8,19 +8,17 @@ import numpy as np
 from numpy.typing import NDArray
 
 from ..model.errors import CorewarError
-from ..model.settings import FORMULA, MAX_WARRIORS, Settings
-from .calls import assemble, match
-
-# A core in which the rounds end at once, and a warrior that lives and one that dies there.
-TINY = Settings(core=MAX_WARRIORS, cycles=2, longest=1, distance=1)
-SOURCES = "JMP 0", "DAT 0"
+from ..model.settings import FORMULA, MAX_WARRIORS
+from .binding import call, library, slice_of
+from .calls import encode_source
 
 
 @lru_cache(maxsize=None)
 def score_of(formula: str, warriors: int, survivors: int) -> int:
-    """Returns the value of a formula as the library computes it, in a round that ends so. Raises `MarsError`."""
-    lives, dies = (assemble(source, settings=TINY) for source in SOURCES)
-    return match([lives] * survivors + [dies] * (warriors - survivors), settings=TINY, formula=formula)[0].points
+    """Returns the points of each survivor of a round, 0 if there are none. Raises `MarsError`."""
+    points = library()[0].new("int64_t *")
+    call("mars_score", *slice_of("uint8_t", encode_source(formula)), warriors, survivors, points)
+    return int(points[0])
 
 
 def points(made: NDArray[Any], formula: str = FORMULA) -> NDArray[np.int64]:

@@ -173,6 +173,19 @@ export class Mars {
   }
 
   /**
+   * Returns the points of each survivor of a round with these numbers of warriors and survivors, 0 if there are none.
+   * @param {number} warriors
+   * @param {number} survivors
+   */
+  score(warriors, survivors, formula = FORMULA) {
+    return this.#within(() => {
+      const points = this.#allocate(8);
+      this.#call("mars_score", [...this.#bytes(formula), warriors, survivors, points]);
+      return Number(this.#view(points).getBigInt64(0, true));
+    });
+  }
+
+  /**
    * Runs a match and returns for each round and each warrior 1 if it survived, otherwise 0, round by round.
    * @param {Warrior[]} warriors
    * @param {Terms} terms

@@ -4,7 +4,6 @@ import { ADDRESS } from "../battle/place.js";
 import { assembleAll, describe } from "../engine/warrior.js";
 import { MarsError } from "../model/errors.js";
 import { ASSEMBLY, FORMULA } from "../model/layout.js";
-import { HILLS } from "../model/settings.js";
 
 /** @typedef {import("../engine/mars.js").Mars} Mars */
 /** @typedef {import("../engine/mars.js").Row} Row */
@@ -85,17 +84,14 @@ export class Jobs {
   }
 
   /**
-   * Returns the score of the first warrior of a match of two with this number of survivors, 0 if it dies.
+   * Returns the points of each survivor of a match of two with this number of survivors, 0 if there are none.
    * @param {number} survivors
    * @param {string | undefined} formula
    * @param {boolean} isNeeded whether there are such rounds; for others a formula may have no value
    */
   #scoreOf(survivors, formula, isNeeded) {
-    const terms = { settings: HILLS.nano, formula };
-    const [lives, dies] = ["JMP 0", "DAT 0"].map((text) => this.mars.assemble(text, terms));
-    const fighters = survivors ? [lives, survivors === 2 ? lives : dies] : [dies];
     try {
-      return this.mars.match(fighters, terms)[0].points;
+      return this.mars.score(2, survivors, formula);
     } catch (error) {
       if (isNeeded) throw error;
       return 0;
