@@ -2,7 +2,7 @@
 //
 //     node site/build.mjs MARS.wasm FOLDER [CODEMIRROR]
 //
-// CODEMIRROR is the folder of Debian's libjs-codemirror. esbuild has to be on the path.
+// CODEMIRROR is the folder of Debian's libjs-codemirror. esbuild and Debian's binaryen have to be on the path.
 import { execFileSync } from "node:child_process";
 import fs from "node:fs";
 import path from "node:path";
@@ -54,6 +54,23 @@ function meanings() {
   return { ...expressions, ...errors, ...causes };
 }
 
+/** The calls of the library that the page does not make, and what mars.wasm needs of WebAssembly. */
+const UNCALLED = ["check", "debug", "edits", "follow", "league", "population", "read_load"];
+const FEATURES = ["bulk-memory", "sign-ext", "nontrapping-float-to-int", "multivalue", "mutable-globals"];
+
+/** Writes the machine with the calls that the page makes, and nothing else. */
+function machine() {
+  const isCalled = (name) => !UNCALLED.some((call) => name === `mars_${call}`);
+  const names = WebAssembly.Module.exports(new WebAssembly.Module(fs.readFileSync(wasm))).map(({ name }) => name);
+  const roots = names.filter(isCalled).map((name) => ({ name: `root ${name}`, export: name, root: true }));
+  const features = FEATURES.map((name) => `--enable-${name}`);
+  write("roots.json", JSON.stringify(roots));
+  const [from, to] = [output("roots.json"), output("mars.wasm")];
+  execFileSync("wasm-metadce", [...features, wasm, "-f", from, "-o", to], { stdio: ["ignore", "ignore", "inherit"] });
+  execFileSync("wasm-opt", [...features, to, "-Oz", "-o", to]);
+  fs.rmSync(from);
+}
+
 /** What the page knows: examples, lessons, and what errors mean. */
 function data() {
   const [examples, lessons] = [inside("..", "examples"), inside("lessons")];
@@ -72,7 +89,7 @@ fs.rmSync(folder, { recursive: true, force: true });
 fs.mkdirSync(folder, { recursive: true });
 bundle("app/main.js", "app.js", `/*\n${read(inside("static", "codemirror.txt"))}*/`);
 bundle("worker/worker.js", "worker.js", "");
-fs.copyFileSync(wasm, output("mars.wasm"));
+machine();
 
 const known = script(JSON.stringify(data()).replaceAll("<", "\\u003c"), ' id="data" type="application/json"');
 const html = read(inside("static", "index.html")).replace(/\n\s+/g, "\n");
@@ -83,9 +100,9 @@ const loads = [preload("mars.wasm", "fetch").replace(">", " crossorigin>"), prel
 const strict = page.replace("script-src 'self' 'unsafe-inline'", "script-src 'self'");
 const many = strict.replace("</title>", ["</title>", ...loads].join("\n"));
 write("index.html", many.replace("<!--parts-->", () => `${known}\n<script src="app.js"></script>`));
-const machine = zlib.gzipSync(fs.readFileSync(wasm), { level: 9 }).toString("base64");
+const code = zlib.gzipSync(fs.readFileSync(output("mars.wasm")), { level: 9 }).toString("base64");
 const worker = plain("worker-code", read(output("worker.js")));
-const parts = [known, plain("page-fight", ""), plain("mars-code", machine), worker];
+const parts = [known, plain("page-fight", ""), plain("mars-code", code), worker];
 write("one.html", page.replace("<!--parts-->", () => [...parts, script(read(output("app.js")))].join("\n")));
 
 let total = 0;

@@ -74,12 +74,24 @@ def test_a_newcomer_sees_a_fight(page: Browser) -> None:
     # On a slow machine the first caption may be over, so the test returns to it.
     go_to_turn(page, 0)
     assert "share a ring of 8,000 cells" in page.text("caption")
-    assert page.value("!document.getElementById('what').hidden")
-    # The story hides its end, unless a user wants to know it.
-    shown = "[...document.querySelectorAll('#story li:not([hidden])')].length"
-    assert page.value(shown) == 1
-    page.click("#spoil")
-    page.until(f"{shown} === 4")
+    # The story tells the end from the start, as the timeline does.
+    past = "[...document.querySelectorAll('#story li')].map(one => one.className === 'past')"
+    assert page.value(past) == [True, False, False, False]
+
+
+def test_a_newcomer_is_welcome(page: Browser, site: str) -> None:
+    """One line says what the page is until it is closed, also at the next visit; its button begins the first lesson."""
+    shown = "!document.getElementById('welcome').hidden"
+    go_to_turn(page, 7798)
+    page.open(f"{site}?second")
+    page.until("window.corewar?.session.view")
+    assert page.value(shown)
+    page.click("#learn-now")
+    page.until("location.hash === '#learn/1' && document.getElementById('lesson-box').checkVisibility()")
+    assert not page.value(shown)
+    page.open(f"{site}?third")
+    page.until("window.corewar?.session.view")
+    assert not page.value(shown)
 
 
 def test_keys_move_in_time(page: Browser) -> None:
@@ -167,7 +179,7 @@ def test_the_end_leads_to_the_death(page: Browser) -> None:
     assert page.value(shown) == [False, True, True]
     assert lines[2].startswith("7,797Dwarf wrote DAT.F #0, #-2800 to 5,203.")
     assert "MOV bomb, @bomb dwarf.red, line 10" in lines[2]
-    page.run("corewar.showDesk(true)")
+    page.run("corewar.views.showDesk(true)")
     for name, marked in (("dwarf", ["kills", "kills", "dies"]), ("imp", ["dies"])):
         page.run("corewar.shelf.show(corewar.shelf.find(`${given[0]}.red`))", name)
         found = page.value("[...document.querySelectorAll('#editor :is(.kills, .dies)')].map(one => one.className)")
@@ -180,18 +192,18 @@ def test_the_end_leads_to_the_death(page: Browser) -> None:
 
 def test_breakpoints_stop_play(page: Browser) -> None:
     """They are set beside a line or a cell and by a command, stop both ways of playing, and are marked."""
-    page.run("corewar.session.jump(0); corewar.showDesk(true)")
+    page.run("corewar.session.jump(0); corewar.views.showDesk(true)")
     page.until("corewar.session.isSettled")
     gutter = "[...document.querySelectorAll('.CodeMirror-linenumber')].find(one => one.textContent === '11')"
     box = page.value(f"{gutter}.getBoundingClientRect()")
     page.mouse(box["x"] + 4, box["y"] + 6, "pointerDown", "pointerUp")
     page.until("document.querySelector('#editor .break')")
-    assert page.value("corewar.session.breaks") == [{"word": "at", "first": 2}]
+    assert page.value("corewar.session.breaks.all") == [{"word": "at", "first": 2}]
     play = "corewar.session.setRate(given[1]); corewar.session.play(given[0])"
     page.run(play, 1, 3000)
     page.until("corewar.session.way === 0 && corewar.session.turn === 4 && corewar.session.isSettled")
     page.until("document.getElementById('caption').textContent === 'Breakpoint: cell 2 is executed next.'")
-    page.run("corewar.session.toggleBreak({word: 'at', first: 2}); corewar.session.pin(5203)")
+    page.run("corewar.session.breaks.toggle({word: 'at', first: 2}); corewar.session.pin(5203)")
     assert page.value("document.querySelector('#editor .break')") is None
     page.until("document.querySelector('#listing .focus .break')")
     page.click("#listing .focus .break")
@@ -264,11 +276,11 @@ def test_edits_make_futures(page: Browser) -> None:
     page.type("jmq 1")
     page.press("Enter")
     page.until("document.querySelector('#listing input')?.getAttribute('aria-invalid') === 'true'")
-    assert page.value("corewar.session.futures.length") == 1
+    assert page.value("corewar.session.futures.all.length") == 1
     page.press("a", held="Control")
     page.type("jmp 0")
     page.press("Enter")
-    page.until("corewar.session.futures.length === 2 && corewar.session.isSettled")
+    page.until("corewar.session.futures.all.length === 2 && corewar.session.isSettled")
     end = page.value("corewar.session.end")
     lines = native("-e", *files("dwarf", "imp"), input="run 7790\nedit 2 JMP.B $0, $0\nrun 1000000\nshow\n")
     assert f"turn {end} " in lines
@@ -313,7 +325,7 @@ def test_keys_that_are_pressed_quickly(page: Browser) -> None:
       await opening;
       return document.querySelector("#answers").lastChild.textContent;"""
     assert page.run(code).endswith(": another battle has been opened")
-    assert page.value("[corewar.session.fight.round, corewar.session.futures.length]") == [5, 1]
+    assert page.value("[corewar.session.fight.round, corewar.session.futures.all.length]") == [5, 1]
 
 
 def test_a_message_stays_until_the_turn_changes(page: Browser) -> None:
@@ -352,7 +364,7 @@ def test_an_edit_while_it_plays(page: Browser) -> None:
             await new Promise((done) => setTimeout(done, 40 + 17 * k));
             const shown = session.turn;
             await corewar.console.run(`edit 3000 dat 1, ${k + 1}`);
-            found.push([shown, session.futures.at(-1).edits.at(-1).turn]);
+            found.push([shown, session.futures.all.at(-1).edits.at(-1).turn]);
         }
         return found;"""
     )
@@ -606,7 +618,7 @@ def test_the_editor_shows_errors_and_fights(page: Browser, site: str) -> None:
 
 def test_the_editor_helps(page: Browser) -> None:
     """It completes words, begins lines where labels are, makes comments, finds texts and explains opcodes."""
-    page.run("corewar.session.stop(); corewar.showDesk(true)")
+    page.run("corewar.session.stop(); corewar.views.showDesk(true)")
     mirror = "corewar.shelf.editor.mirror"
     page.run(
         f"{mirror}.setValue(given[0]); {mirror}.focus(); {mirror}.setCursor(1, 99)", "bomb    DAT     0\n        NOP\n"
@@ -642,12 +654,17 @@ def test_the_editor_helps(page: Browser) -> None:
     assert page.value(f"{mirror}.getLine(2)") == "go      mov.ab #1, bomb ;x"
     page.press("f", held="Control")
     page.type("BOMB")
-    page.until("document.getElementById('found').textContent === '2'")
+    page.until("document.getElementById('found').textContent === '2 found'")
     page.press("Enter")
     first = page.value(f"{mirror}.getCursor().line")
-    page.press("Enter")
+    page.click("#find-on")
     assert {first, page.value(f"{mirror}.getCursor().line")} == {0, 2}
     assert page.value(f"{mirror}.getSelection()") == "bomb"
+    assert page.text("found") == ("1 of 2" if first else "2 of 2")
+    page.click("#find-back")
+    assert page.value(f"{mirror}.getCursor().line") == first
+    page.run("const field = document.getElementById('find'); field.value = 'bomber'; field.focus(); field.oninput()")
+    assert page.text("found") == "not found"
     page.press("Escape")
     assert page.value("document.getElementById('finder').hidden && !!document.activeElement.closest('#editor')")
     page.click("#words")
@@ -657,7 +674,7 @@ def test_the_editor_helps(page: Browser) -> None:
 
 def test_the_editor_has_room(page: Browser, site: str) -> None:
     """At least 60 characters of a line are visible in a usual window, and a divider stays where it is put."""
-    page.run("corewar.showDesk(true)")
+    page.run("corewar.views.showDesk(true)")
     width = """const {mirror} = corewar.shelf.editor, gutter = mirror.getGutterElement().offsetWidth;
       return (mirror.getScrollInfo().clientWidth - gutter) / mirror.defaultCharWidth()"""
     assert page.run(width) >= 60
@@ -746,15 +763,36 @@ def test_a_page_shows_a_battle_whatever_is_stored(page: Browser, site: str) -> N
     ["{", "null", "5", "[]", '{"sources":5}', '{"sources":[null,7]}', '{"terms":{"settings":7}}', '{"done":{}}'],
 )
 def test_damaged_storage_is_left_out(page: Browser, site: str, stored: str) -> None:
-    """The page starts whatever is stored, says if something is damaged, and deletes it on request."""
+    """The page starts whatever is stored, names what is damaged, and deletes that and nothing else on request."""
     page.run("localStorage.clear(); localStorage.setItem('corewar', given[0])", stored)
-    page.run("localStorage.setItem('corewar: own.red', '{\"text\":7}')")
+    # Of the second one only the text is sound, and that is what counts.
+    for name, kept in (("own", '{"text":7}'), ("other", '{"text":"MOV 0, 1","saved":7,"kind":"x"}')):
+        page.run("localStorage.setItem(`corewar: ${given[0]}.red`, given[1])", name, kept)
     page.open(f"{site}?damaged{hash(stored)}")
     page.until("window.corewar?.session.view")
-    assert page.text("complaint").startswith("Something that this browser had stored is damaged")
+    start = "Something that this browser had stored is damaged and was left out: settings, own.red."
+    assert page.text("complaint").startswith(start)
     page.click("#complaint button")
-    page.until("window.corewar?.session.view && document.getElementById('complaint').hidden")
-    assert page.value("localStorage.getItem('corewar: own.red')") is None
+    page.until("document.getElementById('complaint').hidden")
+    kept = "['own', 'other'].map(name => localStorage.getItem(`corewar: ${name}.red`) !== null)"
+    assert page.value(kept) == [False, True]
+    page.open(f"{site}?mended{hash(stored)}")
+    page.until("window.corewar?.session.view")
+    assert page.text("complaint") == "" and page.value("corewar.shelf.find('other.red').doc.getValue()") == "MOV 0, 1"
+
+
+def test_sources_with_names_of_examples_are_kept(page: Browser, site: str) -> None:
+    """An example that this version no longer has, and an own source whose name is that of a new example."""
+    for name, kind in (("gone", "example"), ("silk", "own")):
+        kept = f'{{"text":"MOV 0, 1 ; {name}","saved":"","kind":"{kind}","made":1}}'
+        page.run("localStorage.setItem(`corewar: ${given[0]}.red`, given[1])", name, kept)
+    for visit in range(2):
+        page.open(f"{site}?names{visit}")
+        page.until("window.corewar?.session.view")
+        for name in ("gone", "silk"):
+            found = page.value(f"corewar.shelf.find('{name}.red')?.doc.getValue()")
+            assert found == f"MOV 0, 1 ; {name}"
+        page.run("corewar.sources.keep()")
 
 
 def test_sources_of_earlier_versions_are_found(page: Browser, site: str) -> None:
@@ -886,7 +924,7 @@ def test_opening_a_battle_is_cancelled(page: Browser) -> None:
     page.run("await opening")
     assert page.text("complaint") == "Cancelled." and page.value("document.getElementById('waiting').hidden")
     go_to_turn(page, 100)
-    assert page.value("[corewar.session.futures.length, document.title]") == [2, "Dwarf against Imp · Core War"]
+    assert page.value("[corewar.session.futures.all.length, document.title]") == [2, "Dwarf against Imp · Core War"]
 
 
 def test_workers_that_are_blocked(browser: Browser) -> None:
@@ -970,7 +1008,10 @@ def test_files_are_opened(page: Browser) -> None:
       await corewar.shelf.lint();
       return [corewar.shelf.shown.name, document.getElementById('fault').textContent];"""
     stone = b";name St\xe9ne\nadd #5, 3\nmov 2, @2\njmp -2\ndat 0, 0\n"
-    assert page.run(code, "stone.red", [*stone])[0] == "stone.red"
+    # Names are those of the source, as in the list, although the library knows only ASCII.
+    assert page.run(code, "stone.red", [*stone]) == ["stone.red", "Sténe: 4 of 100 cells"]
+    page.run("await corewar.fightMarked()")
+    assert "Sténe" in page.value("corewar.session.known.names")
     load = native("--load", *files("dwarf"))
     assert page.run(code, "dwarf.load", [*load.encode()]) == ["dwarf.load.red", "Dwarf: 4 of 100 cells"]
     assert page.text("load") == load
@@ -1050,7 +1091,7 @@ def test_versions_on_the_bench(page: Browser, tmp_path: Path) -> None:
 
 def test_a_number_is_tuned(page: Browser, tmp_path: Path) -> None:
     """The bench fights with many values of a number, exactly; a click takes one, and what fails leaves a gap."""
-    page.run("corewar.showDesk(true); corewar.shelf.show(corewar.shelf.find('dwarf.red'))")
+    page.run("corewar.views.showDesk(true); corewar.shelf.show(corewar.shelf.find('dwarf.red'))")
     page.run("const {mirror} = corewar.shelf.editor; mirror.focus(); mirror.setCursor(5, 17)")
     page.until("document.getElementById('tune-here').textContent === 'Tune 4'")
     # The name of an EQU is as good as its number.
@@ -1136,7 +1177,7 @@ def test_a_map_of_positions(page: Browser) -> None:
 def test_the_league_is_the_program(page: Browser) -> None:
     page.run(
         "rounds.value = '20'; rounds.dispatchEvent(new Event('change'));"
-        "corewar.show('league'); await corewar.league.hold()"
+        "corewar.views.show('league'); await corewar.league.hold()"
     )
     page.until("document.querySelectorAll('#league-table tr').length === corewar.examples.length + 1")
     names = sorted(path.stem for path in EXAMPLES.glob("*.red"))
@@ -1149,7 +1190,7 @@ def test_the_league_is_the_program(page: Browser) -> None:
 
 def test_a_league_that_fails_says_why(page: Browser) -> None:
     page.run("corewar.terms.value = {...corewar.terms.value, rounds: 1, formula: 'W/'}")
-    page.run("corewar.show('league'); await corewar.league.hold()")
+    page.run("corewar.views.show('league'); await corewar.league.hold()")
     note = page.text("league-note")
     assert re.fullmatch(r"0 of \d+ matches, 1 round each, in 0\.0 s; error: The score formula is not valid\.", note)
     assert page.value("document.getElementById('league-stop').hidden && document.getElementById('league-done').hidden")
@@ -1158,7 +1199,7 @@ def test_a_league_that_fails_says_why(page: Browser) -> None:
 def test_a_league_that_runs_has_an_order(page: Browser) -> None:
     """By points per round: some warriors have fought more matches than others."""
     page.run("corewar.terms.value = {...corewar.terms.value, rounds: 1}")
-    page.run("corewar.show('league'); await corewar.league.hold()")
+    page.run("corewar.views.show('league'); await corewar.league.hold()")
     page.run(
         """const row = (points, wins, ties, losses) => ({points, wins, ties, losses});
         corewar.league.against = [[null, row(0, 0, 0, 1), row(4, 1, 1, 0)], [row(3, 1, 0, 0), null, null],
@@ -1171,7 +1212,7 @@ def test_a_league_that_runs_has_an_order(page: Browser) -> None:
 
 def test_a_match_of_the_league_is_watched(page: Browser) -> None:
     """Its first round is that of the league, also if the seed has changed since."""
-    page.run("corewar.terms.value = {...corewar.terms.value, seed: 7, rounds: 2}; corewar.show('league')")
+    page.run("corewar.terms.value = {...corewar.terms.value, seed: 7, rounds: 2}; corewar.views.show('league')")
     page.run("await corewar.league.hold(); corewar.terms.value = {...corewar.terms.value, seed: 8}")
     page.run("document.querySelector('#league-table button').click()")
     page.until("corewar.session.fight.seed === 7 && !document.getElementById('battle').hidden")
@@ -1192,14 +1233,31 @@ def test_own_settings(page: Browser) -> None:
       document.getElementById('own-core').value = '800'; document.getElementById('own-cycles').value = '50';
       document.getElementById('own-formula').value = 'W'; document.querySelector('#own-form .main').click();"""
     page.run(code)
-    page.until("corewar.session.fight.settings.core === 800 && corewar.session.end === 100")
+    page.until("corewar.session.fight.settings.core === 800 && corewar.session.end === 100 && !own.open")
     assert page.value("[corewar.terms.value.formula, hill.value]") == ["W", ""]
-    page.run("document.getElementById('own-core').value = '50'; document.querySelector('#own-form .main').click()")
-    page.run(
-        "hill.value = ''; hill.dispatchEvent(new Event('change')); document.getElementById('own-core').value = '50'"
-    )
-    page.run("document.querySelector('#own-form .main').click()")
-    page.until("document.getElementById('complaint').textContent === 'These core settings are not valid together.'")
+    # What is not valid changes nothing: the dialog stays open, and says why.
+    fault = "document.getElementById('own-formula').validationMessage === '%s'"
+    for name, value, why in (
+        ("core", "50", "These core settings are not valid together."),
+        ("formula", "W/", "The score formula is not valid."),
+    ):
+        page.run("hill.value = ''; hill.dispatchEvent(new Event('change'))")
+        page.run(
+            """const field = document.getElementById(`own-${given[0]}`);
+            field.value = given[1];
+            field.dispatchEvent(new Event('input', {bubbles: true}));
+            document.querySelector('#own-form .main').click()""",
+            name,
+            value,
+        )
+        page.until(fault % why)
+        assert page.value("[own.open, corewar.terms.value.settings.core, corewar.terms.value.formula]") == [
+            True,
+            800,
+            "W",
+        ]
+        page.press("Escape")
+        page.until("!own.open")
 
 
 def test_own_settings_are_opened_again(page: Browser) -> None:
@@ -1215,7 +1273,7 @@ def test_own_settings_are_opened_again(page: Browser) -> None:
 
 def test_new_terms_of_a_hidden_battle(page: Browser) -> None:
     """The battle is fought again when it is shown, and only if it has other terms."""
-    page.run("corewar.show('league'); seed.value = '9'; seed.dispatchEvent(new Event('change'))")
+    page.run("corewar.views.show('league'); seed.value = '9'; seed.dispatchEvent(new Event('change'))")
     assert page.value("corewar.session.fight.seed") == 1
     page.run("document.querySelector('[data-view=battle]').click()")
     page.until("corewar.session.fight.seed === 9 && !document.body.classList.contains('busy')")
@@ -1286,7 +1344,7 @@ def test_a_lesson_is_checked(page: Browser) -> None:
 
 @pytest.mark.parametrize("view", ["battle", "bench", "league", "learn"])
 def test_no_window_scrolls_sideways(page: Browser, view: str) -> None:
-    page.run("corewar.show(given[0]); corewar.showDesk(true)", view)
+    page.run("corewar.views.show(given[0]); corewar.views.showDesk(true)", view)
     try:
         for width in (320, 390, 768, 1280, 2560):
             page.resize(width, 844)
@@ -1345,7 +1403,7 @@ def test_a_narrow_page_has_tabs(narrow: Browser) -> None:
     assert narrow.value("!document.querySelector('#tabs [data-tab=lesson]').checkVisibility()")
     narrow.run("await corewar.lessons.begin(corewar.lessons.lessons[4])")
     assert narrow.value(shown) == ["lesson-box"]
-    narrow.click("#tabs [data-tab=battle]")
+    narrow.click("#tabs [data-tab=view]")
     assert narrow.value(shown) == ["battle"]
 
 
@@ -1372,7 +1430,7 @@ def test_a_narrow_page_shows_lessons(narrow: Browser) -> None:
 
 def test_a_narrow_page_begins_with_its_battle(narrow: Browser, site: str) -> None:
     """Also if the editor was open before."""
-    narrow.run("corewar.showDesk(true)")
+    narrow.run("corewar.views.showDesk(true)")
     narrow.open(f"{site}?narrow")
     narrow.until("window.corewar?.session.view")
     assert narrow.value("[scrollY, document.getElementById('battle').checkVisibility()]") == [0, True]
@@ -1390,7 +1448,7 @@ def test_a_narrow_page_shows_answers(narrow: Browser) -> None:
     narrow.run("await corewar.console.run('edit 3 jmp 0'); await corewar.session.compare(0)")
     cores = "[...document.querySelectorAll('#stage canvas')].map(one => one.getBoundingClientRect())"
     narrow.until(f"{cores}.every(one => one.left >= 0 && one.width > 300 && one.right <= innerWidth)")
-    narrow.run("corewar.show('bench')")
+    narrow.run("corewar.views.show('bench')")
     assert narrow.value("document.getElementById('bench-title').getBoundingClientRect().bottom <= innerHeight")
     narrow.until("document.getElementById('bench-note').textContent.endsWith(' ms')")
     narrow.click("#bench-base")
@@ -1457,9 +1515,9 @@ return [...document.querySelectorAll("button, input, select, canvas[tabindex]")]
 
 @pytest.mark.parametrize("theme", ["light", "dark"])
 def test_texts_have_contrast_and_controls_have_names(page: Browser, theme: str) -> None:
-    page.run("document.documentElement.dataset.theme = given[0]; corewar.showDesk(true)", theme)
+    page.run("document.documentElement.dataset.theme = given[0]; corewar.views.showDesk(true)", theme)
     for view in ("battle", "bench", "league", "learn"):
-        page.run("corewar.show(given[0]); await new Promise(done => setTimeout(done, 200))", view)
+        page.run("corewar.views.show(given[0]); await new Promise(done => setTimeout(done, 200))", view)
         assert page.run(CONTRAST) == [], view
     assert page.run(UNNAMED) == []
     # Without the theme of a desktop, Firefox draws white bars on dark pages.
@@ -1474,7 +1532,7 @@ def test_a_screen_reader_follows(page: Browser) -> None:
     """No view leaves out a level of headings, and a step announces the turn that it shows."""
     page.press(" ")
     for view in ("battle", "bench", "league", "learn"):
-        page.run("corewar.show(given[0])", view)
+        page.run("corewar.views.show(given[0])", view)
         levels = page.run(HEADINGS)
         assert levels[0] == 1 and all(after <= before + 1 for before, after in zip(levels, levels[1:])), view
     page.run("document.querySelectorAll('#lessons .lesson')[1].querySelector('button').click()")

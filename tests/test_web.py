@@ -261,7 +261,7 @@ def test_the_page_saves_to_the_folder(page: Browser, site: Site) -> None:
     (site.folder / "own.red").write_bytes(b";name Own\n; caf\xe9\nmov 0, 1\n")
     page.open(site.address + "?again")
     page.until("window.corewar?.session.view")
-    page.run("corewar.showDesk(true); corewar.shelf.show(corewar.shelf.find('own.red'))")
+    page.run("corewar.views.showDesk(true); corewar.shelf.show(corewar.shelf.find('own.red'))")
     page.run("const {mirror} = corewar.shelf.editor; mirror.setValue(mirror.getValue().replace('mov 0', 'mov.i 0'))")
     page.click("#download")
     page.until("document.getElementById('saved').textContent === 'Saved'")
@@ -341,7 +341,7 @@ def test_a_file_is_saved_under_its_own_name(browser: Browser, tmp_path: Path) ->
 
 
 def test_the_page_runs_leagues_by_the_server(page: Browser, site: Site) -> None:
-    page.run("rounds.value = '5'; corewar.show('league'); await corewar.league.hold()")
+    page.run("rounds.value = '5'; corewar.views.show('league'); await corewar.league.hold()")
     total = page.value("corewar.league.total")
     assert page.value("corewar.league.done") == total and (site.folder / "kept").stat().st_size > 0
     page.run("await corewar.league.hold()")

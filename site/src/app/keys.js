@@ -42,7 +42,7 @@ function keysOf({ session, theatre, another, round, edit }) {
     "]": () => round(1),
     b: () => {
       const first = session.pinned ?? session.view?.head ?? null;
-      if (first !== null) session.toggleBreak({ word: "at", first });
+      if (first !== null) session.breaks.toggle({ word: "at", first });
     },
     e: edit,
     n: another,

@@ -17,27 +17,31 @@ import { listenToDivider } from "../view/divider.js";
 import { Theatre } from "../view/theatre.js";
 import { Why } from "../view/why.js";
 import { Pool, remoteDesk } from "../worker/pool.js";
+import { Arrival } from "./arrival.js";
 import { listenToKeys } from "./keys.js";
 import { Lessons } from "./lessons.js";
-import { readAddress, unpack } from "./link.js";
-import { data, ownFight, pageWith, parts } from "./parts.js";
+import { data, pageWith, parts } from "./parts.js";
 import { Server } from "./server.js";
-import { Places, placeOf } from "./places.js";
+import { Places } from "./places.js";
 import { listenToShare, shared } from "./share.js";
-import { FIRST, Sources } from "./sources.js";
-import { keep, startAfresh, stored } from "./store.js";
+import { Sources } from "./sources.js";
+import { damagedNames, deleteDamaged, keep, startAfresh, stored } from "./store.js";
 import { Terms } from "./terms.js";
+import { Views } from "./views.js";
 
 /** @typedef {import("../model/fight.js").Source} Source */
 /** @typedef {import("./parts.js").Data} Data */
 /** @typedef {import("../view/host.js").MatchTerms} MatchTerms */
+/** @typedef {import("../model/settings.js").Settings} Settings */
 
 const DEFAULT_TERMS = { settings: DEFAULTS, seed: 1, rounds: 100, position: 0, formula: FORMULA };
 const MAX_WORKERS = 16;
 /** The greatest seed that "Surprise me" picks: the field shows all of it. */
 const MAX_DRAWN_SEED = 9999;
 
-class Page {
+export class Page {
+  /** The terms of a page on which nothing is stored. */
+  defaultTerms = DEFAULT_TERMS;
   /** Whether the terms have changed since the battle was fought. */
   #hasNewTerms = false;
 
@@ -54,21 +58,16 @@ class Page {
     // A processor is left for the page.
     this.pool = new Pool(workerParts, clamp((navigator.hardwareConcurrency || 4) - 1, 1, MAX_WORKERS));
     this.session = new Session(desk, (text) => this.complain(text));
-    this.terms = new Terms((changes, isShown) => this.#takeTerms(changes, isShown));
+    const faultOf = (/** @type {Settings} */ settings, /** @type {string} */ formula) => this.#faultOf(settings, formula);
+    this.terms = new Terms((changes, isShown) => this.#changeTerms(changes, isShown), faultOf);
     this.terms.value = { ...DEFAULT_TERMS, ...stored.terms };
     this.shelf = this.#makeShelf();
     this.sources = new Sources(this.shelf, server, examples);
-    const host = {
-      pool: this.pool,
-      shelf: this.shelf,
-      meanings,
-      terms: () => this.terms.value,
-      /** @type {import("../view/host.js").Host["fight"]} */
-      fight: (sources, terms) => this.show("battle").fight(sources, true, terms),
-    };
+    const host = this.#host();
     this.bench = new Bench(host, () => this.#showBench());
     this.league = new League(host, server && ((sources, terms) => server.league(sources, terms)));
     this.theatre = new Theatre(this.session);
+    this.views = new Views(this, (isShown) => keep({ desk: isShown }));
     const showLine = (/** @type {string} */ name, /** @type {number} */ line) => this.showLine(name, line);
     const side = new Side(this.session, showLine);
     this.cells = new Cells(this.session, side);
@@ -79,12 +78,30 @@ class Page {
     const learner = { ...host, session: this.session, examples, ...this.#learning() };
     this.lessons = new Lessons(learner, lessons, stored.done ?? [], (done) => keep({ done }));
     this.places = new Places(this.session, () => this.lessons.current);
+    this.arrival = new Arrival(this);
     this.session.listen((change) => this.#follow(change, side));
     this.sources.fill();
     if (server) element("download").textContent = "Save";
-    if (stored.desk) this.showDesk(true);
+    if (stored.desk) this.views.showDesk(true);
     if (stored.curves) this.#showCurves(true);
-    this.showTab("battle");
+    this.views.showTab("view");
+  }
+
+  /**
+   * Returns what the bench, the league and lessons ask of the page.
+   * @returns {import("../view/host.js").Host}
+   */
+  #host() {
+    return {
+      pool: this.pool,
+      shelf: this.shelf,
+      meanings: this.meanings,
+      terms: () => this.terms.value,
+      fight: (sources, terms) => {
+        this.views.show("battle");
+        return this.fight(sources, true, terms);
+      },
+    };
   }
 
   /** Returns what lessons ask of the page. */
@@ -92,8 +109,8 @@ class Page {
     return {
       written: (/** @type {string} */ name) => this.sources.written(name),
       left: () => this.places.rename(),
-      edit: () => this.showDesk(true),
-      read: () => this.showTab("lesson"),
+      edit: () => this.views.showDesk(true),
+      read: () => this.views.showTab("lesson"),
     };
   }
 
@@ -106,7 +123,7 @@ class Page {
       terms: () => this.terms.value,
       store: () => this.sources.keep(),
       checked: () => this.bench.checked(),
-      reveal: () => this.showDesk(true),
+      reveal: () => this.views.showDesk(true),
       isStale: (name, text) => this.#isStale(name, text),
     });
   }
@@ -134,12 +151,27 @@ class Page {
    * @param {Partial<MatchTerms>} changes
    * @param {boolean} isShown
    */
-  #takeTerms(changes, isShown) {
+  #changeTerms(changes, isShown) {
     keep({ terms: changes });
     this.shelf.lint();
     if (this.bench.isOpen) this.bench.fight();
     this.#hasNewTerms ||= isShown;
     this.#renew();
+  }
+
+  /**
+   * Returns why settings and a score formula are not valid, or "".
+   * @param {Settings} settings
+   * @param {string} formula
+   */
+  async #faultOf(settings, formula) {
+    try {
+      await this.pool.ask("assemble", ["NOP\n", { settings, rounds: 1, warriors: 2 }], "terms", 3);
+      await this.pool.ask("checkFormula", [formula], "terms", 3);
+      return "";
+    } catch (error) {
+      return errorWords(error, [], this.meanings);
+    }
   }
 
   /** Fights the battle again if the terms have changed. A hidden battle is fought again when it is shown. */
@@ -198,7 +230,7 @@ class Page {
 
   /** Fights the sources that are marked, or the one in the editor. */
   fightMarked() {
-    this.show("battle");
+    this.views.show("battle");
     const { fighters, current } = this.shelf;
     return this.fight(fighters.length || !current ? fighters : [current]);
   }
@@ -209,7 +241,7 @@ class Page {
     const pick = (/** @type {number} */ count) => Math.floor(Math.random() * count);
     const one = pick(examples.length);
     const other = (one + 1 + pick(examples.length - 1)) % examples.length;
-    this.show("battle");
+    this.views.show("battle");
     this.lessons.show(0);
     const marked = this.shelf.mark([examples[one], examples[other]]);
     this.sources.keep();
@@ -227,166 +259,46 @@ class Page {
     this.session.open({ ...latest, edits: [], round });
   }
 
-  /** @param {string} view battle, bench, league or learn */
-  show(view) {
-    for (const page of document.querySelectorAll("[data-page]")) {
-      if (page instanceof HTMLElement) page.hidden = page.dataset.page !== view;
-    }
-    for (const button of buttons("#views button")) {
-      if (button.dataset.view === view) button.setAttribute("aria-current", "page");
-      else button.removeAttribute("aria-current");
-    }
-    if (view === "bench") {
-      this.showDesk(true);
-      this.bench.open();
-    } else this.bench.close();
-    if (view === "league") this.league.draw();
-    document.body.dataset.view = view;
-    this.showTab("battle");
-    if (view !== "battle") this.session.stop();
-    return this;
-  }
-
-  /**
-   * Shows a part of the battle on a narrow page.
-   * @param {string} tab battle, code or lesson
-   */
-  showTab(tab) {
-    document.body.dataset.tab = tab;
-    for (const button of buttons("#tabs button")) {
-      button.setAttribute("aria-current", button.dataset.tab === tab ? "page" : "false");
-    }
-    if (tab === "code") this.shelf.editor.mirror.refresh();
-    else this.theatre.fit();
-    scrollTo(0, 0);
-  }
-
   /**
    * @param {string} name
    * @param {number} line
    */
   showLine(name, line) {
-    this.showDesk(true);
+    this.views.showDesk(true);
     this.shelf.showLine(name, line);
   }
 
-  /** @param {boolean} isShown */
-  showDesk(isShown) {
-    element("desk").hidden = !isShown;
-    if (!isShown) this.showTab("battle");
-    element("sources").setAttribute("aria-expanded", String(isShown));
-    keep({ desk: isShown });
-    if (!isShown) return;
-    this.shelf.editor.mirror.refresh();
-    this.shelf.list();
-    this.showTab("code");
-  }
-
-  /** Begins with what the address names, or with the sources that are marked. */
-  async begin() {
-    this.places.isArriving = true;
-    await this.#arrive(ownFight());
-    if (!this.session.latest) await this.#beginAnyway();
-    this.places.isArriving = false;
-    if (this.sources.isDamaged) this.#offerFreshStart();
-  }
-
   /**
-   * Shows what the address names: a view, a battle of the browser's history, a battle that the address or the page
-   * carries, a lesson, or a round.
-   * @param {string} carried the battle of the page, or ""
-   */
-  async #arrive(carried) {
-    const { text, selection, isEmbedded } = readAddress(location.hash);
-    const place = placeOf(location.hash);
-    document.body.classList.toggle("embed", isEmbedded);
-    const isBattle = !place || place.view === "battle" || place.number !== null;
-    this.show(isBattle || !place ? "battle" : place.view);
-    this.lessons.show(place?.view === "learn" ? (place.number ?? 0) : 0);
-    const { fight, ...shown } = history.state ?? {};
-    if (fight && this.places.isShown(fight)) return;
-    if (fight) await this.#return(fight, shown, isBattle && (!place || this.lessons.current > 0));
-    else if (text || carried) await this.openLink(text || carried, selection);
-    else if (this.lessons.current) await this.lessons.begin(this.lessons.lessons[this.lessons.current - 1]);
-    else if (isBattle && place) await this.fight(this.#marked, !isStill(), { round: this.#roundOf(place) });
-  }
-
-  /**
-   * Shows a battle of the browser's history again.
+   * Takes the terms of a battle that was opened as it is, and its sources as guests if they may not be in the list.
    * @param {import("../model/fight.js").Fight} fight
-   * @param {{turn?: number, pinned?: number | null, plays?: boolean}} shown
-   * @param {boolean} isGuest whether its sources may not be in the list
+   * @param {boolean} isGuest
    */
-  async #return(fight, shown, isGuest) {
-    try {
-      await this.session.open(fight, { ...shown, plays: shown.plays && !element("battle").hidden });
-      this.#hasNewTerms = false;
-      this.#showTerms(fight);
-      if (isGuest) this.session.rename(this.shelf.mark(fight.warriors));
-      document.body.classList.add("running");
-    } catch (error) {
-      this.complain(errorWords(error, fight.warriors, this.meanings));
-    }
+  takeTerms(fight, isGuest) {
+    this.#hasNewTerms = false;
+    this.#showTerms(fight);
+    if (isGuest) this.session.rename(this.shelf.mark(fight.warriors));
+    document.body.classList.add("running");
   }
 
-  /** The sources that are marked, as many as can fight. */
-  get #marked() {
-    const { fighters, all } = this.shelf;
-    return fighters.length ? fighters.slice(0, MAX_WARRIORS) : [all[0]];
-  }
-
-  /** @param {import("./places.js").Place} place */
-  #roundOf({ view, number }) {
-    return view === "battle" ? clamp(number ?? 0, 0, this.terms.value.rounds - 1) : 0;
-  }
-
-  /** A page shows a battle, also if its address, the sources that are marked or the terms have errors. */
-  async #beginAnyway() {
-    const isShown = !element("battle").hidden && !isStill();
-    const complaint = element("complaint").textContent ?? "";
-    await this.fight(this.#marked, isShown);
-    const faults = [complaint, ...(this.server?.faults ?? []), element("complaint").textContent ?? ""];
-    const first = this.examples.filter(({ name }) => FIRST.includes(name));
-    if (!this.session.latest) await this.fight(first, isShown, DEFAULT_TERMS);
-    this.complain([...new Set(faults)].join(" ").trim());
-    if (!this.session.latest) element("loading").textContent = "The simulator does not start.";
-    // A link that cannot be opened is not tried again when the page is loaded again.
-    if (readAddress(location.hash).text) this.places.rename();
-  }
-
-  /** Says that something that was stored is damaged. */
-  #offerFreshStart() {
-    const lost = "Something that this browser had stored is damaged and was left out. ";
-    this.complain(lost);
-    element("complaint").append(make("button", { className: "link", onclick: startAfresh }, "Delete what is stored"));
-  }
-
-  /**
-   * @param {string} text
-   * @param {import("./link.js").Selection} selection
-   */
-  async openLink(text, selection) {
-    /** @type {Source[]} */
-    let warriors = [];
-    try {
-      const { fight, turn, pinned } = await unpack(text, selection);
-      warriors = fight.warriors;
-      if (fight.formula !== FORMULA) await this.pool.ask("checkFormula", [fight.formula], "link", 3);
-      const isEmbedded = document.body.classList.contains("embed");
-      await this.session.open(fight, { turn, pinned, plays: turn === 0 && !isStill() && !isEmbedded });
-      this.#hasNewTerms = false;
-      this.#showTerms(fight);
-      this.session.rename(this.shelf.mark(warriors));
-      document.body.classList.add("running");
-    } catch (error) {
-      this.complain(`This link cannot be opened. ${errorWords(error, warriors, this.meanings)}`);
-    }
+  /** Begins with what the address names. */
+  async begin() {
+    await this.arrival.begin();
+    const names = damagedNames();
+    if (!names.length) return;
+    this.complain(`Something that this browser had stored is damaged and was left out: ${names.join(", ")}. `);
+    const onclick = () => {
+      deleteDamaged();
+      this.complain("");
+    };
+    element("complaint").append(make("button", { className: "link", onclick }, "Delete what is damaged"));
   }
 
   #showBench() {
-    if (!element("bench").hidden) return;
-    this.places.visit("bench");
-    this.show("bench");
+    if (element("bench").hidden) {
+      this.places.visit("bench");
+      this.views.show("bench");
+    }
+    this.views.showTab("view");
   }
 
   /** @param {boolean} hasCurves */
@@ -401,10 +313,12 @@ class Page {
       button.onclick = () => {
         const { view = "battle" } = button.dataset;
         this.places.visit(view);
-        this.show(view).#renew();
+        this.views.show(view);
+        this.#renew();
       };
     }
     this.#listenToButtons();
+    this.#welcome();
     listenToShare(this.session);
     listenToKeys({
       session: this.session,
@@ -413,31 +327,16 @@ class Page {
       another: () => this.another(),
       round: (by) => this.round(by),
       edit: () => {
-        this.showDesk(element("desk").hidden);
+        this.views.showDesk(element("desk").hidden);
         if (!element("desk").hidden) this.shelf.editor.mirror.focus();
       },
-    });
-    addEventListener("popstate", async () => {
-      const { text, selection } = readAddress(location.hash);
-      const selects = Object.values(selection).some((one) => one !== undefined);
-      if (!placeOf(location.hash) && !text && !selects) return;
-      this.places.isArriving = true;
-      await this.#arrive(selects ? ownFight() : "");
-      this.places.isArriving = false;
     });
     // Errors that no part reports.
     addEventListener("unhandledrejection", ({ reason }) => this.complain(errorWords(reason, [], this.meanings)));
   }
 
   #listenToButtons() {
-    for (const button of buttons("#tabs button")) {
-      button.onclick = () => {
-        const { tab = "battle" } = button.dataset;
-        if (tab === "code") this.showDesk(true);
-        else this.showTab(tab);
-      };
-    }
-    onClick("sources", () => this.showDesk(element("desk").hidden));
+    onClick("sources", () => this.views.showDesk(element("desk").hidden));
     onClick("fight", () => this.fightMarked());
     onClick("fight-here", () => this.fightMarked());
     onClick("another", () => this.another());
@@ -448,17 +347,27 @@ class Page {
     onClick("curves", () => this.#showCurves(!this.theatre.track.hasCurves));
     listenToDivider((desk) => keep({ width: desk }), stored.width);
     onClick("help", () => typed("helping", HTMLDialogElement).showModal());
-    onClick("what", () => {
-      this.session.stop();
-      typed("helping", HTMLDialogElement).showModal();
-      element("what").hidden = true;
+    onClick("terms-show", () => {
+      const isShown = element("terms-show").getAttribute("aria-expanded") === "true";
+      element("terms-show").setAttribute("aria-expanded", String(!isShown));
     });
-    element("what").hidden = !this.sources.isNew;
+  }
+
+  /** Says to a newcomer what the page is, until it is closed or the first lesson begins. */
+  #welcome() {
+    const close = () => {
+      element("welcome").hidden = true;
+      this.sources.keep();
+      this.theatre.fit();
+    };
+    onClick("welcome-close", close);
+    onClick("learn-now", () => {
+      close();
+      this.lessons.begin(this.lessons.lessons[0]);
+    });
+    element("welcome").hidden = !this.sources.isNew;
   }
 }
-
-/** Whether the user wants no movement. */
-const isStill = () => matchMedia("(prefers-reduced-motion: reduce)").matches;
 
 function changeTheme() {
   const { dataset } = document.documentElement;
@@ -472,22 +381,30 @@ async function main() {
   const workerParts = parts();
   const desk = remoteDesk(workerParts);
   const server = await Server.find();
-  const page = new Page(workerParts, desk, server, data());
-  await workerParts.module;
-  page.listen();
-  await page.begin();
-  // For tests, and for the curious.
-  Object.assign(window, { corewar: page, pageWith, shared });
+  try {
+    const page = new Page(workerParts, desk, server, data());
+    await workerParts.module;
+    page.listen();
+    await page.begin();
+    // For tests, and for the curious.
+    Object.assign(window, { corewar: page, pageWith, shared });
+  } catch (error) {
+    if (!sayWhy(/** @type {Error} */ (error))) return;
+    const afresh = { className: "link", onclick: startAfresh };
+    element("loading").append(make("button", afresh, "Delete what is stored and start afresh"));
+  }
 }
 
-main().catch((error) => {
-  const message = /** @type {Error} */ (error).message;
+/**
+ * Says why the page does not start. Returns whether what is stored may be the cause.
+ * @param {Error} error
+ */
+function sayWhy({ message }) {
   const lacksFeatures = ["WebAssembly", "DecompressionStream"].some((name) => !(name in window));
   const isOld = lacksFeatures || /wasm|compile|memory/i.test(message);
   const what = isOld ? "This browser cannot run the simulator, a WebAssembly module" : "The page cannot start";
   refill(element("loading"), `${what}: ${message} `);
-  if (!isOld) {
-    const afresh = { className: "link", onclick: startAfresh };
-    element("loading").append(make("button", afresh, "Delete what is stored and start afresh"));
-  }
-});
+  return !isOld;
+}
+
+main().catch(sayWhy);

@@ -20,8 +20,8 @@ export function placeOf(hash) {
 }
 
 export class Places {
-  /** Whether the page follows an address: then what it shows makes no entry of the history. */
-  isArriving = false;
+  /** How many addresses the page follows: then what it shows makes no entry of the history. */
+  #arriving = 0;
   /** The address of the battle that is shown, and its terms and sources. */
   #battle = "";
   #key = "";
@@ -41,22 +41,35 @@ export class Places {
     });
   }
 
+  /**
+   * Calls a function that shows what the address names.
+   * @param {() => Promise<void>} show
+   */
+  async arrive(show) {
+    this.#arriving++;
+    try {
+      await show();
+    } finally {
+      this.#arriving--;
+    }
+  }
+
   /** @param {Fight} fight */
-  keyOf({ settings, seed, round, rounds, position, warriors }) {
+  #keyOf({ settings, seed, round, rounds, position, warriors }) {
     return JSON.stringify([this.lesson(), settings, seed, round, rounds, position, warriors.map(({ text }) => text)]);
   }
 
   /** @param {Fight} fight */
   isShown(fight) {
-    return this.keyOf(fight) === this.#key;
+    return this.#keyOf(fight) === this.#key;
   }
 
   #follow() {
     const { fight } = this.session;
     if (!fight || this.isShown(fight)) return;
-    this.#key = this.keyOf(fight);
-    this.#battle = this.isArriving && isBattle(location.hash) ? location.hash : this.#named;
-    if (!this.isArriving) this.#write(this.#battle, true);
+    this.#key = this.#keyOf(fight);
+    this.#battle = this.#arriving && isBattle(location.hash) ? location.hash : this.#named;
+    if (!this.#arriving) this.#write(this.#battle, true);
   }
 
   get #named() {
@@ -76,7 +89,7 @@ export class Places {
   /** Names the battle again, as its lesson has been closed. */
   rename() {
     const { fight } = this.session;
-    if (fight) this.#key = this.keyOf(fight);
+    if (fight) this.#key = this.#keyOf(fight);
     this.#battle = this.#named;
     this.#write(this.#battle, false);
   }

@@ -7,9 +7,10 @@ import { isServed } from "./server.js";
 
 /** @typedef {import("../view/session.js").Session} Session */
 
+/** Names of this machine. */
+const LOCAL = /^((.*\.)?localhost|127\..*|0\.0\.0\.0|\[::1\])$/;
 /** Whether others can open the address of this page: it is not on this machine, and has no secret in it. */
-const isLocal = !location.protocol.startsWith("http") || /^(localhost|127\..*|\[::1\])$/.test(location.hostname);
-const isPublic = !isServed && !isLocal;
+const isPublic = !isServed && location.protocol.startsWith("http") && !LOCAL.test(location.hostname);
 const PRIVATE = "Only you can open this page: save it as a file, or put this text after the address of a public copy.";
 /** Some programs cut addresses that are longer. */
 const MAX_LINK_LENGTH = 8000;

@@ -1,5 +1,5 @@
 /** The sources of the page: where they come from, and where they are kept. */
-import { hasLoss, keep, keepSource, keptSource, keptSources, listenToSources, stored } from "./store.js";
+import { keep, keepSource, keptSource, keptSources, listenToSources, stored } from "./store.js";
 
 /** @typedef {import("../model/fight.js").Source} Source */
 /** @typedef {import("../view/shelf.js").Shelf} Shelf */
@@ -26,8 +26,6 @@ export class Sources {
     this.server = server;
     this.examples = examples;
     this.isNew = !stored.marked && this.#kept.size === 0;
-    /** Whether something that was stored could not be read. */
-    this.isDamaged = hasLoss();
     listenToSources((name, now, before) => this.#takeOther(name, now, before));
     if (server) addEventListener("focus", () => this.#askFolder());
   }
@@ -44,8 +42,9 @@ export class Sources {
     }
     for (const [name, kept] of this.#kept) {
       // Of a folder only what was not saved there is kept.
-      const isOwn = kept.kind === "own" && (!server || kept.text !== kept.saved);
-      if (isOwn && !shelf.find(name)) shelf.add({ name, ...kept, saved: server ? "" : kept.saved });
+      const isElsewhere = kept.kind === "lesson" || shelf.find(name) || (server && kept.text === kept.saved);
+      // An example may be that of another version, which the user has changed.
+      if (!isElsewhere) shelf.add({ name, ...kept, kind: "own", saved: server ? "" : kept.saved });
     }
     const other = FIRST.find((name) => name !== files[0]?.name) ?? "";
     const first = files.length ? [files[0].name, other] : FIRST;
@@ -61,14 +60,15 @@ export class Sources {
    */
   #addFile(name, text) {
     const draft = this.#kept.get(name);
-    const isDraft = draft && draft.kind === "own" && draft.text !== draft.saved;
+    const isDraft = draft && draft.kind !== "lesson" && draft.text !== draft.saved;
     this.shelf.add({ name, text: isDraft ? draft.text : text, saved: text }).name = name;
   }
 
   /** @param {Source} example */
   #addExample({ name, text }) {
     const kept = this.#kept.get(name);
-    const own = kept?.kind === "example" ? kept.text : text;
+    // The user's own source can have the name of an example of a later version.
+    const own = kept && kept.kind !== "lesson" ? kept.text : text;
     this.shelf.add({ name, text: own, saved: text, kind: "example" });
   }
 

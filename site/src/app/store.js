@@ -68,8 +68,13 @@ const holds =
   (checks) =>
   (/** @type {[string, unknown]} */ [name, value]) => !Object.hasOwn(checks, name) || checks[name](value);
 
-/** Whether something that was stored is damaged; it is left out. */
-let isDamaged = false;
+/** What sources can be that are stored. */
+const KINDS = ["own", "example", "lesson"];
+/**
+ * The keys of what is damaged, at least in part; that is left out.
+ * @type {Set<string>}
+ */
+const damaged = new Set();
 
 /** @param {string} key */
 function itemOf(key) {
@@ -80,38 +85,48 @@ function itemOf(key) {
   }
 }
 
-/** @param {string | null} text */
-function parsed(text) {
+/**
+ * @param {string} key
+ * @param {string | null} text
+ */
+function parsed(key, text) {
   if (text === null) return undefined;
   try {
     return JSON.parse(text);
   } catch {
-    isDamaged = true;
+    damaged.add(key);
     return undefined;
   }
 }
 
 /** @returns {Kept & {sources?: unknown}} */
 function read() {
-  const found = parsed(itemOf(NAME)) ?? {};
-  if (typeof found !== "object" || Array.isArray(found)) isDamaged = true;
-  const entries = Object.entries(found);
+  const found = parsed(NAME, itemOf(NAME));
+  const isRecord = typeof found === "object" && found !== null && !Array.isArray(found);
+  const entries = isRecord ? Object.entries(found) : [];
   const sound = entries.filter(holds(KEPT));
-  isDamaged ||= sound.length < entries.length;
+  if ((found !== undefined && !isRecord) || sound.length < entries.length) damaged.add(NAME);
   return Object.fromEntries(sound);
 }
 
 /**
- * Returns a source that was stored, or null if it is damaged or there is none.
- * @param {string | null} text
+ * Returns a source that was stored, or null if its text is damaged or there is none.
+ * @param {string} key
+ * @param {string | null} item
  * @returns {KeptSource | null}
  */
-function sourceOf(text) {
-  const found = parsed(text);
-  const isSource = typeof found === "object" && isText(found?.text) && isText(found.saved) && isText(found.kind);
-  if (isSource) return { made: 0, ...found };
-  isDamaged ||= found !== undefined;
-  return null;
+function sourceOf(key, item) {
+  const { text, saved, kind, made } = parsed(key, item) ?? {};
+  if (!isText(text)) {
+    if (item !== null) damaged.add(key);
+    return null;
+  }
+  return {
+    text,
+    saved: isText(saved) ? saved : "",
+    kind: KINDS.includes(kind) ? kind : "own",
+    made: isNumber(made) ? made : 0,
+  };
 }
 
 /** Gives each source of the form before version 2 a key of its own. An example that is not changed needs none. */
@@ -119,7 +134,7 @@ function renew() {
   const { sources, ...rest } = read();
   if (sources === undefined) return;
   const all = Array.isArray(sources) ? sources.filter((one) => isText(one?.name) && isText(one.text)) : [];
-  isDamaged ||= !Array.isArray(sources) || all.length < sources.length;
+  if (!Array.isArray(sources) || all.length < sources.length) damaged.add(NAME);
   all.forEach(({ name, text, saved, isExample }, made) => {
     if (isExample && text === saved) return;
     keepSource(name, { text, saved: isText(saved) ? saved : "", kind: isExample ? "example" : "own", made });
@@ -169,7 +184,7 @@ export function keep(changes) {
  * Returns what is stored of a source now, or null.
  * @param {string} name
  */
-export const keptSource = (name) => sourceOf(itemOf(SOURCE + name));
+export const keptSource = (name) => sourceOf(SOURCE + name, itemOf(SOURCE + name));
 
 const keys = () => {
   try {
@@ -189,8 +204,13 @@ export function keptSources() {
   return new Map(found.sort(([, one], [, other]) => one.made - other.made));
 }
 
-/** Returns whether something was damaged. */
-export const hasLoss = () => isDamaged;
+/** Returns the names of what is damaged. */
+export const damagedNames = () => [...damaged].map((key) => (key === NAME ? "settings" : key.slice(SOURCE.length)));
+
+/** Deletes what is damaged, and nothing else. */
+export function deleteDamaged() {
+  for (const key of damaged) set(key, key === NAME ? JSON.stringify(read()) : null);
+}
 
 /**
  * Calls a function when another window has stored or removed a source, with the source and the one before.
@@ -198,12 +218,13 @@ export const hasLoss = () => isDamaged;
  */
 export function listenToSources(changed) {
   addEventListener("storage", ({ key, newValue, oldValue }) => {
-    if (key?.startsWith(SOURCE)) changed(key.slice(SOURCE.length), sourceOf(newValue), sourceOf(oldValue));
+    if (key?.startsWith(SOURCE)) changed(key.slice(SOURCE.length), sourceOf(key, newValue), sourceOf(key, oldValue));
   });
 }
 
-/** Forgets everything that is kept for this folder, and loads the page again. */
+/** Forgets everything that is kept for this folder, if the user agrees, and loads the page again. */
 export function startAfresh() {
+  if (!confirm("Delete all sources and settings that this browser has stored for this page?")) return;
   for (const key of keys()) if (key === NAME || key.startsWith(SOURCE)) set(key, null);
   location.replace(location.pathname + location.search);
 }

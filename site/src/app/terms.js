@@ -18,14 +18,16 @@ export class Terms {
   /**
    * @param {(changes: Partial<MatchTerms>, isShown: boolean) => void} changed the user has changed terms; `isShown`: so
    *   has the battle that is shown
+   * @param {(settings: Settings, formula: string) => Promise<string>} faultOf returns why these are not valid, or ""
    */
-  constructor(changed) {
+  constructor(changed, faultOf) {
     this.hill = typed("hill", HTMLSelectElement);
     this.seed = typed("seed", HTMLInputElement);
     this.rounds = typed("rounds", HTMLInputElement);
     this.seed.max = String(MAX_SEED);
     this.rounds.max = String(MAX_ROUNDS);
     this.changed = changed;
+    this.faultOf = faultOf;
     this.hill.append(...Object.keys(HILLS).map((name) => make("option", { value: name }, name)));
     // A list reports no choice of the line that it shows.
     this.hill.append(make("option", { value: OWN, hidden: true }, "custom"));
@@ -82,21 +84,34 @@ export class Terms {
     onClick("own-cancel", () => typed("own", HTMLDialogElement).close());
     const dialog = typed("own", HTMLDialogElement);
     dialog.addEventListener("close", () => (this.hill.value = hillOf(this.#settings)));
-    element("own-form").addEventListener("submit", () => this.#apply());
+    element("own-form").addEventListener("submit", (event) => {
+      event.preventDefault();
+      this.#apply();
+    });
+    const formula = typed("own-formula", HTMLInputElement);
+    dialog.addEventListener("input", () => formula.setCustomValidity(""));
   }
 
   #fill() {
     for (const name of SETTINGS) typed(`own-${name}`, HTMLInputElement).value = String(this.#settings[name]);
     typed("own-position", HTMLInputElement).value = String(this.#position);
     typed("own-formula", HTMLInputElement).value = this.#formula;
+    typed("own-formula", HTMLInputElement).setCustomValidity("");
   }
 
-  #apply() {
+  /** Takes what was entered if it is valid. Otherwise the dialog stays open, and says why. */
+  async #apply() {
     const number = (/** @type {string} */ id) => Number(typed(id, HTMLInputElement).value);
     const entries = SETTINGS.map((name) => [name, number(`own-${name}`)]);
-    this.#settings = /** @type {Settings} */ (Object.fromEntries(entries));
+    const settings = /** @type {Settings} */ (Object.fromEntries(entries));
+    const field = typed("own-formula", HTMLInputElement);
+    const formula = field.value.trim() || FORMULA;
+    field.setCustomValidity(await this.faultOf(settings, formula));
+    if (!field.reportValidity()) return;
+    this.#settings = settings;
     this.#position = number("own-position");
-    this.#formula = typed("own-formula", HTMLInputElement).value.trim() || FORMULA;
+    this.#formula = formula;
+    typed("own", HTMLDialogElement).close();
     this.changed({ settings: this.#settings, position: this.#position, formula: this.#formula }, true);
   }
 }

@@ -12,15 +12,36 @@ import { MarsError } from "../model/errors.js";
 
 /**
  * @param {Warrior} warrior
+ * @param {string} [text] its source
  * @returns {Description}
  */
-export function describe({ name, author, start, cells }) {
+export function describe({ name, author, start, cells }, text = "") {
   return {
-    name: name === "Unknown" ? "" : name,
-    author: author === "Anonymous" ? "" : author,
+    name: name === "Unknown" ? "" : spelled(name, lastOf(text, "name")),
+    author: author === "Anonymous" ? "" : spelled(author, lastOf(text, "author")),
     start,
     cells: Array.from({ length: cells.length / CELL_WORDS }, (_, index) => readCell(cells, index)),
   };
+}
+
+/**
+ * Returns what the last line such as `;name Imp` of a source gives, or "".
+ * @param {string} text
+ * @param {"name" | "author"} word
+ */
+export function lastOf(text, word) {
+  const lines = [...text.matchAll(new RegExp(`^\\s*;${word}\\s+(\\S.*?)\\s*$`, "gim"))];
+  return lines[lines.length - 1]?.[1] ?? "";
+}
+
+/**
+ * Returns a name as its source spells it: the library has a question mark for each byte that is not ASCII.
+ * @param {string} name
+ * @param {string} own
+ */
+function spelled(name, own) {
+  const bytes = [...new TextEncoder().encode(own)].map((byte) => (byte < 128 ? byte : "?".charCodeAt(0)));
+  return String.fromCharCode(...bytes.slice(0, name.length)) === name ? own : name;
 }
 
 /**

@@ -49,8 +49,8 @@ export const RANGES = {
   processes: { name: "Process limit", minimum: 1, maximum: MAX_PROCESSES },
   longest: { name: "Maximum length", minimum: 1, maximum: MAX_CORE },
   distance: { name: "Minimum distance", minimum: 1, maximum: MAX_CORE },
-  readLimit: { name: "Read limit", minimum: 0, maximum: MAX_CORE },
-  writeLimit: { name: "Write limit", minimum: 0, maximum: MAX_CORE },
+  readLimit: { name: "Read limit, 0 for the core size", minimum: 0, maximum: MAX_CORE },
+  writeLimit: { name: "Write limit, 0 for the core size", minimum: 0, maximum: MAX_CORE },
 };
 
 export const SETTINGS = /** @type {(keyof Settings)[]} */ (Object.keys(RANGES));

@@ -7,6 +7,9 @@ import { sharedWords } from "../words/battle.js";
 
 const CONDITIONS = "expected a condition: at, changes or reads A[..B] [by W], or splits, ends or dies W";
 
+/** A label in a line of source, as `bomb` or as `1.bomb`. */
+const LABEL = /(?<![\w.])(?:\d+\.)?[A-Za-z_]\w*/g;
+
 /** Why a command was not done. */
 export class CommandError extends Error {}
 
@@ -108,8 +111,28 @@ export function readProcess({ view, known }, warrior, text) {
  */
 export async function readCellEdit(session, line, address, last) {
   try {
-    return { kind: "cell", address, last, cell: await session.cellOf(line, address) };
+    return { kind: "cell", address, last, cell: await cellOf(session, line, address) };
   } catch (error) {
     throw new CommandError(/** @type {Error} */ (error).message || `\`${line}\` is not an instruction`);
+  }
+}
+
+/**
+ * Returns the cell of a line of Redcode for an address. Throws an Error without a message if it is not one, or with
+ * one about a label that several warriors have.
+ * @param {Session} session
+ * @param {string} text
+ * @param {number} address
+ */
+export async function cellOf({ desk, known }, text, address) {
+  const line = text.replace(LABEL, (name) => {
+    const at = known.addresses.get(name);
+    return at === undefined ? name : `(${at - address})`;
+  });
+  try {
+    return await desk.cellOf(line);
+  } catch {
+    const shared = (text.match(LABEL) ?? []).map((name) => sharedWords(name, known));
+    throw new Error(shared.find(Boolean));
   }
 }

@@ -2,7 +2,7 @@
 import { Pass } from "codemirror";
 import WORDS from "../../../python/corewar/explain/words.json";
 import { OPERATIONS, labelsOf, readSource } from "../words/source.js";
-import { element, make, refill, typed, withCode } from "./dom.js";
+import { element, make, onClick, refill, typed, withCode } from "./dom.js";
 
 /** @typedef {import("codemirror").Editor} Mirror */
 /** @typedef {import("codemirror").Position} Position */
@@ -148,7 +148,7 @@ export function toggleComment(mirror) {
   });
 }
 
-/** The search in the source: Enter goes to the next place, with Shift to the one before. */
+/** The search in the source: Enter goes to the next place, with Shift to the one before, as the buttons do. */
 export class Finder {
   /** @type {{clear(): void}[]} */
   #marks = [];
@@ -160,6 +160,9 @@ export class Finder {
     this.mirror = mirror;
     this.field = typed("find", HTMLInputElement);
     this.field.oninput = () => this.#find();
+    onClick("find-back", () => this.#go(-1));
+    onClick("find-on", () => this.#go(1));
+    onClick("find-close", () => this.#close());
     this.field.onkeydown = (event) => {
       if (event.key === "Escape") this.#close();
       else if (event.key === "Enter") this.#go(event.shiftKey ? -1 : 1);
@@ -183,7 +186,8 @@ export class Finder {
     for (const { line, ch } of this.#places) {
       this.#marks.push(this.mirror.markText({ line, ch }, { line, ch: ch + wanted.length }, { className: "found" }));
     }
-    element("found").textContent = wanted ? String(this.#places.length) : "";
+    const { length } = this.#places;
+    element("found").textContent = !wanted ? "" : length ? `${length} found` : "not found";
   }
 
   /** @param {1 | -1} by */
@@ -199,6 +203,7 @@ export class Finder {
     if (!place) return;
     this.mirror.setSelection(place, { ...place, ch: place.ch + this.field.value.length });
     this.mirror.scrollIntoView(place, 60);
+    element("found").textContent = `${at + 1} of ${count}`;
   }
 
   #close() {

@@ -50,7 +50,7 @@ export class Bench {
   #later = throttle(() => this.#draw(), 100);
   /** The source in the editor has changed. */
   checked = debounce(() => {
-    if (this.isOpen && this.host.shelf.isBroken) element("bench-note").textContent = STALE;
+    if (this.isOpen && this.host.shelf.checker.isBroken) element("bench-note").textContent = STALE;
     else if (this.isOpen) this.fight();
   }, 350);
 

@@ -2,6 +2,7 @@
 import { cellText, readCell } from "../model/cells.js";
 import { number, writtenWords } from "../words/battle.js";
 import { instructionWords } from "../words/instruction.js";
+import { cellOf } from "./arguments.js";
 import { buttons, element, make, onClick, refill, throttle, withCode } from "./dom.js";
 import { swatch } from "./palette.js";
 import { standingNames, standingOn, timesWords } from "./standing.js";
@@ -67,8 +68,8 @@ export class Cells {
     for (const button of buttons("#seek [data-stop]")) {
       const word = /** @type {Word} */ (button.dataset.stop);
       const first = session.pinned ?? 0;
-      button.onclick = () => session.toggleBreak({ word, first });
-      button.setAttribute("aria-pressed", String(session.hasBreak({ word, first })));
+      button.onclick = () => session.breaks.toggle({ word, first });
+      button.setAttribute("aria-pressed", String(session.breaks.has({ word, first })));
     }
   }
 
@@ -131,8 +132,8 @@ export class Cells {
       className: "bare break",
       title: "Stop playing when this cell is to be executed",
       "aria-label": `Breakpoint at ${number(address)}`,
-      "aria-pressed": String(session.hasBreak(here)),
-      onclick: () => session.toggleBreak(here),
+      "aria-pressed": String(session.breaks.has(here)),
+      onclick: () => session.breaks.toggle(here),
     });
     return make(
       "li",
@@ -214,7 +215,7 @@ export class Cells {
    */
   async #applyEdit(address, input) {
     try {
-      const cell = this.session.cellOf(input.value, address);
+      const cell = cellOf(this.session, input.value, address);
       await this.session.edit(cell.then((made) => ({ kind: "cell", address, last: address, cell: made })));
       return true;
     } catch (error) {

@@ -70,7 +70,7 @@ async function step(session, rest, sign) {
  * @param {boolean} forward
  */
 async function search(session, rest, forward) {
-  const conditions = rest ? [readCondition(session, rest)] : session.breaks;
+  const conditions = rest ? [readCondition(session, rest)] : session.breaks.all;
   if (!conditions.length) throw new CommandError("no breakpoint is set; use `break CONDITION` or add a condition");
   const found = await session.leap(conditions, forward);
   if (!found) throw new CommandError(`not found ${forward ? "after" : "before"} turn ${session.turn}`);
@@ -104,20 +104,20 @@ async function until(session, rest) {
 
 /** @param {Session} session */
 const listBreaks = (session) =>
-  session.breaks.map((one, index) => `breakpoint ${index}: ${conditionWords(session, one)}`);
+  session.breaks.all.map((one, index) => `breakpoint ${index}: ${conditionWords(session, one)}`);
 
 /** @type {Act} */
 function setBreak(session, rest) {
-  if (rest) session.setBreaks([...session.breaks, readCondition(session, rest)]);
+  if (rest) session.breaks.set([...session.breaks.all, readCondition(session, rest)]);
   return listBreaks(session);
 }
 
 /** @type {Act} */
 function deleteBreak(session, rest) {
-  if (rest === "all") session.setBreaks([]);
-  else if (!/^\d+$/.test(rest) || Number(rest) >= session.breaks.length) {
+  if (rest === "all") session.breaks.set([]);
+  else if (!/^\d+$/.test(rest) || Number(rest) >= session.breaks.all.length) {
     throw new CommandError(`no breakpoint \`${rest}\`; expected a number or \`all\``);
-  } else session.setBreaks(session.breaks.filter((_, index) => index !== Number(rest)));
+  } else session.breaks.set(session.breaks.all.filter((_, index) => index !== Number(rest)));
   return listBreaks(session);
 }
 
@@ -174,11 +174,11 @@ async function spawn(session, rest) {
 async function futures(session, rest) {
   if (rest) {
     const future = readNumber(rest, "the number of a future");
-    const last = session.futures.length - 1;
+    const last = session.futures.all.length - 1;
     if (future > last) throw new CommandError(`no future ${future}; there are futures 0 to ${last}`);
     await session.showFuture(future);
   }
-  return session.futures.map(({ edits, end }, index) => {
+  return session.futures.all.map(({ edits, end }, index) => {
     const edited = edits.map((one) => `after turn ${one.turn}: ${editText(one.edit, session.known.core)}`);
     return `${index === session.future ? ">" : " "} ${index}: ${edited.join("; ") || "no edits"}; ${end} turns`;
   });

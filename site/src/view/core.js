@@ -3,6 +3,8 @@
  * recently, and nearly white if a process is there. Large cells show their instruction.
  */
 import { MODES, MODIFIERS, NOBODY, OPCODES, isEmpty, readCell, signed } from "../model/cells.js";
+import { drawArrow } from "./arrow.js";
+import { READABLE, bestColumns } from "./columns.js";
 import { SHADES } from "./palette.js";
 
 /** @typedef {import("../worker/desk.js").View} View */
@@ -26,11 +28,7 @@ import { SHADES } from "./palette.js";
 /** The largest number of processes of a warrior with rings around them, and the cells in pixels that need none. */
 const MAX_RINGED = 3;
 const LARGE = 16;
-/** The least size of cells in pixels that show their instruction. */
-const READABLE = 46;
 const MARGIN = 8;
-/** By how much one side of a cell may be longer than the other, so that they fill the canvas. */
-const OBLONG = 1.16;
 /** The maximum number of cells of a breakpoint that are marked, and the colour of breakpoints. */
 const MAX_BREAKS = 100;
 export const BREAK = "#ff4f81";
@@ -38,28 +36,6 @@ const RING = new Path2D("M1.2 0A1.2 1.2 0 1 0 -1.2 0A1.2 1.2 0 1 0 1.2 0");
 const CROSS = new Path2D("M-1 -1L1 1M1 -1L-1 1");
 const SQUARE = new Path2D("M-1 -1H1V1H-1z");
 const FONT = 'ui-monospace, Consolas, "DejaVu Sans Mono", monospace';
-
-/**
- * Returns the number of columns that makes the cells largest, preferably a divisor of the core size, and their sides.
- * Sides may be fractions, so that cells differ by a pixel and fill the canvas, unless they are large enough for text.
- * @param {number} size of the core
- * @param {number} width in pixels of the screen
- * @param {number} height
- */
-function bestColumns(size, width, height) {
-  let best = { columns: Math.max(1, Math.floor(width)), x: 1, y: 1, worth: 0 };
-  const [minimum, maximum] = [Math.sqrt(size) / 3, Math.sqrt(size) * 3];
-  for (let columns = Math.max(1, Math.floor(minimum)); columns <= Math.min(size, Math.ceil(maximum)); columns++) {
-    const [across, down] = [width / columns, height / Math.ceil(size / columns)];
-    const room = Math.min(across, down);
-    const isText = room >= READABLE * devicePixelRatio;
-    const most = isText ? Math.floor(room) : room < 1 ? room : room * OBLONG;
-    const [x, y] = [Math.min(across, most), Math.min(down, most)];
-    const worth = x * y * Math.sqrt(Math.min(x / y, y / x)) * (size % columns === 0 ? 1.08 : 1);
-    if (worth > best.worth) best = { columns, x, y, worth };
-  }
-  return best;
-}
 
 export class Core {
   size = 1;
@@ -293,6 +269,7 @@ export class Core {
    * @param {{address: number, warrior: number}[]} few
    */
   #drawMarks(palette, marks, few) {
+    const { context } = this;
     const { pinned, hovered, head, reads, warrior, differences, graves } = marks;
     const ratio = devicePixelRatio;
     const radius = Math.max(this.cell, 7 * ratio);
@@ -308,7 +285,10 @@ export class Core {
     if (head !== null) this.#mark(head, SQUARE, around, 1.25, "rgba(255,255,255,.75)");
     if (pinned !== null) this.#mark(pinned, SQUARE, around + ratio, 2, "#fff");
     if (hovered !== null) this.#mark(hovered, SQUARE, around, 1.25, "#fff");
-    for (const arrow of marks.arrows) this.#drawArrow(arrow, palette.mark[arrow.warrior]);
+    for (const { from, to, warrior: who, isFaint } of marks.arrows) {
+      const [start, end] = [this.#middle(from), this.#middle(to)];
+      drawArrow(context, { start, end, cell: this.cell, isFaint }, palette.mark[who]);
+    }
   }
 
   /** @param {number[][]} breaks */
@@ -319,40 +299,6 @@ export class Core {
         this.#mark((first + index) % this.size, SQUARE, this.#inner / 2 + 2 * devicePixelRatio, 2, BREAK);
       }
     }
-  }
-
-  /**
-   * Draws a curved arrow from a cell to another one.
-   * @param {Marks["arrows"][0]} arrow
-   * @param {string} colour
-   */
-  #drawArrow({ from, to, isFaint }, colour) {
-    const { context } = this;
-    const [start, end, ratio] = [this.#middle(from), this.#middle(to), devicePixelRatio];
-    const [dx, dy] = [end.x - start.x, end.y - start.y];
-    const length = Math.max(1, Math.hypot(dx, dy));
-    // A short way is bent more, so that its arrow is seen.
-    const bend = Math.max(18 * ratio, Math.min(0.22 * length, 90 * ratio)) / length;
-    const middle = { x: (start.x + end.x) / 2 + dy * bend, y: (start.y + end.y) / 2 - dx * bend };
-    const angle = Math.atan2(end.y - middle.y, end.x - middle.x);
-    const [gap, head] = [this.cell * 0.6 + 2 * ratio, 8 * ratio];
-    const tip = { x: end.x - Math.cos(angle) * gap, y: end.y - Math.sin(angle) * gap };
-    context.setTransform(1, 0, 0, 1, 0, 0);
-    const path = new Path2D();
-    path.moveTo(start.x, start.y);
-    path.quadraticCurveTo(middle.x, middle.y, tip.x, tip.y);
-    for (const side of [-0.5, 0.5]) {
-      path.moveTo(tip.x, tip.y);
-      path.lineTo(tip.x - head * Math.cos(angle + side), tip.y - head * Math.sin(angle + side));
-    }
-    context.lineCap = "round";
-    context.setLineDash(isFaint ? [3 * ratio, 5 * ratio] : []);
-    for (const [width, stroke] of [[5, "rgba(5,7,10,.85)"], [2.25, colour]]) {
-      context.lineWidth = Number(width) * ratio;
-      context.strokeStyle = String(stroke);
-      context.stroke(path);
-    }
-    context.setLineDash([]);
   }
 
   /**

@@ -9,7 +9,7 @@ const STEP = 24;
 /**
  * Lets the divider be dragged, or moved by the arrow keys.
  * @param {(width: number) => void} changed
- * @param {number | undefined} width of the editor in pixels
+ * @param {number | undefined} width of the editor in pixels; 0 is its usual one
  */
 export function listenToDivider(changed, width) {
   const [divider, desk] = [element("divider"), element("desk")];
@@ -33,5 +33,8 @@ export function listenToDivider(changed, width) {
     const by = { ArrowLeft: -STEP, ArrowRight: STEP }[key];
     if (by) changed(take(desk.offsetWidth + by));
   };
-  divider.ondblclick = () => document.body.style.removeProperty("--desk");
+  divider.ondblclick = () => {
+    document.body.style.removeProperty("--desk");
+    changed(0);
+  };
 }

@@ -39,7 +39,7 @@ export class Lines {
     const { session, shelf } = this;
     const name = shelf.shown?.name ?? "";
     const places = this.#cellsOf(name).filter((one) => one.line === line);
-    for (const { address } of places) session.toggleBreak({ word: "at", first: address });
+    for (const { address } of places) session.breaks.toggle({ word: "at", first: address });
     if (!places.length) shelf.say("No cell of this battle is from that line");
   }
 
@@ -51,7 +51,7 @@ export class Lines {
       const doc = shelf.find(name)?.doc;
       if (!doc || this.#docs.includes(doc)) continue;
       this.#docs.push(doc);
-      const at = this.#cellsOf(name).filter(({ address }) => session.hasBreak({ word: "at", first: address }));
+      const at = this.#cellsOf(name).filter(({ address }) => session.breaks.has({ word: "at", first: address }));
       for (const { line } of at) {
         const mark = make("span", { className: "break", title: "Playing stops here; click to remove" });
         if (line <= doc.lineCount()) doc.setGutterMarker(line - 1, "breaks", mark);

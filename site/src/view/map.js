@@ -1,9 +1,9 @@
 /** The position map: how a pair fares at every starting distance, in both orders. */
 import { number, pluralize } from "../words/battle.js";
 import { Stopped } from "../worker/pool.js";
+import { inBatches, spread } from "./batches.js";
 import { colourOf, element, make, onClick, placeTip, refill, throttle, typed, withCode } from "./dom.js";
 import { allOf, errorWords } from "./host.js";
-import { inBatches, spread } from "./tune.js";
 
 /** @typedef {import("./host.js").Host} Host */
 /** @typedef {import("./host.js").MatchTerms} MatchTerms */

@@ -1,22 +1,20 @@
 /** The battle that is shown, in time: its turn, how it is played, its futures, and the cell that is kept in view. */
-import { addressesOf, distinct, sharedWords } from "../words/battle.js";
+import { addressesOf, distinct } from "../words/battle.js";
+import { Breaks } from "./breaks.js";
 import { clamp } from "./dom.js";
+import { Futures } from "./futures.js";
 
 /** @typedef {import("../battle/conditions.js").Condition} Condition */
 /** @typedef {import("../battle/overview.js").Event} Event */
 /** @typedef {import("../words/why.js").Link} Link */
 /** @typedef {import("../model/fight.js").Edit} Edit */
 /** @typedef {import("../model/fight.js").Fight} Fight */
-/** @typedef {import("../model/fight.js").Made} Made */
 /** @typedef {import("../worker/desk.js").Opened} Opened */
 /** @typedef {import("../worker/desk.js").View} View */
 /** @typedef {import("../words/battle.js").Known} Known */
 /** @typedef {import("../words/battle.js").Move} Move */
 /** @typedef {import("../worker/pool.js").Remote} RemoteDesk */
-/**
- * A future: its edits, and which one it branched from; `visited` is the one that redo leads to. -1 is none.
- * @typedef {{edits: Made[], end: number, parent: number, visited: number}} Future
- */
+/** @typedef {import("./futures.js").Future} Future */
 /**
  * What has changed: the battle, the turn, how it plays, what is looked at, whether a battle is being opened.
  * @typedef {"battle" | "turn" | "play" | "look" | "wait"} Change
@@ -26,8 +24,6 @@ import { clamp } from "./dom.js";
 const LENGTH = 24;
 const SLOWEST = 1;
 const FASTEST = 2_000_000;
-/** A label in a line of source, as `bomb` or as `1.bomb`. */
-const LABEL = /(?<![\w.])(?:\d+\.)?[A-Za-z_]\w*/g;
 
 export class Session {
   /** @type {Fight | null} */
@@ -53,19 +49,16 @@ export class Session {
    * @type {Uint16Array | null}
    */
   origins = null;
-  /** @type {Future[]} */
-  futures = [];
-  future = 0;
+  futures = new Futures();
   /**
    * The future that is shown beside this one, and its battle at the same turn.
    * @type {{future: number, view: View} | null}
    */
   beside = null;
-  /**
-   * Where playing stops.
-   * @type {Condition[]}
-   */
-  breaks = [];
+  breaks = new Breaks(() => {
+    if (this.way) this.#findLimit();
+    this.#notify("look");
+  });
   /**
    * The breakpoint at which it has stopped, until another turn is wanted.
    * @type {Condition | null}
@@ -76,8 +69,6 @@ export class Session {
    * @type {{death: Event, links: Link[]} | null}
    */
   chain = null;
-  /** The latest turn of this battle that was shown. */
-  furthest = 0;
   /** The turn that is wanted, which is shown as soon as the desk answers. */
   wanted = 0;
   /** Turns a second. */
@@ -94,8 +85,6 @@ export class Session {
   pending = 0;
   /** @type {((change: Change) => void)[]} */
   #listeners = [];
-  /** @type {Future | null} */
-  #wantedBeside = null;
   #exact = 0;
   #then = 0;
   #frame = 0;
@@ -126,6 +115,11 @@ export class Session {
   /** @param {Change} change */
   #notify(change) {
     for (const listener of this.#listeners) listener(change);
+  }
+
+  /** The future that is shown. */
+  get future() {
+    return this.futures.current;
   }
 
   get turn() {
@@ -202,19 +196,11 @@ export class Session {
    * @param {number | null} pinned
    */
   #takeFight(fight, opened, pinned) {
-    const { edits } = fight;
     this.stop();
-    this.futures = [[], ...edits].map((_, index) => ({
-      edits: edits.slice(0, index),
-      end: opened.end,
-      parent: index - 1,
-      visited: index < edits.length ? index + 1 : -1,
-    }));
+    this.futures.begin(fight.edits, opened.end);
     this.rate = clamp(opened.end / LENGTH, 2, FASTEST);
     this.pinned = pinned;
-    this.furthest = 0;
     this.chosen = -1;
-    this.#compare(null);
     this.fight = fight;
     this.#setBattle(opened);
   }
@@ -232,11 +218,10 @@ export class Session {
 
   /** @param {Opened} opened */
   #setBattle(opened) {
-    const { names, core, end, deaths, labels, future } = opened;
+    const { names, core, end, deaths, labels } = opened;
     this.opened = opened;
-    this.future = future;
-    this.futures[future].end = end;
-    if (this.#wantedBeside === this.futures[future]) this.#compare(null);
+    this.futures.show(opened);
+    if (!this.futures.beside) this.beside = null;
     this.view = this.move = this.origins = this.chain = this.halted = null;
     this.wanted = clamp(this.wanted, 0, end);
     const addresses = addressesOf(labels);
@@ -272,21 +257,20 @@ export class Session {
 
   get #isIncomplete() {
     const lacksOrigins = this.way === 0 && !this.origins;
-    return lacksOrigins || this.#wantedBeside !== (this.beside ? this.futures[this.beside.future] : null);
+    return lacksOrigins || this.futures.beside !== (this.beside ? this.futures.all[this.beside.future] : null);
   }
 
   /** @param {number} turn */
   async #show(turn) {
     const { opened } = this;
-    const wanted = this.#wantedBeside;
+    const wanted = this.futures.beside;
     const shown = await this.#ask(turn, wanted).catch((error) => {
       // If another battle has been opened meanwhile, it may not have this turn.
       if (opened === this.opened) throw error;
       return null;
     });
-    if (!shown || opened !== this.opened || wanted !== this.#wantedBeside) return;
+    if (!shown || opened !== this.opened || wanted !== this.futures.beside) return;
     Object.assign(this, shown);
-    this.furthest = Math.max(this.furthest, shown.view.turn);
     this.frames++;
     this.#notify("turn");
   }
@@ -298,7 +282,7 @@ export class Session {
    */
   async #ask(turn, wanted) {
     const { future } = this;
-    const other = wanted ? this.futures.indexOf(wanted) : -1;
+    const other = wanted ? this.futures.all.indexOf(wanted) : -1;
     const [view, beside] = await Promise.all([
       this.desk.turn(future, turn),
       other >= 0 ? this.desk.turn(other, turn) : null,
@@ -348,38 +332,13 @@ export class Session {
 
   /** Finds where playing stops: at the next breakpoint, or at the end of the battle. */
   async #findLimit() {
-    const { way, opened, breaks } = this;
+    const { way, opened, breaks: { all: breaks } } = this;
     this.#limit = null;
     const end = { turn: way > 0 ? this.end : 0, at: null };
     const found = breaks.length ? await this.desk.search(this.future, breaks, this.wanted, way > 0) : null;
     // The user may have stopped it, or changed the breakpoints, meanwhile.
-    const isLate = way !== this.way || opened !== this.opened || breaks !== this.breaks;
+    const isLate = way !== this.way || opened !== this.opened || breaks !== this.breaks.all;
     if (!isLate) this.#limit = found ? { turn: found.turn, at: breaks[found.index] } : end;
-  }
-
-  /**
-   * Takes other breakpoints.
-   * @param {Condition[]} breaks
-   */
-  setBreaks(breaks) {
-    this.breaks = breaks;
-    if (this.way) this.#findLimit();
-    this.#notify("look");
-  }
-
-  /**
-   * Sets a breakpoint, or removes the one that is like it.
-   * @param {Condition} condition
-   */
-  toggleBreak(condition) {
-    const isOther = (/** @type {Condition} */ one) => !isAlike(one, condition);
-    const others = this.breaks.filter(isOther);
-    this.setBreaks(others.length < this.breaks.length ? others : [...this.breaks, condition]);
-  }
-
-  /** @param {Condition} condition */
-  hasBreak(condition) {
-    return this.breaks.some((one) => isAlike(one, condition));
   }
 
   /**
@@ -457,27 +416,6 @@ export class Session {
   }
 
   /**
-   * Returns the cell of a line of Redcode for an address. Throws an Error without a message if it is not one, or with
-   * one about a label that several warriors have.
-   * @param {string} text
-   * @param {number} address
-   */
-  async cellOf(text, address) {
-    const { known } = this;
-    const { addresses } = known;
-    const line = text.replace(LABEL, (name) => {
-      const at = addresses.get(name);
-      return at === undefined ? name : `(${at - address})`;
-    });
-    try {
-      return await this.desk.cellOf(line);
-    } catch {
-      const shared = (text.match(LABEL) ?? []).map((name) => sharedWords(name, known));
-      throw new Error(shared.find(Boolean));
-    }
-  }
-
-  /**
    * Edits the battle at the turn that is shown, and shows the future that this makes. Throws what the machine says, and
    * what the edit fails with if that is not known yet.
    * @param {Edit | Promise<Edit>} edit
@@ -490,15 +428,8 @@ export class Session {
     wanted.catch(() => {});
     await this.#inOrder(async () => {
       if (fight !== this.fight) throw new Error("another battle has been opened");
-      const { future } = this;
-      const opened = await this.#opened(this.desk.edit(future, turn, await wanted));
-      if (opened.future === this.futures.length) {
-        // The edits after this turn belong to the future that is left.
-        let parent = future;
-        while (this.futures[parent].edits.length >= opened.edits.length) parent = this.futures[parent].parent;
-        this.futures.push({ edits: opened.edits, end: opened.end, parent, visited: -1 });
-        this.futures[parent].visited = opened.future;
-      }
+      const opened = await this.#opened(this.desk.edit(this.future, turn, await wanted));
+      this.futures.add(opened);
       this.#setBattle(opened);
     });
     await this.go(turn);
@@ -518,8 +449,7 @@ export class Session {
       const future = select();
       if (future < 0) return false;
       this.stop();
-      const { parent } = this.futures[future];
-      if (parent >= 0) this.futures[parent].visited = future;
+      this.futures.visit(future);
       this.#setBattle(await this.desk.show(future));
       return true;
     });
@@ -531,52 +461,28 @@ export class Session {
    * @param {number | null} future
    */
   compare(future) {
-    this.#compare(future === null ? null : this.futures[future]);
+    this.futures.beside = future === null ? null : this.futures.all[future];
+    if (future === null) this.beside = null;
     this.#notify("look");
     return this.go(this.wanted);
   }
 
-  /** @param {Future | null} future */
-  #compare(future) {
-    this.#wantedBeside = future;
-    if (!future) this.beside = null;
-  }
-
-  /** The future that undo leads to, or -1. */
-  get #parent() {
-    return this.futures[this.future]?.parent ?? -1;
-  }
-
-  /** The future that redo leads to, or -1. */
-  get #visited() {
-    return this.futures[this.future]?.visited ?? -1;
-  }
-
   get canUndo() {
-    return this.#parent >= 0;
+    return this.futures.before >= 0;
   }
 
   get canRedo() {
-    return this.#visited >= 0;
+    return this.futures.after >= 0;
   }
 
   undo() {
     return this.#switch(() => {
-      if (this.canUndo) this.futures[this.#parent].visited = this.future;
-      return this.#parent;
+      this.futures.visit(this.future);
+      return this.futures.before;
     });
   }
 
   redo() {
-    return this.#switch(() => this.#visited);
+    return this.#switch(() => this.futures.after);
   }
 }
-
-/**
- * @param {Condition} one
- * @param {Condition} other
- */
-const isAlike = (one, other) => conditionKey(one) === conditionKey(other);
-
-/** @param {Condition} condition */
-const conditionKey = ({ word, first, last = first, by = -1 }) => [word, first, last, by].join();

@@ -1,21 +1,16 @@
 /** The sources: a list, of which one is in the editor, and those that are marked fight. */
-import { MarsError } from "../model/errors.js";
-import { ASSEMBLY } from "../model/layout.js";
+import { lastOf } from "../engine/warrior.js";
 import { MAX_SOURCE_SIZE } from "../model/settings.js";
 import { pluralize } from "../words/battle.js";
-import { errorsOf } from "../words/errors.js";
-import { Stopped } from "../worker/pool.js";
+import { Checker } from "./checker.js";
 import { debounce, download, element, make, onClick, refill, withCode } from "./dom.js";
 import { Editor, newDocument } from "./editor.js";
-import { errorWords } from "./host.js";
+import { listenToFiles, textOf } from "./files.js";
 
 /** @typedef {import("codemirror").Document} Document */
-/** @typedef {import("../model/cells.js").Cell} Cell */
 /** @typedef {import("../model/fight.js").Source} Source */
 /** @typedef {import("../model/settings.js").Settings} Settings */
 /** @typedef {import("../worker/pool.js").Pool} Pool */
-/** @typedef {import("../words/errors.js").Explained} Explained */
-/** @typedef {ReturnType<import("../worker/jobs.js").Jobs["assemble"]>} Assembled */
 /** @typedef {import("./rounds.js").Hits} Hits */
 /**
  * What a source is: the user's own, an example, one of a link, or the user's own for a lesson.
@@ -50,8 +45,6 @@ import { errorWords } from "./host.js";
  */
 const GUESTS = ["guest", "lesson"];
 const KINDS = { own: "", example: "example", guest: "from a link", lesson: "lesson" };
-/** A line with the name of the warrior; the last one counts. */
-const NAME = /^\s*;name\s+(\S.*?)\s*$/gim;
 const NEW = [";redcode-94", ";name My first warrior", ";author ", "; What does it do?", ""];
 NEW.push("start   MOV     0, 1            ; copies itself to the next cell", "        END     start", "");
 
@@ -65,10 +58,7 @@ export class Shelf {
   removed = [];
   /** @type {OpenSource | null} */
   shown = null;
-  /** Whether the source in the editor has an error. */
-  isBroken = false;
   #isStored = true;
-  #checks = 0;
   /** @type {Hits} */
   #hits = new Map();
 
@@ -92,31 +82,8 @@ export class Shelf {
     onClick("remove", () => this.#remove());
     onClick("restore", () => this.#restore());
     onClick("download", () => this.save(false));
-    onClick("import", () => element("file").click());
-    this.#listenToFiles();
-  }
-
-  #listenToFiles() {
-    const input = /** @type {HTMLInputElement} */ (element("file"));
-    input.onchange = () => {
-      this.take([...(input.files ?? [])]);
-      input.value = "";
-    };
-    const { classList } = document.body;
-    addEventListener("dragover", (event) => {
-      if (!event.dataTransfer?.types.includes("Files")) return;
-      event.preventDefault();
-      classList.add("dropping");
-    });
-    addEventListener("dragleave", (event) => {
-      if (!event.relatedTarget) classList.remove("dropping");
-    });
-    addEventListener("drop", (event) => {
-      classList.remove("dropping");
-      if (!event.dataTransfer?.files.length) return;
-      event.preventDefault();
-      this.take([...event.dataTransfer.files]);
-    });
+    this.checker = new Checker(host, this.editor);
+    listenToFiles((files) => this.take(files));
   }
 
   /**
@@ -370,71 +337,9 @@ export class Shelf {
     else this.say(text === shown.saved ? "" : unsaved);
   }
 
-  /** Assembles the source in the editor, and shows its errors or what it makes. */
+  /** Shows the errors of the source in the editor, or what it makes. */
   async lint() {
-    const { shown, host } = this;
-    if (!shown) return;
-    const text = shown.doc.getValue();
-    const { settings, rounds } = host.terms();
-    const check = ++this.#checks;
-    host.pool.drop("lint");
-    const found = await this.#check(text, { settings, rounds, warriors: 2 });
-    if (!found || check !== this.#checks || text !== shown.doc.getValue()) return;
-    const { errors, made } = found;
-    this.isBroken = errors.length > 0;
-    this.editor.showErrors(errors);
-    this.#showMade(made, settings);
-    element("fault").classList.toggle("bad", this.isBroken);
-    const sorted = [...errors].sort((one, other) => one.line - other.line);
-    // A source without an instruction has its error in no line.
-    const where = (/** @type {Explained} */ { line, from }) => {
-      const show = () => this.editor.showLine(line, from);
-      return line ? [make("button", { className: "link", onclick: show }, `Line ${line}`), ": "] : [];
-    };
-    const messages = sorted.flatMap((one) => [...where(one), withCode(one.text), make("br")]);
-    const size = made && `${made.name || shown.name}: ${made.cells.length} of ${settings.longest} cells`;
-    refill(element("fault"), ...messages, size);
-    host.checked();
-  }
-
-  /**
-   * Returns the errors of a source, and what it makes if it has none; null if another one is checked in its place.
-   * @param {string} text
-   * @param {{settings: Settings, rounds: number, warriors: number}} terms
-   * @returns {Promise<{errors: Explained[], made: Assembled | null} | null>}
-   */
-  async #check(text, terms) {
-    const { pool, meanings } = this.host;
-    /** @type {Assembled | null} */
-    let made = null;
-    try {
-      const errors = await errorsOf(text, meanings, async (source) => {
-        try {
-          const assembled = await pool.ask("assemble", [source, terms], "lint", 3);
-          if (source === text) made = assembled;
-          return null;
-        } catch (error) {
-          if (error instanceof MarsError && error.code === ASSEMBLY) return error;
-          throw error;
-        }
-      });
-      return { errors, made };
-    } catch (error) {
-      if (error instanceof Stopped) return null;
-      const why = `This source cannot be assembled. ${errorWords(error, [], meanings)}`;
-      return { errors: [{ line: 1, from: 0, to: 0, text: why }], made };
-    }
-  }
-
-  /**
-   * @param {Assembled | null} made
-   * @param {Settings} settings
-   */
-  #showMade(made, { core }) {
-    const byLine = new Map(made?.lines.map(({ line }) => [line, /** @type {Cell[]} */ ([])]));
-    made?.cells.forEach((cell, index) => byLine.get(made.lines[index].line)?.push(cell));
-    this.editor.explain(byLine, core);
-    element("load").textContent = made?.load ?? "";
+    if (this.shown) await this.checker.check(this.shown);
   }
 }
 
@@ -454,20 +359,7 @@ const isEdited = ({ kind, doc, saved }) => kind === "example" && doc.getValue() 
 function titleOf({ name, doc, saved }) {
   const text = doc.getValue();
   const stem = name.replace(/\.red$/, "");
-  const warrior = [...text.matchAll(NAME)].at(-1)?.[1] ?? stem;
+  const warrior = lastOf(text, "name") || stem;
   const isOther = warrior.toLowerCase() !== stem.toLowerCase();
   return [stem + (text === saved ? "" : " •"), isOther ? make("small", {}, ` ${warrior}`) : ""];
-}
-
-/**
- * Returns the text of a file: UTF-8, or Latin-1 if it is not.
- * @param {File} file
- */
-async function textOf(file) {
-  const bytes = await file.arrayBuffer();
-  try {
-    return new TextDecoder("utf-8", { fatal: true }).decode(bytes);
-  } catch {
-    return new TextDecoder("latin1").decode(bytes);
-  }
 }

@@ -22,8 +22,6 @@ const PAUSE = "Pause, or step with the arrow keys, to read each turn in words.";
 export class Side {
   /** @type {Row[]} */
   #rows = [];
-  /** Whether the story has events that were not shown yet. */
-  #isWhole = false;
 
   /**
    * @param {Session} session
@@ -35,10 +33,6 @@ export class Side {
     onClick("undo", () => session.undo());
     onClick("redo", () => session.redo());
     onClick("alone", () => session.compare(null));
-    onClick("spoil", () => {
-      this.#isWhole = true;
-      this.#draw();
-    });
     session.listen((change) => {
       if (change === "battle") this.#open();
       this.#draw();
@@ -49,7 +43,6 @@ export class Side {
     const { opened, known } = this.session;
     if (!opened) return;
     const { names } = known;
-    if (this.session.furthest === 0) this.#isWhole = false;
     const title = names.length === 2 ? names.join(" against ") : joinNames(names);
     document.title = `${title} · Core War`;
     element("title").textContent = title;
@@ -91,7 +84,7 @@ export class Side {
 
   #openFutures() {
     const { session } = this;
-    const { futures, future, known } = session;
+    const { futures: { all: futures }, future, known } = session;
     element("futures-box").hidden = futures.length < 2;
     element("undo").toggleAttribute("disabled", !session.canUndo);
     element("redo").toggleAttribute("disabled", !session.canRedo);
@@ -110,27 +103,13 @@ export class Side {
     const { view, opened, known } = this.session;
     if (!view || !opened) return;
     this.#rows.forEach((row, who) => this.#drawRow(row, who, view));
-    this.#drawStory(view.turn);
+    for (const line of element("story").children) {
+      if (line instanceof HTMLElement) line.classList.toggle("past", Number(line.dataset.turn) <= view.turn);
+    }
     const isOver = view.turn === opened.end;
     element("outcome").textContent = isOver ? `${outcome(known)} after ${pluralize(opened.end, "turn")}.` : "";
     element("alone").hidden = this.session.beside === null;
     this.#drawTurn(view);
-  }
-
-  /**
-   * Shows the events up to a turn, and those after it only if they were shown before or are wanted.
-   * @param {number} turn
-   */
-  #drawStory(turn) {
-    let hidden = 0;
-    for (const line of element("story").children) {
-      if (!(line instanceof HTMLElement)) continue;
-      const when = Number(line.dataset.turn);
-      line.classList.toggle("past", when <= turn);
-      line.hidden = !this.#isWhole && when > this.session.furthest;
-      hidden += Number(line.hidden);
-    }
-    element("spoil").hidden = hidden === 0;
   }
 
   /**

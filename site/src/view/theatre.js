@@ -1,17 +1,17 @@
 /** The core, the strip of time and the controls: what moves. */
-import { CELL_WORDS, NOBODY, cellText, isEmpty, readCell } from "../model/cells.js";
+import { NOBODY, cellText, isEmpty, readCell } from "../model/cells.js";
 import { captionWords, haltWords, number, place, standingWords, writtenWords } from "../words/battle.js";
 import { instructionWords } from "../words/instruction.js";
 import { linkWords } from "../words/why.js";
 import { Core } from "./core.js";
 import { buttons, element, isNarrow, make, onClick, placeTip, refill, typed } from "./dom.js";
+import { marksOf } from "./marks.js";
 import { Palette } from "./palette.js";
 import { standingNames, standingOn } from "./standing.js";
 import { Track } from "./track.js";
 
 /** @typedef {import("../battle/conditions.js").Word} Word */
 /** @typedef {import("../worker/desk.js").View} View */
-/** @typedef {import("./core.js").Marks} Marks */
 /** @typedef {import("./session.js").Session} Session */
 
 const PLAY = "M4 2v12l10-6z";
@@ -19,18 +19,14 @@ const PAUSE = "M3 2h4v12H3zM9 2h4v12H9z";
 const BACKWARDS = "M12 2v12L2 8z";
 /** The speed at the right end of its slider, in turns a second; at the left end it is 1. */
 const FASTEST = 200_000;
-/** Below this speed the next instruction is marked while the battle plays. */
-const SLOW = 15;
 /** The maximum number of marks of breakpoints on the strip, and of turns that are searched for them. */
 const MAX_HITS = 4000;
 const MAX_SCANNED = 4_000_000;
+/** The least height of the core on a narrow page, in pixels. */
+const LEAST = 200;
 /** Milliseconds after which opening a battle takes long. */
 const PATIENCE = 700;
-/** The maximum number of marked cells that differ between two futures. */
-const MAX_DIFFERENCES = 2000;
 const EMPTY = "Empty memory. A process that executes it ends.";
-/** Conditions on cells, which are marked on the core. */
-const CELLS = ["at", "changes", "reads"];
 const EVENTS = { splits: "split", ends: "end of a process", dies: "death" };
 
 export class Theatre {
@@ -175,9 +171,10 @@ export class Theatre {
 
   /** What the rest of the battle leaves of a narrow page, so that the strip and the controls are in sight, too. */
   #roomOfNarrow() {
-    const rest = element("battle").offsetHeight - element("stage").offsetHeight;
-    const around = element("top").offsetHeight + element("tabs").offsetHeight;
-    return Math.max(innerHeight * 0.35, innerHeight - rest - around);
+    const battle = element("battle");
+    const rest = battle.offsetHeight - element("stage").offsetHeight;
+    const around = battle.getBoundingClientRect().top + scrollY + element("tabs").offsetHeight;
+    return Math.max(LEAST, innerHeight - rest - around);
   }
 
   #recolour() {
@@ -219,7 +216,7 @@ export class Theatre {
     const { view, opened, way, beside } = session;
     if (!view || !opened || !palette || view.owner.length !== core.size) return;
     if (element("other").hidden === (beside !== null)) this.fit();
-    core.draw(view, palette, session.grain, this.#marks(view));
+    core.draw(view, palette, session.grain, marksOf(session, view, this.hovered));
     if (beside) this.#drawBeside(beside.future, beside.view, palette);
     if (!performance.getEntriesByName("first fight").length) performance.mark("first fight");
     this.#showEnding(view.turn === opened.end && way === 0);
@@ -231,50 +228,6 @@ export class Theatre {
   }
 
   /**
-   * @param {View} view
-   * @returns {Marks}
-   */
-  #marks(view) {
-    const { session } = this;
-    const { move, opened, way, rate, pinned } = session;
-    const showsTurn = way === 0 || rate < SLOW;
-    const dead = (opened?.deaths ?? []).filter(({ turn, address }) => turn <= view.turn && address >= 0);
-    return {
-      pinned,
-      hovered: this.hovered,
-      head: showsTurn ? view.head : null,
-      reads: showsTurn && move?.turn === view.turn ? move.reads : [],
-      warrior: move?.warrior ?? 0,
-      differences: this.#differences(),
-      graves: dead.map(({ address, warrior }) => ({ address, warrior })),
-      breaks: session.breaks.flatMap(({ word, first, last = first }) => (CELLS.includes(word) ? [[first, last]] : [])),
-      arrows: way === 0 ? this.#arrows() : [],
-    };
-  }
-
-  /** Returns the arrows of the death that is explained: from each instruction to the cell that it wrote or led to. */
-  #arrows() {
-    const links = this.session.chain?.links ?? [];
-    const moves = links.filter(({ kind, address, target }) => kind !== "death" && address !== target);
-    return moves.map(({ kind, address, target, warrior }) => {
-      return { from: address, to: target, warrior, isFaint: kind === "aim" };
-    });
-  }
-
-  /** Returns the addresses of cells that differ in the future that is shown beside this one. */
-  #differences() {
-    const { view, beside } = this.session;
-    if (!view || !beside) return [];
-    const [own, other] = [view.cells, beside.view.cells];
-    const found = [];
-    for (let at = 0; at < own.length && found.length < MAX_DIFFERENCES; at += CELL_WORDS) {
-      const isOther = own[at] !== other[at] || own[at + 1] !== other[at + 1] || own[at + 2] !== other[at + 2];
-      if (isOther) found.push(at / CELL_WORDS);
-    }
-    return found;
-  }
-
-  /**
    * @param {number} future
    * @param {View} view
    * @param {Palette} palette
@@ -282,7 +235,7 @@ export class Theatre {
   #drawBeside(future, view, palette) {
     const { session } = this;
     if (view.owner.length !== this.other.size) return;
-    const marks = { ...this.#marks(view), head: view.head, reads: [], graves: [] };
+    const marks = { ...marksOf(session, view, this.hovered), head: view.head, reads: [], graves: [] };
     this.other.draw(view, palette, session.grain, marks);
     const isOver = view.turn < session.turn ? " (its end)" : "";
     element("other-name").textContent = `Future ${future} at turn ${number(view.turn)}${isOver}`;
@@ -308,7 +261,7 @@ export class Theatre {
   /** Marks on the strip where playing stops. */
   async #findHits() {
     const { session, track } = this;
-    const { breaks, future, opened } = session;
+    const { future, opened, breaks: { all: breaks } } = session;
     const key = JSON.stringify([breaks, future]);
     if (key === this.#hitsOf && opened === track.opened) return;
     this.#hitsOf = key;

@@ -2,20 +2,10 @@
 import { number, pluralize } from "../words/battle.js";
 import { readSource } from "../words/source.js";
 import { Stopped } from "../worker/pool.js";
-import {
-  clamp,
-  colourOf,
-  element,
-  make,
-  onClick,
-  placeTip,
-  refill,
-  roundStep,
-  throttle,
-  typed,
-  withCode,
-} from "./dom.js";
+import { inBatches, spread } from "./batches.js";
+import { clamp, element, make, onClick, placeTip, refill, throttle, typed, withCode } from "./dom.js";
 import { allOf, errorWords } from "./host.js";
+import { drawSweep, meanOf } from "./sweep.js";
 
 /** @typedef {import("codemirror").Position} Position */
 /** @typedef {import("../engine/mars.js").Row} Row */
@@ -24,7 +14,7 @@ import { allOf, errorWords } from "./host.js";
 /** @typedef {import("./host.js").MatchTerms} MatchTerms */
 /** @typedef {import("codemirror").Mark} Mark */
 /** @typedef {import("../engine/warrior.js").Warrior} Warrior */
-/** @typedef {{value: number, row: Row | null, left: number}} Result `left` counts the matches that are not done */
+/** @typedef {import("./sweep.js").Result} Result */
 
 /** The number of values at first, and at most. */
 const AROUND = 400;
@@ -36,9 +26,6 @@ const FIRST_BATCHES = [1, 1, 2, 4];
 const MARK = { className: "tuned", inclusiveRight: true, clearWhenEmpty: false };
 /** A number, with its sign unless that is a minus between two operands. */
 const NUMBER = /(?<![\w&])(?:(?<=(?:^|[^\w)\s])\s*)-)?\d+(?!\w)/g;
-const HEIGHT = 190;
-const FOOT = 18;
-const TOP = 14;
 
 export class Tune {
   /** @type {Mark | null} */
@@ -228,11 +215,6 @@ export class Tune {
     return text ? Number(text) : NaN;
   }
 
-  /** @param {Result} result */
-  #mean({ row }) {
-    return row ? row.points / (row.wins + row.ties + row.losses) : 0;
-  }
-
   /** @param {PointerEvent | MouseEvent} event */
   #resultAt({ clientX }) {
     const { left, width } = element("tune-curve").getBoundingClientRect();
@@ -247,7 +229,7 @@ export class Tune {
     tip.hidden = !result?.row;
     if (!result?.row) return;
     const { wins, ties, losses } = result.row;
-    const head = make("b", {}, `${number(result.value)}: ${this.#mean(result).toFixed(2)}`);
+    const head = make("b", {}, `${number(result.value)}: ${meanOf(result).toFixed(2)}`);
     const shares = `${number(wins)} won, ${number(ties)} tied, ${number(losses)} lost. Click to take the value.`;
     refill(tip, make("p", {}, head, " points per round"), make("p", { className: "soft" }, shares));
     placeTip(tip, { x: event.clientX, y: event.clientY });
@@ -258,72 +240,12 @@ export class Tune {
     element("tune-stop").hidden = !this.host.pool.has("tune");
     const button = element("tune-best");
     button.hidden = !best;
-    if (best) button.textContent = `Take ${number(best.value)}: ${this.#mean(best).toFixed(2)} points`;
+    if (best) button.textContent = `Take ${number(best.value)}: ${meanOf(best).toFixed(2)} points`;
     const range = this.#mark?.find();
     const line = range && this.host.shelf.shown?.doc.getLine(range.from.line);
     refill(element("tune-line"), line ? make("code", {}, line.split(";")[0].trim().replace(/\s+/g, " ")) : "");
     refill(element("tune-note"), withCode(this.#note));
-    this.#drawCurve(best);
-  }
-
-  /** @param {Result | undefined} best */
-  #drawCurve(best) {
-    const canvas = typed("tune-curve", HTMLCanvasElement);
-    const [width, ratio] = [canvas.clientWidth, devicePixelRatio];
-    if (!width) return;
-    canvas.width = width * ratio;
-    canvas.height = HEIGHT * ratio;
-    const context = /** @type {CanvasRenderingContext2D} */ (canvas.getContext("2d"));
-    const [ink, line, top] = ["--ink", "--win", "--meta"].map(colourOf);
-    context.scale(ratio, ratio);
-    const { results } = this;
-    const x = (/** @type {number} */ index) => ((index + 0.5) / results.length) * width;
-    const y = (/** @type {number} */ mean) => HEIGHT - FOOT - (mean / this.#best) * (HEIGHT - FOOT - TOP);
-    context.font = "11px system-ui, sans-serif";
-    context.fillStyle = ink;
-    for (const share of [0, 0.5, 1]) {
-      context.globalAlpha = 0.16;
-      context.fillRect(0, y(share * this.#best), width, 1);
-      context.globalAlpha = 0.7;
-      context.fillText((share * this.#best).toFixed(1), 2, y(share * this.#best) - 3);
-    }
-    context.globalAlpha = 1;
-    const current = results.findIndex(({ value }) => value === this.#current);
-    if (current >= 0) context.fillRect(Math.round(x(current)), TOP, 1, HEIGHT - FOOT - TOP);
-    const wide = Math.max(1.5, width / results.length - 0.5);
-    results.forEach((result, index) => {
-      if (!result.row || result.left) return;
-      context.fillStyle = result === best ? top : line;
-      const height = y(this.#mean(result));
-      context.globalAlpha = 0.28;
-      context.fillRect(x(index) - wide / 2, height, wide, HEIGHT - FOOT - height);
-      context.globalAlpha = 1;
-      context.fillRect(x(index) - wide / 2, height - 1, wide, 2.5);
-    });
-    this.#drawValues(context, width, ink);
-  }
-
-  /**
-   * Draws round values, as many as there is room for.
-   * @param {CanvasRenderingContext2D} context
-   * @param {number} width
-   * @param {string} colour
-   */
-  #drawValues(context, width, colour) {
-    const { results } = this;
-    if (!results.length) return;
-    context.fillStyle = colour;
-    context.globalAlpha = 0.7;
-    const [first, last] = [results[0].value, results[results.length - 1].value];
-    const step = roundStep((last - first) / (width / 90));
-    const side = width / results.length;
-    for (let value = Math.ceil(first / step) * step; value <= last; value += step) {
-      const at = side * (((value - first) / Math.max(1, last - first)) * (results.length - 1) + 0.5);
-      const room = context.measureText(number(value)).width / 2 + 2;
-      context.textAlign = at < room ? "left" : at > width - room ? "right" : "center";
-      // Zero has no sign.
-      context.fillText(number(value || 0), clamp(at, 2, width - 2), HEIGHT - 4);
-    }
+    drawSweep(typed("tune-curve", HTMLCanvasElement), this.results, { best, most: this.#best, current: this.#current });
   }
 }
 
@@ -349,28 +271,4 @@ function add(result, row) {
     ties: sum.ties + row.ties,
     losses: sum.losses + row.losses,
   };
-}
-
-/**
- * @template T
- * @param {T[]} all
- * @param {number} size
- */
-export const inBatches = (all, size) =>
-  Array.from({ length: Math.ceil(all.length / size) }, (_, at) => all.slice(size * at, size * (at + 1)));
-
-/**
- * Returns the numbers up to a count, first some that are far apart, then those between them.
- * @param {number} count
- */
-export function spread(count) {
-  /** @type {number[]} */
-  const found = [];
-  const bits = Math.ceil(Math.log2(Math.max(2, count)));
-  for (let index = 0; index < 2 ** bits; index++) {
-    let reversed = 0;
-    for (let bit = 0; bit < bits; bit++) if (index & (1 << bit)) reversed |= 1 << (bits - 1 - bit);
-    if (reversed < count) found.push(reversed);
-  }
-  return found;
 }

@@ -153,7 +153,7 @@ export class Desk {
   show(future) {
     const history = this.#history(future);
     const { core, end, order, deaths, events, edits } = history;
-    const found = order.map((source) => describe(this.#warriors[source]));
+    const found = order.map((source) => describe(this.#warriors[source], this.fight.warriors[source].text));
     const names = found.map(({ name }, who) => name || this.fight.warriors[order[who]].name.replace(/\.\w+$/, ""));
     const overview = history.overview(0, end);
     return {

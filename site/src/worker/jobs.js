@@ -41,7 +41,7 @@ export class Jobs {
   assemble(text, terms) {
     const warrior = this.mars.assemble(text, terms);
     const load = this.mars.writeLoad(warrior, terms);
-    return { ...describe(warrior), load, lines: this.mars.lines(text, terms) };
+    return { ...describe(warrior, text), load, lines: this.mars.lines(text, terms) };
   }
 
   /**
@@ -50,9 +50,9 @@ export class Jobs {
    * @param {{settings: Settings, rounds: number}} terms
    */
   warriors(sources, terms) {
-    return assembleAll(this.mars, sources, 2, terms).map((warrior) => ({
+    return assembleAll(this.mars, sources, 2, terms).map((warrior, index) => ({
       warrior,
-      name: describe(warrior).name,
+      name: describe(warrior, sources[index].text).name,
     }));
   }
 

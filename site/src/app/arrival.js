@@ -1,0 +1,126 @@
+/** Arriving: the page shows what its address names, when it is loaded and when the user goes back. */
+import { MAX_WARRIORS } from "../model/layout.js";
+import { FORMULA } from "../model/settings.js";
+import { clamp, element } from "../view/dom.js";
+import { errorWords } from "../view/host.js";
+import { readAddress, unpack } from "./link.js";
+import { ownFight } from "./parts.js";
+import { placeOf } from "./places.js";
+import { FIRST } from "./sources.js";
+
+/** @typedef {import("../model/fight.js").Fight} Fight */
+/** @typedef {import("../model/fight.js").Source} Source */
+/** @typedef {import("./link.js").Selection} Selection */
+/** @typedef {import("./main.js").Page} Page */
+
+/** Whether the user wants no movement. */
+const isStill = () => matchMedia("(prefers-reduced-motion: reduce)").matches;
+
+export class Arrival {
+  /** @param {Page} page */
+  constructor(page) {
+    this.page = page;
+  }
+
+  /** Begins with what the address names, or with the sources that are marked. */
+  async begin() {
+    const { page } = this;
+    addEventListener("popstate", () => this.#follow());
+    await page.places.arrive(async () => {
+      await this.#arrive(ownFight());
+      if (!page.session.latest) await this.#beginAnyway();
+    });
+  }
+
+  /** Follows the user back or forth, or to an address that was typed. */
+  async #follow() {
+    const { text, selection } = readAddress(location.hash);
+    const selects = Object.values(selection).some((one) => one !== undefined);
+    if (!placeOf(location.hash) && !text && !selects) return;
+    await this.page.places.arrive(() => this.#arrive(selects ? ownFight() : ""));
+  }
+
+  /**
+   * Shows what the address names: a view, a battle of the browser's history, a battle that the address or the page
+   * carries, a lesson, or a round.
+   * @param {string} carried the battle of the page, or ""
+   */
+  async #arrive(carried) {
+    const { page } = this;
+    const { lessons, places } = page;
+    const { text, selection, isEmbedded } = readAddress(location.hash);
+    const place = placeOf(location.hash);
+    document.body.classList.toggle("embed", isEmbedded);
+    const isBattle = !place || place.view === "battle" || place.number !== null;
+    page.views.show(isBattle || !place ? "battle" : place.view);
+    lessons.show(place?.view === "learn" ? (place.number ?? 0) : 0);
+    const { fight, ...shown } = history.state ?? {};
+    if (fight && places.isShown(fight)) return;
+    if (fight) await this.#return(fight, shown, isBattle && (!place || lessons.current > 0));
+    else if (text || carried) await this.#openLink(text || carried, selection);
+    else if (lessons.current) await lessons.begin(lessons.lessons[lessons.current - 1]);
+    else if (isBattle && place) await page.fight(this.#marked, !isStill(), { round: this.#roundOf(place) });
+  }
+
+  /**
+   * Shows a battle of the browser's history again.
+   * @param {Fight} fight
+   * @param {{turn?: number, pinned?: number | null, plays?: boolean}} shown
+   * @param {boolean} isGuest whether its sources may not be in the list
+   */
+  async #return(fight, shown, isGuest) {
+    const { page } = this;
+    try {
+      await page.session.open(fight, { ...shown, plays: shown.plays && !element("battle").hidden });
+      page.takeTerms(fight, isGuest);
+    } catch (error) {
+      page.complain(errorWords(error, fight.warriors, page.meanings));
+    }
+  }
+
+  /** The sources that are marked, as many as can fight. */
+  get #marked() {
+    const { fighters, all } = this.page.shelf;
+    return fighters.length ? fighters.slice(0, MAX_WARRIORS) : [all[0]];
+  }
+
+  /** @param {import("./places.js").Place} place */
+  #roundOf({ view, number }) {
+    return view === "battle" ? clamp(number ?? 0, 0, this.page.terms.value.rounds - 1) : 0;
+  }
+
+  /** A page shows a battle, also if its address, the sources that are marked or the terms have errors. */
+  async #beginAnyway() {
+    const { page } = this;
+    const isPlayed = !element("battle").hidden && !isStill();
+    const complaint = element("complaint").textContent ?? "";
+    await page.fight(this.#marked, isPlayed);
+    const faults = [complaint, ...(page.server?.faults ?? []), element("complaint").textContent ?? ""];
+    const first = page.examples.filter(({ name }) => FIRST.includes(name));
+    if (!page.session.latest) await page.fight(first, isPlayed, page.defaultTerms);
+    page.complain([...new Set(faults)].join(" ").trim());
+    if (!page.session.latest) element("loading").textContent = "The simulator does not start.";
+    // A link that cannot be opened is not tried again when the page is loaded again.
+    if (readAddress(location.hash).text) page.places.rename();
+  }
+
+  /**
+   * @param {string} text
+   * @param {Selection} selection
+   */
+  async #openLink(text, selection) {
+    const { page } = this;
+    /** @type {Source[]} */
+    let warriors = [];
+    try {
+      const { fight, turn, pinned } = await unpack(text, selection);
+      warriors = fight.warriors;
+      if (fight.formula !== FORMULA) await page.pool.ask("checkFormula", [fight.formula], "link", 3);
+      const isEmbedded = document.body.classList.contains("embed");
+      await page.session.open(fight, { turn, pinned, plays: turn === 0 && !isStill() && !isEmbedded });
+      page.takeTerms(fight, true);
+    } catch (error) {
+      page.complain(`This link cannot be opened. ${errorWords(error, warriors, page.meanings)}`);
+    }
+  }
+}

@@ -1,0 +1,28 @@
+/** In how many columns the cells of a core are shown. */
+
+/** The least size of cells in pixels that show their instruction. */
+export const READABLE = 46;
+/** By how much one side of a cell may be longer than the other, so that they fill the canvas. */
+const OBLONG = 1.16;
+
+/**
+ * Returns the number of columns that makes the cells largest, preferably a divisor of the core size, and their sides.
+ * Sides may be fractions, so that cells differ by a pixel and fill the canvas, unless they are large enough for text.
+ * @param {number} size of the core
+ * @param {number} width in pixels of the screen
+ * @param {number} height
+ */
+export function bestColumns(size, width, height) {
+  let best = { columns: Math.max(1, Math.floor(width)), x: 1, y: 1, worth: 0 };
+  const [minimum, maximum] = [Math.sqrt(size) / 3, Math.sqrt(size) * 3];
+  for (let columns = Math.max(1, Math.floor(minimum)); columns <= Math.min(size, Math.ceil(maximum)); columns++) {
+    const [across, down] = [width / columns, height / Math.ceil(size / columns)];
+    const room = Math.min(across, down);
+    const isText = room >= READABLE * devicePixelRatio;
+    const most = isText ? Math.floor(room) : room < 1 ? room : room * OBLONG;
+    const [x, y] = [Math.min(across, most), Math.min(down, most)];
+    const worth = x * y * Math.sqrt(Math.min(x / y, y / x)) * (size % columns === 0 ? 1.08 : 1);
+    if (worth > best.worth) best = { columns, x, y, worth };
+  }
+  return best;
+}

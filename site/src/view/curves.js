@@ -1,0 +1,116 @@
+/** The battle as curves over time: above, the cells of each warrior, stacked; below, its processes. */
+import { number } from "../words/battle.js";
+
+/** @typedef {import("../battle/overview.js").Overview} Overview */
+/** @typedef {import("./palette.js").Palette} Palette */
+/**
+ * What a film is drawn with: `x` is where a turn is; `middle` and `bottom` are the feet of the two curves.
+ * @typedef {object} Drawing
+ * @property {CanvasRenderingContext2D} context
+ * @property {Palette} palette
+ * @property {Overview} overview
+ * @property {number} warriors
+ * @property {number} width
+ * @property {number} middle
+ * @property {number} bottom
+ * @property {(turn: number) => number} x
+ */
+
+export const FONT = "11px system-ui, sans-serif";
+const GROUND = "#0e1217";
+
+/**
+ * @param {Drawing} drawing
+ * @param {{count: number}[]} peaks the most processes of each warrior: samples may miss that
+ */
+export function drawCurves(drawing, peaks) {
+  const maxCells = drawCells(drawing);
+  drawTicks(drawing);
+  const maxProcesses = Math.max(drawProcesses(drawing), ...peaks.map(({ count }) => count));
+  drawLegend(drawing, maxCells, maxProcesses);
+}
+
+/**
+ * Draws the cells of the warriors, stacked. Returns the largest sum.
+ * @param {Drawing} drawing
+ */
+function drawCells({ context, palette, overview: { turns, cells }, warriors, middle, x }) {
+  const below = new Float64Array(turns.length);
+  const row = (/** @type {number} */ at) => cells.slice(at * warriors, (at + 1) * warriors);
+  const sums = turns.map((_, at) => row(at).reduce((sum, count) => sum + count, 0));
+  const maximum = Math.max(1, ...sums);
+  const y = (/** @type {number} */ at) => middle - 2 - (below[at] / maximum) * (middle - 8);
+  for (let who = 0; who < warriors; who++) {
+    context.beginPath();
+    turns.forEach((turn, at) => context.lineTo(x(turn), y(at)));
+    for (let at = turns.length - 1; at >= 0; at--) {
+      below[at] += cells[at * warriors + who];
+      context.lineTo(x(turns[at]), y(at));
+    }
+    context.fillStyle = palette.text[who];
+    context.globalAlpha = 0.62;
+    context.fill();
+    context.globalAlpha = 1;
+  }
+  return maximum;
+}
+
+/**
+ * Draws the processes of the warriors. Returns the largest number.
+ * @param {Drawing} drawing
+ */
+function drawProcesses({ context, palette, overview: { turns, processes }, warriors, middle, bottom, x }) {
+  const maximum = processes.reduce((one, other) => Math.max(one, other), 1);
+  for (let who = 0; who < warriors; who++) {
+    // Equal curves lie beside each other.
+    const apart = Math.min(2, 12 / warriors) * who;
+    context.beginPath();
+    turns.forEach((turn, at) => {
+      const share = Math.sqrt(processes[at * warriors + who] / maximum);
+      context.lineTo(x(turn), bottom - 2 - share * (bottom - middle - 14) - apart);
+    });
+    context.strokeStyle = palette.text[who];
+    context.lineWidth = 1.75;
+    context.lineJoin = "round";
+    context.stroke();
+  }
+  return maximum;
+}
+
+/**
+ * Draws splits and ends of processes, bright if there were many.
+ * @param {Drawing} drawing
+ */
+function drawTicks({ context, overview: { turns, splits, ends }, middle, x }) {
+  const maximum = [...splits, ...ends].reduce((one, other) => Math.max(one, other), 1);
+  for (let at = 1; at < turns.length; at++) {
+    const [from, to] = [x(turns[at - 1]), x(turns[at])];
+    const wide = Math.max(1, to - from);
+    context.fillStyle = `rgba(255,255,255,${0.18 + (0.5 * splits[at]) / maximum})`;
+    if (splits[at]) context.fillRect(to - wide, middle, wide, 3);
+    context.fillStyle = `rgba(255,120,110,${0.25 + (0.6 * ends[at]) / maximum})`;
+    if (ends[at]) context.fillRect(to - wide, middle + 4, wide, 3);
+  }
+}
+
+/**
+ * @param {Drawing} drawing
+ * @param {number} maxCells
+ * @param {number} maxProcesses
+ */
+function drawLegend({ context, width, middle }, maxCells, maxProcesses) {
+  context.font = FONT;
+  context.textAlign = "right";
+  context.lineJoin = "round";
+  const texts = /** @type {const} */ ([
+    [`cells, up to ${number(maxCells)}`, 13],
+    [`processes, up to ${number(maxProcesses)}`, middle + 17],
+  ]);
+  for (const [text, y] of texts) {
+    context.strokeStyle = GROUND;
+    context.lineWidth = 4;
+    context.strokeText(text, width - 16, y);
+    context.fillStyle = "#aab4c0";
+    context.fillText(text, width - 16, y);
+  }
+}

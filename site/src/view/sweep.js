@@ -1,0 +1,76 @@
+/** The curve of a sweep: the points per round of each value. */
+import { number } from "../words/battle.js";
+import { clamp, colourOf, roundStep } from "./dom.js";
+
+/** @typedef {import("../engine/mars.js").Row} Row */
+/** @typedef {{value: number, row: Row | null, left: number}} Result `left` counts the matches that are not done */
+
+const HEIGHT = 190;
+const FOOT = 18;
+const TOP = 14;
+
+/** @param {Result} result */
+export const meanOf = ({ row }) => (row ? row.points / (row.wins + row.ties + row.losses) : 0);
+
+/**
+ * @param {HTMLCanvasElement} canvas
+ * @param {Result[]} results
+ * @param {{best: Result | undefined, most: number, current: number}} marks the best result, the points of a round at
+ *   most, and the value that the source has
+ */
+export function drawSweep(canvas, results, { best, most, current }) {
+  const [width, ratio] = [canvas.clientWidth, devicePixelRatio];
+  if (!width) return;
+  canvas.width = width * ratio;
+  canvas.height = HEIGHT * ratio;
+  const context = /** @type {CanvasRenderingContext2D} */ (canvas.getContext("2d"));
+  const [ink, line, top] = ["--ink", "--win", "--meta"].map(colourOf);
+  context.scale(ratio, ratio);
+  const x = (/** @type {number} */ index) => ((index + 0.5) / results.length) * width;
+  const y = (/** @type {number} */ mean) => HEIGHT - FOOT - (mean / most) * (HEIGHT - FOOT - TOP);
+  context.font = "11px system-ui, sans-serif";
+  context.fillStyle = ink;
+  for (const share of [0, 0.5, 1]) {
+    context.globalAlpha = 0.16;
+    context.fillRect(0, y(share * most), width, 1);
+    context.globalAlpha = 0.7;
+    context.fillText((share * most).toFixed(1), 2, y(share * most) - 3);
+  }
+  context.globalAlpha = 1;
+  const here = results.findIndex(({ value }) => value === current);
+  if (here >= 0) context.fillRect(Math.round(x(here)), TOP, 1, HEIGHT - FOOT - TOP);
+  const wide = Math.max(1.5, width / results.length - 0.5);
+  results.forEach((result, index) => {
+    if (!result.row || result.left) return;
+    context.fillStyle = result === best ? top : line;
+    const height = y(meanOf(result));
+    context.globalAlpha = 0.28;
+    context.fillRect(x(index) - wide / 2, height, wide, HEIGHT - FOOT - height);
+    context.globalAlpha = 1;
+    context.fillRect(x(index) - wide / 2, height - 1, wide, 2.5);
+  });
+  drawValues(context, results, width, ink);
+}
+
+/**
+ * Draws round values, as many as there is room for.
+ * @param {CanvasRenderingContext2D} context
+ * @param {Result[]} results
+ * @param {number} width
+ * @param {string} colour
+ */
+function drawValues(context, results, width, colour) {
+  if (!results.length) return;
+  context.fillStyle = colour;
+  context.globalAlpha = 0.7;
+  const [first, last] = [results[0].value, results[results.length - 1].value];
+  const step = roundStep((last - first) / (width / 90));
+  const side = width / results.length;
+  for (let value = Math.ceil(first / step) * step; value <= last; value += step) {
+    const at = side * (((value - first) / Math.max(1, last - first)) * (results.length - 1) + 0.5);
+    const room = context.measureText(number(value)).width / 2 + 2;
+    context.textAlign = at < room ? "left" : at > width - room ? "right" : "center";
+    // Zero has no sign.
+    context.fillText(number(value || 0), clamp(at, 2, width - 2), HEIGHT - 4);
+  }
+}
