@@ -11,7 +11,7 @@ import { FIRST } from "./sources.js";
 /** @typedef {import("../model/fight.js").Fight} Fight */
 /** @typedef {import("../model/fight.js").Source} Source */
 /** @typedef {import("./link.js").Selection} Selection */
-/** @typedef {import("./main.js").Page} Page */
+/** @typedef {import("./page.js").Page} Page */
 
 /** Whether the user wants no movement. */
 const isStill = () => matchMedia("(prefers-reduced-motion: reduce)").matches;

@@ -2,9 +2,11 @@
 import { MAX_ROUNDS, MAX_SEED } from "../model/layout.js";
 import { DEFAULTS, FORMULA, HILLS, RANGES, SETTINGS, hillOf } from "../model/settings.js";
 import { clamp, element, make, onClick, typed } from "../view/dom.js";
+import { errorWords } from "../view/host.js";
 
 /** @typedef {import("../model/settings.js").Settings} Settings */
 /** @typedef {import("../view/host.js").MatchTerms} MatchTerms */
+/** @typedef {import("../worker/pool.js").Pool} Pool */
 
 /** The value of the list while the settings are custom ones, and of its line that opens their dialog. */
 const OWN = "";
@@ -16,18 +18,18 @@ export class Terms {
   #formula = FORMULA;
 
   /**
+   * @param {{pool: Pool, meanings: Record<string, string>}} host
    * @param {(changes: Partial<MatchTerms>, isShown: boolean) => void} changed the user has changed terms; `isShown`: so
    *   has the battle that is shown
-   * @param {(settings: Settings, formula: string) => Promise<string>} faultOf returns why these are not valid, or ""
    */
-  constructor(changed, faultOf) {
+  constructor(host, changed) {
     this.hill = typed("hill", HTMLSelectElement);
     this.seed = typed("seed", HTMLInputElement);
     this.rounds = typed("rounds", HTMLInputElement);
     this.seed.max = String(MAX_SEED);
     this.rounds.max = String(MAX_ROUNDS);
     this.changed = changed;
-    this.faultOf = faultOf;
+    this.host = host;
     this.hill.append(...Object.keys(HILLS).map((name) => make("option", { value: name }, name)));
     // A list reports no choice of the line that it shows.
     this.hill.append(make("option", { value: OWN, hidden: true }, "custom"));
@@ -106,12 +108,28 @@ export class Terms {
     const settings = /** @type {Settings} */ (Object.fromEntries(entries));
     const field = typed("own-formula", HTMLInputElement);
     const formula = field.value.trim() || FORMULA;
-    field.setCustomValidity(await this.faultOf(settings, formula));
+    field.setCustomValidity(await this.#faultOf(settings, formula));
     if (!field.reportValidity()) return;
     this.#settings = settings;
     this.#position = number("own-position");
     this.#formula = formula;
     typed("own", HTMLDialogElement).close();
     this.changed({ settings: this.#settings, position: this.#position, formula: this.#formula }, true);
+  }
+
+  /**
+   * Returns why settings and a score formula are not valid, or "".
+   * @param {Settings} settings
+   * @param {string} formula
+   */
+  async #faultOf(settings, formula) {
+    const { pool, meanings } = this.host;
+    try {
+      await pool.ask("assemble", ["NOP\n", { settings, rounds: 1, warriors: 2 }], "terms", 3);
+      await pool.ask("checkFormula", [formula], "terms", 3);
+      return "";
+    } catch (error) {
+      return errorWords(error, [], meanings);
+    }
   }
 }
