@@ -687,6 +687,31 @@ def test_the_editor_has_room(page: Browser, site: str) -> None:
     assert page.run(width) == pytest.approx(narrower, abs=0.2)
 
 
+def test_details_are_a_tab_beside_the_editor(page: Browser) -> None:
+    """The core keeps its room in a usual window. What is looked at is shown; a lesson is shown beside the editor."""
+    shown = "['desk', 'side', 'lesson-box', 'core'].filter(id => document.getElementById(id).checkVisibility())"
+    go_to_turn(page, 7798)
+    assert page.value(shown) == ["side", "core"]
+    page.run("corewar.views.showDesk(true)")
+    assert page.value(shown) == ["desk", "core"] and page.value("document.getElementById('core').offsetWidth") > 600
+    point = page.value("corewar.theatre.core.pointOf(3)")
+    page.mouse(point["x"], point["y"], "pointerDown", "pointerUp")
+    page.until(f"{shown}.join() === 'side,core' && corewar.session.pinned === 3")
+    page.click("#tabs [data-tab=code]")
+    page.click("#why-now")
+    page.until(f"{shown}.join() === 'side,core' && corewar.session.chain")
+    page.click("#chain .source .link")
+    page.until(f"{shown}.join() === 'desk,core'")
+    page.run("await corewar.lessons.begin(corewar.lessons.lessons[4])")
+    assert page.value(shown) == ["desk", "side", "lesson-box", "core"]
+    try:
+        page.resize(1600, 900)
+        page.run("document.querySelector('#lesson-box > .link').click()")
+        page.until(f"{shown}.join() === 'desk,side,core'")
+    finally:
+        page.resize(1280, 800)
+
+
 def test_a_source_that_takes_minutes(page: Browser) -> None:
     """Its worker is ended, and the page continues to work: in the editor, and in a fight."""
     page.run("corewar.shelf.show(corewar.shelf.add({name: 'slow.red', text: given[0]}))", slow())
@@ -1405,6 +1430,20 @@ def test_a_narrow_page_has_tabs(narrow: Browser) -> None:
     assert narrow.value(shown) == ["lesson-box"]
     narrow.click("#tabs [data-tab=view]")
     assert narrow.value(shown) == ["battle"]
+    # So are the bench and the league, with the list of sources.
+    for view in ("bench", "league"):
+        narrow.click(f"[data-view={view}]")
+        for tab, place in (("code", "desk"), ("view", view)):
+            narrow.click(f"#tabs [data-tab={tab}]")
+            visible = "['bench', 'league', 'desk'].filter(id => document.getElementById(id).checkVisibility())"
+            assert narrow.value(visible) == [place]
+        assert narrow.text("tab-view").lower() == view
+    # The head is two rows high; the terms are behind a button.
+    terms = "document.getElementById('terms').checkVisibility()"
+    narrow.resize(360, 740)
+    assert narrow.value("document.getElementById('top').offsetHeight") < 100 and not narrow.value(terms)
+    narrow.click("#terms-show")
+    assert narrow.value(terms)
 
 
 def test_a_narrow_page_shows_lessons(narrow: Browser) -> None:
