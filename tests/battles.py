@@ -15,7 +15,8 @@ from numpy.typing import NDArray
 from corewar.engine.battles import Battle
 from corewar.engine.calls import Match
 from corewar.engine.warriors import Warrior, read_load
-from corewar.model.cells import MODES, MODIFIERS, OPCODES, Cells, Records, cell_of, cell_text
+from corewar.model.types import Cells, Records
+from corewar.model.cells import MODES, MODIFIERS, OPCODES, cell_of, cell_text
 from corewar.model.edits import Edit
 from corewar.model.errors import MarsError
 from corewar.model.settings import Settings

@@ -96,18 +96,18 @@ def test_versions_score_as_in_their_matches(run: Run) -> None:
 def test_versions_for_programs(run: Run) -> None:
     """CSV and JSON have the rows of the table, with the names of the versions and with exact errors."""
     words = ["challenge", "--old", "dead.red", "-r", 4, "stay.red", "stay.red", "dead.red"]
-    heads = "file,name,author,old,new,change,error\n"
-    rows = "stay.red,Stay,Anonymous,0.0,100.0,100.0,0.0\ndead.red,Dead,Anonymous,150.0,300.0,150.0,86.6025\n"
+    heads = "file,name,author,old,new,change,error,number\n"
+    rows = "stay.red,Stay,Anonymous,0.0,100.0,100.0,0.0,0\ndead.red,Dead,Anonymous,150.0,300.0,150.0,86.6025,1\n"
     mean = "stay.red,Stay,Anonymous,75.0,200.0,125.0,43.3013\n"
     assert run(*words, "--format", "csv").stdout == heads + rows
-    assert run(*words, "--format", "csv", "--sum").stdout == heads + mean
+    assert run(*words, "--format", "csv", "--sum").stdout == heads + mean.replace("\n", ",\n")
     result = json.loads(run(*words, "--format", "json").stdout)
     found = [",".join(map(str, one.values())) + "\n" for one in (*result["matches"], result["warrior"])]
     assert "".join(found) == rows + mean and result["rounds"] == 4
     assert result["before"] == {"file": "dead.red", "name": "Dead", "author": "Anonymous"}
     assert "matches" not in json.loads(run(*words, "--format", "json", "--sum").stdout)
     unknown = run("challenge", "-r", 1, "--old", "dead.red", "--format", "csv", "stay.red", "stay.red").stdout
-    assert unknown == heads + "stay.red,Stay,Anonymous,0.0,100.0,100.0,\n"
+    assert unknown == heads + "stay.red,Stay,Anonymous,0.0,100.0,100.0,,0\n"
 
 
 def test_the_same_change_in_every_round(run: Run) -> None:
@@ -133,12 +133,12 @@ def test_versions_that_cannot_be_compared(run: Run) -> None:
 
 
 HEADS = (
-    "file name author points wins ties losses theirs rounds win_percent tie_percent loss_percent score error".split()
-)
-CANDIDATE = ["stay.red", "Stay", "Anonymous", "16", "4", "4", "0", "4", "8", "50.0", "50.0", "0.0", "200.0", "0.0"]
+    "file name author points wins ties losses theirs rounds win_percent tie_percent loss_percent score error number"
+).split()
+CANDIDATE = ["stay.red", "Stay", "Anonymous", "16", "4", "4", "0", "4", "8", "50.0", "50.0", "0.0", "200.0", "0.0", ""]
 ROWS = [
-    ["dead.red", "Dead", "Anonymous", "12", "4", "0", "0", "0", "4", "100.0", "0.0", "0.0", "300.0", "0.0"],
-    ["stay.red", "Stay", "Anonymous", "4", "0", "4", "0", "4", "4", "0.0", "100.0", "0.0", "100.0", "0.0"],
+    ["dead.red", "Dead", "Anonymous", "12", "4", "0", "0", "0", "4", "100.0", "0.0", "0.0", "300.0", "0.0", "1"],
+    ["stay.red", "Stay", "Anonymous", "4", "0", "4", "0", "4", "4", "0.0", "100.0", "0.0", "100.0", "0.0", "0"],
 ]
 
 
@@ -151,7 +151,10 @@ def test_formats_for_programs(run: Run) -> None:
     assert table == [HEADS, CANDIDATE]
     result = json.loads(run(*words, "--format", "json", *files).stdout)
     assert result["seed"] == 1 and result["rounds"] == 4 and "-r=4" in result["words"]
-    assert [[str(one[head]) for head in HEADS] for one in [result["warrior"], *result["matches"]]] == [CANDIDATE, *ROWS]
+    assert [[str(one.get(head, "")) for head in HEADS] for one in [result["warrior"], *result["matches"]]] == [
+        CANDIDATE,
+        *ROWS,
+    ]
     only = json.loads(run(*words, "--format", "json", "--sum", *files).stdout)
     assert only["warrior"] == result["warrior"] and "matches" not in only
     done = run(*words, "--format", "csv", "stay.red", "none.red")
@@ -163,7 +166,8 @@ def test_error(run: Run) -> None:
     options: list[list[str]] = [[], ["--sum"]]
     for words in options:
         row = run("challenge", "--format", "csv", *words, "-r", 4, "dead.red", "dead.red").stdout.splitlines()[1]
-        assert row == "dead.red,Dead,Anonymous,6,2,0,2,6,4,50.0,0.0,50.0,150.0,86.6025"
+        number = "" if words else "0"
+        assert row == f"dead.red,Dead,Anonymous,6,2,0,2,6,4,50.0,0.0,50.0,150.0,86.6025,{number}"
 
 
 def test_errors_of_files(run: Run) -> None:

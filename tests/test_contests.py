@@ -65,6 +65,23 @@ def test_a_league_is_arrays() -> None:
         assert [*vars(rows[0]).values(), rows[1].points] == result
 
 
+def test_rows_have_numbers() -> None:
+    """Warriors without names and files are told apart by their indices."""
+    cells = [corewar.assemble(text).cells for text in ("MOV 0, 1", "JMP 0", "DAT 0", "SPL 0\nJMP -1")]
+    made = [corewar.Warrior.from_cells(one) for one in cells]
+    results = [CONTEST.league(made), CONTEST.melee(made, 3, 8)]
+    for result in results:
+        rows = result.to_dict()["warriors"]
+        assert [row["number"] for row in rows] == result.order.tolist() != [0, 1, 2, 3]
+        assert [row["points"] for row in rows] == result.points[result.order].tolist()
+    challenge = CONTEST.challenge(made[0], made[1:])
+    assert [row["points"] for row in challenge.records()] == [
+        challenge.points[row["number"]] for row in challenge.records()
+    ]
+    assert [row["number"] for row in CONTEST.compare(made[0], made[1], made[2:]).records()] == [0, 1]
+    assert "number" not in challenge.total()
+
+
 def test_results_are_stored(tmp_path: Path) -> None:
     """A challenge finds what a league has stored, and its seeds do not depend on the other warriors."""
     path, seen = tmp_path / "kept.sqlite", list[corewar.Progress]()
@@ -87,6 +104,14 @@ def test_errors() -> None:
             Contest(**given)  # type: ignore[arg-type]
     with pytest.raises(ValueError, match="expected settings or one of"):
         Contest("unknown")
+    with pytest.raises(CorewarError, match="expected the positions drawn, same, pmars or all, not 'each'"):
+        Contest(positions="each")  # type: ignore[arg-type]
+    few: list[corewar.Positions] = ["pmars", "all"]
+    for positions in few:
+        with pytest.raises(CorewarError, match=f"a position and the positions {positions} exclude each other"):
+            Contest(position=200, positions=positions)
+        with pytest.raises(CorewarError, match="the positions of a melee are drawn"):
+            Contest(positions=positions).melee(warriors())
     with pytest.raises(CorewarError, match="expected 1 or more opponents"):
         CONTEST.compare(warriors()[0], warriors()[1], [])
     with pytest.raises(CorewarError, match="expected 1 or more jobs, not 0"):
@@ -138,4 +163,4 @@ def test_seeds_of_matches() -> None:
     assert abs(seeds.mean() / 2**30 - 1) < 0.1
     turned, other = contest.league(made[::-1]).seeds, Contest("nano", seed=2).league(made).seeds
     assert not {*seeds.tolist()} & {*turned.tolist()} and not {*seeds.tolist()} & {*other.tolist()}
-    assert (Contest("nano", same_seed=True, seed=7).league(made[:3]).seeds == 7).all()
+    assert (Contest("nano", positions="same", seed=7).league(made[:3]).seeds == 7).all()

@@ -26,7 +26,7 @@ def fighters(*names: str) -> list[Warrior]:
 @pytest.mark.parametrize("names", [("dwarf", "imp"), ("scanner", "dwarf"), ("imp", "paper")])
 def test_each_position(names: tuple[str, str]) -> None:
     """Two rounds at each position have each warrior begin once."""
-    contest, (first, second) = Contest(SMALL, every_position=True), fighters(*names)
+    contest, (first, second) = Contest(SMALL, positions="all"), fighters(*names)
     states: list[Progress] = []
     found = contest.challenge(first, [second, first], jobs=2, progress=states.append)
     assert contest.rounds == 2 * len(distances(SMALL)) == 322 and (states[-1].done, states[-1].total) == (644, 644)
@@ -41,7 +41,7 @@ def test_each_position(names: tuple[str, str]) -> None:
 
 def test_what_has_no_every_position(tmp_path: Path) -> None:
     """A league, a melee and stored results."""
-    contest, warriors = Contest(SMALL, every_position=True), fighters("dwarf", "imp")
+    contest, warriors = Contest(SMALL, positions="all"), fighters("dwarf", "imp")
     with pytest.raises(CorewarError):
         contest.league(warriors)
     with pytest.raises(CorewarError):

@@ -7,6 +7,7 @@ from typing import Any
 
 import pytest
 
+from corewar.cli.options import Output
 from corewar.engine.files import replace_file
 from corewar.model.errors import FileError
 
@@ -33,4 +34,7 @@ def test_a_read_only_file_is_not_replaced(tmp_path: Path, monkeypatch: pytest.Mo
     monkeypatch.setattr(os, "access", lambda path, mode: False)
     with pytest.raises(FileError, match="read-only file"):
         replace_file(tmp_path / "old", b"new")
+    # An option that names a file reports it in the same way, before anything is run.
+    with pytest.raises(FileError, match="read-only file"):
+        Output(dir_okay=False, writable=True).convert(str(tmp_path / "old"), None, None)
     assert (tmp_path / "old").read_text() == "old"

@@ -30,7 +30,8 @@ from corewar.engine.battles import Battle
 from corewar.engine.calls import Match, assemble
 from corewar.engine.sources import read
 from corewar.engine.warriors import Warrior
-from corewar.model.cells import Cells, cell_of, cell_text
+from corewar.model.types import Cells
+from corewar.model.cells import cell_of, cell_text
 from corewar.model.edits import Edit
 from corewar.model.errors import CorewarError, MarsError
 from corewar.model.settings import Settings
@@ -318,12 +319,28 @@ def test_a_battle_is_a_value(fight: Match, round: int, first: int, more: int, li
     assert other.over
 
 
+def test_records_are_returned_in_portions(monkeypatch: pytest.MonkeyPatch) -> None:
+    """They are the same, and need memory only for the turns that are left."""
+    fight = dwarf_and_imp().fight
+    records, touched = Battle(fight).play(records=9000, touched=50)
+    for size in (100, 7000):
+        monkeypatch.setattr("corewar.engine.battles.RECORDED_TURNS", size)
+        battle = Battle(fight)
+        more, seen = battle.play(records=(1 << 32) - 1, touched=50)
+        assert np.array_equal(more, records) and np.array_equal(seen, touched) and battle.turns == len(records) == 7798
+        assert battle.play(records=5, touched=(1 << 32) - 1)[0].size == 0
+    assert len(Battle(fight).play(150, records=120)[0]) == 120
+
+
 def test_a_battle_is_checked() -> None:
     battle = Battle(dwarf_and_imp().fight)
     for length, name in ((0, "Short"), (255, "Short"), (len(bytes(battle)) - 1, "Short")):
         with pytest.raises(MarsError) as fault:
             Battle.of_bytes(bytes(battle)[:length])
         assert (fault.value.kind, fault.value.name) == ("block", name)
+    # A number is not as many bytes.
+    with pytest.raises(TypeError):
+        Battle.of_bytes(1 << 40)  # type: ignore[arg-type]
     with pytest.raises(MarsError, match="^block 2 Mark$"):
         Battle.of_bytes(b"\0" + bytes(battle)[1:])
     battle.cells[7] = (16, 0, 0, 0, 0, 0)

@@ -117,7 +117,7 @@ LAST_FIRST = ["-r", 4, "dead.red", "late.red", "stay.red", "same.red"]
 def test_csv(run: Run, folder: Path) -> None:
     """Dead has no points. Late survives only Dead, and the two others survive both and tie."""
     head = "rank file name author points wins ties losses rounds win_percent tie_percent loss_percent score error"
-    head += " lead lead_error"
+    head += " number lead lead_error"
     won, late = ["12", "66.6667", "33.3333", "0.0", "233.3333", "0.0"], [
         "12",
         "33.3333",
@@ -128,10 +128,28 @@ def test_csv(run: Run, folder: Path) -> None:
     ]
     table = [
         head.split(),
-        ["1", "stay.red", "Stay", "Anonymous", "28", "8", "4", "0", *won, "0.0", "0.0"],
-        ["1", "same.red", "Stay", "Anonymous", "28", "8", "4", "0", *won, "133.3333", "0.0"],
-        ["3", "late.red", "Late, later", "Me & you", "12", "4", "0", "8", *late, "100.0", "0.0"],
-        ["4", "dead.red", "Dead", "Anonymous", "0", "0", "0", "12", "12", "0.0", "0.0", "100.0", "0.0", "0.0", "", ""],
+        ["1", "stay.red", "Stay", "Anonymous", "28", "8", "4", "0", *won, "2", "0.0", "0.0"],
+        ["1", "same.red", "Stay", "Anonymous", "28", "8", "4", "0", *won, "3", "133.3333", "0.0"],
+        ["3", "late.red", "Late, later", "Me & you", "12", "4", "0", "8", *late, "1", "100.0", "0.0"],
+        [
+            "4",
+            "dead.red",
+            "Dead",
+            "Anonymous",
+            "0",
+            "0",
+            "0",
+            "12",
+            "12",
+            "0.0",
+            "0.0",
+            "100.0",
+            "0.0",
+            "0.0",
+            "0",
+            "",
+            "",
+        ],
     ]
     assert [*csv.reader(io.StringIO(run("league", "--format", "csv", *LAST_FIRST).stdout))] == table
     run("league", "--format", "csv", "--order", "files", "-o", "out.csv", *LAST_FIRST)
@@ -143,7 +161,7 @@ def test_json(run: Run, folder: Path) -> None:
     assert result["seed"] == 1 and result["rounds"] == 4 and "-r=4" in result["words"]
     assert [warrior["file"] for warrior in result["warriors"]] == ORDER
     assert result["warriors"][0] == {
-        **{"rank": 1, "file": "stay.red", "name": "Stay", "author": "Anonymous"},
+        **{"rank": 1, "number": 2, "file": "stay.red", "name": "Stay", "author": "Anonymous"},
         **{"points": 28, "wins": 8, "ties": 4, "losses": 0, "rounds": 12},
         **{"win_percent": 66.6667, "tie_percent": 33.3333, "loss_percent": 0.0, "score": 233.3333, "error": 0.0},
         **{"lead": 0.0, "lead_error": 0.0},
@@ -164,7 +182,7 @@ def test_no_error_is_known_from_one_round(run: Run, folder: Path) -> None:
         result = json.loads(run("league", "--format", "json", *words, "stay.red", "dead.red").stdout)
         assert [(one["score"], one["error"]) for one in result["warriors"]] == [(300.0, None), (0.0, None)]
         table = run("league", "--format", "csv", *words, "stay.red", "dead.red").stdout.splitlines()
-        assert [line.split(",")[-3] for line in table] == ["error", "", ""]
+        assert [line.split(",")[-4] for line in table] == ["error", "", ""]
     result = json.loads(run("league", "--format", "json", "-r", 4, "stay.red", "none.red").stdout)
     (warrior,) = result["warriors"]
     assert (warrior["rounds"], warrior["win_percent"], warrior["score"], warrior["error"]) == (0, 0.0, 0.0, None)
@@ -220,7 +238,7 @@ def test_a_lead_has_an_error() -> None:
     # Copies have the same results against Dwarf, and tie with each other.
     equal = next(one for one in league(imp, imp, dwarf) if one["lead"] == 0)
     assert equal["lead_error"] == 0 and equal["error"] > 0
-    same = league(*examples(), same_seed=True)
+    same = league(*examples(), positions="same")
     assert all(one["error"] is one["lead_error"] is None for one in same)
 
 
@@ -447,7 +465,7 @@ def test_a_stored_match_is_of_its_contest(folder: Path) -> None:
         Contest(rounds=4, seed=2),
         Contest(rounds=4, formula="S"),
         Contest(Settings(cycles=9), rounds=4),
-        Contest(rounds=4, same_seed=True),
+        Contest(rounds=4, positions="same"),
     ]
     for other in others:
         assert not filled(other)[0].is_fought.any()
@@ -582,7 +600,7 @@ def test_a_contest_is_words() -> None:
     words = "-s=8000 -p=8000 -c=80000 -l=100 -d=100 -r=1 --seed=1 -F=200 --score=(W*W-1)/S"
     assert Contest(position=200).words == words.split()
     # A seed of its own is not that of all matches.
-    assert Contest().words == [word for word in Contest(same_seed=True).words if word != "--seed=1"]
+    assert Contest().words == [word for word in Contest(positions="same").words if word != "--seed=1"]
 
 
 def test_the_call_keeps_its_name() -> None:

@@ -6,6 +6,7 @@ import io
 import json
 import random
 import signal
+import sqlite3
 import time
 from pathlib import Path
 from typing import Any
@@ -33,12 +34,10 @@ def test_it_is_the_sum_of_its_matches(formula: str) -> None:
     contest = Contest(rounds=3, seed=9, formula=formula)
     table = contest.melee(warriors(), 3, 20)
     assert table.to_dict() == contest.melee(warriors(), 3, 20, jobs=3).to_dict()
-    dice, sums = random.Random(9), {name: [0] * 5 for name in NAMES}
-    lineups = lineups_of(len(NAMES), 3, 20, dice)
-    for lineup in lineups:
-        rows = corewar.match(
-            [warriors()[one] for one in lineup], rounds=3, seed=dice.randint(1, 2_147_483_646), formula=formula
-        )
+    lineups, sums = lineups_of(len(NAMES), 3, 20, random.Random(9)), {name: [0] * 5 for name in NAMES}
+    assert table.lineups.tolist() == lineups and len({*table.seeds.tolist()}) == 20
+    for lineup, seed in zip(lineups, table.seeds.tolist()):
+        rows = corewar.match([warriors()[one] for one in lineup], rounds=3, seed=seed, formula=formula)
         for one, row in zip(lineup, rows):
             added = [row.points, 3, row.wins, row.ties, row.losses]
             sums[NAMES[one]] = [before + number for before, number in zip(sums[NAMES[one]], added)]
@@ -98,7 +97,7 @@ def test_formats_for_programs(run: Run) -> None:
         assert one["rounds"] == 14 and one["error"] >= 0 and one["win_percent"] == round(100 * one["wins"] / 14, 4)
     table = [*csv.DictReader(io.StringIO(run(*words, "--format", "csv").stdout))]
     assert table == [{name: str(value) for name, value in one.items()} for one in result["warriors"]]
-    assert [*table[0]][:2] == ["rank", "file"] and [*table[0]][-2:] == ["score", "error"]
+    assert [*table[0]][:2] == ["rank", "file"] and [*table[0]][-3:] == ["score", "error", "number"]
 
 
 def test_the_command(run: Run, tmp_path: Path) -> None:
@@ -138,6 +137,34 @@ def test_it_can_be_stopped() -> None:
     started.send_signal(signal.SIGINT)
     _, errors = started.communicate(timeout=20)
     assert (started.returncode, errors) == (130, "\ncorewar: stopped\n")
+
+
+def test_results_are_stored(run: Run, tmp_path: Path) -> None:
+    """A melee that was stopped continues, more lineups begin with the same ones, and a league may share the file."""
+    path, contest = tmp_path / "kept.sqlite", Contest(rounds=2)
+    seen = list[Progress]()
+    found = [contest.melee(warriors(), 3, count, results=path, progress=seen.append) for count in (5, 5, 8)]
+    assert [one.done for one in seen] == [0, 5, 5, 5, 8]
+    for table, count in zip(found, (5, 5, 8)):
+        assert table.to_dict() == contest.melee(warriors(), 3, count).to_dict()
+    words = ["--results", path, "-r", 2, *(f"@{name}" for name in NAMES)]
+    (one, other) = (run("melee", "--size", 3, "--lineups", 8, *words) for _ in range(2))
+    assert one.stdout == other.stdout and one.returncode == 0 and run("league", *words).returncode == 0
+    with sqlite3.connect(path) as file:
+        assert [len([*file.execute(f"SELECT * FROM {name}")]) for name in ("melees", "fought")] == [8, 15]
+        # Another formula or another order of the warriors, whose digests are in the key, is another match.
+    assert contest.melee(warriors()[::-1], 3, 8, results=path, progress=seen.append).lineups.shape == (8, 3)
+    assert seen[-2].done == 0
+
+
+@pytest.mark.parametrize("lives", ["x'00'", "x''", "zeroblob(48)", "x'" + "02000000" * 12 + "'"])
+def test_stored_results_that_cannot_be(run: Run, tmp_path: Path, lives: str) -> None:
+    words = ["melee", "--size", 3, "--lineups", 1, "-r", 2, "--results", "kept.sqlite", *(f"@{name}" for name in NAMES)]
+    assert run(*words).returncode == 0
+    with sqlite3.connect(tmp_path / "kept.sqlite") as file:
+        file.execute(f"UPDATE melees SET lives = {lives}")
+    wrong = run(*words)
+    assert (wrong.returncode, wrong.stdout) == (1, "") and "kept.sqlite: invalid result: " in wrong.stderr
 
 
 def test_it_reports_its_progress(monkeypatch: pytest.MonkeyPatch) -> None:

@@ -1,8 +1,12 @@
 """What a program gets to know of errors and battles: problems, turns, reasons and studies as values, and their JSON."""
 from __future__ import annotations
 
+import builtins
+import inspect
 import json
 import pickle
+import re
+from collections.abc import Iterator
 from dataclasses import asdict
 from pathlib import Path
 from typing import Any
@@ -135,6 +139,29 @@ def test_player() -> None:
     html = player._repr_html_()
     assert html.startswith('<iframe srcdoc="&lt;!DOCTYPE html&gt;') and 'sandbox="allow-scripts"' in html
     assert "height: 300px" in html and player.page.startswith("<!DOCTYPE html>")
+
+
+def annotated(thing: Any) -> Iterator[str]:
+    """The annotations of a public call, of the fields of a class, and of its public methods and properties."""
+    if inspect.isclass(thing):
+        yield from (str(one) for one in vars(thing).get("__annotations__", {}).values())
+        members = [one for name, one in vars(thing).items() if name == "__init__" or not name.startswith("_")]
+        functions = [getattr(one, "fget", getattr(one, "func", getattr(one, "__func__", one))) for one in members]
+    else:
+        functions = [thing]
+    for one in functions:
+        found = [*map(str, getattr(one, "__annotations__", {}).values())]
+        # Blocks are of the package itself.
+        yield from found if "Block" not in "".join(found) else []
+
+
+def test_types_of_signatures_are_public() -> None:
+    """A program may use them in signatures of its own."""
+    general = "Any ArrayLike Callable Collection Executor Iterator NDArray PathLike Sequence os np".split()
+    known = {*corewar.__all__, *general, *dir(builtins), *(f"np.{name}" for name in dir(np)), "os.PathLike"}
+    for name in corewar.__all__:
+        for text in annotated(getattr(corewar, name)):
+            assert {*re.findall(r"[A-Za-z_][\w.]*", text)} <= known, (name, text)
 
 
 def test_columns() -> None:

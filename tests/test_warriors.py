@@ -27,7 +27,8 @@ from corewar.engine import outcomes as module, sources as assembling
 from corewar.engine.outcomes import COUNTED, COUNTS, OUTCOME
 from corewar.engine.parts import call_there, versions
 from corewar.engine.warriors import read_load
-from corewar.model.cells import MODES, MODIFIERS, OPCODES, Cell
+from corewar.model.types import Cell
+from corewar.model.cells import MODES, MODIFIERS, OPCODES
 
 
 def test_constants() -> None:
@@ -412,11 +413,12 @@ CALLS = [
     "corewar.outcomes(two, rounds=100000)",
     "corewar.outcomes(two, [[0, 1]] * 9, rounds=10000, jobs=2)",
     "corewar.Battle(corewar.Match(two * 8, settings=corewar.Settings(cycles=10**7))).play()",
+    "corewar.Battle(corewar.Match(two * 8, settings=corewar.Settings(cycles=10**6))).play(records=10**7)",
     "corewar.Contest(rounds=100000).league(two * 2)",
     "corewar.Contest(rounds=100000).league(two * 2, jobs=2)",
     "corewar.Contest(rounds=100000).melee(two, 2, 9)",
     "corewar.Contest(rounds=100000).compare(*two, two)",
-    "corewar.Contest(every_position=True).challenge(two[0], two * 2, jobs=2)",
+    "corewar.Contest(positions='all').challenge(two[0], two * 2, jobs=2)",
 ]
 
 

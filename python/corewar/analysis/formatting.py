@@ -8,7 +8,8 @@ import numpy as np
 
 from ..battle.history import History
 from ..battle.labels import Sources
-from ..model.cells import Cell, cell_text
+from ..model.types import Cell
+from ..model.cells import cell_text
 from .turns import Place, Turn, Write
 
 # How many of many texts are shown, and how many processes around one that was edited.

@@ -15,12 +15,11 @@ from ..battle.labels import MAX_TRACED_TURNS, Sources
 from ..battle.origins import Origins
 from ..engine.calls import Match
 from ..engine.warriors import Warrior
+from ..model.types import Numbers
 from ..model.cells import OPCODES
 from ..model.settings import Settings, settings_of
 from .formatting import BattleFormatter, pluralize
 
-Numbers = NDArray[np.int64]
-Strides = tuple[tuple[int | None, float], ...]
 COMPARING = [OPCODES.index(name) for name in ("SEQ", "SNE", "SLT", "JMZ", "JMN", "DJN")]
 # The most lines of a table, the most strides of a line, and the least share of a stride that is shown.
 MAX_ROWS, MAX_STRIDES, MIN_SHARE = 8, 2, 0.2
@@ -54,7 +53,7 @@ class Access:
     times: int
     cells: int
     by: int
-    strides: Strides
+    strides: tuple[tuple[int | None, float], ...]
     line: str
 
     @property
@@ -244,7 +243,7 @@ def joined(parts: list[Accesses]) -> Accesses:
     return Accesses(*(np.concatenate([getattr(part, name) for part in parts]) for name in vars(parts[0])))
 
 
-def strides(found: Accesses, core: int) -> Strides:
+def strides(found: Accesses, core: int) -> tuple[tuple[int | None, float], ...]:
     """Returns the distances between cells that the same operand accesses one after the other, the most frequent first,
     each with its share.
     """

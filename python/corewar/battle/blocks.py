@@ -11,7 +11,7 @@ from numpy.lib.recfunctions import repack_fields
 from numpy.typing import NDArray
 
 from ..engine.battles import Battle
-from ..model.cells import Cells, Records
+from ..model.types import Cells, Records
 
 
 @dataclass(frozen=True, eq=False)

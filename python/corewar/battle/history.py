@@ -19,7 +19,7 @@ from numpy.typing import NDArray
 
 from ..engine.battles import Battle, battle_of_mark
 from ..engine.calls import Match
-from ..model.cells import Records
+from ..model.types import Owners, Records
 from ..model.edits import Edit
 from ..model.errors import CorewarError
 from ..model.settings import whole
@@ -37,7 +37,6 @@ BLOCK_SIZE, CACHED_BLOCKS = 65_536, 24
 MAX_MARKS, MAX_MARK_BYTES = 64, 64 << 20
 # The owner of a cell: a warrior's number, or one of these.
 NOBODY, BY_HAND = 255, 254
-Owners = NDArray[np.uint8]
 
 
 @dataclass(frozen=True, eq=False)

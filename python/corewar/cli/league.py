@@ -49,6 +49,7 @@ JOBS = click.option(
     default=PROCESSORS,
     help=f"Number of parallel matches, 1 to {MAX_JOBS}  [default: number of CPUs]",
 )
+# Where matches are run, and where their results are stored.
 EXECUTION_OPTIONS = [
     click.option(
         "--results",
@@ -58,7 +59,6 @@ EXECUTION_OPTIONS = [
         help="Store results in this file; skip matches already in it",
     ),
     JOBS,
-    match_option("--same-seed", is_flag=True, help="Give all matches the seed itself, as `mars --league` does"),
     click.option(
         "--scheduler",
         cls=Option,
@@ -68,6 +68,7 @@ EXECUTION_OPTIONS = [
         help="Run the matches on the workers of a Dask cluster",
     ),
 ]
+SAME_SEED = match_option("--same-seed", is_flag=True, help="Give all matches the seed itself, as `mars --league` does")
 
 
 @dataclass(frozen=True)
@@ -107,9 +108,10 @@ def contest_options(rounds: int) -> Decorator:
         ) -> Any:
             if len(options.files) < 2:
                 raise click.UsageError("expected at least two files")
-            return command(replace(options, same_seed=same_seed), MatchRunner(results, jobs, scheduler), **given)
+            options = replace(options, positions="same") if same_seed else options
+            return command(options, MatchRunner(results, jobs, scheduler), **given)
 
-        return with_options(*EXECUTION_OPTIONS)(wrapper)
+        return with_options(*EXECUTION_OPTIONS, SAME_SEED)(wrapper)
 
     return decorate
 
@@ -250,7 +252,7 @@ def print_change(options: BattleOptions, runner: MatchRunner, old: str, **shown:
     contest, warriors, faults = entrants_of(replace(options, files=(*both, *options.files[1:])))
     if len(warriors) < 3 or any(fault.file in both for fault in faults):
         return 1
-    what, matches = ("battles", 1) if contest.every_position else ("opponents", 2)
+    what, matches = ("battles", 1) if contest.positions == "all" else ("opponents", 2)
     with Waiting(what, matches) as waiting:
         result = contest.compare(warriors[0], warriors[1], warriors[2:], jobs=runner.jobs, progress=waiting)
     write_results(result, **shown)

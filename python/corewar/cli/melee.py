@@ -1,14 +1,16 @@
 """`melee`: matches of several warriors in random lineups."""
 from __future__ import annotations
 
+from functools import partial
+from typing import Any
+
 import click
 
 from ..model.settings import MAX_WARRIORS
 from .layout import Command, Number
-from .league import JOBS, LEFT_OUT, entrants_of, write_results
-from .options import BattleOptions, battle_options, format_option
+from .league import EXECUTION_OPTIONS, LEFT_OUT, MatchRunner, entrants_of, write_results
+from .options import BattleOptions, battle_options, format_option, with_options
 from .reporting import report
-from .waiting import Waiting
 
 
 @click.command(
@@ -28,8 +30,8 @@ from .waiting import Waiting
     "--lineups", type=Number(1, 1_000_000), default=100, show_default=True, help="Number of matches, 1 to 1000000"
 )
 @format_option(("table", "csv", "json"))
-@JOBS
-def melee(options: BattleOptions, size: int, lineups: int, form: str, jobs: int) -> int:
+@with_options(*EXECUTION_OPTIONS)
+def melee(options: BattleOptions, size: int, lineups: int, form: str, **where: Any) -> int:
     """Run matches in random lineups, and rank all warriors.
 
     The warriors' numbers of matches differ by at most one. The score is the points per 100 rounds; equal scores share a
@@ -44,7 +46,5 @@ def melee(options: BattleOptions, size: int, lineups: int, form: str, jobs: int)
     if len(warriors) < size:
         report(f"{len(warriors)} warriors are left, but a match has {size}")
         return 1
-    with Waiting() as waiting:
-        result = contest.melee(warriors, size, lineups, jobs=jobs, progress=waiting)
-    write_results(result, form)
+    write_results(MatchRunner(**where).run(partial(contest.melee, warriors, size, lineups)), form)
     return 1 if faults else 0

@@ -18,6 +18,7 @@ from ..engine.calls import Match
 from ..engine.sources import Limit, read_warriors
 from ..model.errors import CorewarError, FileError
 from ..model.settings import FORMULA, HILLS, MAX_WARRIORS, NUMBERS, Settings, whole
+from ..model.types import Positions
 from .layout import CORE, MATCH, Number, Option
 from .reporting import report
 
@@ -39,8 +40,7 @@ class BattleOptions:
     pmars: str
     round: int
     limit: Limit
-    same_seed: bool = False
-    every_position: bool = False
+    positions: Positions = "drawn"
 
     @property
     def contest(self) -> Contest:
@@ -51,9 +51,7 @@ class BattleOptions:
             seed=self.seed,
             position=self.position,
             formula=self.formula,
-            same_seed=self.same_seed or self.pmars != "",
-            pmars_fixed=self.pmars == FIXED,
-            every_position=self.every_position,
+            positions="pmars" if self.pmars == FIXED else "same" if self.pmars else self.positions,
         )
 
     def everywhere(self) -> BattleOptions:
@@ -61,7 +59,7 @@ class BattleOptions:
         drawing = ("rounds", "seed", "position", "results", "same_seed", "pmars_position", "pmars_fixed")
         if given := options_given(*drawing):
             raise click.UsageError(f"--positions all and {given[0]} exclude each other")
-        return replace(self, every_position=True)
+        return replace(self, positions="all")
 
     def fight(self) -> Match:
         """The match of the files. Each file is read once. Raises FileError."""
@@ -83,7 +81,9 @@ class BattleOptions:
 
 
 class Output(click.Path):
-    """A file or a folder to write. Its name isn't empty, and the folder of a file exists and accepts a new one."""
+    """A file or a folder to write. Its name isn't empty, and a file may be written: the folder exists and accepts a new
+    one.
+    """
 
     def convert(self, value: Any, param: click.Parameter | None, context: click.Context | None) -> Any:
         if not value:
@@ -93,6 +93,8 @@ class Output(click.Path):
             raise FileError(str(folder), "no such folder")
         if self.file_okay and not os.path.exists(value) and not os.access(folder, os.W_OK):
             raise FileError(str(folder), "this folder accepts no new file")
+        if self.file_okay and os.path.exists(value) and not os.access(value, os.W_OK):
+            raise FileError(value, "read-only file")
         return super().convert(value, param, context)
 
 

@@ -12,7 +12,7 @@ import click
 from ..battle.frames import part_ends
 from ..battle.history import History
 from ..engine.calls import assemble
-from ..model.cells import Cell
+from ..model.types import Cell
 from ..model.edits import Edit
 from ..model.errors import CorewarError, FileError, MarsError
 from ..model.settings import whole

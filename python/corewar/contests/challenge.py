@@ -7,10 +7,11 @@ from typing import Any
 import numpy as np
 
 from ..engine.warriors import Warrior
+from ..model.types import Numbers, Rates
 from ..model.printing import printable
 from .exact import strip_of
 from .matches import Matches
-from .standings import HEAD, NAMES, RATES, Numbers, Rates, Standings, Sums, head_of, names_of, rates_of
+from .standings import HEAD, NAMES, RATES, Standings, Sums, head_of, names_of, rates_of
 
 # The width of a strip in a table.
 STRIP = 32
@@ -35,7 +36,7 @@ class Challenge(Standings):
     total_error: float
     by_distance: Rates | None = None
 
-    COLUMNS = (*NAMES, *HEAD, "theirs", *RATES)
+    COLUMNS = (*NAMES, *HEAD, "theirs", *RATES, "number")
 
     @property
     def sums(self) -> list[int]:
@@ -43,13 +44,16 @@ class Challenge(Standings):
         return [sum(column) for column in np.column_stack([self.counts, self.theirs]).T.tolist()]
 
     def records(self) -> list[dict[str, Any]]:
-        """Returns a row for each match, that with the most points first."""
+        """Returns a row for each match, that with the most points first: the names of the opponent, its points as
+        `theirs` and its index as `number`, the other columns of `Standings` for the warrior, and the `seed`.
+        """
         return [self.record(one) for one in np.argsort(-self.points, kind="stable").tolist()]
 
     def record(self, number: int) -> dict[str, Any]:
         """Returns the row of a match."""
         counts = *self.counts[number].tolist(), int(self.theirs[number])
-        return {**row_of(self.warriors[number], counts, self.errors[number]), "seed": int(self.seeds[number])}
+        row = row_of(self.warriors[number], counts, self.errors[number])
+        return {**row, "number": number, "seed": int(self.seeds[number])}
 
     def total(self) -> dict[str, Any]:
         """Returns the row of the warrior, with the sums."""

@@ -2,17 +2,20 @@
 from __future__ import annotations
 
 from dataclasses import dataclass
-from typing import Any
+from typing import TYPE_CHECKING, Any
 
 import numpy as np
 from numpy.typing import NDArray
 
 from ..engine.rewards import score_of
 from ..engine.warriors import Warrior
+from ..model.types import Indices, Rates
 from ..model.printing import printable
-from .matches import Rows
-from .standings import NAMES, Rates, freeze, head_of, names_of, rounded
-from .terms import Terms
+from .standings import NAMES, freeze, head_of, names_of, rounded
+
+if TYPE_CHECKING:
+    # A contest has methods that return these.
+    from .contest import Contest
 
 # The number of standard errors from which a change is more than chance.
 MIN_STANDARD_ERRORS = 2
@@ -32,17 +35,17 @@ class Comparison:
     `records` and `to_dict` are for programs.
     """
 
-    contest: Terms
+    contest: Contest
     versions: tuple[Warrior, Warrior]
     opponents: tuple[Warrior, ...]
     scores: Rates
 
-    COLUMNS = (*NAMES, *HEAD)
+    COLUMNS = (*NAMES, *HEAD, "number")
 
     def __post_init__(self) -> None:
         freeze(self)
 
-    def change(self, opponents: Rows | list[int] | slice = slice(None)) -> tuple[float, float, float, float]:
+    def change(self, opponents: Indices | list[int] | slice = slice(None)) -> tuple[float, float, float, float]:
         """Returns the scores of both versions for 100 rounds against some of the opponents, or against all, the change,
         and its standard error, or NaN if that is not known.
         """
@@ -58,8 +61,10 @@ class Comparison:
         return old, new, new - old, scale * error
 
     def records(self) -> list[dict[str, Any]]:
-        """Returns a row for each opponent."""
-        return [self._record(one, [number]) for number, one in enumerate(self.opponents)]
+        """Returns a row for each opponent: its index as `number`, its names, and what `change` returns as `old`, `new`,
+        `change` and `error`.
+        """
+        return [{**self._record(one, [number]), "number": number} for number, one in enumerate(self.opponents)]
 
     def total(self) -> dict[str, Any]:
         """Returns the row of the new version, with the means."""
@@ -96,7 +101,7 @@ class Comparison:
         """Whether the change is more than chance, in a sentence."""
         _, _, change, error = self.change()
         better = f"The new version is {'better' if change > 0 else 'worse'}"
-        if self.contest.every_position:
+        if self.contest.positions == "all":
             kind = better if change else "Both versions score the same"
             return f"{kind}: these are all starting positions in both orders."
         if np.isnan(error):

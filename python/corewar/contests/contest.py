@@ -2,32 +2,31 @@
 from __future__ import annotations
 
 import os
-import random
 from collections.abc import Callable, Iterator, Sequence
 from concurrent.futures import Executor
 from contextlib import ExitStack
 from dataclasses import dataclass
 from functools import partial
-from typing import Any
+from typing import Any, TypeVar
 
 import numpy as np
 from numpy.typing import ArrayLike, NDArray
 
 from ..engine.outcomes import check_jobs, run_lineups, table_of
-from ..engine.rewards import survivals
 from ..engine.warriors import Warrior
+from ..model.types import Indices
 from ..model.errors import CorewarError
-from ..model.settings import MAX_SEED, MAX_WARRIORS
+from ..model.settings import MAX_WARRIORS
 from .challenge import Challenge, challenge_of
 from .comparison import Comparison, scores_of
 from .exact import battles_of, rounds_of, survivors
 from .league import League, league_of
-from .matches import Matches, Rows, all_pairs, counts_of
-from .melee import Melee, lineups_of, melee_of
+from .matches import Matches, Schedule, all_pairs, counts_of
+from .melee import Lineups, Melee, melee_of
 from .results import Results
 from .terms import Terms
 
-NOT_ALL = "only a challenge and a comparison can have every position"
+Kind = TypeVar("Kind", bound=Schedule)
 
 
 @dataclass(frozen=True)
@@ -59,7 +58,7 @@ class Execution:
     def check(self, contest: Terms) -> None:
         """Raises CorewarError if results of a contest cannot be stored."""
         # The positions of `pmars -f` also follow from whether a source says CMP, by which no result is stored.
-        if self.results is not None and (contest.pmars_fixed or contest.every_position):
+        if self.results is not None and contest.positions in ("pmars", "all"):
             raise CorewarError("results with the positions of `pmars -f`, or with every position, cannot be stored")
 
     def report(self, done: int, total: int, turned: int = 0) -> None:
@@ -75,13 +74,14 @@ class Contest(Terms):
     - `seed`: the seed, 1 to 2,147,483,646
     - `position`: the address of the second of two warriors, or None to draw positions from the seed
     - `formula`: the score of each survivor of a round, as for `match`
-    - `same_seed`: whether all matches have the seed itself, as in `mars --league`; otherwise each match of two has a
-      seed of its own, which `seed` and the two warriors determine, so that the matches of a warrior are independent
-    - `pmars_fixed`: whether each match of two has the seed of `pmars -f`, which follows from the cells of both
-    - `every_position`: whether each match of a challenge or comparison has a round for each starting position and each
-      warrior that begins, so that its results are exact; nothing is drawn, and `rounds` is the number of these
+    - `positions`: from what the starting positions of each match follow:
+        - `drawn`: a seed of its own, which `seed` and its warriors determine, so that the matches are independent
+        - `same`: `seed` itself, as in `mars --league`
+        - `pmars`: the cells of its two warriors, as with `pmars -f`
+        - `all`: a challenge or a comparison has a round for each position and each warrior that begins, so that its
+          results are exact; nothing is drawn, and `rounds` becomes the number of these
 
-    Results of matches with the last two are not stored.
+    Results with `pmars` and `all` are not stored, and a melee can only be drawn.
 
     Every method takes these by name:
 
@@ -109,9 +109,7 @@ class Contest(Terms):
         Raises `MarsError` for an invalid warrior, and `CorewarError` for the file and for errors of an executor.
         """
         matches = Matches(self, warriors, all_pairs(len(warriors)))
-        for _ in run(matches, Execution(jobs, executor, results, progress)):
-            pass
-        return league_of(matches)
+        return league_of(run_all(matches, Execution(jobs, executor, results, progress)))
 
     def challenge(
         self,
@@ -128,10 +126,8 @@ class Contest(Terms):
         """
         pairs = np.column_stack([np.zeros(len(opponents), np.intp), np.arange(1, len(opponents) + 1)])
         matches, how = Matches(self, [warrior, *opponents], pairs), Execution(jobs, executor, results, progress)
-        if not self.every_position:
-            for _ in run(matches, how):
-                pass
-            return challenge_of(matches)
+        if self.positions != "all":
+            return challenge_of(run_all(matches, how))
         how.check(self)
         rows = self._everywhere(matches.warriors, pairs, how)
         matches.fill_in(np.arange(len(pairs)), counts_of(rows, self.formula))
@@ -157,7 +153,7 @@ class Contest(Terms):
         warriors = [old, new, *opponents]
         pairs = np.stack(np.meshgrid([0, 1], np.arange(2, len(warriors)), indexing="ij"), axis=-1).reshape(-1, 2)
         finish, how = partial(scores_of, formula=self.formula), Execution(jobs, executor, None, progress)
-        if self.every_position:
+        if self.positions == "all":
             scores = finish(self._everywhere(warriors, pairs, how))
         else:
             scores = self._play(warriors, pairs, self.fixed_seeds(warriors, pairs), finish, how)
@@ -171,34 +167,33 @@ class Contest(Terms):
         *,
         jobs: int = 1,
         executor: Executor | None = None,
+        results: str | os.PathLike[str] | None = None,
         progress: Callable[[Progress], object] | None = None,
     ) -> Melee:
         """Runs matches of random warriors, whose numbers of matches differ by at most one. The seed draws the warriors
-        and the seed of each match.
+        and the seed of each match. The first matches of a greater number are the same.
 
         - `size`: the number of warriors in a match, 2 to 16
         - `lineups`: the number of matches, 1 or more
+        - `results`: as for `league`, with which it may share a file
 
-        Raises `MarsError`, and `CorewarError` for too few warriors and for errors of an executor.
+        Raises `MarsError`, and `CorewarError` for too few warriors, for the file and for errors of an executor.
         """
-        if self.every_position:
-            raise CorewarError(NOT_ALL)
+        if self.positions != "drawn":
+            raise CorewarError("the positions of a melee are drawn")
         if not 2 <= size <= min(MAX_WARRIORS, len(warriors)) or lineups < 1:
             raise CorewarError(f"expected 1 or more matches of 2 to 16 of the warriors, not {lineups} of {size}")
-        dice = random.Random(self.seed)
-        drawn = np.array(lineups_of(len(warriors), size, lineups, dice))
-        seeds = np.array([dice.randint(1, MAX_SEED) for _ in drawn])
-        lives = self._play(warriors, drawn, seeds, survivals, Execution(jobs, executor, None, progress))
-        return melee_of(self, warriors, drawn, seeds, lives)
+        matches = Lineups(self, warriors, size, lineups)
+        return melee_of(run_all(matches, Execution(jobs, executor, results, progress)))
 
-    def _everywhere(self, warriors: Sequence[Warrior], pairs: Rows, how: Execution) -> NDArray[Any]:
+    def _everywhere(self, warriors: Sequence[Warrior], pairs: Indices, how: Execution) -> NDArray[Any]:
         """Returns the survivors of each battle from every position, as rows of a match for each pair."""
         return rounds_of(self._play(warriors, *battles_of(pairs, self.settings), survivors, how), len(pairs))
 
     def _play(
         self,
         warriors: Sequence[Warrior],
-        lineups: Rows,
+        lineups: Indices,
         seeds: ArrayLike,
         finish: Callable[[NDArray[Any]], NDArray[Any]],
         how: Execution,
@@ -213,13 +208,20 @@ class Contest(Terms):
         return np.concatenate([parts[start] for start in sorted(parts)])
 
 
-def run(matches: Matches, how: Execution) -> Iterator[Rows]:
+def run_all(matches: Kind, how: Execution) -> Kind:
+    """Returns matches after those that are not stored have been run."""
+    for _ in run(matches, how):
+        pass
+    return matches
+
+
+def run(matches: Schedule, how: Execution) -> Iterator[Indices]:
     """Runs the matches that are not stored yet. Yields their rows: first those that are stored, then those of some
     matches each time these have been run. Raises CorewarError.
     """
     how.check(matches.contest)
-    if matches.contest.every_position:
-        raise CorewarError(NOT_ALL)
+    if matches.contest.positions == "all":
+        raise CorewarError("only a challenge and a comparison can have every position")
     with ExitStack() as stack:
         stored = stack.enter_context(Results(os.fspath(how.results), matches)) if how.results else None
         turned = stored.find() if stored else 0

@@ -8,9 +8,10 @@ from typing import Any
 import numpy as np
 
 from ..engine.calls import fits
+from ..model.types import Indices, Numbers, Rates
 from ..model.errors import SCORE, MarsError
-from .matches import Counts, Matches, Pairs, Rows
-from .standings import HEAD, NAMES, RATES, Numbers, Rates, Standings, Sums, rounded
+from .matches import Matches
+from .standings import HEAD, Standings, Sums, rounded
 
 LEADS = ("lead", "lead_error")
 
@@ -27,14 +28,14 @@ class League(Standings):
     - `by_points`: whether rows are shown by their points, or in the order of the warriors
     """
 
-    pairs: Pairs
-    results: Counts
+    pairs: Indices
+    results: Numbers
     seeds: Numbers
     leads: Rates
     lead_errors: Rates
     by_points: bool = True
 
-    COLUMNS = ("rank", *NAMES, *HEAD, *RATES, *LEADS)
+    COLUMNS = (*Standings.COLUMNS, *LEADS)
 
     @cached_property
     def matrix(self) -> Numbers:
@@ -42,7 +43,7 @@ class League(Standings):
         return matrix_of(len(self.warriors), self.pairs, self.results)
 
     @property
-    def order(self) -> Rows:
+    def order(self) -> Indices:
         """The indices of the warriors as they are shown."""
         return best_of(self.points) if self.by_points else np.arange(len(self.warriors))
 
@@ -62,12 +63,14 @@ class League(Standings):
         return np.asarray(self.matrix[np.ix_(self.order, self.order)][..., 1:])
 
     def record(self, number: int) -> dict[str, Any]:
-        """Returns the row of a warrior, without its rank."""
+        """Returns the row of a warrior, without its rank, also with its `lead` and `lead_error`."""
         lead = dict(zip(LEADS, map(rounded, (self.leads[number], self.lead_errors[number]))))
         return {**super().record(number), **lead}
 
     def to_dict(self) -> dict[str, Any]:
-        """Returns the options, the seed, the rows, and each match with the numbers of these rows, as plain values."""
+        """Returns the options, the seed, the rows, and each match, whose `first` and `second` are indices of the rows,
+        as plain values.
+        """
         names = ("first", "second", *HEAD, "theirs", "seed")
         table = np.column_stack([np.argsort(self.order)[self.pairs], self.results, self.seeds])
         return {**super().to_dict(), "matches": [dict(zip(names, row)) for row in table.tolist()]}
@@ -92,12 +95,12 @@ class League(Standings):
         )
 
 
-def best_of(points: Numbers) -> Rows:
+def best_of(points: Numbers) -> Indices:
     """Returns the indices of warriors by their points, the most first; equal ones are in their order."""
     return np.argsort(-points, kind="stable")
 
 
-def matrix_of(count: int, pairs: Pairs, results: Counts) -> Numbers:
+def matrix_of(count: int, pairs: Indices, results: Numbers) -> Numbers:
     matrix = np.zeros((count, count, 4), np.int64)
     first, second = pairs.T
     matrix[first, second], matrix[second, first] = results[:, :4], results[:, [4, 3, 2, 1]]
@@ -107,13 +110,13 @@ def matrix_of(count: int, pairs: Pairs, results: Counts) -> Numbers:
 def league_of(matches: Matches) -> League:
     """Returns the league of the matches of all pairs. Raises `MarsError` if a sum of points does not fit in 64 bits."""
     contest, count = matches.contest, len(matches.warriors)
-    matrix = matrix_of(count, matches.pairs, matches.counts)
+    matrix = matrix_of(count, matches.lineups, matches.counts)
     if not all(fits(sum(line)) for line in matrix[..., 0].tolist()):
         raise MarsError(SCORE, 4)
     counts, rows = matrix.sum(axis=1), np.arange(len(matches))
     best, scale = best_of(counts[:, 0]), 100 / (contest.rounds * max(1, count - 1))
     # The points of a match belong to the sum of each of its warriors ..
-    given = matches.pairs.T.ravel(), np.tile(rows, 2), np.repeat([0, 1], len(rows))
+    given = matches.lineups.T.ravel(), np.tile(rows, 2), np.repeat([0, 1], len(rows))
     errors = Sums(count, *given, np.ones_like(given[0])).errors(matches) * scale
     # .. and to the lead of each over the next one, and with the opposite sign to the lead of the one before.
     places = np.argsort(best)[given[0]]
@@ -123,4 +126,4 @@ def league_of(matches: Matches) -> League:
     leads = np.append(-np.diff(counts[best, 0]) * scale, [np.nan] * bool(count))
     of_warriors = np.argsort(best)
     ahead = leads[of_warriors], lead_errors[of_warriors]
-    return League(contest, matches.warriors, counts, errors, matches.pairs, matches.counts, matches.seeds, *ahead)
+    return League(contest, matches.warriors, counts, errors, matches.lineups, matches.counts, matches.seeds, *ahead)

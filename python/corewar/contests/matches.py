@@ -2,10 +2,10 @@
 from __future__ import annotations
 
 import hashlib
-from collections.abc import Iterator, Sequence
+from collections.abc import Callable, Iterator, Sequence
 from concurrent.futures import Executor
 from functools import partial
-from typing import Any
+from typing import TYPE_CHECKING, Any
 
 import numpy as np
 from numpy.typing import NDArray
@@ -14,21 +14,22 @@ from ..engine.calls import fits
 from ..engine.outcomes import play, run_lineups, table_of
 from ..engine.rewards import score_of, survivals
 from ..engine.warriors import Warrior
+from ..model.types import Indices, Numbers
 from ..model.errors import SCORE, CorewarError, MarsError
-from .terms import Terms
+from .results import Table
 
-# Rows of five numbers: points, wins, ties and losses of the first warrior, and points of the second one.
-Counts = NDArray[np.int64]
-# Rows of two numbers: the warriors of a match in their order.
-Pairs = NDArray[np.intp]
-# Indices of pairs, from 0.
-Rows = NDArray[np.intp]
+if TYPE_CHECKING:
+    # Its methods run matches.
+    from .contest import Contest
+
 # The maximum number of matches that are listed for the library at a time.
 BLOCK = 1 << 18
 
 
-def counts_of(rows: NDArray[Any], formula: str) -> Counts:
-    """Returns the counts of matches, from the rows of the library. Raises `MarsError`."""
+def counts_of(rows: NDArray[Any], formula: str) -> Numbers:
+    """Returns the counts of matches, from the rows of the library: the points, wins, ties and losses of the first
+    warrior, and the points of the second one. Raises `MarsError`.
+    """
     losses, wins, ties = np.moveaxis(survivals(rows), -1, 0)
     points = points_of(formula, wins, ties[:, 0])
     if not all(map(fits, points.ravel())):
@@ -44,7 +45,7 @@ def points_of(formula: str, wins: NDArray[Any], ties: NDArray[Any]) -> NDArray[A
     return np.asarray(wins.astype(object) * values[0] + ties[:, None].astype(object) * values[1])
 
 
-def check_counts(counts: object, matches: int, contest: Terms) -> Counts:
+def check_counts(counts: object, matches: int, contest: Contest) -> Numbers:
     """Returns the counts of a number of matches, which come from a file or from another machine. Raises CorewarError if
     they are not the counts of any matches of this contest.
     """
@@ -76,13 +77,60 @@ def digests_of(warrior: Warrior) -> tuple[bytes, bytes]:
     return hashlib.sha256(first + b"\n" + rest).digest(), hashlib.sha256(warrior.load).digest()
 
 
-class Matches:
-    """The matches of pairs, sorted by the first and then the second warrior. `counts` is valid where `is_fought`."""
+class Schedule:
+    """Matches that are run, or read from a file: those of lineups of warriors. Rows are indices of matches, and results
+    are only valid where `is_fought`.
+    """
 
-    def __init__(self, contest: Terms, warriors: Sequence[Warrior], pairs: Pairs) -> None:
-        self.contest, self.warriors, self.pairs = contest, tuple(warriors), pairs
-        self.counts: Counts = np.zeros((len(pairs), 5), np.int64)
-        self.is_fought: NDArray[np.bool_] = np.zeros(len(pairs), bool)
+    TABLE: Table
+    # In which form results come here, from the rows of the library.
+    finish: Callable[[NDArray[Any]], NDArray[Any]]
+
+    def __init__(self, contest: Contest, warriors: Sequence[Warrior], lineups: Indices) -> None:
+        self.contest, self.warriors, self.lineups = contest, tuple(warriors), lineups
+        self.seeds: Numbers = np.full(len(lineups), contest.seed)
+        self.is_fought: NDArray[np.bool_] = np.zeros(len(lineups), bool)
+
+    def __len__(self) -> int:
+        return len(self.lineups)
+
+    def fight(self, jobs: int = 1, executor: Executor | None = None) -> Iterator[Indices]:
+        """Runs the matches that are left. Yields the rows of some with their results filled in. Raises CorewarError."""
+        left, run = np.flatnonzero(~self.is_fought), self.contest.run(self.lineups.shape[1])
+        for block in (left[at : at + BLOCK] for at in range(0, len(left), BLOCK)):
+            table = table_of(self.lineups[block], self.seeds[block])
+            for part, found in run_lineups(self.warriors, table, run, self.finish, jobs, executor):
+                rows = block[part]
+                try:
+                    self.fill_in(rows, found)
+                except CorewarError as fault:
+                    raise CorewarError(f"invalid result from a worker: {fault}") from None
+                yield rows
+
+    def fill_in(self, rows: Indices, found: NDArray[Any]) -> None:
+        """Takes the results of matches. Raises CorewarError if they cannot be those."""
+        raise NotImplementedError
+
+    def stored(self, rows: Indices) -> Iterator[tuple[Any, ...]]:
+        """Yields the digests and the results of matches, as the table has them."""
+        raise NotImplementedError
+
+    def take_stored(self, stored: Iterator[tuple[Any, ...]]) -> int:
+        """Fills in what was stored. Returns how many matches are stored only with the warriors in the other order, in
+        results of no match of these. Raises CorewarError if the results cannot be those of a match.
+        """
+        raise NotImplementedError
+
+
+class Matches(Schedule):
+    """The matches of pairs, sorted by the first and then the second warrior, with their counts."""
+
+    TABLE = Table("fought", ("first", "second"), ("points", "wins", "ties", "losses", "theirs"), "INTEGER")
+
+    def __init__(self, contest: Contest, warriors: Sequence[Warrior], pairs: Indices) -> None:
+        super().__init__(contest, warriors, pairs)
+        self.counts: Numbers = np.zeros((len(pairs), 5), np.int64)
+        self.finish = partial(counts_of, formula=contest.formula)
         # An invalid warrior is named by its index.
         play(warriors, table_of([], 1), contest.run(), np.asarray)
         both = [digests_of(warrior) for warrior in warriors]
@@ -91,43 +139,26 @@ class Matches:
         self.seeds = contest.seeds_of(*heads[pairs].T) if contest.has_seeds else contest.fixed_seeds(warriors, pairs)
         # A number for each match; it is the same for matches of equal warriors.
         kinds = np.unique(np.array(self.digests, "S32"), return_inverse=True)[1]
-        self.same: NDArray[np.intp] = kinds[pairs[:, 0]] * len(warriors) + kinds[pairs[:, 1]]
+        self.same: Indices = kinds[pairs[:, 0]] * len(warriors) + kinds[pairs[:, 1]]
 
-    def __len__(self) -> int:
-        return len(self.pairs)
-
-    def fight(self, jobs: int = 1, executor: Executor | None = None) -> Iterator[Rows]:
-        """Runs the matches that are left. Yields the rows of some with their counts filled in. Raises CorewarError."""
-        left, finish = np.flatnonzero(~self.is_fought), partial(counts_of, formula=self.contest.formula)
-        for block in (left[at : at + BLOCK] for at in range(0, len(left), BLOCK)):
-            table = table_of(self.pairs[block], self.seeds[block])
-            for part, counts in run_lineups(self.warriors, table, self.contest.run(), finish, jobs, executor):
-                rows = block[part]
-                try:
-                    self.fill_in(rows, check_counts(counts, len(rows), self.contest))
-                except CorewarError as fault:
-                    raise CorewarError(f"invalid result from a worker: {fault}") from None
-                yield rows
-
-    def fill_in(self, rows: Rows, counts: Counts) -> None:
-        """Stores the counts of matches, by their rows."""
-        self.counts[rows] = counts
+    def fill_in(self, rows: Indices, found: NDArray[Any]) -> None:
+        self.counts[rows] = check_counts(found, len(rows), self.contest)
         self.is_fought[rows] = True
 
-    def rows_of(self, pairs: Pairs) -> Rows:
+    def stored(self, rows: Indices) -> Iterator[tuple[Any, ...]]:
+        for (first, second), numbers in zip(self.lineups[rows].tolist(), self.counts[rows].tolist()):
+            yield self.digests[first], self.digests[second], *numbers
+
+    def rows_of(self, pairs: Indices) -> Indices:
         """Returns the row of each of these pairs, or -1 for a pair without a match."""
         if not len(self):
             return np.full(len(pairs), -1)
         # A pair as one number.
-        wanted, sought = (numbers[:, 0] * len(self.warriors) + numbers[:, 1] for numbers in (self.pairs, pairs))
+        wanted, sought = (numbers[:, 0] * len(self.warriors) + numbers[:, 1] for numbers in (self.lineups, pairs))
         rows = np.searchsorted(wanted, sought).clip(max=len(self) - 1)
         return np.where(wanted[rows] == sought, rows, -1)
 
     def take_stored(self, stored: Iterator[tuple[Any, ...]]) -> int:
-        """Fills in what was stored, by two digests and counts. Returns how many matches are stored only with the
-        warriors in the other order, in results of no match of these. Raises CorewarError if the counts are not those of
-        a match.
-        """
         numbers: dict[bytes, set[int]] = {}
         for number, digests in enumerate(zip(self.digests, self._older)):
             for digest in digests:
@@ -148,6 +179,6 @@ class Matches:
         return int((~self.is_fought[reversed_rows]).sum())
 
 
-def all_pairs(count: int) -> Pairs:
+def all_pairs(count: int) -> Indices:
     """Returns all pairs of `count` warriors, the earlier one first."""
     return np.column_stack(np.triu_indices(count, 1))

@@ -1,21 +1,29 @@
 """Melees: matches of several warriors in random lineups, and how all fared."""
 from __future__ import annotations
 
+import hashlib
 import random
-from collections.abc import Sequence
+from collections.abc import Iterator, Sequence
 from dataclasses import dataclass
-from typing import Any
+from functools import cached_property
+from itertools import islice
+from typing import TYPE_CHECKING, Any
 
 import numpy as np
 from numpy.typing import NDArray
 
 from ..engine.calls import fits
-from ..engine.rewards import score_of
+from ..engine.rewards import scores_of, survivals
 from ..engine.warriors import Warrior
-from ..model.errors import SCORE, MarsError
-from .matches import Rows
-from .standings import HEAD, NAMES, RATES, Numbers, Standings, head_of
-from .terms import Terms
+from ..model.types import Indices, Numbers, Rates
+from ..model.errors import SCORE, CorewarError, MarsError
+from .matches import BLOCK, Schedule, digests_of
+from .results import Table
+from .standings import Standings, head_of
+
+if TYPE_CHECKING:
+    # Its methods run matches.
+    from .contest import Contest
 
 
 @dataclass(frozen=True, eq=False)
@@ -27,10 +35,8 @@ class Melee(Standings):
     - `seeds`: the seeds of the matches
     """
 
-    lineups: Rows
+    lineups: Indices
     seeds: Numbers
-
-    COLUMNS = ("rank", *NAMES, *HEAD, *RATES)
 
     def to_dict(self) -> dict[str, Any]:
         """Returns the options, the seed, the numbers of matches and warriors in one, and the rows, as plain values."""
@@ -63,25 +69,71 @@ def lineups_of(warriors: int, size: int, count: int, dice: random.Random) -> lis
     return lineups
 
 
-def melee_of(
-    contest: Terms, warriors: Sequence[Warrior], lineups: Rows, seeds: Numbers, lives: NDArray[np.intp]
-) -> Melee:
-    """Returns the results of melees. `lives` is for each match and place in how many rounds the warrior died, and was
-    one of 1, 2 .. survivors. Raises `MarsError`.
-    """
-    size, count = lineups.shape[1], len(warriors)
-    sums = np.zeros((count, size + 1), np.int64)
-    np.add.at(sums, lineups, lives)
-    values = [score_of(contest.formula, size, left) if left and sums[:, left].any() else 0 for left in range(size + 1)]
+class Lineups(Schedule):
+    """Matches of random lineups. Of each, only the points of its warriors are kept, and the sums of all."""
+
+    TABLE = Table("melees", ("lineup",), ("lives",), "BLOB")
+    finish = staticmethod(survivals)
+
+    def __init__(self, contest: Contest, warriors: Sequence[Warrior], size: int, count: int) -> None:
+        lineups = np.array(lineups_of(len(warriors), size, count, random.Random(contest.seed)))
+        super().__init__(contest, warriors, lineups)
+        # The first matches of more lineups are the same.
+        self.seeds = contest.seeds_of(*np.arange(2 * count, dtype=np.uint64).reshape(-1, 2).T)
+        self.points = np.zeros(lineups.shape)
+        # In how many rounds each warrior died, and was one of 1, 2 .. survivors.
+        self.sums = np.zeros((len(warriors), size + 1), np.int64)
+        self._lives: Numbers = np.zeros((0, size, size + 1), np.int64)
+
+    def fill_in(self, rows: Indices, found: NDArray[Any]) -> None:
+        rounds, survivors = self.contest.rounds, np.arange(found.shape[-1])
+        of_rounds = found.sum(axis=1) % np.maximum(survivors, 1) == 0
+        if (found < 0).any() or (found.sum(axis=2) != rounds).any() or not of_rounds.all():
+            raise CorewarError(f"a match of {rounds} rounds cannot have these survivors")
+        self.points[rows], self._lives = found @ np.array(scores_of(self.contest.formula, found), float), found
+        np.add.at(self.sums, self.lineups[rows], found)
+        self.is_fought[rows] = True
+
+    def stored(self, rows: Indices) -> Iterator[tuple[Any, ...]]:
+        # These are the rows that were filled in last.
+        return zip(self._keys(rows), (lives.astype("<u4").tobytes() for lives in self._lives))
+
+    @cached_property
+    def _digests(self) -> list[bytes]:
+        return [digests_of(warrior)[0] for warrior in self.warriors]
+
+    def _keys(self, rows: Indices) -> Iterator[bytes]:
+        """Yields a digest of the warriors and the seed of each match."""
+        for lineup, seed in zip(self.lineups[rows].tolist(), self.seeds[rows].tolist()):
+            yield hashlib.sha256(
+                b"".join([seed.to_bytes(4, "little"), *(self._digests[one] for one in lineup)])
+            ).digest()
+
+    def take_stored(self, stored: Iterator[tuple[Any, ...]]) -> int:
+        rows, shape = {key: row for row, key in enumerate(self._keys(np.arange(len(self))))}, self._lives.shape[1:]
+        while block := [*islice(stored, BLOCK)]:
+            own = [(rows[key], lives) for key, lives in block if key in rows]
+            try:
+                found = np.frombuffer(b"".join(lives for _, lives in own), "<u4").reshape(len(own), *shape)
+            except (TypeError, ValueError):
+                raise CorewarError(f"expected {shape[0]} times {shape[1]} numbers for a match") from None
+            self.fill_in(np.array([row for row, _ in own], np.intp), found.astype(np.int64))
+        return 0
+
+
+def melee_of(matches: Lineups) -> Melee:
+    """Returns the results of melees. Raises `MarsError`."""
+    contest, sums, count = matches.contest, matches.sums, len(matches.warriors)
+    values = scores_of(contest.formula, sums)
     points = [sum(value * times for value, times in zip(values, own)) for own in sums.tolist()]
     if not all(map(fits, points)):
         raise MarsError(SCORE, 4)
-    errors = errors_of(lineups.ravel(), (lives @ np.array(values, float)).ravel(), count) / contest.rounds
+    errors = errors_of(matches.lineups.ravel(), matches.points.ravel(), count) / contest.rounds
     counts = np.column_stack([np.array(points, np.int64), sums[:, 1], sums[:, 2:].sum(axis=1), sums[:, 0]])
-    return Melee(contest, tuple(warriors), counts, errors, lineups, seeds)
+    return Melee(contest, matches.warriors, counts, errors, matches.lineups, matches.seeds)
 
 
-def errors_of(places: NDArray[np.int64], points: NDArray[np.float64], count: int) -> NDArray[np.float64]:
+def errors_of(places: Indices, points: Rates, count: int) -> Rates:
     """Returns the standard error of 100 times the mean points of each warrior, or NaN for fewer than two matches.
 
     `places` and `points` have the warrior and its points in each match.

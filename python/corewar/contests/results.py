@@ -1,8 +1,8 @@
 """Stores results of matches in an SQLite file, so that no match is run twice.
 
-A match is identified by its settings and by the digests of the cells and starts of its two warriors, in their
-order, since its results depend only on these. Results are written once a second, all of them or none, so a process that
-is killed loses at most those of its last second. Several processes may use one file.
+A match is identified by its settings and by the digests of the cells and starts of its warriors, in their order, since
+its results depend only on these. Results are written once a second, all of them or none, so a process that is killed
+loses at most those of its last second. Several processes may use one file.
 """
 from __future__ import annotations
 
@@ -12,38 +12,61 @@ import sys
 import time
 from collections.abc import Callable, Iterator
 from contextlib import contextmanager
-from typing import Any, TypeVar
+from dataclasses import dataclass
+from typing import TYPE_CHECKING, Any, TypeVar
 
+from ..model.types import Indices
 from ..model.errors import CorewarError
 from ..model.printing import printable
-from .matches import Matches, Rows
 
-TABLE = """CREATE TABLE IF NOT EXISTS fought (contest TEXT, first BLOB, second BLOB,
-points INTEGER NOT NULL, wins INTEGER NOT NULL, ties INTEGER NOT NULL, losses INTEGER NOT NULL, theirs INTEGER NOT NULL,
-PRIMARY KEY (contest, first, second)) STRICT, WITHOUT ROWID"""
-FIND = "SELECT first, second, points, wins, ties, losses, theirs FROM fought WHERE contest = ?"
-KEEP = "INSERT OR IGNORE INTO fought VALUES (?, ?, ?, ?, ?, ?, ?, ?)"
+if TYPE_CHECKING:
+    # These are stored in tables.
+    from .matches import Schedule
+
 # In seconds: how long another process may lock the file, how long one attempt takes, during which Ctrl-C waits, and how
 # long results wait to be written.
 LOCK_SECONDS = 60
 TRY_SECONDS = 0.25
 WRITE_SECONDS = 1
 
-
 Done = TypeVar("Done")
+
+
+@dataclass(frozen=True)
+class Table:
+    """The table of a kind of matches: its name, the digests by which one is known, and its results with their type."""
+
+    name: str
+    digests: tuple[str, ...]
+    results: tuple[str, ...]
+    type: str
+
+    @property
+    def create(self) -> str:
+        columns = [*(f"{one} BLOB" for one in self.digests), *(f"{one} {self.type} NOT NULL" for one in self.results)]
+        head = f"CREATE TABLE IF NOT EXISTS {self.name} (contest TEXT, {', '.join(columns)}"
+        return f"{head}, PRIMARY KEY (contest, {', '.join(self.digests)})) STRICT, WITHOUT ROWID"
+
+    @property
+    def find(self) -> str:
+        return f"SELECT {', '.join([*self.digests, *self.results])} FROM {self.name} WHERE contest = ?"
+
+    @property
+    def keep(self) -> str:
+        return f"INSERT OR IGNORE INTO {self.name} VALUES (?{', ?' * len([*self.digests, *self.results])})"
 
 
 class Results:
     """The stored results of some matches. Waiting results are written at the end. Raises CorewarError for the file."""
 
-    def __init__(self, path: str, matches: Matches) -> None:
+    def __init__(self, path: str, matches: Schedule) -> None:
         self.path, self.matches, self.contest = path, matches, matches.contest.key
         self.new: list[tuple[Any, ...]] = []
         self.written = time.monotonic()
         with self.file_errors():
             # Some names do not mean a file to SQLite; an absolute path always does.
             self.file = sqlite3.connect(os.path.abspath(path), timeout=TRY_SECONDS)
-            self.retry_while_locked(lambda: self.file.execute(TABLE))
+            self.retry_while_locked(lambda: self.file.execute(matches.TABLE.create))
 
     def __enter__(self) -> Results:
         return self
@@ -64,16 +87,14 @@ class Results:
         """Fills in the stored matches. Returns how many are stored only in the other order."""
         with self.file_errors():
             try:
-                stored = self.retry_while_locked(lambda: self.file.execute(FIND, [self.contest]))
+                stored = self.retry_while_locked(lambda: self.file.execute(self.matches.TABLE.find, [self.contest]))
                 return self.matches.take_stored(stored)
             except CorewarError as fault:
                 raise CorewarError(f"{self.path}: invalid result: {fault}") from None
 
-    def keep(self, rows: Rows) -> None:
+    def keep(self, rows: Indices) -> None:
         """Stores the results of some rows."""
-        digests, counts = self.matches.digests, self.matches.counts[rows].tolist()
-        for (first, second), numbers in zip(self.matches.pairs[rows].tolist(), counts):
-            self.new.append((self.contest, digests[first], digests[second], *numbers))
+        self.new += ((self.contest, *one) for one in self.matches.stored(rows))
         if time.monotonic() - self.written >= WRITE_SECONDS:
             self.write()
 
@@ -85,7 +106,7 @@ class Results:
 
     def _insert(self) -> None:
         with self.file:
-            self.file.executemany(KEEP, self.new)
+            self.file.executemany(self.matches.TABLE.keep, self.new)
 
     def retry_while_locked(self, function: Callable[[], Done]) -> Done:
         """Returns the result of a function, which is tried again while another process has locked the file."""

@@ -5,23 +5,24 @@ import csv
 import io
 from collections.abc import Iterable, Mapping, Sequence
 from dataclasses import dataclass
-from typing import Any
+from typing import TYPE_CHECKING, Any, ClassVar
 
 import numpy as np
-from numpy.typing import NDArray
 
 from ..engine.rewards import score_of
 from ..engine.warriors import Warrior
-from .matches import Matches, Rows
-from .terms import Terms
+from ..model.types import Indices, Numbers, Rates
+from .matches import Matches
+
+if TYPE_CHECKING:
+    # A contest has methods that return these.
+    from .contest import Contest
 
 HEAD = ("points", "wins", "ties", "losses")
 RATES = ("rounds", "win_percent", "tie_percent", "loss_percent", "score", "error")
 NAMES = ("file", "name", "author")
 # The number of digits after the point of a rate.
 DIGITS = 4
-Numbers = NDArray[np.int64]
-Rates = NDArray[np.float64]
 
 
 @dataclass(frozen=True, eq=False)
@@ -38,10 +39,12 @@ class Standings:
     and `to_dict` is what `--format json` prints.
     """
 
-    contest: Terms
+    contest: Contest
     warriors: tuple[Warrior, ...]
     counts: Numbers
     errors: Rates
+
+    COLUMNS: ClassVar[tuple[str, ...]] = ("rank", *NAMES, *HEAD, *RATES, "number")
 
     def __post_init__(self) -> None:
         freeze(self)
@@ -67,7 +70,7 @@ class Standings:
         return np.asarray(100 * self.points / np.maximum(self.rounds, 1))
 
     @property
-    def order(self) -> Rows:
+    def order(self) -> Indices:
         """The indices of the warriors, the best score first."""
         return np.argsort(-self.scores, kind="stable")
 
@@ -77,14 +80,18 @@ class Standings:
         return 1 + np.searchsorted(np.sort(-self.scores), -self.scores)
 
     def records(self) -> list[dict[str, Any]]:
-        """Returns a row for each warrior, the best first."""
+        """Returns a row for each warrior, the best first: its `rank`, `file`, `name`, `author`, `points`, `wins`,
+        `ties`, `losses`, `rounds`, `win_percent`, `tie_percent`, `loss_percent`, `score` and `error`, and as `number`
+        its index among the warriors.
+        """
         ranks = self.ranks
         return [{"rank": int(ranks[one]), **self.record(one)} for one in self.order.tolist()]
 
     def record(self, number: int) -> dict[str, Any]:
         """Returns the row of a warrior, without its rank."""
         counts = self.counts[number].tolist()
-        return {**names_of(self.warriors[number]), **dict(zip(HEAD, counts)), **rates_of(counts, self.errors[number])}
+        names, rates = names_of(self.warriors[number]), rates_of(counts, self.errors[number])
+        return {**names, **dict(zip(HEAD, counts)), **rates, "number": number}
 
     def to_dict(self) -> dict[str, Any]:
         """Returns the options, the seed and the rows, as plain values."""
@@ -98,7 +105,7 @@ def freeze(result: object) -> None:
             value.flags.writeable = False
 
 
-def head_of(contest: Terms) -> dict[str, Any]:
+def head_of(contest: Contest) -> dict[str, Any]:
     """Returns the options and the seed of a contest, as results for programs have them."""
     return {"words": contest.words, "seed": contest.seed, "rounds": contest.rounds}
 
@@ -138,12 +145,12 @@ class Sums:
     """
 
     count: int
-    numbers: Rows
-    rows: Rows
-    sides: NDArray[np.intp]
-    signs: NDArray[np.intp]
+    numbers: Indices
+    rows: Indices
+    sides: Indices
+    signs: Indices
 
-    def errors(self, matches: Matches) -> NDArray[np.float64]:
+    def errors(self, matches: Matches) -> Rates:
         """Returns the standard error of each sum: how far the sums of other seeds lie from their mean.
 
         It is NaN for matches of one round, in which nothing can be compared, for a given position, so that nothing is
@@ -165,7 +172,7 @@ class Sums:
         return np.where((parts > 0) & (parts <= most), np.sqrt(sums.clip(min=0)), np.nan)
 
 
-def spreads(matches: Matches) -> NDArray[np.float64]:
+def spreads(matches: Matches) -> Rates:
     """Returns the variances of the points of both warriors in different matches, and their covariance."""
     contest, example = matches.contest, np.unique(matches.same, return_index=True)[1]
     wins, ties, losses = matches.counts[example, 1:4].astype(float).T

@@ -4,6 +4,7 @@ from __future__ import annotations
 import shlex
 from collections.abc import Sequence
 from dataclasses import dataclass
+from typing import get_args
 
 import numpy as np
 from numpy.typing import NDArray
@@ -13,7 +14,9 @@ from ..engine.calls import Match, check_numbers
 from ..engine.outcomes import Run
 from ..engine.rewards import score_of
 from ..engine.warriors import Warrior
+from ..model.errors import CorewarError
 from ..model.settings import FORMULA, MAX_SEED, NUMBERS, Settings, settings_of
+from ..model.types import Indices, Numbers, Positions
 from .exact import distances
 
 # The numbers of the generator SplitMix64, which makes numbers of 64 bits that look random of any numbers.
@@ -29,9 +32,7 @@ class Terms:
     seed: int
     position: int | None
     formula: str
-    same_seed: bool
-    pmars_fixed: bool
-    every_position: bool
+    positions: Positions
 
     def __init__(
         self,
@@ -41,38 +42,41 @@ class Terms:
         seed: int = 1,
         position: int | None = None,
         formula: str = FORMULA,
-        same_seed: bool = False,
-        pmars_fixed: bool = False,
-        every_position: bool = False,
+        positions: Positions = "drawn",
     ) -> None:
-        given = dict[str, object](rounds=rounds, seed=seed, position=position, formula=formula, same_seed=same_seed)
-        vars(self).update(given, settings=settings_of(settings), pmars_fixed=pmars_fixed, every_position=every_position)
-        # The seeds of matches are made of this one. An invalid number, and a formula that is wrong or has no value for a
-        # win, are refused before hours of matches.
+        given = dict[str, object](rounds=rounds, seed=seed, position=position, formula=formula, positions=positions)
+        vars(self).update(given, settings=settings_of(settings))
+        if positions not in get_args(Positions):
+            *most, last = get_args(Positions)
+            raise CorewarError(f"expected the positions {', '.join(most)} or {last}, not {positions!r}")
+        if position is not None and positions in ("pmars", "all"):
+            raise CorewarError(f"a position and the positions {positions} exclude each other")
+        # The seeds of matches are made of this one. An invalid number, and a formula that is wrong or has no value for
+        # a win, are refused before hours of matches.
         check_numbers(self.settings, rounds, seed, position)
         score_of(formula, 2, 1)
-        if every_position:
-            vars(self).update(rounds=2 * len(distances(self.settings)), position=None)
+        if positions == "all":
+            vars(self).update(rounds=2 * len(distances(self.settings)))
 
     @property
     def words(self) -> list[str]:
         """The settings as options of `mars`, without a seed if each match has its own."""
-        seed = None if self.has_seeds or self.pmars_fixed else self.seed
-        drawn = {} if self.every_position else {"rounds": self.rounds, "seed": seed, "position": self.position}
+        seed = None if self.has_seeds or self.positions == "pmars" else self.seed
+        drawn = {} if self.positions == "all" else {"rounds": self.rounds, "seed": seed, "position": self.position}
         numbers = {**vars(self.settings), **drawn}
         given = [f"{NUMBERS[name].word}={number}" for name, number in numbers.items() if number is not None]
-        more = [("--pmars-fixed", self.pmars_fixed), ("--positions=all", self.every_position)]
-        return [*given, f"--score={self.formula}", *(word for word, is_given in more if is_given)]
+        more = {"pmars": ["--pmars-fixed"], "all": ["--positions=all"]}.get(self.positions, [])
+        return [*given, f"--score={self.formula}", *more]
 
     @property
     def has_seeds(self) -> bool:
         """Whether each match has a seed of its own; with a given position nothing is drawn."""
-        return not (self.same_seed or self.pmars_fixed or self.every_position) and self.position is None
+        return self.positions == "drawn" and self.position is None
 
     @property
     def is_drawn(self) -> bool:
         """Whether rounds differ from each other by chance."""
-        return self.rounds > 1 and self.position is None and not self.every_position
+        return self.rounds > 1 and self.position is None and self.positions != "all"
 
     @property
     def key(self) -> str:
@@ -81,16 +85,16 @@ class Terms:
 
     def run(self, width: int = 2) -> Run:
         """Returns what the engine needs for matches of this number of warriors."""
-        return Run(self.settings, 1 if self.every_position else self.rounds, self.position, width)
+        return Run(self.settings, 1 if self.positions == "all" else self.rounds, self.position, width)
 
-    def fixed_seeds(self, warriors: Sequence[Warrior], pairs: NDArray[np.intp]) -> NDArray[np.int64]:
+    def fixed_seeds(self, warriors: Sequence[Warrior], pairs: Indices) -> Numbers:
         """Returns the seeds of matches of two as `pmars -f` has them, or the seed itself."""
-        if not self.pmars_fixed:
+        if self.positions != "pmars":
             return np.full(len(pairs), self.seed)
         matches = [Match([warriors[number] for number in pair], settings=self.settings) for pair in pairs.tolist()]
         return np.array([*map(seed_of_cells, matches)], np.int64)
 
-    def seeds_of(self, first: NDArray[np.uint64], second: NDArray[np.uint64]) -> NDArray[np.int64]:
+    def seeds_of(self, first: NDArray[np.uint64], second: NDArray[np.uint64]) -> Numbers:
         """Returns seeds of their own for matches, from the first 8 bytes of the digests of their two warriors."""
         start = mixed(np.full(len(first), self.seed, np.uint64))
         return 1 + (mixed(mixed(start ^ first) ^ second) % np.uint64(MAX_SEED)).astype(np.int64)

@@ -11,7 +11,7 @@ from ..battle.history import History
 from ..battle.labels import Sources
 from ..engine.calls import assemble
 from ..explain import explain_error
-from ..model.cells import Cell
+from ..model.types import Cell
 from ..model.edits import Edit
 from ..model.errors import CorewarError, MarsError
 from ..model.settings import whole

@@ -2,12 +2,13 @@
 from __future__ import annotations
 
 from collections.abc import Sequence
+from itertools import chain
 from typing import Any
 
 import numpy as np
 from numpy.typing import NDArray
 
-from ..model.cells import Cells, Records
+from ..model.types import Cells, Records
 from ..model.edits import SET, Edit
 from ..model.errors import EDIT, MarsError
 from ..model.header import numbers
@@ -19,6 +20,8 @@ from .warriors import clamp_fields
 Words = NDArray[np.uint32]
 # The number of words before the cells.
 HEADER = 64
+# The number of turns of a call that returns records or touched cells, and the types of these.
+RECORDED_TURNS, ROWS = 65_536, ("MarsRecord", "MarsTouched")
 # The size of the debugger's history in places, if none is given.
 HISTORY = 200_000
 # The number of an edit's error if an address is outside the core or the first one is above the last.
@@ -46,7 +49,7 @@ class Battle:
     @staticmethod
     def of_bytes(data: bytes) -> Battle:
         """Returns the battle with these bytes. Raises `MarsError` if they are not a battle."""
-        words = np.frombuffer(bytearray(data), np.uint32, len(data) // 4)
+        words = np.frombuffer(bytearray(memoryview(data)), np.uint32, len(data) // 4)
         call("mars_check", *slice_of("uint32_t", words))
         return battle_of_words(words)
 
@@ -127,19 +130,23 @@ class Battle:
         Returns an array with the fields of `MarsRecord` and one with those of `MarsTouched` in the API for C. Raises
         `CorewarError` for a negative number, and `MarsError` if something that was written to the battle is invalid.
         """
-        before = self.turns
-        recorded, seen = array("MarsRecord", records), array("MarsTouched", touched)
-        rows = *slice_of("MarsRecord", recorded), *slice_of("MarsTouched", seen)
+        before, wanted = self.turns, (check_size(records), check_size(touched))
         # No battle has the greatest number of turns.
         left = MAX_UINT32 if turns is None else check_size(turns)
+        parts: list[tuple[Records, Records]] = []
         while True:
-            # Python raises Ctrl-C between two calls.
-            call("mars_play", *self._slice(), left if records or touched else min(left, TURNS), *rows)
-            left -= TURNS
-            if records or touched or left <= 0 or self.over:
+            # Python raises Ctrl-C between two calls, and memory is only needed for turns that are left.
+            done = self.turns - before
+            count = min(left, RECORDED_TURNS if done < max(wanted) else TURNS)
+            rows = [array(*one) for one in zip(ROWS, (min(count, max(0, most - done)) for most in wanted))]
+            call("mars_play", *self._slice(), count, *chain(*map(slice_of, ROWS, rows)))
+            made = self.turns - before - done
+            parts.append((rows[0][:made], rows[1][:made]))
+            left -= count
+            if left <= 0 or self.over:
                 break
-        count = self.turns - before
-        return recorded[:count], seen[:count]
+        recorded, seen = (one[0] if len(parts) == 1 else np.concatenate(one) for one in zip(*parts))
+        return recorded, seen
 
     def edit(self, edit: Edit) -> None:
         """Makes an edit, also if the battle is over.

@@ -17,7 +17,7 @@ from .warriors import Warrior, program
 # The generator of seeds: each is the one before times the multiplier, modulo a prime.
 MULTIPLIER, MODULUS = 16807, 2**31 - 1
 # The number of rounds, the seed and the position of a match.
-Numbers = tuple[int, int, int | None]
+MatchNumbers = tuple[int, int, int | None]
 
 
 @dataclass(frozen=True, init=False, repr=False)
@@ -154,7 +154,7 @@ def check_numbers(settings: Settings, rounds: int, seed: int, position: int | No
     rows("mars_population", settings, (rounds, seed, position), FORMULA, [], 0)
 
 
-def portions(numbers: Numbers, warriors: int, size: int) -> Iterator[Numbers]:
+def portions(numbers: MatchNumbers, warriors: int, size: int) -> Iterator[MatchNumbers]:
     """Yields the numbers of matches of about `size` rounds, which together have the rounds of a match in order."""
     rounds, seed, position = numbers
     # The warrior that begins is the same in each first round.
@@ -198,7 +198,7 @@ def warrior_arrays(warriors: Sequence[Warrior], core: int) -> tuple[Any, ...]:
 def rows(
     name: str,
     settings: Settings | str,
-    numbers: Numbers,
+    numbers: MatchNumbers,
     formula: str,
     warriors: Sequence[Warrior],
     count: int,

@@ -29,7 +29,6 @@ COUNTED = np.dtype([*OUTCOME.descr, *((name, "u4") for name in COUNTS)])
 PARTS, MAX_ROWS = 4, 1 << 19
 
 Array = NDArray[Any]
-Reduce = Callable[[Array], Array]
 
 
 def outcomes(
@@ -43,8 +42,8 @@ def outcomes(
     counts: bool = False,
     jobs: int = 1,
     executor: Executor | None = None,
-    reduce: Reduce | None = None,
-) -> Array:
+    reduce: Callable[[NDArray[Any]], NDArray[Any]] | None = None,
+) -> NDArray[Any]:
     """Runs a match of each lineup, and returns how each of its warriors fares in each round.
 
     - `lineups`: the indices of the warriors of each match, in their order: 1 to 16 for each; None for one match of all
@@ -106,7 +105,7 @@ def check_jobs(jobs: int) -> None:
         raise CorewarError(f"expected 1 or more jobs, not {jobs}")
 
 
-def found_of(rows: Array, counts: bool, cycles: int, reduce: Reduce | None) -> Array:
+def found_of(rows: Array, counts: bool, cycles: int, reduce: Callable[[Array], Array] | None) -> Array:
     """Returns rows of the library as `outcomes` does, or reduced."""
     found = np.empty(rows.shape, COUNTED if counts else OUTCOME)
     for field in ("survived", "turns", "start", *(COUNTS if counts else ())):

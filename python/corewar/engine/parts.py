@@ -13,7 +13,7 @@ from ..model.errors import CorewarError
 from .binding import library
 
 # The maximum number of turns of a part here, a quarter second, and on an executor, where each part costs milliseconds.
-TURNS, DISTANT_TURNS = 12_000_000, 100_000_000
+TURNS, DISTANT_TURNS = 12_000_000, 50_000_000
 # The number of parts that are submitted at a time: for each thread, and to an executor with any number of workers.
 PARTS_PER_JOB, SUBMITTED_PARTS = 2, 500
 

@@ -21,6 +21,15 @@ def score_of(formula: str, warriors: int, survivors: int) -> int:
     return int(points[0])
 
 
+def scores_of(formula: str, counts: NDArray[Any]) -> list[int]:
+    """Returns the points of each of 0, 1, 2 .. survivors of a round; 0 for those that do not occur, for which a formula
+    needs no value. The last axis of `counts` has in how many rounds a warrior was one of each number of survivors.
+    Raises `MarsError`.
+    """
+    size = counts.shape[-1] - 1
+    return [score_of(formula, size, left) if left and counts[..., left].any() else 0 for left in range(size + 1)]
+
+
 def points(made: NDArray[Any], formula: str = FORMULA) -> NDArray[np.int64]:
     """Returns the points of each warrior of outcomes in each round, an array of their shape.
 

@@ -12,7 +12,7 @@ from ..model.settings import FORMULA, Settings, settings_of
 from .calls import Row, check_numbers, fits, rows
 from .outcomes import Run, run_lineups, table_of
 from .parts import TURNS
-from .rewards import score_of, survivals
+from .rewards import score_of, scores_of, survivals
 from .warriors import Warrior
 
 # The maximum number of matches that are listed at a time.
@@ -52,7 +52,8 @@ def population(
 ) -> list[Row]:
     """Runs a match of each candidate with each opponent, and returns the sum of the rows of each candidate.
 
-    The candidate is the first warrior of its matches. The other parameters and the errors are those of `match`.
+    The candidate is the first warrior of its matches. The other parameters and the errors are those of `match`; the sum
+    of an opponent, which is not returned, must fit in 64 bits, too.
     """
     fighters, run = [*candidates, *opponents], Run(settings_of(settings), rounds, position)
     count, others = len(candidates), np.arange(len(candidates), len(fighters))
@@ -84,9 +85,8 @@ def sums(
             numbers = pairs[part].ravel()
             columns = [np.bincount(numbers, column, len(warriors)) for column in found.T]
             counts += np.stack(columns, axis=-1).astype(np.int64)
-    # A formula needs no value for rounds that do not occur.
-    values = [score_of(formula, 2, left) if counts[:, left].any() else 0 for left in (1, 2)]
-    made = [Row(wins * values[0] + ties * values[1], wins, ties, losses) for losses, wins, ties in counts.tolist()]
+    _, win, tie = scores_of(formula, counts)
+    made = [Row(wins * win + ties * tie, wins, ties, losses) for losses, wins, ties in counts.tolist()]
     if not all(fits(row.points) for row in made):
         raise MarsError(SCORE, 4)
     return made

@@ -10,7 +10,7 @@ from pathlib import Path
 
 import numpy as np
 
-from ..model.cells import Cell, Cells
+from ..model.types import Cell, Cells
 from ..model.printing import printable
 from ..model.settings import Settings, settings_of
 from .binding import MAX_UINT32, ROOM, array, call, clamp, dtype_of, library, read_text, settings_struct, slice_of

@@ -7,6 +7,7 @@ from typing import Any
 import numpy as np
 from numpy.typing import NDArray
 
+from .types import Cell, Records
 from .errors import CorewarError
 from .header import characters, enumeration
 from .settings import MAX_DIGITS
@@ -14,13 +15,8 @@ from .settings import MAX_DIGITS
 OPCODES, MODIFIERS, MODES = [*enumeration("DAT")], [*enumeration("A")], characters()
 OPERAND = rf"([{re.escape(MODES)}])(-?\d{{1,{MAX_DIGITS}}})"
 TEXT = re.compile(rf"({'|'.join(OPCODES)})\.({'|'.join(MODIFIERS)}) {OPERAND}, {OPERAND}", re.ASCII)
-# The numbers of a cell: opcode, modifier, modes and numbers of A and B.
-Cell = tuple[int, int, int, int, int, int]
 # The type of a cell in an array.
 CELL = np.dtype([*((name, "u1") for name in ("op", "modifier", "a_mode", "b_mode")), ("a", "u4"), ("b", "u4")])
-# Arrays of cells, and of records of turns or deaths, with the fields of the header.
-Cells = NDArray[Any]
-Records = NDArray[Any]
 
 
 def columns(records: Records) -> dict[str, NDArray[Any]]:

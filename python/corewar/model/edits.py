@@ -5,7 +5,8 @@ from dataclasses import dataclass
 
 import numpy as np
 
-from .cells import Cell, cell_text
+from .types import Cell
+from .cells import cell_text
 from .header import enumeration
 
 # The kinds of an edit.

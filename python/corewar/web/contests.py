@@ -35,7 +35,7 @@ def contest_of(given: dict[str, Any]) -> Contest:
         position=position or None,
         formula=str(given["formula"]),
         # As in the leagues that the page runs itself.
-        same_seed=True,
+        positions="same",
     )
 
 
@@ -56,5 +56,5 @@ def league(assembler: Assembler, given: dict[str, Any], results: str | None) -> 
     warriors = [warrior_of(assembler, source, contest) for source in given["sources"]]
     matches = Matches(contest, warriors, all_pairs(len(warriors)))
     for rows in run(matches, Execution(JOBS, results=results)):
-        table: list[list[int]] = np.hstack([matches.pairs[rows], matches.counts[rows]]).tolist()
+        table: list[list[int]] = np.hstack([matches.lineups[rows], matches.counts[rows]]).tolist()
         yield table

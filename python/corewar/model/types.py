@@ -1,0 +1,21 @@
+"""The types that signatures name."""
+from __future__ import annotations
+
+from typing import Any, Literal
+
+import numpy as np
+from numpy.typing import NDArray
+
+# The numbers of a cell: opcode, modifier, modes and numbers of A and B.
+Cell = tuple[int, int, int, int, int, int]
+# Arrays of cells, and of records of turns or deaths, with the fields of the header `include/mars.h`.
+Cells = NDArray[Any]
+Records = NDArray[Any]
+# The owner of each cell.
+Owners = NDArray[np.uint8]
+# Indices from 0, such as those of warriors or matches; whole numbers; and rates, such as scores and errors.
+Indices = NDArray[np.intp]
+Numbers = NDArray[np.int64]
+Rates = NDArray[np.float64]
+# From what the starting positions of the matches of a contest follow.
+Positions = Literal["drawn", "same", "pmars", "all"]
