@@ -107,6 +107,17 @@ BAD = "step EQU 4\nloop ADD #stpe, bomb\n MVO bomb, @bomb\n JMP lop\nbomb DAT #0
 GOOD = BAD.replace("stpe", "step").replace("MVO", "MOV").replace("lop", "loop")
 
 
+def test_errors_have_the_version_of_their_text(editor: Editor) -> None:
+    """By it an editor leaves out the errors of an older text."""
+    editor.notify("textDocument/didOpen", textDocument={"uri": URI, "version": 7, "text": BAD})
+    document = {"uri": URI, "version": 8}
+    for number in (7, 8):
+        message = editor.wire.receive()
+        assert message is not None and message["params"]["version"] == number
+        if number == 7:
+            editor.notify("textDocument/didChange", textDocument=document, contentChanges=[{"text": GOOD}])
+
+
 def test_errors_are_at_their_words_and_corrected(editor: Editor) -> None:
     found = {(one["range"]["start"]["line"], one["range"]["start"]["character"]): one for one in editor.write(BAD)}
     assert sorted(found) == [(1, 10), (2, 1), (3, 5)]

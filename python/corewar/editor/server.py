@@ -41,6 +41,7 @@ class Server:
     def __init__(self, wire: Wire, settings: Settings, version: str) -> None:
         self.wire, self.settings, self.version = wire, settings, version
         self.texts: dict[str, Text] = {}
+        self.versions: dict[str, Any] = {}
         # The sources that have changed since their errors were sent.
         self.changed: set[str] = set()
         self.assembler = Assembler(LIMIT)
@@ -95,8 +96,10 @@ class Server:
             return ANSWERS[method](self.texts[uri], params)
         if method == CLOSED:
             self.texts.pop(uri, None)
+            self.versions.pop(uri, None)
         else:
             text = (params.get("contentChanges") or [params["textDocument"]])[-1]["text"]
+            self.versions[uri] = params["textDocument"].get("version")
             # If reading the text takes too long, that is its error.
             self.texts[uri] = self.text("", f"reading the source takes more than {LIMIT.seconds} s of CPU time")
             self.changed.add(uri)
@@ -121,7 +124,9 @@ class Server:
                 traceback.print_exc()
                 continue
             params = {"uri": uri, "diagnostics": found}
-            self.wire.send({"method": "textDocument/publishDiagnostics", "params": params})
+            # By the version, an editor knows whether the text has changed again.
+            version = {"version": self.versions[uri]} if self.versions.get(uri) is not None else {}
+            self.wire.send({"method": "textDocument/publishDiagnostics", "params": {**params, **version}})
 
 
 def serve(settings: Settings, version: str) -> int:
