@@ -108,4 +108,9 @@ def main() -> None:
 
 
 if __name__ == "__main__":
-    main()
+    try:
+        main()
+    except (ValueError, corewar.CorewarError) as fault:
+        sys.exit(f"environment: {fault}")
+    except KeyboardInterrupt:
+        sys.exit("environment: stopped")

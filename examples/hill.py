@@ -5,9 +5,10 @@ usage: examples/hill.py [--size N] [--rounds N] [--settings NAME] STATE [FILE]..
 
 Each FILE, a source or a load file, plays a match against every warrior on the hill. If there are then more than N
 warriors, the last of the table is pushed off, which may be the newcomer; the age of the others is the number of
-challenges that they have survived. The first challenge makes STATE, a JSON file, with the options [default: 20
-warriors, 100 rounds, settings of 94nop], and each one replaces it as a whole. Several processes may challenge at once:
-each waits for the one before it, by a lock on STATE.lock. A source has 5 seconds of CPU time and 500 MB.
+challenges that they have survived. A newcomer with the cells of a warrior on the hill is left out. The first challenge
+makes STATE, a JSON file, with the options [default: 20 warriors, 100 rounds, settings of 94nop], and each one replaces
+it as a whole. Several processes may challenge at once: each waits for the one before it, by a lock on STATE.lock. A
+source has 5 seconds of CPU time and 500 MB.
 Without FILE the hill is only printed. It requires the package `corewar` with its library.
 """
 from __future__ import annotations
@@ -33,6 +34,7 @@ LIMIT = corewar.Limit(5, 500)
 # A hill, and a warrior of it, as they are in the file.
 Hill = dict[str, Any]
 Entry = dict[str, Any]
+KEYS = {"number", "title", "load", "age", "against"}
 
 
 def rates(one: Entry, rounds: int) -> tuple[float, float, float]:
@@ -44,9 +46,13 @@ def rates(one: Entry, rounds: int) -> tuple[float, float, float]:
     return 3 * wins + ties, wins, ties
 
 
+def warriors_of(hill: Hill) -> list[corewar.Warrior]:
+    return [corewar.assemble(one["load"], settings=hill["settings"]) for one in hill["warriors"]]
+
+
 def fight(hill: Hill, newcomer: corewar.Warrior) -> Any:
     """Returns the survivors of all rounds of a match of a newcomer against each warrior of the hill."""
-    others = [corewar.assemble(one["load"], settings=hill["settings"]) for one in hill["warriors"]]
+    others = warriors_of(hill)
     lineups = [[0, place] for place in range(1, len(others) + 1)]
     # Each match has a seed of its own. A hill that is made again has the same ones.
     dice = random.Random(hill["challenges"])
@@ -94,11 +100,14 @@ def read(path: str, new: Hill) -> Hill:
     """Returns the hill of a file, or a new one if there is no such file."""
     if not os.path.exists(path):
         return new
-    with open(path) as file:
-        hill = json.load(file)
-    if not isinstance(hill, dict) or not hill.keys() >= new.keys():
-        sys.exit(f"hill: {path} is not a hill")
-    return hill
+    try:
+        with open(path) as file:
+            hill: Hill = json.load(file)
+        if hill.keys() >= new.keys() and all(one.keys() >= KEYS for one in hill["warriors"]):
+            return hill
+    except (ValueError, AttributeError, TypeError):
+        pass
+    sys.exit(f"hill: {path} is not a hill")
 
 
 def replace(path: str, hill: Hill) -> None:
@@ -134,6 +143,9 @@ def main() -> None:
             with locked(words.state):
                 hill = read(words.state, new)
                 newcomer = assembler.read(path, settings=hill["settings"], rounds=hill["rounds"])
+                if any((one.data, one.start) == (newcomer.data, newcomer.start) for one in warriors_of(hill)):
+                    print(f"{newcomer.title} is on the hill already")
+                    continue
                 pushed_off = challenge(hill, newcomer)
                 replace(words.state, hill)
             for one in pushed_off:

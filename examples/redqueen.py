@@ -1,7 +1,6 @@
 #!/usr/bin/python3
-"""Digital Red Queen: evolves champions (4, or as many as the argument says), each by MAP-Elites against the others, and
-lets all fight. With `client.get_executor()` of Dask in place of the processes, the matches run on a cluster.
-"""
+"""Digital Red Queen: evolves champions (4, or the argument's number), each by MAP-Elites against all before it, and
+lets all fight. Dask's `client.get_executor(pure=False)` in place of the processes runs the matches on a cluster."""
 import os
 import random
 import sys
@@ -30,12 +29,13 @@ def measure(made: Any) -> Any:
 
 def champion(opponents: list[corewar.Warrior], executor: Executor) -> corewar.Warrior:
     elites = {(0, 0): (0.0, corewar.assemble("DAT 0\n" * 5, settings=NANO))}
+    lineups = [[one, SIZE + other] for one in range(SIZE) for other in range(len(opponents))]
     given: dict[str, Any] = {"settings": NANO, "rounds": 10, "counts": True, "executor": executor, "reduce": measure}
-    given["lineups"] = [[one, *range(SIZE, SIZE + len(opponents))] for one in range(SIZE)]
     for _ in range(GENERATIONS):
         warriors = [child(dice.choice([*elites.values()])[1]) for _ in range(SIZE)]
-        found = corewar.outcomes([*warriors, *opponents], seeds=dice.randint(1, corewar.MAX_SEED), **given)
-        for one, (reward, splits, cells) in zip(warriors, found.tolist()):
+        seeds = dice.choices(range(1, corewar.MAX_SEED), k=len(lineups))
+        found = corewar.outcomes([*warriors, *opponents], lineups, seeds=seeds, **given).reshape(SIZE, -1, 3)
+        for one, (reward, splits, cells) in zip(warriors, found.mean(axis=1).tolist()):
             if reward > elites.get((int(splits), int(cells)), (0.0,))[0]:
                 elites[int(splits), int(cells)] = reward, one
     return max(elites.values(), key=lambda elite: elite[0])[1]
@@ -45,5 +45,5 @@ if __name__ == "__main__":
     champions = [corewar.assemble("MOV 0, 1", settings=NANO)]
     with ProcessPoolExecutor() as pool:
         for _ in range(int(sys.argv[1]) if sys.argv[1:] else 4):
-            champions.append(champion(champions[-corewar.MAX_WARRIORS + 1 :], pool))
+            champions.append(champion(champions, pool))
     print(corewar.Contest(NANO, rounds=200).league(champions))

@@ -48,11 +48,21 @@ def test_a_hill(tmp_path: Path) -> None:
 
 def test_a_hill_is_ordered_by_the_scores_that_it_shows(tmp_path: Path) -> None:
     """They change when a warrior is pushed off."""
-    files = [EXAMPLES / f"{name}.red" for name in ("dwarf", "imp", "silk", "paper")] * 2
-    for number in range(1, len(files) + 1):
-        done = run("hill.py", "--size", 3, "--rounds", 100, "hill.json", files[number - 1], cwd=tmp_path)
+    for number, name in enumerate(["dwarf", "imp", "silk", "paper"] * 2, 1):
+        done = run("hill.py", "--size", 3, "--rounds", 100, "hill.json", EXAMPLES / f"{name}.red", cwd=tmp_path)
         scores = [float(line.split()[1]) for line in done.stdout.partition(HEAD)[2].splitlines()[1:]]
         assert len(scores) == min(number, 3) and scores == sorted(scores, reverse=True)
+
+
+def test_a_warrior_is_on_a_hill_once(tmp_path: Path) -> None:
+    """Its copy, also one of another name, is left out, and changes nothing."""
+    (tmp_path / "copy.red").write_bytes(b";name Copy\n;author Another\n" + (EXAMPLES / "imp.red").read_bytes())
+    first = run("hill.py", "hill.json", *FILES[:2], cwd=tmp_path).stdout
+    stored = (tmp_path / "hill.json").read_bytes()
+    again = run("hill.py", "hill.json", FILES[1], "copy.red", cwd=tmp_path)
+    told = ["Imp by A. K. Dewdney is on the hill already", "Imp by A. K. Dewdney is on the hill already"]
+    assert again.returncode == 0 and again.stdout.splitlines() == [*told, *first.splitlines()]
+    assert (tmp_path / "hill.json").read_bytes() == stored
 
 
 def test_a_hill_is_the_same_in_steps(tmp_path: Path) -> None:
@@ -94,7 +104,9 @@ def test_challenges_at_once(tmp_path: Path) -> None:
     """Each waits for the one before it, and none is lost."""
     command = [sys.executable, str(EXAMPLES / "hill.py"), "--rounds", "20", "hill.json"]
     options: dict[str, Any] = {"cwd": tmp_path, "env": ENVIRONMENT, "stdout": subprocess.PIPE, "text": True}
-    begun = [subprocess.Popen([*command, file, file], **options) for file in FILES]
+    for number in range(10):
+        (tmp_path / f"{number}.red").write_text(f"MOV {number}, 1\nJMP -1\n")
+    begun = [subprocess.Popen([*command, f"{n}.red", f"{n + 5}.red"], **options) for n in range(5)]
     for process in begun:
         process.communicate(timeout=120)
     hill = json.loads((tmp_path / "hill.json").read_text())
@@ -112,11 +124,13 @@ def test_a_hill_limits_sources(tmp_path: Path) -> None:
 
 
 def test_files_that_are_no_hill(tmp_path: Path) -> None:
-    none = "hill: hill.json is not a hill\n"
-    for text, error in (("[]", none), ('{"challenges": 1}', none), ("{", "hill: Expecting")):
-        (tmp_path / "hill.json").write_text(text)
+    run("hill.py", "good.json", FILES[0], cwd=tmp_path)
+    good = (tmp_path / "good.json").read_bytes()
+    for text in (b"[]", b'{"challenges": 1}', b"{", b"\xff", good[:-9], good.replace(b'"age"', b'"years"')):
+        (tmp_path / "hill.json").write_bytes(text)
         done = run("hill.py", "hill.json", FILES[0], cwd=tmp_path)
-        assert done.returncode == 1 and done.stderr.startswith(error) and (tmp_path / "hill.json").read_text() == text
+        assert (done.returncode, done.stdout, done.stderr) == (1, "", "hill: hill.json is not a hill\n")
+        assert (tmp_path / "hill.json").read_bytes() == text
 
 
 def test_elites(tmp_path: Path) -> None:
@@ -159,6 +173,21 @@ def test_the_red_queen(tmp_path: Path) -> None:
     table = run("redqueen.py", 1, cwd=tmp_path).stdout.splitlines()
     assert len(table) == 3 and table[0].split()[:2] == ["rank", "points"]
     assert len((EXAMPLES / "redqueen.py").read_text().splitlines()) < 50
+
+
+def test_feedback_for_a_model(tmp_path: Path) -> None:
+    """Errors with advice, and then what the warrior does and how it lost, as JSON."""
+    command = [sys.executable, str(EXAMPLES / "feedback.py")]
+    given = "MVO 0, 1\n.\nSPL 0, 0\nJMP -1, 0\n.\n"
+    done = subprocess.run(command, input=given, cwd=tmp_path, env=ENVIRONMENT, capture_output=True, text=True)
+    assert (done.returncode, done.stderr) == (0, "")
+    decoder, text, found = json.JSONDecoder(), done.stdout[done.stdout.index("{") :], list[Any]()
+    while text.strip():
+        value, end = decoder.raw_decode(text.lstrip())
+        found, text = [*found, value], text.lstrip()[end:]
+    wrong, right = found
+    assert wrong["problems"][0]["replacement"] == "MOV"
+    assert len(right["matches"]) == 3 and right["losses"][0]["by"].startswith("Unknown") and right["study"]
 
 
 def test_environments() -> None:
