@@ -59,3 +59,11 @@ def run(tmp_path: Path) -> Run:
         return subprocess.CompletedProcess(done.args, done.returncode, *text)
 
     return started
+
+
+@pytest.fixture(scope="session")
+def pmars() -> Path:
+    """The program pMARS."""
+    from peer import build_pmars
+
+    return build_pmars()

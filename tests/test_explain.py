@@ -290,9 +290,9 @@ start
 FOR 3
 dat 1
 ROF
-e&i equ i*2
+e equ i*2
 i for 2
-mov.i 0, i ; i stays
+mov.i e, i ; i stays
 x&i jmp x&i
 rof
 """
@@ -306,8 +306,9 @@ def test_pmars(run: Run, tmp_path: Path) -> None:
     assert len(lines) == 5 and all(line.startswith(f"other.red: {start}") for line, start in zip(lines, expected))
     nothing = f"dwarf.red: none of the {CHECKED_ROWS} known differences from pMARS was found\n"
     assert run("explain", "--pmars", "@dwarf").stdout.endswith(nothing)
-    assert pmars_differences(b"i FOR 2\nmov.I 0, i\nROF\nx equ 2\n") == []
-    assert pmars_differences(b"spl <0, #3\ndat >1, #0\n") == []
+    same = ["i FOR 2\nmov.I 0, i\nROF\nx equ 2\n", "spl <0, #3\ndat >1, #0\n", "ORG 1\nnop 0\nnop 1\nEND 0\n"]
+    same += ["; redcode\nnop 0\n", "two equ 2, 3\nop equ dat\nop two\n", "i FOR 2\ne&i equ i*2\nnop e&i\nROF\n"]
+    assert [pmars_differences(text.encode(), assemble) for text in same] == [[]] * len(same)
     assert pmars_differences(b";assert VERSION > 70 && ROUNDS > 1\nnop 0\n", assemble) == ["line 1: " + VERSION]
     notes = pmars_differences(b"y equ 3\nldp y\nldp 0, 1\nstp 0, 1\n", assemble)
     assert [note.partition(";")[0] for note in notes] == [
@@ -325,23 +326,27 @@ DIFFERENT = [
     ("`mov.i` in a loop", "i FOR 2\nmov.i 0, i\nROF\n", "reads `.i` as a modifier"),
     ("a label in a count", "x nop 0\ny nop 0\nFOR y-x\nnop 0\nROF\n", "accepts the label `y` in a count"),
     ("a count below 0", "nop 0\nFOR 0-CURLINE\nnop 0\nROF\n", "a count below 0"),
-    ("a count with a later EQU name", "FOR n\nnop 0\nROF\nn EQU 2\nnop 0\n", "the EQU of `n` is later"),
+    ("a count with a later EQU name", "FOR n\nnop 0\nROF\nn EQU 2\nnop 0\n", "since its EQU is later"),
     ("FOR and ROF in the text", "loop EQU FOR 2\nnop 0\n", "FOR and ROF in the text of an EQU"),
     ("`&i`, or `i`, in an EQU", "e EQU i*2\ni FOR 2\ndat 0, e\nROF\n", "joins the counter `i`"),
     ("prose in a `FOR 0` whose second", "FOR 0\nwait for it\nROF\nnop 0\n", "takes the `for` in this text"),
     ("several labels before", "a b EQU 2\nnop 0\n", "several labels before EQU"),
     ("a name twice", "a nop 0\na nop 0\n", "drops this line with a warning, since `a` is known"),
-    ("an EQU without a name", "a nop 0\n EQU 5\n", "has no name, and follows no other EQU"),
+    ("an EQU without a name", "a nop 0\n EQU 5\n", "has no name and follows no EQU"),
     ("a label in a loop", "FOR 2\na nop 0\nROF\n", "drops this line, with a warning, in later iterations"),
-    ("a label in `;assert`", "a nop 0\n;assert a == 0\n", "does not check this assert, since `a`"),
-    ("`;assert VERSION", ";assert VERSION >= 90\nnop 0\n", "VERSION is 92"),
+    ("a later label in `;assert`", ";assert one == 0\none nop 0\n", "does not check it"),
+    ("an earlier label in `;assert`", "a nop 0\n;assert a == -1\n", "the label `a` as its distance"),
+    ("FOR without ROF", "FOR 3\nnop 0\n", "reads the lines after it once"),
+    ("an unused EQU that joins", "k EQU A&q\nnop 0\n", "as long as no line uses it"),
+    ("ORG without an operand", "ORG\nnop 0\n", "as `ORG 0`"),
+    ("VERSION", ";assert VERSION >= 90\nnop 0\n", "VERSION is 92"),
     ("a label before ROF", "FOR 2\nnop 0\nx ROF\n", "a label before ROF"),
     ("prose in a `FOR 0` after", "FOR 0\nStrategy: for all\nROF\nnop 0\n", "pMARS does not; write `;`"),
     ("a start outside", "nop 0\nORG 5\n", "only warns about this start"),
     ("`DAT x`", "dat 5+3\n", "`DAT #0, 5+3`"),
-    ("`1-2*3+4`", "mov 1-2*3+4, 1\n", "subtracts everything that follows"),
+    ("`1-2*3+4`", "mov 1-2*3+4, 1\n", "reads `1-2*3+4` as `1-(2*3+4)`"),
     ("a second `;redcode`", ";redcode\nnop 0\n;redcode\nnop 0\n", "second `;redcode`"),
-    ("`ORG 0` and `END 1`", "ORG 0\nnop 0\nnop 0\nEND 1\n", "starts where END says"),
+    ("ORG with the value 0", "ORG 0\nnop 0\nnop 0\nEND 1\n", "starts where END says"),
     (
         "prose in a `FOR 0` whose third",
         "FOR 0\nthis one waits for scanners\nROF\nnop 0\n",
@@ -412,7 +417,7 @@ def test_what_cannot_be_fixed_is_reported(run: Run, tmp_path: Path) -> None:
 
 def test_fix(run: Run, tmp_path: Path) -> None:
     """A counter with the name of a modifier in its loop is renamed; comments and other loops are unchanged."""
-    source = b"i_ dat 0, i_\ni FOR 2\nmov.i 0, i ; i\nx&i jmp x&i, i_\nROF\ni FOR 2\ny&i dat i\nROF\n"
+    source = b"i_ dat 0, i_\ni FOR 2\nmov.i 0, i ; i\nx&i jmp x&i, i_\nROF\ni FOR 2\ny&i dat 0, i\nROF\n"
     (tmp_path / "scan.red").write_bytes(source)
     fixed = run("explain", "--fix", "scan.red").stdout.encode()
     assert fixed == source.replace(b"i FOR 2\nmov.i 0, i ;", b"i__ FOR 2\nmov.i 0, i__ ;").replace(
@@ -447,7 +452,7 @@ def test_expensive_sources_are_explained_soon() -> None:
             assemble(text)
         started = time.process_time()
         assert explain_error(found.value, text.encode()), name
-        pmars_differences(text.encode())
+        pmars_differences(text.encode(), assemble)
         fix(text.encode(), assemble)
         assert time.process_time() - started < 20, name
 
@@ -625,7 +630,14 @@ def test_errors_of_newcomers(source: str, lines: dict[int, str]) -> None:
         ("mov.q 0, 1\n", "       |    ^^"),
         ("\tmvo 0, 1 ; mvo\n", "       |         ^^^"),
         ("mov 0 1\n", "       |     ^^^"),
-        ("mov 0,\n", None),
+        ("mov 0,\n", "       |      ^"),
+        ("jmp\n", "       | ^^^"),
+        ("mov 0, 1, 23\n", "       |           ^^"),
+        ("mov 0.5, 1\n", "       |     ^^^"),
+        ("mov 0, 1 // copy\n", "       |          ^^^^^^^"),
+        ("# copy it\n", "       | ^^^^^^^^^"),
+        ("mov 0, nop jmp\n", "       |        ^^^^^^^"),
+        ("add 0, (1\n", None),
     ],
 )
 def test_the_word_that_is_wrong_is_marked(text: str, mark: str | None, run: Run, tmp_path: Path) -> None:
@@ -643,6 +655,13 @@ def test_a_number_without_its_sign(run: Run, tmp_path: Path) -> None:
         "by EQU 1\nadd by, 1\nsub far, 1\ni FOR 2\nx&i EQU 50*i\nadd x&i, 1\nROF\nfar dat 0, 0\n"
     )
     assert run("explain", "x.red").stdout == "x.red: no error\n"
+
+
+def test_a_comma_that_is_missing(run: Run, tmp_path: Path) -> None:
+    """A mode that compares is valid, in both programs; a comma before it was meant."""
+    (tmp_path / "x.red").write_text("djn -1 <-5\nmov 1<2, 3>2\nspl 0, <-10\n")
+    hint = "line 1: `<` compares two numbers of one operand; write `, <` for the mode of a second operand"
+    assert run("explain", "x.red").stdout == f"x.red: no error\n{hint}\n"
 
 
 @pytest.mark.parametrize(
@@ -685,15 +704,16 @@ def test_problems_have_the_limit() -> None:
 def test_only_an_earlier_label_is_no_counter_of_pmars() -> None:
     loop, label = "i FOR 2\nDAT i, 0\nROF\n", "i DAT 0, 0\n"
     note = "line 2: pMARS rejects the counter `i`, a label of an earlier line."
-    assert note in pmars_differences((label + loop).encode())
-    assert pmars_differences((loop + label).encode()) == []
+    assert note in pmars_differences((label + loop).encode(), assemble)
+    assert pmars_differences((loop + label).encode(), assemble) == []
 
 
 def test_a_fix_reports_what_is_left(run: Run, tmp_path: Path) -> None:
-    """The source is assembled now, but to other cells than in pMARS."""
-    (tmp_path / "left.red").write_text(" DAT #5\np q FOR 2\nDAT 0, 0\nROF\n")
+    """The source is assembled now, but pMARS executes a line in another way."""
+    (tmp_path / "left.red").write_text(" MOV <0, #5\np q FOR 2\nDAT #5\nROF\n")
     done = run("explain", "--fix", "left.red")
-    note = "line 1: pMARS reads `DAT #0, #5`, this kit `DAT $0, #5`; write both operands."
-    assert (done.returncode, done.stderr) == (0, f"corewar: left.red: left as it is: {note}\n")
+    note = "line 1: pMARS reads the B-operand before the side effect of the A-operand, this kit after it."
+    assert (done.returncode, done.stderr) == (3, f"corewar: left.red: left as it is: {note}\n")
+    assert "DAT #0, #5\n" in done.stdout
     (tmp_path / "done.red").write_text("p q FOR 2\nDAT 0, 0\nROF\n")
     assert run("explain", "--fix", "done.red").stderr == ""

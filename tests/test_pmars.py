@@ -1,55 +1,32 @@
 """Agreement with pMARS: matches by its two series of starting positions, single positions, and the cells of sources.
 
-pMARS is built from Debian's source by bench/pmars, without the display of the package. The sources are the examples of
-this kit and of the package that fight in both programs.
+The sources are the examples of this kit and of Debian's package that fight in both programs.
 """
 from __future__ import annotations
 
 import random
 import re
-import subprocess
 from collections.abc import Sequence
 from itertools import permutations
 from pathlib import Path
 
 import pytest
-from conftest import EXAMPLES, TOP, Run
-from counting import skip
+from conftest import EXAMPLES, Run
+from peer import DEBIAN, listed_by, own_cells, run_pmars, words_of
 
 from corewar.battle.series import seed_of_cells, seed_of_position
 from corewar.cli.options import MAX_PMARS_POSITION
 from corewar.engine.calls import Match, match
 from corewar.engine.sources import read
 from corewar.engine.warriors import Warrior
-from corewar.model.cells import MODES, MODIFIERS, OPCODES, cell_text
+from corewar.model.cells import MODES, MODIFIERS, OPCODES
 from corewar.model.errors import FileError
 from corewar.model.settings import HILLS, Settings
 
-PMARS, DEBIAN = TOP / "build" / "pmars" / "pmars", Path("/usr/share/doc/pmars/examples")
 # A core of another size in which much happens soon.
 SMALL = Settings(core=100, processes=7, cycles=300, longest=10, distance=10)
 # What pMARS does in another way, as LANGUAGE.md says: a side effect of A before an immediate B.
 EARLY = re.compile(r" [<>{}]\S+ #")
-
-
-@pytest.fixture(scope="module")
-def pmars() -> Path:
-    """The program pMARS. It is built once."""
-    if not DEBIAN.is_dir():
-        skip("agreement with pMARS", "there is no pMARS", "pmars")
-    if not PMARS.is_file():
-        subprocess.run([TOP / "bench" / "pmars", PMARS.parent], check=True, capture_output=True)
-    return PMARS
-
-
-def words_of(settings: Settings) -> list[str]:
-    names = {"-s": "core", "-c": "cycles", "-p": "processes", "-l": "longest", "-d": "distance"}
-    return [word for option, name in names.items() for word in (option, str(getattr(settings, name)))]
-
-
-def run_pmars(pmars: Path, *words: object) -> str:
-    done = subprocess.run([pmars, *map(str, words)], capture_output=True, text=True, timeout=300, errors="replace")
-    return done.stdout
 
 
 def fought(pmars: Path, settings: Settings, files: Sequence[object], *words: object) -> list[tuple[int, ...]]:
@@ -89,17 +66,9 @@ def random_cells(dice: random.Random, settings: Settings) -> str:
     return "\n".join([";redcode", ";assert 1", *lines, ""])
 
 
-def listed_by(pmars: Path, file: Path) -> list[str]:
-    """Returns the cells of a source as pMARS lists them, with SEQ in place of CMP."""
-    listed = run_pmars(pmars, "-r", 0, *words_of(HILLS["94nop"]), file)
-    cells = re.findall(r"([A-Z]{3}\.[A-Z]{1,2}) +([#$@<>*{}]) *(-?\d+), ([#$@<>*{}]) *(-?\d+)", listed)
-    return [f"{op} {a_mode}{a}, {b_mode}{b}".replace("CMP", "SEQ") for op, a_mode, a, b_mode, b in cells]
-
-
 def different(pmars: Path, file: Path, warrior: Warrior) -> list[tuple[str, str]]:
     """Returns the cells that a source makes here and in pMARS where they differ."""
-    theirs = listed_by(pmars, file)
-    own = [cell_text(cell, warrior.core) for cell in warrior.cells]
+    theirs, own = listed_by(pmars, file), own_cells(warrior)
     assert len(own) == len(theirs), file
     return [pair for pair in zip(own, theirs) if pair[0] != pair[1]]
 
@@ -151,166 +120,7 @@ def test_cells_of_sources(pmars: Path) -> None:
     found = [(file.name, different(pmars, file, warrior)) for file, warrior in readable(HILLS["94nop"])]
     assert len(found) >= 16
     assert {name for name, differ in found if differ} == {"validate.red"}
-    assert all(own.startswith("DAT.F $0") for _, differ in found for own, _ in differ)
-
-
-# Sources in an older style, which this kit reads after `corewar explain --fix`.
-OLD = {
-    "a macro of several lines with a counter": """
-n1    equ     37
-scan  equ     sne.x 200+n*n1, 203+n*n1
-      equ     seq.x 200+n*n1, 203+n*n1
-      equ     mov   #n, found
-n     for     4
-      scan
-      rof
-found dat     0, 0
-""",
-    "the counters of two loops": """
-cell  equ     dat #i*10, #j+first&i
-first01 equ   3
-first02 equ   5
-i     for     2
-j     for     first&i
-      cell
-      rof
-      jmp     i
-      rof
-""",
-    "two loops with one counter": """
-far   equ     (i*100+7)
-i     for     2
-      mov     far, <far
-      rof
-      nop     0, 0
-i     for     3
-      spl     far
-      rof
-""",
-    "an EQU of an EQU": """
-base  equ     (k*k)
-step  equ     base+base
-twice equ     add #step, step
-      equ     sub #base, 1
-k     for     3
-      twice
-      rof
-""",
-    "counts below 0": """
-start mov     0, 1
-      for     1-CURLINE
-      dat     7, 7
-      rof
-pad   for     (9-20)/2
-      dat     8, 8
-      rof
-      for     8-CURLINE
-      dat     9, 9
-      rof
-      jmp     start
-""",
-    "labels in counts, and counters like modifiers": """
-first mov.i   0, 1
-last  jmp     first
-i     for     last-first+1
-      mov.i   i, @i
-      rof
-a b   for     2
-      add.b   #a, b
-      rof
-b     dat     0, 0
-""",
-    "asserts that pMARS skips": """
-;assert start > -1
-;assert
-start spl     0, <-10
-      mov     0, 1
-""",
-    "prose": """
-      for     0
-Strategy: for those who want to know
-it waits: for an imp
-mov for all
-      rof
-      mov     0, 1
-""",
-    "lines that go on": """
-x y   equ     5
-      add     #x, \\
-              y
-z     mov     1, 2
-last z mov    2, 3
-      jmp     z, last
-""",
-    "names with joined counters": """
-to    equ     jmp >-p&i*2, {base&i
-base01 equ    10
-base02 equ    20
-i     for     2
-p&i   to
-      rof
-""",
-    "labels that are later EQU names": """
-start spl     0, <-10
-size  mov     0, size
-size  equ     mov     5, 6
-
-      equ     mov     7, 8
-top   size
-start equ     8
-      jmp     start, top
-      equ     9
-""",
-    "a counter of an inner loop": """
-far   equ     mov     n, i*10+n
-
-; The next line belongs to it.
-      equ     spl     far&i
-far01 equ     30
-far02 equ     40
-      for     2
-n     for     2
-i     for     n
-      far
-      rof
-      rof
-      rof
-""",
-    "a loop that ends in prose": """
-      for     0
-end of it, and for me
-      rof
-last  mov     0, last
-last  jmp     last
-""",
-    "counts of inner loops": """
-many  equ     (3-i)
-i     for     2
-j     for     many
-      dat     i, j
-      rof
-      rof
-""",
-}
-
-
-@pytest.mark.parametrize("name", OLD)
-def test_sources_in_an_older_style(pmars: Path, tmp_path: Path, run: Run, name: str) -> None:
-    """A fixed source makes in both programs the cells that pMARS makes of the old one."""
-    old, new = tmp_path / "old.red", tmp_path / "new.red"
-    old.write_text(f";redcode{OLD[name]}")
-    done = run("explain", "--fix", old)
-    assert done.returncode == 0, done.stderr
-    new.write_text(done.stdout)
-    cells = listed_by(pmars, old)
-    assert cells and listed_by(pmars, new) == cells
-    assert [cell_text(cell, 8000) for cell in read(new).cells] == cells
-
-
-def test_a_source_of_debian_in_an_older_style(pmars: Path, tmp_path: Path, run: Run) -> None:
-    (tmp_path / "aeka.red").write_text(run("explain", "--fix", DEBIAN / "aeka.red").stdout)
-    cells = [cell_text(cell, 8000) for cell in read(tmp_path / "aeka.red").cells]
-    assert len(cells) == 100 and cells == listed_by(pmars, DEBIAN / "aeka.red")
+    assert all("DAT.F $0" in own for _, differ in found for own, _ in differ)
 
 
 def test_the_options(pmars: Path, run: Run) -> None:

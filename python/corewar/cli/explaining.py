@@ -25,7 +25,7 @@ from ..explain.source import Line, parse_line
 from ..explain.words import DIRECTIVES, OPCODES
 from ..model.errors import ASSEMBLY, CorewarError, FileError, MarsError
 from ..model.printing import printable
-from .layout import Command
+from .layout import STATUSES, Command
 from .options import BattleOptions, battle_options, format_option
 from .reporting import report, report_error, report_sentences, show
 
@@ -36,6 +36,8 @@ EXAMPLES = [
     "corewar explain mars -r 0 dwarf.red",
     "corewar explain --pmars dwarf.red",
 ]
+# The exit status if `--fix` leaves lines that both programs accept, and that pMARS reads in another way.
+LEFT = 3
 # What an operation without operands is explained by.
 MEANINGS = {**OPCODES, **DIRECTIVES}
 
@@ -52,10 +54,10 @@ class Explain(Command):
         return super().parse_args(context, words)
 
 
-@click.command(cls=Explain, examples=EXAMPLES)
+@click.command(cls=Explain, examples=EXAMPLES, statuses=f"{STATUSES}, {LEFT} `--fix` left what pMARS reads differently")
 @battle_options(needs_files=False)
 @click.option("--pmars", is_flag=True, help="Report what pMARS reads differently")
-@click.option("--fix", "is_fixed", is_flag=True, help="Print the source, with known differences from pMARS replaced")
+@click.option("--fix", "is_fixed", is_flag=True, help="Print the source as pMARS reads it, and report what is left")
 @format_option(("text", "json"), "explanations")
 def explain(options: BattleOptions, pmars: bool, is_fixed: bool, form: str) -> int:
     """Explain the errors of files, or what an instruction does.
@@ -72,7 +74,8 @@ def explain(options: BattleOptions, pmars: bool, is_fixed: bool, form: str) -> i
     if pmars + is_fixed + (form == "json") > 1:
         raise click.UsageError("--fix, --pmars and --format json exclude each other")
     if is_fixed:
-        return max([fix_file(options, path) for path in options.files])
+        statuses = {fix_file(options, path) for path in options.files}
+        return 1 if 1 in statuses else max(statuses)
     if pmars:
         for path in options.files:
             compare_file(options, path)
@@ -178,21 +181,21 @@ def compare_file(options: BattleOptions, path: str) -> None:
 
 def fix_file(options: BattleOptions, path: str) -> int:
     """Prints a fixed source, and reports the errors, or else the differences from pMARS, that are left. Returns the
-    exit status.
+    exit status: 1 for errors, `LEFT` for differences.
     """
     data = read_file(path)
     with limited(options, path) as assembler:
         load = loader(options, path, assembler)
         fixed = fix(data, load)
         errors = [*errors_of(fixed, load)]
-        left = [] if errors else pmars_differences(fixed)
+        left = [] if errors else pmars_differences(fixed, load)
     click.echo(fixed, nl=False)
     for note in left:
         report(f"{path}: left as it is: {note}")
     for fault, sentences in errors:
         report(f"{path}: not fixed: {fault}")
         report_sentences(sentences)
-    return int(bool(errors))
+    return 1 if errors else LEFT if left else 0
 
 
 def loader(options: BattleOptions, path: str, assembler: Assembler) -> Callable[[bytes], Warrior]:

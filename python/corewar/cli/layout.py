@@ -10,7 +10,7 @@ import click
 # The groups of options in the order of the help; an option of no other group is in the first one.
 OWN, EXECUTION, MATCH, CORE = "Options", "Execution options", "Match options", "Core options (defaults from --hill)"
 GROUPS = [OWN, EXECUTION, MATCH, CORE]
-STATUSES = "0 success, 1 error in input or files, 2 usage error"
+STATUSES = "0 success, 1 error in input or files, 2 usage error, 130 stopped by Ctrl-C"
 
 
 class Option(click.Option):

@@ -12,10 +12,12 @@ from ..engine.sources import Assembler, Limit
 from ..model.errors import ASSEMBLY, MarsError
 from ..model.settings import Settings
 from .meanings import explain_error
-from .source import Advice, Line, Misspelt, Source, place_of, read_source
+from .source import Advice, Line, Misspelt, Source, parse_line, place_of, read_source
 
 # The maximum number of errors that are reported for a source.
 MAX_ERRORS = 10
+# Comments of other languages, and numbers with a fraction.
+OTHER_COMMENT, FRACTION = re.compile(r"//.*|/\*.*|^\s*#.*|(?<=\w)\s+#\s.*"), re.compile(r"\d+\.\d+")
 # After these errors the rest of the source cannot be read.
 LAST = ("1 Text 9 TooLong", "7 Empty", "8 TooLong")
 UNCLOSED = "1 Text 3 UnclosedFor"
@@ -85,8 +87,21 @@ def problem_of(kind: str, number: int, source: bytes, sentences: Sequence[str]) 
     words = [(advice.old, advice.new)] if advice and advice.line in (0, number) else []
     # Otherwise it is the first word that the first sentence names.
     words += [(word, "") for one in sentences[:1] for word in re.findall(r"`([^`]+)`", one)[:1]]
+    words += [(part_of(kind, text), "")]
     words = [pair for pair in words if pair[0] and place_of(pair[0], text) is not None]
     return Problem(number, kind, text, tuple(map(str, sentences)), *(words or [("", "")])[0])
+
+
+def part_of(kind: str, text: str) -> str:
+    """Returns the part of a line that an error is about, or "" if the line does not show it."""
+    line, code = parse_line(1, text, {}), text.partition(";")[0]
+    if found := OTHER_COMMENT.search(code):
+        return found[0].strip()
+    operands = re.split(rf"\b{line.operation}\b", code, 1)[-1].split(",") if line.operation else []
+    if kind == "3 Operand" and operands:
+        return operands[2].strip() if len(operands) > 2 else "," if len(operands) == 2 else line.operation
+    found = FRACTION.search(code) if kind == "4 Expression 1 Syntax" else None
+    return found[0] if found else ""
 
 
 def problems(

@@ -5,19 +5,27 @@ from collections.abc import Sequence
 
 from ..engine.warriors import Warrior
 from ..model.cells import MODES, signed
-from .source import NAME, PREDEFINED, Line, Source, read_source
+from .source import NAME, OPCODES, PREDEFINED, Line, Source, read_source
 
 # Opcodes that compute with the number of their A-operand.
 COMPUTING = ("ADD", "SUB", "MUL", "DIV", "MOD", "SLT")
 
 
 def hints_of(warrior: Warrior, lines: Sequence[tuple[int, list[str]]]) -> list[str]:
-    """Returns a sentence for each instruction whose A-operand is the EQU name of a number without `#`, if the cell at
-    this distance is none of the warrior: it is empty, and computing with it changes nothing.
+    """Returns a sentence for each instruction with a comparison in place of a second operand, or whose A-operand is the
+    EQU name of a number without `#`, if the cell at this distance is none of the warrior: it is empty, and computing
+    with it changes nothing.
 
     - `lines`: the number of the line, and the labels of each instruction
     """
     source, found = read_source(warrior.source or b""), dict[int, str]()
+    for line in (source.lines[number - 1] for number, _ in lines):
+        compared = [word for word in line.operands[1:] if word in ("<", ">")]
+        if line.word in OPCODES and compared and "," not in line.operands:
+            found[line.number] = (
+                f"line {line.number}: `{compared[0]}` compares two numbers of one operand; "
+                f"write `, {compared[0]}` for the mode of a second operand"
+            )
     for index, ((number, _), cell) in enumerate(zip(lines, warrior.cells)):
         line, distance = source.lines[number - 1], signed(int(cell["a"]), warrior.core)
         name = line.operands[0] if line.operands[1:2] == [","] else ""
@@ -28,7 +36,7 @@ def hints_of(warrior: Warrior, lines: Sequence[tuple[int, list[str]]]) -> list[s
                     f"line {number}: `{name}` is the cell {where}, outside the warrior; "
                     f"write `#{name}` for the number {distance:,}"
                 )
-    return [*found.values()]
+    return [found[number] for number in sorted(found)]
 
 
 def is_number(source: Source, name: str, depth: int = 8) -> bool:

@@ -6,22 +6,25 @@ from __future__ import annotations
 import re
 from collections.abc import Callable, Iterator
 
+from ..model.errors import CorewarError
 from .errors import errors_of, kind_of
-from .source import EXTENSIONS, MODIFIERS, NAME, OPCODES, Line, Loop, Source, read_source
+from .arithmetic import is_read
+from .definitions import definitions_of
+from .equates import uses_of
+from .operands import Instruction, instructions_of
+from .source import EXTENSIONS, MODIFIERS, NAME, OPCODES, PREDEFINED, Line, Load, Loop, Source, read_source
 
-DIRECTIVE = re.compile(r"\s*;\s+(name|author|assert|redcode)\b", re.I)
+DIRECTIVE = re.compile(r"(\s*;)\s+((name|author|assert)\b)", re.I)
+NO_WORD = re.compile(r"\d+[A-Za-z_]")
 COMMENTED = re.compile(r"\s*;(name|author)\s*(.*)", re.I)
-ASSERT = re.compile(r"\s*;assert\b(.*)", re.I)
 OPTIONAL = ("DAT", "JMP", "SPL", "NOP")
 # The longest name or author, and line, that both programs read in the same way.
 MAX_NAME_LENGTH, MAX_LINE_LENGTH = 60, 255
-# An operand in which a product is subtracted and something is added after it.
-MINUS = re.compile(r"[\w)] - (?:[+-] )*\w+(?: [*/%] (?:[+-] )*\w+)+ [+-] ")
 # What a source has in a line that pMARS reads differently.
 Found = Iterator[tuple[int, str]]
 CHECKS: list[Callable[[Source], Found]] = []
 # What pMARS makes of an error of this kit.
-FAILED, DUPLICATE = "5 AssertFailed", "1 Text 7 Duplicate"
+FAILED, DUPLICATE, UNKNOWN = "5 AssertFailed", "1 Text 7 Duplicate", "4 Expression 2 Unknown"
 ACCEPTED = {
     "1 Text 5 BadCount": "pMARS reads a count below 0 as 0; write `(count)*(count>0)`.",
     "6 BadOrigin": "pMARS only warns about this start.",
@@ -30,8 +33,10 @@ ACCEPTED = {
     "4 Expression 4 Range": "pMARS may hang on this value.",
 }
 REPEATED = "pMARS drops this line, with a warning, in later iterations of its loop; join the counter to the name."
+REGISTER = "pMARS takes the undefined `{}` for a register, which is 0 unless a line sets it; write a number."
+UNCLOSED = "pMARS only warns about a FOR without ROF, and reads the lines after it once; write ROF."
 # The number of rows of the table that are looked for: an error shows some of them, and two errors one row.
-CHECKED_ROWS = 31
+CHECKED_ROWS = 35
 
 
 def check(function: Callable[[Source], Found]) -> Callable[[Source], Found]:
@@ -40,69 +45,91 @@ def check(function: Callable[[Source], Found]) -> Callable[[Source], Found]:
     return function
 
 
-def pmars_differences(data: bytes, load: Callable[[bytes], object] | None = None) -> list[str]:
+def pmars_differences(data: bytes, load: Load) -> list[str]:
     """Returns what pMARS reads differently in a source: sentences, each after the number of its line.
 
-    - `load`: assembles a source; without it, errors of the source are not looked for
+    - `load`: assembles a source
     """
-    source = read_source(data)
-    found = {note for one in CHECKS for note in one(source)}
-    if load:
-        faults = faults_of(data, load)
-        if any(kind == FAILED for _, kind in faults):
-            # An assert that also fails with the version of pMARS has another reason.
-            theirs = re.sub(rb"(?im)^\s*;assert\b.*", lambda line: re.sub(rb"\bVERSION\b", b"92", line[0]), data)
-            faults -= {fault for fault in faults_of(theirs, load) if fault[1] == FAILED}
-        found |= {(number, ACCEPTED[kind]) for number, kind in faults if kind in ACCEPTED}
-        repeated = {number for number, kind in faults if kind == DUPLICATE and source.loops_around(number)}
-        found |= {(number, REPEATED) for number in repeated - {number for number, _ in found}}
+    source, faults = read_source(data), faults_of(data, load)
+    found = {*starts(source, load), *(note for one in CHECKS for note in one(source))}
+    if any(kind == FAILED for _, kind in faults):
+        # An assert that also fails with the version of pMARS has another reason.
+        theirs = re.sub(rb"(?im)^\s*;assert\b.*", lambda line: re.sub(rb"\bVERSION\b", b"92", line[0]), data)
+        faults -= {fault for fault in faults_of(theirs, load) if fault[1] == FAILED}
+    found |= {(number, ACCEPTED[kind]) for number, kind in faults if kind in ACCEPTED}
+    if not any(line.word == "ROF" and line.labels for line in source.lines) and not any(prose(source)):
+        found |= {(number, UNCLOSED) for number, kind in faults if kind == "1 Text 3 UnclosedFor"}
+    unknown = {number for number, kind in faults if kind == UNKNOWN}
+    found |= {(number, REGISTER.format(name)) for number in unknown for name in registers(source, number)}
+    repeated = {number for number, kind in faults if kind == DUPLICATE and source.loops_around(number)}
+    found |= {(number, REPEATED) for number in repeated - {number for number, _ in found}}
     return [f"line {number}: {note}" if number else note for number, note in sorted(found)]
 
 
-def faults_of(data: bytes, load: Callable[[bytes], object]) -> set[tuple[int, str]]:
+def faults_of(data: bytes, load: Load) -> set[tuple[int, str]]:
     """Returns the errors of a source, each with the number of its line."""
     return {(fault.line, kind_of(fault)) for fault, _ in errors_of(data, load)}
 
 
-def split_operands(tokens: list[str]) -> list[list[str]]:
-    """Returns the tokens of each operand."""
-    found: list[list[str]] = [[]] if tokens else []
-    for token in tokens:
-        if token == ",":
-            found.append([])
-        else:
-            found[-1].append(token)
-    return found
+def registers(source: Source, number: int) -> set[str]:
+    """Returns the undefined names of one letter in the operands of a line."""
+    known = {*source.labels(), *source.equates, *(loop.counter for loop in source.loops_around(number))}
+    found = [one for one in instructions_of(source) if one.line.number == number]
+    words = {token for one in found for tokens in one.operands for token in tokens}
+    line = source.lines[number - 1]
+    for text in source.equate(source.equates[line.operation]) if line.operation in source.equates else ():
+        words.update(text.rest)
+    return {word for word in words - known if re.fullmatch("[A-Za-z]", word)}
 
 
-def without_spaces(tokens: list[str]) -> str:
-    """Returns an operand as it is written without spaces."""
-    return "".join(tokens)
+def starts(source: Source, load: Load) -> Found:
+    """Looks for ORG and END that both have an operand: pMARS ignores that of END, unless that of ORG is 0."""
+    found = {line.word: line for line in source.lines if line.word in ("ORG", "END") and line.rest and not line.unread}
+    start = start_by_org(source, load) if len(found) == 2 else 1
+    if not start:
+        known = ", since ORG is 0" if start == 0 else " if ORG is 0"
+        yield found["END"].number, f"pMARS starts where END says{known}, this kit where ORG says; remove one of them."
+
+
+def start_by_org(source: Source, load: Load) -> int | None:
+    """Returns where a warrior starts by its ORG, or None if the source has an error."""
+    lines = ["END" if line.word == "END" and not line.unread else line.text for line in source.lines]
+    try:
+        return load("\n".join(lines).encode()).start
+    except CorewarError:
+        return None
 
 
 @check
 def immediate(source: Source) -> Found:
-    for line in source.lines:
+    for one in instructions_of(source):
         # The others don't use the value of their B-operand.
-        operands = split_operands(line.operands) if line.word in OPCODES and line.word not in OPTIONAL else []
-        if len(operands) == 2 and operands[0][:1] in (["<"], [">"], ["{"], ["}"]) and operands[1][:1] == ["#"]:
-            yield line.number, "pMARS reads the B-operand before the side effect of the A-operand, this kit after it."
+        modes = [tokens[:1] for tokens in one.operands] if one.word in OPCODES and one.word not in OPTIONAL else []
+        if len(modes) == 2 and modes[0] in (["<"], [">"], ["{"], ["}"]) and modes[1] == ["#"]:
+            text = "pMARS reads the B-operand before the side effect of the A-operand, this kit after it."
+            yield one.line.number, text
 
 
 @check
 def opcodes(source: Source) -> Found:
-    for line in source.lines:
-        if line.word == "CMP":
+    for line in source.read_lines():
+        if "CMP" in (line.word, "".join(line.rest[:1]).upper()):
             yield line.number, "In pMARS a cell with CMP is not equal to one with SEQ, here it is; write SEQ."
 
 
 @check
+def versions(source: Source) -> Found:
+    for line in source.read_lines():
+        if "VERSION" in [*line.operands, *line.rest]:
+            yield line.number, "VERSION is 92 in pMARS and 80 here."
+
+
+@check
 def extensions(source: Source) -> Found:
-    for line in source.lines:
+    for line in source.read_lines():
         words = [word for word in [*line.labels, *line.operands] if word.upper() in EXTENSIONS]
         for word in [*words, *(word for word in line.operands if word in ("PSPACESIZE", "="))]:
-            if not line.unread and not line.skipped:
-                yield line.number, f"pMARS knows `{word}`; this kit has neither P-space nor registers."
+            yield line.number, f"pMARS knows `{word}`; this kit has neither P-space nor registers."
 
 
 @check
@@ -127,38 +154,52 @@ def loops_of_modifiers(source: Source) -> list[Loop]:
 @check
 def counts(source: Source) -> Found:
     labels = source.labels()
-    for line in source.lines:
+    for line in source.read_lines():
         for name in line.rest if line.word == "FOR" else []:
             if name in labels:
                 yield line.number, f"pMARS accepts the label `{name}` in a count; write the number."
-            elif name in source.equates and source.equates[name].number > line.number:
-                yield line.number, f"pMARS reads this count as 0, since the EQU of `{name}` is later; move the EQU up."
+            elif is_register(source, line, name):
+                yield line.number, f"pMARS reads `{name}` as 0 here, since its EQU is later; move the EQU up."
+
+
+def is_register(source: Source, line: Line, name: str) -> bool:
+    """Returns whether pMARS reads a name as a register in a count: it has one letter, and its EQU is later."""
+    return len(name) == 1 and name in source.equates and source.equates[name].number > line.number
 
 
 @check
 def equates(source: Source) -> Found:
-    last, is_equate = {loop.counter: loop.head.number for loop in source.loops}, False
-    for line in source.lines:
-        if line.unread or line.skipped or not line.code.strip():
-            continue
-        continues, is_equate = is_equate, line.word == "EQU"
-        if not is_equate:
-            continue
-        if not line.labels and not continues:
-            yield line.number, "pMARS drops this EQU with a warning: it has no name, and follows no other EQU."
+    for name, uses in uses_of(source).items():
+        if counter := next((loops[-1].counter for _, loops in uses if loops), ""):
+            yield source.equates[name].number, (
+                f"pMARS joins the counter `{counter}` where this EQU is used; here the EQU has to be in the loop, "
+                "with the counter joined to its name."
+            )
+    for line in [line for line in source.read_lines() if line.word == "EQU"]:
         words = [word.upper() for word in line.rest]
         if "FOR" in words or "ROF" in words:
             yield line.number, "pMARS accepts FOR and ROF in the text of an EQU; write the loop itself."
-        for part in dict.fromkeys(part for token in line.rest if NAME.match(token) for part in token.split("&")):
-            if last.get(part, 0) > line.number:
-                yield line.number, (
-                    f"pMARS joins the counter `{part}` where this EQU is used; here the EQU has to be in the loop, "
-                    "with the counter joined to its name."
-                )
         if any(label.upper() in OPCODES for label in line.labels):
             yield line.number, "pMARS rejects an opcode as the name of an EQU; use another name."
         if len(line.rest) == 3 and line.rest[0].upper() in OPCODES and line.rest[1] == ".":
             yield line.number, "pMARS rejects an EQU name for an opcode with its modifier; write the opcode itself."
+
+
+@check
+def unused(source: Source) -> Found:
+    for line in unused_equates(source):
+        yield line.number, "pMARS accepts this EQU as long as no line uses it; remove it."
+
+
+def unused_equates(source: Source) -> list[Line]:
+    """Returns the EQU lines that no line uses, with a word that is none, or that joins a name which is no counter."""
+    used, found = {word for line in source.lines for word in line.uses}, list[Line]()
+    for name, head in source.equates.items():
+        for line in source.equate(head) if name not in used else []:
+            joined = {part for token in line.rest if NAME.match(token) for part in token.split("&")[1:]}
+            joined -= {loop.counter for loop in source.loops_around(line.number)} if joined else set()
+            found += [line] if joined or any(map(NO_WORD.match, line.rest)) else []
+    return found
 
 
 @check
@@ -183,16 +224,16 @@ def opens_in_pmars(line: Line) -> bool:
 
 @check
 def names(source: Source) -> Found:
-    first, labels = dict[str, int](), source.labels()
-    for line in source.lines:
-        if line.unread or line.skipped:
-            continue
+    found, labels = definitions_of(source), source.labels()
+    for line, _, name in found.dropped:
+        if name.upper() not in EXTENSIONS:
+            reason = f"since `{name}` is known; use another name" if name else "since it has no name and follows no EQU"
+            yield line.number, f"pMARS drops this line with a warning, {reason}."
+    for line, name in found.repeated:
+        yield line.number, f"pMARS accepts `{name}` twice before an instruction; remove this one."
+    for line in source.read_lines():
         if line.word in ("FOR", "EQU") and len(line.labels) > 1:
             yield line.number, f"pMARS accepts several labels before {line.word}; write each on a line of its own."
-        for name in line.labels if line.word != "FOR" else []:
-            if name in first and name.upper() not in EXTENSIONS:
-                yield line.number, f"pMARS drops this line with a warning, since `{name}` is known; use another name."
-            first.setdefault(name, line.number)
         if line.word == "FOR" and line.labels and labels.get(line.labels[-1], line).number < line.number:
             yield line.number, f"pMARS rejects the counter `{line.labels[-1]}`, a label of an earlier line."
         if re.match(r"\s*\w+\s+:", line.code):
@@ -201,50 +242,67 @@ def names(source: Source) -> Found:
 
 @check
 def asserts(source: Source) -> Found:
-    labels = source.labels()
-    for line in source.lines:
-        found = ASSERT.match(line.text)
-        if found and not found[1].strip():
-            yield line.number, "pMARS only warns about an assert without an expression; remove the line."
-        for name in line.operands if found else []:
-            if name in labels:
-                yield line.number, f"pMARS does not check this assert, since `{name}` is a label; write `;assert 1`."
-            if name == "VERSION":
-                yield line.number, "VERSION is 92 in pMARS and 80 here."
+    for one in instructions_of(source):
+        early, registers = names_of_assert(source, one) if one.word == "ASSERT" else ([], [])
+        if one.word == "ASSERT" and is_unchecked(source, one):
+            yield one.line.number, "pMARS only warns about this assert and does not check it; write `;assert 1`."
+        for name in early:
+            yield one.line.number, f"pMARS reads the label `{name}` as its distance from this assert."
+        for name in registers:
+            yield one.line.number, REGISTER.format(name)
+
+
+def names_of_assert(source: Source, one: Instruction) -> tuple[list[str], list[str]]:
+    """Returns the labels of earlier lines, and the other names that are not defined."""
+    labels, counters = source.labels(), {loop.counter for loop in source.loops_around(one.line.number)}
+    words = [word for tokens in one.operands for word in tokens if NAME.match(word)]
+    words = [word for word in dict.fromkeys(words) if word not in PREDEFINED and word not in counters]
+    early = [word for word in words if word in labels and labels[word].number < one.line.number]
+    return early, [word for word in words if word not in early]
+
+
+def is_unchecked(source: Source, one: Instruction) -> bool:
+    """Returns whether pMARS cannot read an assert: it is no expression, or has an undefined name of several letters."""
+    return (
+        len(one.operands) != 1
+        or not is_read(one.operands[0])
+        or max(map(len, names_of_assert(source, one)[1]), default=0) > 1
+    )
 
 
 @check
 def ends_of_lines(source: Source) -> Found:
-    for line in source.lines:
-        if line.unread:
-            continue
-        operands = line.operands if line.word in OPCODES else []
+    for line in source.read_lines():
         if line.word == "ROF" and line.labels:
             yield line.number, "pMARS accepts a label before ROF; write it on a line of its own."
         if line.is_continued:
             yield line.number, "pMARS joins a line that ends in `\\` with the next one; write one line."
-        if any(one.isdecimal() and other.isdecimal() for one, other in zip(operands, operands[1:])):
+        if any(one.isdecimal() and two.isdecimal() for one, two in zip(line.operands, line.operands[1:])):
             yield line.number, "pMARS joins numbers that are separated by spaces; here an operator is missing."
 
 
 @check
 def operands(source: Source) -> Found:
-    for line in source.lines:
-        found = split_operands(line.operands)
-        if line.word == "DAT" and len(found) == 1:
-            text = without_spaces(found[0])
-            yield line.number, f"pMARS reads `DAT #0, {text}`, this kit `DAT $0, {text}`; write both operands."
-        if line.word in OPCODES and (
-            not found and line.word in ("DAT", "NOP") or len(found) == 1 and line.word not in OPTIONAL
+    for one in instructions_of(source):
+        number, texts = one.line.number, ["".join(tokens) for tokens in one.operands]
+        if one.word == "DAT" and len(texts) == 1:
+            yield number, f"pMARS reads `DAT #0, {texts[0]}`, this kit `DAT $0, {texts[0]}`; write both operands."
+        if one.word == "ORG" and not texts:
+            yield number, "pMARS reads ORG without an operand as `ORG 0`."
+        if one.word in OPCODES and (
+            not texts and one.word in ("DAT", "NOP") or len(texts) == 1 and one.word not in OPTIONAL
         ):
-            yield line.number, f"pMARS rejects {line.word} with this number of operands; write both."
+            yield number, f"pMARS rejects {one.word} with this number of operands; write both."
 
 
 @check
-def products(source: Source) -> Found:
-    for line in source.lines:
-        if MINUS.search(" ".join(line.operands)):
-            yield line.number, "pMARS subtracts everything that follows this `-`, as in `1-(2*3+4)`; write parentheses."
+def expressions(source: Source) -> Found:
+    for one in instructions_of(source):
+        for tokens, text in zip(one.operands, one.regrouped()):
+            if text is None:
+                yield one.line.number, f"pMARS rejects `{''.join(tokens)}` as a bad expression; write parentheses."
+            elif text:
+                yield one.line.number, f"pMARS reads `{''.join(tokens)}` as `{text}`; write that."
 
 
 @check
@@ -252,8 +310,8 @@ def directives(source: Source) -> Found:
     kept = [line for line in source.lines if not line.unread]
     for line in kept:
         directive, named = DIRECTIVE.match(line.text), COMMENTED.match(line.text)
-        if directive:
-            yield line.number, f"pMARS obeys `; {directive[1]}`, which is a comment here; remove the space."
+        if directive and not (line.skipped and directive[3].lower() == "assert"):
+            yield line.number, f"pMARS obeys `; {directive[2]}`, which is a comment here; remove the space."
         if named and (len(named[2].encode()) > MAX_NAME_LENGTH or not (named[2].isascii() and named[2].isprintable())):
             bound = f"at most {MAX_NAME_LENGTH} bytes of printable ASCII"
             yield line.number, f"pMARS keeps any `;{named[1]}`; here it is {bound}."
@@ -261,19 +319,13 @@ def directives(source: Source) -> Found:
             yield line.number, f"pMARS truncates lines of more than about {MAX_LINE_LENGTH} characters."
     for line in [line for line in kept if re.match(r"\s*;redcode", line.text, re.I)][1:]:
         yield line.number, "pMARS ends the warrior at a second `;redcode`; give each warrior a file."
-    starts = {line.word: line for line in kept if line.word in ("ORG", "END") and line.rest}
-    if len(starts) == 2:
-        yield starts["END"].number, "pMARS starts where END says, this kit where ORG says; remove one of them."
 
 
 @check
 def lone_labels(source: Source) -> Found:
-    kept = [line for line in source.lines if line.code.strip() and not line.unread]
-    for before, line in zip(kept, kept[1:]):
-        if not before.labels or before.operation or before.rest or before.number != line.number - 1:
-            continue
+    for before, line in lone_labels_of(source):
         label = before.labels[-1]
-        if line.word == "FOR" and not line.labels:
+        if line.word == "FOR":
             yield line.number, (
                 f"pMARS takes `{label}` of the line before as the counter; here it is a label. Give this FOR a counter."
             )
@@ -282,5 +334,21 @@ def lone_labels(source: Source) -> Found:
                 f"pMARS takes `{label}` of the line before as the name of this EQU; here it is a label. "
                 "Move the EQU up."
             )
-    if kept and kept[-1].labels and not kept[-1].operation and not kept[-1].rest:
-        yield kept[-1].number, "pMARS drops a last line that is only a label."
+        if not line.number:
+            yield before.number, "pMARS drops a last line that is only a label."
+
+
+def lone_labels_of(source: Source) -> Iterator[tuple[Line, Line]]:
+    """Yields each line that is only labels and that pMARS adds to the EQU, or the FOR without a counter, which follows,
+    with that line; with an empty line if nothing follows.
+    """
+    alone = list[Line]()
+    for line in [*source.lines, Line(0, "")]:
+        if line.is_label and not line.unread and not line.skipped:
+            alone.append(line)
+        elif line.code.strip() and not line.unread or not line.number:
+            if line.word == "EQU" or not line.number:
+                yield from ((one, line) for one in alone)
+            elif line.word == "FOR" and not line.labels:
+                yield from ((one, line) for one in alone[-1:])
+            alone = []

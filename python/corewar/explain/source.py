@@ -2,13 +2,14 @@
 from __future__ import annotations
 
 import re
-from collections.abc import Sequence
+from collections.abc import Callable, Sequence
 from dataclasses import dataclass, field
 from difflib import SequenceMatcher, get_close_matches
 from operator import itemgetter
 from typing import Self
 
 from . import words
+from ..engine.warriors import Warrior
 from ..model.printing import printable
 from .sentences import cause_sentence
 
@@ -17,9 +18,12 @@ OPERATIONS = [*words.OPCODES, *words.DIRECTIVES]
 # Operations of pMARS that this kit lacks, and opcodes of other dialects.
 EXTENSIONS = ["LDP", "STP", "PIN"]
 ELSEWHERE = [*EXTENSIONS, "XCH", "PCT", "STS"]
+# What assembles a source.
+Load = Callable[[bytes], Warrior]
 # A name with its joins, a number, or punctuation, also such as the language does not have; bytes up to 32 are spaces.
 TOKEN = re.compile(r"(?:\w|&(?=[A-Za-z_]))+|==|!=|<=|>=|&&|\|\||[^\0- ]", re.ASCII)
 NAME = re.compile(r"[A-Za-z_][\w&]*\Z", re.ASCII)
+ASSERT = re.compile(r"\s*;assert\b(.*)", re.I)
 # How many names are compared with a word; a comparison takes 10 to 20 microseconds for each letter.
 MAX_CHOICES = 1000
 # The most loops around a line.
@@ -70,6 +74,16 @@ class Line:
         return self.text.partition(";")[0]
 
     @property
+    def is_label(self) -> bool:
+        """Whether the line has only labels."""
+        return bool(self.labels) and not self.operation and not self.rest
+
+    @property
+    def uses(self) -> set[str]:
+        """The names that it uses, as operation and after it, and not as modifiers."""
+        return {self.operation, *(word for before, word in zip(["", *self.rest], self.rest) if before != ".")}
+
+    @property
     def is_continued(self) -> bool:
         """Whether pMARS joins the next line to it."""
         return self.text.rstrip().endswith("\\") and ";" not in self.text
@@ -77,7 +91,7 @@ class Line:
     @property
     def operands(self) -> list[str]:
         """The tokens of the operands, or of an assert."""
-        if re.match(r"\s*;assert\b", self.text, re.I):
+        if ASSERT.match(self.text):
             return TOKEN.findall(self.text.split(";")[1])[1:]
         return self.rest[2:] if self.rest[:1] == ["."] else self.rest
 
@@ -100,11 +114,15 @@ class Source:
     equates: dict[str, Line]
     loops: list[Loop]
 
+    def read_lines(self) -> list[Line]:
+        """The lines that are read."""
+        return [line for line in self.lines if not line.unread and not line.skipped]
+
     def labels(self) -> dict[str, Line]:
         """The first line of each label."""
         found: dict[str, Line] = {}
-        for line in self.lines:
-            if not line.unread and not line.skipped and line.word not in ("EQU", "FOR"):
+        for line in self.read_lines():
+            if line.word not in ("EQU", "FOR"):
                 for label in line.labels:
                     found.setdefault(label, line)
         return found
@@ -225,8 +243,8 @@ def misspelt(source: Source, line: Line) -> Misspelt | None:
 
 def place_of(word: str, line: str) -> int | None:
     """Returns the place of a word in a line, before its comment."""
-    whole = rf"(?<!\w){re.escape(word)}(?!\w)" if re.match(r"\w", word) else re.escape(word)
-    found = re.search(whole, line.partition(";")[0])
+    before, after = (r"(?<!\w)" * word[:1].isalnum(), r"(?!\w)" * word[-1:].isalnum())
+    found = re.search(before + re.escape(word) + after, line.partition(";")[0])
     return found.start() if found else None
 
 

@@ -1,0 +1,174 @@
+"""Reads expressions as this kit does and as pMARS does, whose order of operations is sometimes another one."""
+from __future__ import annotations
+
+import re
+from collections.abc import Sequence
+from typing import NamedTuple, TypeAlias
+
+from .source import TOKEN
+
+# A tree whose leaves are names and numbers.
+Tree: TypeAlias = "str | Signed | Binary"
+LEVELS = ["||", "&&", "== != < > <= >=", "+ -", "* / %"]
+PRECEDENCES = {operator: level for level, operators in enumerate(LEVELS, 1) for operator in operators.split()}
+# The most tokens of an expression that is read: pMARS cuts lines of more than 255 characters.
+MAX_TOKENS = 200
+
+
+class Signed(NamedTuple):
+    """An operand after a sign."""
+
+    sign: str
+    operand: Tree
+
+
+class Binary(NamedTuple):
+    """An operator with both operands."""
+
+    operator: str
+    left: Tree
+    right: Tree
+
+
+class Reader:
+    """Reads the tokens of an expression: by precedence, then from left to right."""
+
+    def __init__(self, tokens: Sequence[str]) -> None:
+        self.tokens, self.at = [*tokens, ""], 0
+
+    def read(self) -> Tree | None:
+        """Returns the tree of the expression, or None if it has none."""
+        try:
+            tree = self.whole()
+        except ValueError:
+            return None
+        return tree if self.at == len(self.tokens) - 1 else None
+
+    def next(self) -> str:
+        self.at += 1
+        return self.tokens[self.at - 1]
+
+    def whole(self) -> Tree:
+        return self.chain(1)
+
+    def chain(self, level: int) -> Tree:
+        """Reads operators of this precedence and higher ones."""
+        tree = self.operand()
+        while PRECEDENCES.get(self.tokens[self.at], 0) >= level:
+            operator = self.next()
+            tree = Binary(operator, tree, self.chain(PRECEDENCES[operator] + 1))
+        return tree
+
+    def operand(self) -> Tree:
+        token = self.next()
+        if token == "(":
+            tree = self.whole()
+            if self.next() != ")":
+                raise ValueError(token)
+            return tree
+        if token in ("+", "-", "!"):
+            return Signed(token, self.operand())
+        if not re.match(r"\w", token):
+            raise ValueError(token)
+        return token
+
+
+class PmarsReader(Reader):
+    """Reads them as `eval` of pMARS does: an operator that was read too early is saved, and sometimes lost."""
+
+    saved = ""
+
+    def whole(self) -> Tree:
+        return self.part(-1, None, "")
+
+    def part(self, bound: int, left: Tree | None, operator: str) -> Tree:
+        """Reads the right side of an operator and what follows.
+
+        - `bound`: the precedence of the operator before it, or -1
+        """
+        right = self.operand()
+        tree = right if left is None else Binary(operator, left, right)
+        if self.tokens[self.at] in ("", ")"):
+            return tree
+        following, own, self.saved = self.next(), PRECEDENCES.get(operator, 0), ""
+        if following not in PRECEDENCES:
+            raise ValueError(following)
+        other = PRECEDENCES[following]
+        if own >= other:
+            if other >= bound or own <= bound:
+                return self.part(own, tree, following)
+            self.saved = following
+            return tree
+        right = self.part(own, right, following)
+        tree = right if left is None else Binary(operator, left, right)
+        # Its number of `==` is 0, which pMARS takes for none that is saved.
+        if self.saved not in ("", "==") and PRECEDENCES[self.saved] >= bound:
+            tree = self.part(other, tree, self.saved)
+            self.saved = ""
+        return tree
+
+
+READERS = (Reader, PmarsReader)
+
+
+def regrouped(tokens: Sequence[str]) -> str | None:
+    """Returns an expression with parentheses where pMARS computes it in another order than this kit, "" if both compute
+    the same, or None if only pMARS rejects it.
+    """
+    ours = Reader(tokens).read() if len(tokens) <= MAX_TOKENS else None
+    if ours is None:
+        return ""
+    theirs = PmarsReader(tokens).read()
+    if theirs is None:
+        return None
+    if comparable(ours) == comparable(theirs):
+        return ""
+    short = written(theirs, is_short=True)
+    is_read = all(comparable(reader(TOKEN.findall(short)).read() or "") == comparable(theirs) for reader in READERS)
+    return short if is_read else written(theirs)
+
+
+def is_read(tokens: Sequence[str]) -> bool:
+    """Returns whether pMARS reads an expression; a longer one is not looked at."""
+    return len(tokens) > MAX_TOKENS or PmarsReader(tokens).read() is not None
+
+
+def written(tree: Tree, is_short: bool = False) -> str:
+    """Returns the text of a tree, with parentheses around each operation within another, so that both programs read it
+    in the same way; a short one has none around products.
+    """
+
+    def nested(inner: Tree) -> str:
+        text = written(inner, is_short)
+        is_open = not isinstance(inner, Binary) or is_short and inner.operator in ("*", "/", "%")
+        return text if is_open else f"({text})"
+
+    if isinstance(tree, Binary):
+        return nested(tree.left) + tree.operator + nested(tree.right)
+    return tree.sign + nested(tree.operand) if isinstance(tree, Signed) else tree
+
+
+def comparable(tree: Tree) -> object:
+    """Returns a value that is equal for trees that differ only in the order of sums, of `&&` or of `||`."""
+    if isinstance(tree, str):
+        return tree
+    if isinstance(tree, Signed):
+        return tree.sign, comparable(tree.operand)
+    if tree.operator in ("+", "-"):
+        return "+", *terms(tree, True)
+    if tree.operator in ("&&", "||"):
+        return tree.operator, *sides(tree, tree.operator)
+    return tree.operator, comparable(tree.left), comparable(tree.right)
+
+
+def terms(tree: Tree, is_added: bool) -> list[object]:
+    """Returns the terms of a sum, each with whether it is added."""
+    if not isinstance(tree, Binary) or tree.operator not in ("+", "-"):
+        return [(is_added, comparable(tree))]
+    return terms(tree.left, is_added) + terms(tree.right, is_added == (tree.operator == "+"))
+
+
+def sides(tree: Tree, operator: str) -> list[object]:
+    if not isinstance(tree, Binary) or tree.operator != operator:
+        return [comparable(tree)]
+    return sides(tree.left, operator) + sides(tree.right, operator)

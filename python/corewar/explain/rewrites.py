@@ -1,0 +1,97 @@
+"""Writes what both programs accept and read differently so that this kit reads it as pMARS does."""
+from __future__ import annotations
+
+import re
+from collections.abc import Callable
+
+from .operands import instructions_of
+from .pmars import DIRECTIVE, lone_labels_of, start_by_org
+from .source import ASSERT, Line, Load, Source
+
+
+def replace_in_code(line: Line, lines: list[str], pattern: str, new: str | Callable[[re.Match[str]], str]) -> None:
+    """Replaces a pattern in the code of a line, or in the expression of an assert."""
+    text, found = lines[line.number - 1], ASSERT.match(line.text)
+    start = found.start(1) if found else 0
+    code, mark, comment = text[start:].partition(";")
+    lines[line.number - 1] = text[:start] + re.sub(pattern, new, code) + mark + comment
+
+
+def commented(text: str) -> str:
+    """Returns a line as a comment that is no directive, not even in pMARS."""
+    return f";; {text}" if DIRECTIVE.match(f"; {text}") else f"; {text}"
+
+
+def take_lone_labels(source: Source, lines: list[str], _: Load) -> None:
+    """Writes labels in lines of their own before the EQU or FOR to which pMARS adds them."""
+    for alone, line in [*lone_labels_of(source)][::-1]:
+        if line.number:
+            lines[line.number - 1] = f"{' '.join(alone.labels)} {lines[line.number - 1].lstrip()}"
+            comment = lines[alone.number - 1][len(alone.code) :]
+            lines[alone.number - 1] = commented(comment) if comment else ""
+
+
+def write_operands(source: Source, lines: list[str], _: Load) -> None:
+    """Writes the first operand of DAT, the operand of ORG, and parentheses where pMARS computes in another order."""
+    for one in instructions_of(source):
+        at, new = one.line.number - 1, one.regrouped()
+        is_short = one.word == "DAT" and len(one.operands) == 1 or one.word == "ORG" and not one.operands
+        if not one.written or None in new or not (any(new) or is_short):
+            continue
+        head, texts, end = one.split(lines[at])
+        if len(texts) != len(one.operands):
+            # An EQU name has several operands.
+            texts = ["".join(tokens) for tokens in one.operands]
+        texts = [text or old for text, old in zip(new, texts)]
+        if is_short:
+            texts = ["#0", *texts] if one.word == "DAT" else ["0"]
+        lines[at] = f"{head.rstrip()} {', '.join(texts)}{end}" if head else lines[at]
+
+
+def write_version(source: Source, lines: list[str], _: Load) -> None:
+    """Writes the VERSION of pMARS."""
+    for line in source.read_lines():
+        if "VERSION" in [*line.operands, *line.rest]:
+            replace_in_code(line, lines, r"(?<![\w.&])VERSION(?![\w&])", "92")
+
+
+def write_seq(source: Source, lines: list[str], _: Load) -> None:
+    """Writes SEQ for CMP, which pMARS tells apart, if the warrior has only one of them."""
+    kept = source.read_lines()
+    if not any("SEQ" in (word.upper() for word in (line.operation, *line.rest[:1])) for line in kept):
+        for line in kept:
+            replace_in_code(line, lines, r"(?<![\w.&])CMP(?![\w&])", "SEQ")
+            replace_in_code(line, lines, r"(?i)(?<![\w.&])cmp(?![\w&])", "seq")
+
+
+def choose_start(source: Source, lines: list[str], load: Load) -> None:
+    """Makes a comment of each ORG if its value is 0 and END says another start."""
+    kept = [line for line in source.lines if not line.unread]
+    if any(line.word == "END" and line.rest for line in kept) and start_by_org(source, load) == 0:
+        for line in kept:
+            if line.word == "ORG":
+                lines[line.number - 1] = commented(lines[line.number - 1])
+
+
+def obey_directives(source: Source, lines: list[str], _: Load) -> None:
+    """Removes the space before the name of a directive, and ends the source at a second `;redcode`."""
+    seen = 0
+    for line in source.lines:
+        if not line.unread:
+            if not (line.skipped and "assert" in line.text.lower()):
+                lines[line.number - 1] = DIRECTIVE.sub(r"\1\2", lines[line.number - 1])
+            seen += bool(re.match(r"\s*;redcode\b", line.text, re.I))
+            if seen == 2 and not source.loops_around(line.number):
+                lines[line.number - 1] = f"END\n{lines[line.number - 1]}"
+                return
+
+
+def join_numbers(source: Source, lines: list[str], _: Load) -> None:
+    """Joins numbers that are separated by spaces."""
+    for line in source.read_lines():
+        if any(one.isdecimal() and two.isdecimal() for one, two in zip(line.operands, line.operands[1:])):
+            replace_in_code(line, lines, r"(?<![\w.&])(\d+(?:\s+\d+)+)(?![\w&])", joined)
+
+
+def joined(found: re.Match[str]) -> str:
+    return "".join(found[0].split())
