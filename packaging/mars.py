@@ -61,7 +61,7 @@ def bash(options: list[Option]) -> str:
 def zsh(options: list[Option]) -> str:
     lines = ["#compdef mars", "# Completion of the options of mars for zsh.", "_arguments \\"]
     for one in options:
-        meaning = re.sub(r"['\[\]:]", "", one.meaning.partition(" [default")[0])
+        meaning = re.sub(r"([\[\]:\\])", r"\\\1", one.meaning.partition(" [default")[0]).replace("'", "'\\''")
         lines.append(f"    '{one.word}[{meaning}]{f':{one.value}:' if one.value else ''}' \\")
     return "\n".join([*lines, "    '*:warrior:_files -g \"*.(red|load)\"'", ""])
 

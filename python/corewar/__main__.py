@@ -15,9 +15,11 @@ def missing_module(error: ModuleNotFoundError) -> str:
 
 def main() -> None:
     """Runs the command, or reports that it cannot be loaded."""
-    # While modules are loaded Ctrl-C ends the process without a traceback.
+    # While modules are loaded Ctrl-C ends the process without a traceback. The script that starts this blocks it, since
+    # Python's own start would print one.
     if signal.getsignal(signal.SIGINT) is signal.default_int_handler:
         signal.signal(signal.SIGINT, signal.SIG_DFL)
+    signal.pthread_sigmask(signal.SIG_UNBLOCK, [signal.SIGINT])
     try:
         from corewar.cli.main import main as run
     except ModuleNotFoundError as error:

@@ -53,6 +53,14 @@ class Commands(Command, click.Group):
     def parse_args(self, context: click.Context, words: list[str]) -> list[str]:
         if words[:1] == ["help"]:
             words = [*words[1:2], "--help"]
+        if not words and not context.resilient_parsing:
+            # It fits into the 24 lines of a small terminal.
+            formatter = context.make_formatter()
+            self.format_usage(context, formatter)
+            self.format_commands(context, formatter)
+            formatter.write_text("`corewar help COMMAND` explains a command; `corewar --help` has all options.")
+            click.echo(formatter.getvalue(), nl=False)
+            context.exit()
         return super().parse_args(context, words)
 
     def resolve_command(
@@ -66,11 +74,17 @@ class Commands(Command, click.Group):
 
     def format_options(self, context: click.Context, formatter: click.HelpFormatter) -> None:
         super().format_options(context, formatter)
+        formatter.write_paragraph()
+        self.format_commands(context, formatter)
+
+    def format_commands(self, context: click.Context, formatter: click.HelpFormatter) -> None:
         width = formatter.width - 6 - max(map(len, COMMANDS))
         for group, names in GROUPS.items():
             found = [(name, self.get_command(context, name)) for name in names]
-            with formatter.section(group):
-                formatter.write_dl([(name, one.get_short_help_str(width).rstrip(".")) for name, one in found if one])
+            formatter.write(f"{group}:\n")
+            formatter.indent()
+            formatter.write_dl([(name, one.get_short_help_str(width).rstrip(".")) for name, one in found if one])
+            formatter.dedent()
 
 
 EXAMPLES = ["corewar fight -r 100 dwarf.red imp.red", "corewar why dwarf.red imp.red", "corewar help why"]

@@ -2,7 +2,7 @@
 from __future__ import annotations
 
 import time
-from collections.abc import Callable
+from collections.abc import Callable, Sequence
 from dataclasses import dataclass, field
 from functools import partial
 
@@ -22,14 +22,20 @@ from .layout import Command, Number
 from .options import BattleOptions, battle_options
 from .reporting import is_coloured
 
-KEYS = (
-    "space play   left, right a turn (shift: ten)   up, down speed   home, end",
-    "j k l back stop play   s x d splits ends dies (S X D: back)   [ ] round   q quit",
-)
+KEYS = [
+    "space play",
+    "left, right a turn (shift: ten)",
+    "up, down speed",
+    "home, end",
+    "j k l back stop play",
+    "s x d splits ends dies (S X D: back)",
+    "[ ] round",
+    "q quit",
+]
 # The frames in a second, the seconds of a battle at the first speed, and how much a key changes it.
 FRAMES, SECONDS, FASTER = 20, 20, 1.6
-# The lines around the core: the title, the warriors, the last turn and the keys.
-LINES = 5
+# What separates the keys, and the least number of other lines around the core: the title, the warriors, the last turn.
+GAP, LINES = "   ", 3
 
 
 @dataclass
@@ -80,16 +86,32 @@ class Show:
             ("bold", f"{state} turn {self.turn} of {history.end}, cycle {cycle}"),
             ("", f", round {history.round}, {self.rate:,.0f} turns/s\n"),
         ]
-        lines += draw(history, self.turn, canvas_of(history.core, size.columns, size.rows - LINES))
+        keys = wrapped(KEYS, GAP, size.columns)
+        core = draw(history, self.turn, canvas_of(history.core, size.columns, size.rows - LINES - len(keys)))
+        rows = sum(text.count("\n") for _, text in core)
         deaths = dict(history.deaths(self.turn).tolist())
+        lines += core
         for number, name in enumerate(history.names):
             count = len(history.block(self.turn).queue(number, self.turn))
             fate = f"died in turn {deaths[number]}" if number in deaths else pluralize(count, "process")
             lines += [(f"fg:{styles[number + 1]} bold", f"{name} "), ("", f"{fate}   ")]
         ending = [self.formatter.ending()] if self.turn == history.end else []
         words = [self.formatter.turn(self.turn)] if self.turn and not self.way else []
-        said = ["; ".join(ending + words), *KEYS]
-        return [*lines, *(("" if line == said[0] else "italic", f"\n{line[: size.columns]}") for line in said)]
+        # The last turn takes the lines that the core leaves.
+        room = max(1, size.rows - rows - 2 - len(keys))
+        said = wrapped("; ".join(ending + words).split(), " ", size.columns)[:room] or [""]
+        return [*lines, *(("", f"\n{line}") for line in said), *(("italic", f"\n{line}") for line in keys)]
+
+
+def wrapped(parts: Sequence[str], gap: str, columns: int) -> list[str]:
+    """Returns lines of these parts; a part is cut if it is longer than a line."""
+    lines = list[str]()
+    for part in parts:
+        if lines and len(lines[-1] + gap + part) <= columns:
+            lines[-1] += gap + part
+        else:
+            lines.append(part[:columns])
+    return lines
 
 
 def keys_of(show: Show) -> KeyBindings:
