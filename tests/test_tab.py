@@ -85,6 +85,7 @@ def test_warriors_and_hills(shell: str, folder: Path) -> None:
             ("corewar why uniq.red flash.red --of Dw", "Dwarf"),
             ("corewar why uniq.red flash.red --of fl", "flash"),
             ("corewar fight --hill ti", "tiny"),
+            ("corewar changed uniq.red --cell bo", "bomb"),
         ):
             child.send(f"{begun}\t")
             child.expect_exact(rest[2:])
@@ -95,6 +96,10 @@ def test_arguments_of_mars_are_not_checked_while_they_are_typed() -> None:
     words = {"COMP_WORDS": "corewar explain mars di", "COMP_CWORD": "3", "_COREWAR_COMPLETE": "bash_complete"}
     done = subprocess.run(COMMAND, env={**ENVIRONMENT, **words}, capture_output=True, text=True)
     assert (done.stdout, done.stderr) == ("file,di\n", "")
+    done = subprocess.run(
+        COMMAND, env={**ENVIRONMENT, **words, "COMP_WORDS": "corewar explain mars --"}, capture_output=True, text=True
+    )
+    assert (done.stdout, done.stderr) == ("\n", "")
 
 
 def test_the_line_of_the_debugger(folder: Path) -> None:

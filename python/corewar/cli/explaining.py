@@ -11,6 +11,7 @@ from dataclasses import asdict, dataclass, field
 from typing import Any
 
 import click
+from click.shell_completion import CompletionItem
 
 from ..engine.calls import encode_source, source_lines
 from ..engine.deadline import deadline
@@ -52,6 +53,10 @@ class Explain(Command):
             click.echo(check_mars_args(words[1:]))
             context.exit()
         return super().parse_args(context, words)
+
+    def shell_complete(self, context: click.Context, incomplete: str) -> list[CompletionItem]:
+        # What follows are the arguments of another program.
+        return [] if context.params.get("files", ())[:1] == ("mars",) else super().shell_complete(context, incomplete)
 
 
 @click.command(cls=Explain, examples=EXAMPLES, statuses=f"{STATUSES}, {LEFT} `--fix` left what pMARS reads differently")

@@ -14,7 +14,8 @@ from ..model.errors import CorewarError
 from ..model.printing import printable
 from ..model.settings import Settings, whole
 from .layout import Command, Number
-from .options import INPUT, LIMIT, BattleOptions, WarriorName, battle_options, core_options, format_option, is_given
+from .options import INPUT, LIMIT, BattleOptions, CellName, WarriorName, battle_options, core_options, format_option
+from .options import is_given
 from .reporting import is_coloured, report, show, show_value
 from .waiting import processes, progress
 
@@ -145,7 +146,7 @@ def trace(options: BattleOptions, first: int | None, turns: int, form: str) -> N
     ],
 )
 @battle_options(one_round=True)
-@click.option("--cell", "named", metavar="CELL", required=True, help="Address or label of the cell")
+@click.option("--cell", "named", type=CellName(), required=True, help="Address or label of the cell")
 @click.option("--before", type=Number(1), help="Search only the turns before this one, 1 or more")
 def changed(options: BattleOptions, named: str, before: int | None) -> None:
     """Find the last turn that changed a cell."""

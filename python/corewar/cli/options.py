@@ -3,6 +3,7 @@ from __future__ import annotations
 
 import functools
 import os
+from collections import Counter
 from collections.abc import Callable, Iterator, Sequence
 from dataclasses import dataclass, replace
 from pathlib import Path
@@ -14,8 +15,9 @@ from click.shell_completion import CompletionItem
 
 from ..battle.series import seed_of_cells, seed_of_position
 from ..contests.contest import Contest
-from ..engine.calls import Match
+from ..engine.calls import Match, source_lines
 from ..engine.sources import Limit, read_warriors
+from ..engine.warriors import Warrior
 from ..model.errors import CorewarError, FileError
 from ..model.settings import FORMULA, HILLS, MAX_WARRIORS, NUMBERS, Settings, whole
 from ..model.types import Positions
@@ -102,6 +104,16 @@ class Output(click.Path):
 INPUT = click.Path(readable=False)
 
 
+def warriors_before(context: click.Context) -> Iterator[Warrior]:
+    """Yields the warriors of the files before the cursor, for completion."""
+    # Click doesn't read on at an option that still lacks its value.
+    for file in context.params.get("files") or context.args:
+        try:
+            yield read_warriors([file], HILLS[context.params.get("hill") or "94nop"])[0]
+        except CorewarError:
+            continue
+
+
 class WarriorName(click.ParamType):
     """A warrior of the files: its number, name or file."""
 
@@ -110,15 +122,28 @@ class WarriorName(click.ParamType):
     def shell_complete(self, context: click.Context, param: click.Parameter, incomplete: str) -> list[CompletionItem]:
         """Offers each warrior of the files before the cursor, by its file if its name has spaces."""
         found, begun = list[CompletionItem](), incomplete.lower()
-        # Click doesn't read on at an option that still lacks its value.
-        for file in context.params.get("files") or context.args:
-            try:
-                warrior = read_warriors([file], HILLS[context.params.get("hill") or "94nop"])[0]
-            except CorewarError:
-                continue
+        for warrior in warriors_before(context):
             names = [name for name in (warrior.called, warrior.files[2]) if " " not in name]
             found += [CompletionItem(name, help=warrior.title) for name in names if name.lower().startswith(begun)][:1]
         return found
+
+
+class CellName(click.ParamType):
+    """A cell of the core: its address, or a label of the files."""
+
+    name = "CELL"
+
+    def shell_complete(self, context: click.Context, param: click.Parameter, incomplete: str) -> list[CompletionItem]:
+        """Offers each label of the files before the cursor, with the number of its warrior if several have it."""
+        found = [
+            (number, label, warrior.title)
+            for number, warrior in enumerate(warriors_before(context))
+            for _, labels in source_lines(warrior.source or b"", HILLS[context.params.get("hill") or "94nop"])
+            for label in labels
+        ]
+        counts = Counter(label for _, label, _ in found)
+        names = [(label if counts[label] == 1 else f"{number}.{label}", title) for number, label, title in found]
+        return [CompletionItem(name, help=title) for name, title in names if name.startswith(incomplete)]
 
 
 class Picture(Output):
