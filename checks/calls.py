@@ -23,7 +23,11 @@ from dataclasses import dataclass
 TOP = os.path.dirname(os.path.dirname(os.path.abspath(__file__)))
 CRATES = ["mars_cell", "redcode_text", "redcode_asm", "mars_core", "mars_session", "mars_match", "mars_app", "mars_c"]
 BLOCK = re.compile(r"^(?:impl(?:<[^>]*>)?|pub trait) (\w+)(?:<[^>]*>)? \{\n(.*?)^\}", re.M | re.S)
-HEAD = re.compile(r'^( *)(?:pub )?(?:const )?(?:extern "C" )?fn (\w+)[<(].*?(?:^\1\{|;$)', re.M | re.S)
+# A clause has braces, up to three deep; a `;` ends a head only outside of them.
+CLAUSES = r"\{(?:[^{}]|\{(?:[^{}]|\{[^{}]*\})*\})*\}"
+HEAD = re.compile(
+    rf'^( *)(?:pub )?(?:const )?(?:extern "C" )?fn (\w+)[<(](?:[^{{}};]|{CLAUSES}|;(?!$))*?(?:^\1\{{|;$)', re.M | re.S
+)
 IMPL = re.compile(r"^(impl(?:<[^>]*>)? \w+ for (\w+)(?:<[^>]*>)?) \{\n(.*?)^\}", re.M | re.S)
 GHOST = re.compile(r"^    ghost \w+ = \{.*(?:\};|(?:\n     .*)*\n    \}.*)\n", re.M)
 CLAUSE = re.compile(r"^ +ensures(?: (\w+))? \{", re.M)

@@ -449,7 +449,8 @@ uint32_t mars_outcomes(const MarsSettings *settings,
 /* ---- Battles ---- */
 
 /* Returns the maximum length in words of a battle with these settings and this number of warriors: no number of turns and edits
- * exceeds it. Returns 0 if the settings are out of range, or if `warriors` is not from 1 to 16. */
+ * exceeds it. Returns 0 if a parameter of the core is out of its range, or if `warriors` is not from 1 to 16; the rounds, the seed and the
+ * position do not matter. */
 size_t mars_words(const MarsSettings *settings, uint32_t warriors);
 
 /* Writes the battle of a round, as it starts, to the first words of `battle`. The warriors are as for mars_match; `round` is from 0 to the

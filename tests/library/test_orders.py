@@ -187,6 +187,36 @@ def test_contests(name: str) -> None:
             check(run, [first, second], first[2])
 
 
+def test_first_wrong_cell() -> None:
+    """Of several wrong cells of a warrior the first one is reported, whatever is wrong with it."""
+    no_cell, outside = (16, *CELL[1:]), (*CELL[:4], 800, 0)
+    for cells, number in (([CELL, no_cell, outside, no_cell], 3), ([CELL, outside, no_cell, outside], 4)):
+        for name in ("mars_match", "mars_outcomes", "mars_start"):
+            arguments, fault = Arguments(), library()[0].new("MarsFault *")
+            arguments.cells[1] = cells
+            assert CALLS[name][0](arguments, fault)[0] == 13
+            assert (fault.number, fault.warrior, fault.line) == (number, 1, 1), name
+
+
+def test_first_wrong_lineup() -> None:
+    """Of several wrong lineups the first one is reported, also if another mistake has a smaller number."""
+    settings, warriors = Arguments().converted()
+    lineups = filled("MarsLineup", [(0, 2, (0, 1, *[0] * 14), 0), (0, 2, (0, 2, *[0] * 14), 0), (0, 0, (0,) * 16, 0)])
+    fault = library()[0].new("MarsFault *")
+    assert library()[1].mars_outcomes(settings, *warriors, *lineups, *filled("MarsOutcome", []), fault) == 14
+    assert (fault.number, fault.warrior) == (2, 1)
+
+
+def test_length_after_errors() -> None:
+    """The length of a text is only written if there is a text."""
+    (ffi, calls), (settings, _) = library(), Arguments().converted()
+    length, fault, buffer = ffi.new("size_t *", 12345), ffi.new("MarsFault *"), untouched("uint8_t", 100)[1]
+    assert calls.mars_lines(settings, 2, *text("MOV"), *buffer, length, fault) == 5
+    assert calls.mars_write_load(settings, *filled("MarsCell", []), ffi.new("MarsProgram *"), *buffer, length, fault) == 13
+    assert calls.mars_debug(*slice_of("uint32_t", array("uint32_t", 9)), 1, *text("show\n"), *buffer, length, fault) == 11
+    assert length[0] == 12345
+
+
 @dataclass
 class Battle:
     """The arguments of a call on a battle; a mistake changes one of them."""

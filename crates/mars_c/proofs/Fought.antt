@@ -5,7 +5,7 @@ use Rattle.std.proofs.lemmas.Option.{slice_get-get_or}
 use Rattle.std.proofs.lemmas.List.{append-nil, get_or-take, length-take-le, map-append, map_more, take_more}
 use Rattle.mars_cell.specs.Warriors.{WarriorValue}
 use Rattle.mars_match.specs.declared.fates.Fate.{Fate}
-use Rattle.mars_c.specs.Outcomes.{AreFought, IsFought, RefusesLineup, plain_fate}
+use Rattle.mars_c.specs.Outcomes.{AreFought, IsFirstFailure, IsFought, RefusesLineup, plain_fate}
 use Rattle.mars_c.specs.declared.faults.CallRefusal.{CallRefusal}
 use Rattle.mars_c.specs.declared.faults.CallRefusal.TheVariants.{OutOfMemory}
 use Rattle.mars_c.specs.declared.outcomes.MarsLineup.{MarsLineup}
@@ -40,6 +40,6 @@ fought_more s ws ls i d fates one items more inside all shown this appended = (
   rw (appended, shown) (sym (map-append plain_fate fates one)),
 )
 
-pub lineup_fails : (s : MarsSettings) (ws : List WarriorValue) (ls : List MarsLineup) (i : ℕ) (d : MarsLineup) (refusal : CallRefusal) → i < length ls → RefusesLineup s ws (get_or ls i d) refusal
-    → (index : ℕ) × (lineup : MarsLineup) × (slice_get ls index ≡ Some lineup) × RefusesLineup s ws lineup refusal
-lineup_fails s ws ls i d refusal inside refused = (i, get_or ls i d, slice_get-get_or ls i d inside, refused)
+pub lineup_fails : (s : MarsSettings) (ws : List WarriorValue) (ls : List MarsLineup) (i : ℕ) (d : MarsLineup) (fates : List Fate) (refusal : CallRefusal) → i < length ls
+    → AreFought s ws (take i ls) fates → RefusesLineup s ws (get_or ls i d) refusal → IsFirstFailure s ws ls refusal
+lineup_fails s ws ls i d fates refusal inside fought refused = (i, get_or ls i d, fates, fought, slice_get-get_or ls i d inside, refused)

@@ -24,12 +24,18 @@ pub record IsEntrant (p : Parameters) (cells : List MarsCell) (start : ℕ) (nam
   pub name_same : w.name ≡ name
   pub author_same : w.author ≡ author
 
--- The error is the first wrong cell: the numbers at the index are no cell, or the cell has a number outside the core of `m`
--- cells.
+-- The numbers are a cell of a core of `m` cells.
+abbrev pub IsCellOf : ℕ → MarsCell → Type 0
+IsCellOf m numbers = (cell : Cell) × (plain_cell cell ≡ numbers) × FitsCore m cell
+
+-- The error is the first wrong cell: the numbers before the index are cells of a core of `m` cells; those at the index are no cell,
+-- or the cell has a number outside the core.
 abbrev pub IsWrongCell : ℕ → List MarsCell → EntrantFault → Type 0
 IsWrongCell m cells OutOfMemory = ⊤
-IsWrongCell m cells (WrongCell i) = (numbers : MarsCell) × (slice_get cells i ≡ Some numbers) × ((cell : Cell) → plain_cell cell ≢ numbers)
-IsWrongCell m cells (Field i) = (cell : Cell) × (slice_get cells i ≡ Some (plain_cell cell)) × (FitsCore m cell → ⊥)
+IsWrongCell m cells (WrongCell i) = All (IsCellOf m) (take i cells)
+    × ((numbers : MarsCell) × (slice_get cells i ≡ Some numbers) × ((cell : Cell) → plain_cell cell ≢ numbers))
+IsWrongCell m cells (Field i) = All (IsCellOf m) (take i cells)
+    × ((cell : Cell) × (slice_get cells i ≡ Some (plain_cell cell)) × (FitsCore m cell → ⊥))
 IsWrongCell m cells other = ⊥
 
 -- The error is a reason for which the numbers `cells` are no warrior with this start.

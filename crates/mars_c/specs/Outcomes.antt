@@ -68,9 +68,10 @@ abbrev pub IsNoLineup : ℕ → MarsLineup → LineupFault → Type 0
 IsNoLineup count lineup Count = AreWarriors lineup.count → ⊥
 IsNoLineup count lineup Index = All (λ i. i < count) (indices_of lineup) → ⊥
 
--- `refusal` is the error of a wrong lineup, with its index.
+-- `refusal` is the error of the first wrong lineup, with its index.
 abbrev pub IsWrongLineup : ℕ → List MarsLineup → CallRefusal → Type 0
 IsWrongLineup count lineups refusal = (index : ℕ) × (lineup : MarsLineup) × (fault : LineupFault)
+    × All (IsLineup count) (take index lineups)
     × (slice_get lineups index ≡ Some lineup) × IsNoLineup count lineup fault × (refusal ≡ Lineup index fault)
 
 -- `chosen` are the warriors of `ws` at these indices.
@@ -106,16 +107,24 @@ RefusesLineup s ws lineup refusal =
     × IsSetup (seeded s lineup.seed) (codes "0") setup × AreChosen ws (indices_of lineup) chosen
     × (fates_of (is_counting lineup) setup.params chosen setup.plan.fixed setup.plan.rounds setup.plan.seed ≡ Err fault) × (refusal ≡ fight_refusal fault))
 
+-- `refusal` is a reason for which the match of the first lineup with an error has no fates. Those before it are fought.
+abbrev pub IsFirstFailure : MarsSettings → List WarriorValue → List MarsLineup → CallRefusal → Type 0
+IsFirstFailure s ws lineups refusal = (index : ℕ) × (lineup : MarsLineup) × (before : List Fate)
+    × AreFought s ws (take index lineups) before × (slice_get lineups index ≡ Some lineup) × RefusesLineup s ws lineup refusal
+
 -- `refusal` is a reason for which the match of one of the lineups has no fates.
 abbrev pub FailsLineup : MarsSettings → List MarsCell → List MarsWarrior → List MarsLineup → CallRefusal → Type 0
-FailsLineup s cells entrants lineups refusal = (p : Parameters) × (ws : List WarriorValue) × (index : ℕ) × (lineup : MarsLineup)
-    × (checked_parameters (parameters_in s) ≡ Ok p) × AreEntrants p cells entrants ws × (slice_get lineups index ≡ Some lineup) × RefusesLineup s ws lineup refusal
+FailsLineup s cells entrants lineups refusal = (p : Parameters) × (ws : List WarriorValue)
+    × (checked_parameters (parameters_in s) ≡ Ok p) × AreEntrants p cells entrants ws × IsFirstFailure s ws lineups refusal
 
--- `refusal` is a reason for which no fates are returned: a lineup is wrong, the number of places is not that of the fates, the
--- parameters or the warriors are rejected, or a match fails.
+-- Each lineup is right, and there is a place for each fate.
+abbrev pub AreInRange : MarsSettings → List MarsWarrior → List MarsLineup → ℕ → Type 0
+AreInRange s entrants lineups places = All (IsLineup (length entrants)) lineups × (places ≡ rows_for s lineups)
+
+-- `refusal` is the first reason for which no fates are returned: a lineup is wrong, the number of places is not that of the fates, or
+-- the parameters or the warriors are rejected or a match fails. An allocation fails only if the lineups and the places are right.
 abbrev pub RefusesOutcomes : MarsSettings → List MarsCell → List MarsWarrior → List MarsLineup → ℕ → CallRefusal → Type 0
 RefusesOutcomes s cells entrants lineups places refusal =
     IsWrongLineup (length entrants) lineups refusal
-    ⊎ IsOutOfRange Rows (places ≡ rows_for s lineups) refusal
-    ⊎ RefusesWarriors s cells entrants refusal
-    ⊎ FailsLineup s cells entrants lineups refusal
+    ⊎ (All (IsLineup (length entrants)) lineups × IsOutOfRange Rows (places ≡ rows_for s lineups) refusal)
+    ⊎ (AreInRange s entrants lineups places × (RefusesWarriors s cells entrants refusal ⊎ FailsLineup s cells entrants lineups refusal))

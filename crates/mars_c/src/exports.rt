@@ -3,6 +3,7 @@
 //! A function that writes a result returns 0 if it succeeds; otherwise it stores the error in `fault` and returns its code.
 ghost use Rattle.std.specs.Prelude.{◌≡◌, ◌≢◌, ◌≤◌, ◌<◌, ◌++◌, drop, false, length, map, true};
 ghost use Rattle.mars_c.specs.Cells.{plain_cell};
+ghost use Rattle.mars_c.specs.Codes.{numbered};
 ghost use Rattle.mars_c.specs.Contests.{HoldsLeague, HoldsMatch, HoldsSums, IsScore};
 ghost use Rattle.mars_c.specs.Outcomes.{HoldsOutcomes, RefusesOutcomes};
 ghost use Rattle.mars_c.specs.Programs.{AreLines, BeginsWith, HoldsProgram, HoldsText, IsAssembled, IsLoadFile, IsLoaded, Overflows, OverflowsProgram, OverflowsText};
@@ -86,6 +87,8 @@ pub extern "C" fn mars_assemble(
     fault: &mut MarsFault,
 ) -> u32
     ensures code { result ≡ fault.new.code }
+    ensures cleared { result ≡ 0 → fault.new ≡ numbered 0 0 }
+    ensures short { result ≡ 10 → fault.new ≡ numbered 10 0 }
     ensures done { result ≡ 0 → HoldsProgram (IsAssembled settings.now warriors source.now) program.new cells.old cells.new }
     ensures refused { result ≢ 0 → result ≢ 10 → HasCause (RefusesSource settings.now warriors source.now) fault.new }
     ensures room { result ≡ 10 → OverflowsProgram (IsAssembled settings.now warriors source.now) program.new cells.old }
@@ -110,6 +113,9 @@ pub extern "C" fn mars_lines(
     fault: &mut MarsFault,
 ) -> u32
     ensures code { result ≡ fault.new.code }
+    ensures cleared { result ≡ 0 → fault.new ≡ numbered 0 0 }
+    ensures short { result ≡ 10 → fault.new ≡ numbered 10 0 }
+    ensures unwritten { result ≢ 0 → result ≢ 10 → length.new ≡ length.old }
     ensures done { result ≡ 0 → HoldsText (AreLines settings.now warriors source.now) length.new buffer.old buffer.new }
     ensures refused { result ≢ 0 → result ≢ 10 → HasCause (RefusesSource settings.now warriors source.now) fault.new }
     ensures room { result ≡ 10 → OverflowsText (AreLines settings.now warriors source.now) length.new buffer.old }
@@ -132,6 +138,8 @@ pub extern "C" fn mars_read_load(
     fault: &mut MarsFault,
 ) -> u32
     ensures code { result ≡ fault.new.code }
+    ensures cleared { result ≡ 0 → fault.new ≡ numbered 0 0 }
+    ensures short { result ≡ 10 → fault.new ≡ numbered 10 0 }
     ensures done { result ≡ 0 → HoldsProgram (IsLoaded settings.now load.now) program.new cells.old cells.new }
     ensures refused { result ≢ 0 → result ≢ 10 → HasCause (RefusesLoad settings.now load.now) fault.new }
     ensures room { result ≡ 10 → OverflowsProgram (IsLoaded settings.now load.now) program.new cells.old }
@@ -156,6 +164,9 @@ pub extern "C" fn mars_write_load(
     fault: &mut MarsFault,
 ) -> u32
     ensures code { result ≡ fault.new.code }
+    ensures cleared { result ≡ 0 → fault.new ≡ numbered 0 0 }
+    ensures short { result ≡ 10 → fault.new ≡ numbered 10 0 }
+    ensures unwritten { result ≢ 0 → result ≢ 10 → length.new ≡ length.old }
     ensures done { result ≡ 0 → HoldsText (IsLoadFile settings.now cells.now program.now) length.new buffer.old buffer.new }
     ensures refused { result ≢ 0 → result ≢ 10 → HasCause (RefusesWriting settings.now cells.now program.now) fault.new }
     ensures room { result ≡ 10 → OverflowsText (IsLoadFile settings.now cells.now program.now) length.new buffer.old }
@@ -179,6 +190,7 @@ pub extern "C" fn mars_match(
     fault: &mut MarsFault,
 ) -> u32
     ensures code { result ≡ fault.new.code }
+    ensures cleared { result ≡ 0 → fault.new ≡ numbered 0 0 }
     ensures refused { result ≢ 0 → HasCause (RefusesMatch settings.now formula.now cells.now warriors.now (length rows.old)) fault.new }
     ensures done { result ≡ 0 → HoldsMatch settings.now formula.now cells.now warriors.now rows.new }
     ensures kept { result ≢ 0 → rows.new ≡ rows.old }
@@ -201,6 +213,7 @@ pub extern "C" fn mars_league(
     fault: &mut MarsFault,
 ) -> u32
     ensures code { result ≡ fault.new.code }
+    ensures cleared { result ≡ 0 → fault.new ≡ numbered 0 0 }
     ensures refused { result ≢ 0 → HasCause (RefusesLeague settings.now formula.now cells.now warriors.now (length rows.old)) fault.new }
     ensures done { result ≡ 0 → HoldsLeague settings.now formula.now cells.now warriors.now rows.new }
     ensures kept { result ≢ 0 → rows.new ≡ rows.old }
@@ -225,6 +238,7 @@ pub extern "C" fn mars_population(
     fault: &mut MarsFault,
 ) -> u32
     ensures code { result ≡ fault.new.code }
+    ensures cleared { result ≡ 0 → fault.new ≡ numbered 0 0 }
     ensures refused { result ≢ 0 → HasCause (RefusesPopulation settings.now formula.now cells.now warriors.now (length rows.old)) fault.new }
     ensures done { result ≡ 0 → HoldsSums settings.now formula.now cells.now warriors.now rows.new }
     ensures kept { result ≢ 0 → rows.new ≡ rows.old }
@@ -246,6 +260,7 @@ pub extern "C" fn mars_score(
     fault: &mut MarsFault,
 ) -> u32
     ensures code { result ≡ fault.new.code }
+    ensures cleared { result ≡ 0 → fault.new ≡ numbered 0 0 }
     ensures refused { result ≢ 0 → HasCause (RefusesScore formula.now warriors survivors) fault.new }
     ensures done { result ≡ 0 → IsScore formula.now warriors survivors value.new }
     ensures kept { result ≢ 0 → value.new ≡ value.old }
@@ -271,6 +286,7 @@ pub extern "C" fn mars_outcomes(
     fault: &mut MarsFault,
 ) -> u32
     ensures code { result ≡ fault.new.code }
+    ensures cleared { result ≡ 0 → fault.new ≡ numbered 0 0 }
     ensures refused { result ≢ 0 → HasCause (RefusesOutcomes settings.now cells.now warriors.now lineups.now (length outcomes.old)) fault.new }
     ensures done { result ≡ 0 → HoldsOutcomes settings.now cells.now warriors.now lineups.now outcomes.new }
     ensures kept { result ≢ 0 → outcomes.new ≡ outcomes.old }

@@ -1,9 +1,8 @@
 //! How each warrior fares in each round of many matches.
-ghost use Rattle.std.specs.Prelude.{◌≡◌, ◌++◌, ◌≤◌, ℕ, All, IfErr, IfOk, IfSome, List, None, OnErr, OnOk, Some, length, map, slice_get};
+ghost use Rattle.std.specs.Prelude.{◌≡◌, ◌++◌, ◌≤◌, All, IfErr, IfOk, IfSome, List, None, OnErr, OnOk, length, map};
 ghost use Rattle.mars_match.specs.declared.fates.Fate.{Fate as FateValue};
-ghost use Rattle.mars_c.specs.Outcomes.{AreChosen, AreFought, HoldsOutcomes, IsFought, IsLineup, IsNoLineup, IsWrongLineup, RefusesLineup, RefusesOutcomes, indices_of, plain_fate, rows_for, seeded as spec_seeded};
+ghost use Rattle.mars_c.specs.Outcomes.{AreChosen, AreFought, HoldsOutcomes, IsFirstFailure, IsFought, IsLineup, IsNoLineup, IsWrongLineup, RefusesLineup, RefusesOutcomes, indices_of, plain_fate, rows_for, seeded as spec_seeded};
 ghost use Rattle.mars_c.specs.Refusals.{IsOutOfRange};
-ghost use Rattle.mars_c.specs.declared.outcomes.MarsLineup.{MarsLineup as LineupNumbers};
 ghost use Rattle.mars_c.specs.declared.ranges.SettingsFault.TheVariants as settings_fault;
 ghost use Rattle.mars_core.specs.Limits.{max_warriors};
 
@@ -117,6 +116,7 @@ fn check_rows(
     places: usize,
 ) -> Result<(), CallRefusal>
     requires { All (λ lineup. lineup.count ≤ max_warriors) lineups.now }
+    ensures right { OnOk result (places ≡ rows_for settings.now lineups.now) }
     ensures wrong { IfErr result (IsOutOfRange settings_fault.Rows (places ≡ rows_for settings.now lineups.now)) }
 {
     let mut rest = places;
@@ -198,7 +198,7 @@ fn fight_all(
 ) -> Result<Vec<MarsOutcome>, CallRefusal>
     requires { All (IsLineup (length warriors.now)) lineups.now }
     ensures fought { IfOk result (λ outcomes. (fates : List FateValue) × AreFought settings.now warriors.now lineups.now fates × (outcomes.items ≡ map plain_fate fates)) }
-    ensures refused { IfErr result (λ refusal. (index : ℕ) × (lineup : LineupNumbers) × (slice_get lineups.now index ≡ Some lineup) × RefusesLineup settings.now warriors.now lineup refusal) }
+    ensures refused { IfErr result (IsFirstFailure settings.now warriors.now lineups.now) }
 {
     let mut outcomes = Vec::new(alloc);
     for i in 0..lineups.len() {

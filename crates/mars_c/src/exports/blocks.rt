@@ -6,6 +6,7 @@ ghost use Rattle.mars_core.specs.State.{State};
 ghost use Rattle.mars_core.specs.Turn.{after_turns};
 ghost use Rattle.mars_core.specs.Block.{Spells, head_words};
 ghost use Rattle.mars_c.specs.Blocks.{HoldsEdited, HoldsEdits, HoldsStart, IsPlayable, IsWritten, OverflowsStart, RefusesEdit, RefusesEdits, RefusesPlay, RefusesStart, RefusesWords, Reports, played_rows};
+ghost use Rattle.mars_c.specs.Codes.{numbered};
 ghost use Rattle.mars_c.specs.Debugging.{Debugs, RefusesDebugging};
 ghost use Rattle.mars_c.specs.Following.{IsFollowed, RefusesFollow};
 ghost use Rattle.mars_c.specs.Programs.{HoldsText, OverflowsText};
@@ -53,6 +54,8 @@ pub extern "C" fn mars_start(
     fault: &mut MarsFault,
 ) -> u32
     ensures code { result ≡ fault.new.code }
+    ensures cleared { result ≡ 0 → fault.new ≡ numbered 0 0 }
+    ensures short { result ≡ 10 → fault.new ≡ numbered 10 0 }
     ensures refused { result ≢ 0 → result ≢ 10 → HasCause (RefusesStart settings.now cells.now warriors.now round) fault.new }
     ensures done { result ≡ 0 → HoldsStart settings.now cells.now warriors.now round battle.old battle.new }
     ensures room { result ≡ 10 → OverflowsStart settings.now cells.now warriors.now round battle.old }
@@ -75,6 +78,7 @@ pub extern "C" fn mars_play(
     fault: &mut MarsFault,
 ) -> u32
     ensures code { result ≡ fault.new.code }
+    ensures cleared { result ≡ 0 → fault.new ≡ numbered 0 0 }
     ensures refused { result ≢ 0 → Reports (RefusesPlay battle.old) fault.new }
     ensures done { result ≡ 0 → (s : State) × IsPlayable s battle.old × IsWritten (after_turns turns s) battle.old battle.new
         × (records.new ≡ played_rows turn_row turns s records.old) × (touched.new ≡ played_rows touched_row turns s touched.old) }
@@ -99,6 +103,7 @@ pub extern "C" fn mars_follow(
     fault: &mut MarsFault,
 ) -> u32
     ensures code { result ≡ fault.new.code }
+    ensures cleared { result ≡ 0 → fault.new ≡ numbered 0 0 }
     ensures refused { result ≢ 0 → Reports (RefusesFollow battle.old conditions.now (length pasts.old)) fault.new }
     ensures done { result ≡ 0 → IsFollowed turns conditions.now battle.old battle.new pasts.old pasts.new found.old found.new count.new }
     ensures kept { result ≢ 0 → (battle.new ≡ battle.old) × (pasts.new ≡ pasts.old) × (found.new ≡ found.old) × (count.new ≡ count.old) }
@@ -121,6 +126,7 @@ pub extern "C" fn mars_edit(
     fault: &mut MarsFault,
 ) -> u32
     ensures code { result ≡ fault.new.code }
+    ensures cleared { result ≡ 0 → fault.new ≡ numbered 0 0 }
     ensures refused { result ≢ 0 → Reports (RefusesEdit battle.old edit.now) fault.new }
     ensures done { result ≡ 0 → HoldsEdited edit.now battle.old battle.new }
     ensures kept { result ≢ 0 → battle.new ≡ battle.old }
@@ -140,6 +146,7 @@ pub extern "C" fn mars_edits(
     fault: &mut MarsFault,
 ) -> u32
     ensures code { result ≡ fault.new.code }
+    ensures cleared { result ≡ 0 → fault.new ≡ numbered 0 0 }
     ensures refused { result ≢ 0 → Reports (RefusesEdits battle.old edits.now) fault.new }
     ensures done { result ≡ 0 → HoldsEdits edits.now battle.old battle.new }
     ensures kept { result ≢ 0 → battle.new ≡ battle.old }
@@ -154,6 +161,7 @@ pub extern "C" fn mars_edits(
 #[unsafe(no_mangle)]
 pub extern "C" fn mars_check(alloc: Global, battle: &[u32], fault: &mut MarsFault) -> u32
     ensures code { result ≡ fault.new.code }
+    ensures cleared { result ≡ 0 → fault.new ≡ numbered 0 0 }
     ensures refused { result ≢ 0 → Reports (RefusesWords battle.now) fault.new }
     ensures done { result ≡ 0 → (s : State) × Spells s battle.now }
 {
@@ -175,6 +183,9 @@ pub extern "C" fn mars_debug(
     fault: &mut MarsFault,
 ) -> u32
     ensures code { result ≡ fault.new.code }
+    ensures cleared { result ≡ 0 → fault.new ≡ numbered 0 0 }
+    ensures short { result ≡ 10 → fault.new ≡ numbered 10 0 }
+    ensures unwritten { result ≢ 0 → result ≢ 10 → length.new ≡ length.old }
     ensures refused { result ≢ 0 → result ≢ 10 → Reports (RefusesDebugging battle.now history) fault.new }
     ensures done { result ≡ 0 → HoldsText (Debugs battle.now history lines.now) length.new buffer.old buffer.new }
     ensures room { result ≡ 10 → OverflowsText (Debugs battle.now history lines.now) length.new buffer.old }

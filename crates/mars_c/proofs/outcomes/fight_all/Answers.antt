@@ -16,11 +16,12 @@ loop-i-preserved c =
 pub returns-in_err-fates-clause-refused : goal.returns-in_err-fates-clause-refused
 returns-in_err-fates-clause-refused c =
     let p = err_from_is_err_and c.from_residual.result c.from_residual.ensures.1 in
-    rw (p.1, p.2) (lineup_fails c.args.settings.now c.args.warriors.now c.args.lineups.now c.loop-i.i _ c.in_err-fates.field-0.0 c.loop-i-test.true c.in_err-fates.ensures.refused)
+    rw (p.1, p.2) (lineup_fails c.args.settings.now c.args.warriors.now c.args.lineups.now c.loop-i.i _ c.loop-i.invariant.0 c.in_err-fates.field-0.0 c.loop-i-test.true c.loop-i.invariant.1
+    c.in_err-fates.ensures.refused)
 
 pub returns-in_err-append-clause-refused : goal.returns-in_err-append-clause-refused
 returns-in_err-append-clause-refused c =
     let s = c.args.settings.now in
     let ws = c.args.warriors.now in
     let one = get_or c.args.lineups.now c.loop-i.i none in
-    let shown = lineup_fails s ws c.args.lineups.now c.loop-i.i none c.in_err-append.field-0.0 c.loop-i-test.true (memory_lineup s ws one c.in_err-append.field-0.0 c.in_err-append.ensures.memory) in search rules
+    let shown = lineup_fails s ws c.args.lineups.now c.loop-i.i none c.loop-i.invariant.0 c.in_err-append.field-0.0 c.loop-i-test.true c.loop-i.invariant.1 (memory_lineup s ws one c.in_err-append.field-0.0 c.in_err-append.ensures.memory) in search rules
