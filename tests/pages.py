@@ -1415,12 +1415,15 @@ def test_a_narrow_page_shows_the_whole_strip(narrow: Browser) -> None:
 
 
 def test_a_narrow_page_has_tabs(narrow: Browser) -> None:
-    """The battle, the editor and the lesson are a tap apart, and a tap on a cell describes it below the core."""
+    """The battle, the editor and the lesson are a tap apart. A tap on a cell describes it below the core, and the turns
+    can still be stepped.
+    """
     go_to_turn(narrow, 900)
     point = narrow.value("corewar.theatre.core.pointOf(3)")
     narrow.mouse(point["x"], point["y"], "pointerDown", "pointerUp")
     box = "document.getElementById('cell-box').getBoundingClientRect()"
-    narrow.until(f"corewar.session.pinned !== null && {box}.height > 100 && {box}.bottom <= innerHeight")
+    controls = "document.getElementById('controls').getBoundingClientRect()"
+    narrow.until(f"corewar.session.pinned !== null && {box}.height > 100 && {box}.bottom <= {controls}.top + 1")
     shown = "['battle', 'desk', 'lesson-box'].filter(id => document.getElementById(id).checkVisibility())"
     assert narrow.value(shown) == ["battle"]
     narrow.click("#tabs [data-tab=code]")
