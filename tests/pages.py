@@ -74,7 +74,7 @@ def test_a_newcomer_sees_a_fight(page: Browser) -> None:
     # On a slow machine the first caption may be over, so the test returns to it.
     go_to_turn(page, 0)
     assert "share a ring of 8,000 cells" in page.text("caption")
-    # The story tells the end from the start, as the timeline does.
+    # The story shows the end from the start, as the timeline does.
     past = "[...document.querySelectorAll('#story li')].map(one => one.className === 'past')"
     assert page.value(past) == [True, False, False, False]
 
@@ -510,6 +510,10 @@ def test_loading_again_keeps_the_place(page: Browser) -> None:
     assert page.value("corewar.session.known.names") == names
     page.run("document.querySelector('#lesson-box > .link').click()")
     assert page.value("location.hash") == ""
+    # What another version of the page wrote is left out.
+    page.run("history.replaceState({fight: 7}, ''); window.isOld = true; location.reload()")
+    page.until("!window.isOld && window.corewar?.session.isSettled")
+    assert page.text("complaint") == ""
 
 
 SHOWN = "['stage', 'track', 'play', 'top', 'side', 'desk', 'rewind', 'leaps'].filter(id => %s)"
@@ -1441,7 +1445,7 @@ def test_a_narrow_page_has_tabs(narrow: Browser) -> None:
             visible = "['bench', 'league', 'desk'].filter(id => document.getElementById(id).checkVisibility())"
             assert narrow.value(visible) == [place]
         assert narrow.text("tab-view").lower() == view
-    # The head is two rows high; the terms are behind a button.
+    # The head is two rows high; a button shows the terms.
     terms = "document.getElementById('terms').checkVisibility()"
     narrow.resize(360, 740)
     assert narrow.value("document.getElementById('top').offsetHeight") < 100 and not narrow.value(terms)

@@ -54,7 +54,7 @@ export class Arrival {
     const isBattle = !place || place.view === "battle" || place.number !== null;
     page.views.show(isBattle || !place ? "battle" : place.view);
     lessons.show(place?.view === "learn" ? (place.number ?? 0) : 0);
-    const { fight, ...shown } = history.state ?? {};
+    const { fight, ...shown } = places.written;
     if (fight && places.isShown(fight)) return;
     if (fight) await this.#return(fight, shown, isBattle && (!place || lessons.current > 0));
     else if (text || carried) await this.#openLink(text || carried, selection);

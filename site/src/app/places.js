@@ -7,7 +7,10 @@ import { throttle } from "../view/dom.js";
 /** @typedef {import("../model/fight.js").Fight} Fight */
 /** @typedef {import("../view/session.js").Session} Session */
 /** @typedef {{view: string, number: number | null}} Place `number` is that of a lesson or a round */
-/** @typedef {{fight: Fight, turn: number, pinned: number | null, plays: boolean}} Battle as the history has it */
+/** @typedef {{fight?: Fight, turn?: number, pinned?: number | null, plays?: boolean}} Battle as the history has it */
+
+/** The form of what is in the history, which outlives the version of the page. */
+const FORM = 1;
 
 /**
  * Returns the place that an address names after its `#`, or null if it names another thing.
@@ -52,6 +55,14 @@ export class Places {
     } finally {
       this.#arriving--;
     }
+  }
+
+  /**
+   * What the history has of this address.
+   * @returns {Battle}
+   */
+  get written() {
+    return history.state?.form === FORM ? history.state : {};
   }
 
   /** @param {Fight} fight */
@@ -102,7 +113,7 @@ export class Places {
   #write(hash, isNew) {
     const { fight, opened, turn, pinned, way } = this.session;
     if (!fight || !opened) return;
-    const state = { fight: { ...fight, edits: opened.edits }, turn, pinned, plays: way > 0 };
+    const state = { form: FORM, fight: { ...fight, edits: opened.edits }, turn, pinned, plays: way > 0 };
     const address = hash || location.pathname + location.search;
     try {
       if (isNew) history.pushState(state, "", address);

@@ -1,4 +1,4 @@
-/** What is shown of the page: a view, the editor beside it, and the tab where there is no room for both. */
+/** What is shown of the page: a view, the editor beside it, and the tab if there is no room for both. */
 import { buttons, element, isNarrow } from "../view/dom.js";
 
 /** @typedef {import("../view/bench.js").Bench} Bench */
