@@ -55,10 +55,10 @@ module _ (p : Parameters) where
       → f ≢ entrant.OutOfMemory → IsNoEntrant p cells start f → ⊥
   is_entrant cells start w entrant.Length e other broken = broken (omega (arith, e.inside)) e.short
   is_entrant cells start w entrant.Start e other broken = omega (arith, e.inside, broken)
-  is_entrant cells start w (entrant.Cell i) e other (numbers, at, broken) =
+  is_entrant cells start w (entrant.Cell i) e other (before, (numbers, at, broken)) =
       let found = cell_at p.core_size w.cells i numbers e.fits (rw (← e.cells_same) at at) in
       broken found.0 found.1
-  is_entrant cells start w (entrant.Field i) e other (cell, at, outside) =
+  is_entrant cells start w (entrant.Field i) e other (before, (cell, at, outside)) =
       let found = cell_at p.core_size w.cells i (plain_cell cell) e.fits (rw (← e.cells_same) at at) in
       outside (subst (FitsCore p.core_size) (one_cell found.0 cell found.1) found.2)
   is_entrant cells start w entrant.Name e other broken = broken
@@ -209,13 +209,13 @@ starts_fit_again s cells entrants round before after (one, begins, few, written)
     omega (arith, few, short)
 
 pub outcome_errors_recur : OutcomeErrorsRecur
-outcome_errors_recur s cells entrants lineups rows refusal all long many held (inl (i, lineup, f, at, broken, is)) =
+outcome_errors_recur s cells entrants lineups rows refusal all long many held (inl (i, lineup, f, before, at, broken, is)) =
     absurd (right_lineup (length entrants) lineup f (all_at (IsLineup (length entrants)) lineups i lineup all at) broken)
-outcome_errors_recur s cells entrants lineups rows refusal all long many held (inr (inl counted)) = absurd (counted.1 many)
-outcome_errors_recur s cells entrants lineups rows refusal all long many (p, ws, fates, allowed, are, fought, holds) (inr (inr (inl refused))) =
+outcome_errors_recur s cells entrants lineups rows refusal all long many held (inr (inl (right, counted))) = absurd (counted.1 many)
+outcome_errors_recur s cells entrants lineups rows refusal all long many (p, ws, fates, allowed, are, fought, holds) (inr (inr (in_range, inl refused))) =
     warriors_read s cells entrants p ws allowed are refusal refused
 outcome_errors_recur s cells entrants lineups rows refusal all long many (p, ws, fates, allowed, are, fought, holds)
-    (inr (inr (inr (q, vs, i, lineup, too, read, at, refused)))) =
+    (inr (inr (in_range, inr (q, vs, too, read, (i, lineup, before, done, at, refused))))) =
     let params : q ≡ p = ok_injective q p (sym too ∙ allowed) in
     let warriors = one_reading p cells entrants vs ws [] (subst (λ p. AreEntrants p cells entrants vs) params read) are in
     let here = fought_at s ws lineups fates i lineup fought at in

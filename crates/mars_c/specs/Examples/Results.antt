@@ -268,8 +268,8 @@ debugged words lines text history = (λ d. omega (arith, d.3.0), λ d. replies d
 pub lineups : (count : ℕ) (one : MarsLineup) (refusal : CallRefusal)
     → (IsLineup count one → IsWrongLineup count (one ∷ []) refusal → ⊥) × (IsWrongLineup count (one ∷ []) call.OutOfMemory → ⊥)
 lineups count one refusal = (
-  λ is wrong. right is wrong.0 wrong.1 wrong.2 wrong.3 wrong.4,
-  λ wrong. let e : ◌≡◌ {A = CallRefusal} call.OutOfMemory (call.Lineup wrong.0 wrong.2) = wrong.5 in cc,
+  λ is wrong. right is wrong.0 wrong.1 wrong.2 wrong.4 wrong.5,
+  λ wrong. let e : ◌≡◌ {A = CallRefusal} call.OutOfMemory (call.Lineup wrong.0 wrong.2) = wrong.6 in cc,
 )
   where
     right : IsLineup count one → (index : ℕ) (other : MarsLineup) (fault : LineupFault) → slice_get (one ∷ []) index ≡ Some other → IsNoLineup count other fault → ⊥
@@ -314,9 +314,9 @@ pub no_failing_lineup : (one : MarsCell) (lineups : List MarsLineup) (refusal : 
     × (FailsLineup no_core [] [] lineups refusal → ⊥)
     × (FailsLineup (nano 1 1 0) (one ∷ []) [] lineups refusal → ⊥)
 no_failing_lineup one lineups refusal = (
-  λ f. let e : ◌≡◌ {A = Option MarsLineup} None (Some f.3) = f.6 in cc,
-  λ f. let e : Ok f.0 ≡ checked_parameters (parameters_in no_core) = sym f.4 in cc,
-  λ f. entrants f.0 f.1 f.5,
+  λ f. let e : ◌≡◌ {A = Option MarsLineup} None (Some f.4.1) = f.4.4 in cc,
+  λ f. let e : Ok f.0 ≡ checked_parameters (parameters_in no_core) = sym f.2 in cc,
+  λ f. entrants f.0 f.1 f.3,
 )
   where
     entrants : (p : Parameters) (ws : List WarriorValue) → AreEntrants p (one ∷ []) [] ws → ⊥
