@@ -142,17 +142,23 @@ import sys
 from functools import partial
 import distributed, numpy as np
 import corewar
-files = ["dwarf", "imp", "paper", "vampire", "bomber"]
-warriors = [corewar.read(f"{name}.red") for name in files]
-lineups = [[a, b] for a in range(5) for b in range(5)] * 4 + [[0, 1, 2]]
-how = dict(seeds=range(1, 102), rounds=3)
+from corewar.engine import outcomes as module
+warriors = [corewar.read(f"{name}.red", settings="tiny") for name in ("dwarf", "imp", "clear", "gate")]
+lineups = [[a, b] for a in range(4) for b in range(4)] + [[0, 1, 2]]
+how = dict(seeds=range(1, 18), rounds=3, settings="tiny")
 with distributed.Client(sys.argv[1], set_as_default=False) as client:
+    client.wait_for_workers(2)
     executor = client.get_executor(pure=False)
-    for more in ({}, {"counts": True}, {"reduce": partial(corewar.shares, cycles=80000)}):
-        there = corewar.outcomes(warriors, lineups, executor=executor, **how, **more)
-        assert np.array_equal(there, corewar.outcomes(warriors, lineups, **how, **more))
-    contest = corewar.Contest(rounds=3)
-    assert contest.melee(warriors, 3, 50, executor=executor).to_dict() == contest.melee(warriors, 3, 50).to_dict()
+    # The lineups of a part: each by itself, some, and all.
+    for size in (1, 5, 100):
+        module.DISTANT_TURNS = size * 3 * 8000 * 3
+        for more in ({}, {"counts": True}, {"reduce": partial(corewar.shares, cycles=8000)}):
+            there = corewar.outcomes(warriors, lineups, executor=executor, **how, **more)
+            assert np.array_equal(there, corewar.outcomes(warriors, lineups, **how, **more))
+        contest = corewar.Contest("tiny", rounds=3)
+        for call in (contest.league, partial(contest.melee, size=3, lineups=20)):
+            assert call(warriors, executor=executor).to_dict() == call(warriors).to_dict()
+    assert all(client.run(lambda dask_worker: dask_worker.state.executed_count).values())
 print("equal")
 """
 
