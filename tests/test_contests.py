@@ -66,7 +66,7 @@ def test_a_league_is_arrays() -> None:
 
 
 def test_rows_have_numbers() -> None:
-    """Warriors without names and files are told apart by their indices."""
+    """Warriors without names and files are distinguished by their indices."""
     cells = [corewar.assemble(text).cells for text in ("MOV 0, 1", "JMP 0", "DAT 0", "SPL 0\nJMP -1")]
     made = [corewar.Warrior.from_cells(one) for one in cells]
     results = [CONTEST.league(made), CONTEST.melee(made, 3, 8)]
