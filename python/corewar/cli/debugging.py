@@ -7,7 +7,7 @@ import click
 
 from ..battle.history import History
 from ..battle.labels import Sources
-from .layout import Command, Number
+from .layout import Command, Number, checked_turn
 from .options import BattleOptions, battle_options
 from .reporting import is_coloured
 
@@ -27,7 +27,7 @@ def debug(options: BattleOptions, turn: int) -> int:
     from ..debugger.session import Session
 
     history = History(options.fight(), options.round)
-    session = Session(history, Sources(history), turn=min(turn, history.end))
+    session = Session(history, Sources(history), turn=checked_turn(turn, history.end, "--turn"))
     if not is_terminal():
         return run_lines(session, sys.stdin)
     click.echo(" against ".join(history.names) + "; `help` lists the commands")

@@ -38,6 +38,13 @@ class Number(click.ParamType):
         return number
 
 
+def checked_turn(turn: int, end: int, option: str) -> int:
+    """Returns a turn that an option names. Raises an error of click if it is after the end of the battle."""
+    if turn > end:
+        raise click.BadParameter(f"the battle has turns 1 to {end}", param_hint=option)
+    return turn
+
+
 class Command(click.Command):
     """A command whose help has its own options first, then the shared ones, examples and exit statuses."""
 

@@ -13,7 +13,7 @@ from ..engine.sources import Limit, read_warriors
 from ..model.errors import CorewarError
 from ..model.printing import printable
 from ..model.settings import Settings, whole
-from .layout import Command, Number
+from .layout import Command, Number, checked_turn
 from .options import INPUT, LIMIT, BattleOptions, CellName, WarriorName, battle_options, core_options, format_option
 from .options import is_given
 from .reporting import is_coloured, report, show, show_value
@@ -127,9 +127,7 @@ def trace(options: BattleOptions, first: int | None, turns: int, form: str) -> N
     """Print each turn: the instruction, its reads and its writes."""
     formatter = formatter_of(options)
     end = formatter.history.end
-    first = max(1, end - turns + 1) if first is None else first
-    if first > end:
-        raise click.BadParameter(f"the battle has turns 1 to {end}", param_hint="--from")
+    first = max(1, end - turns + 1) if first is None else checked_turn(first, end, "--from")
     last = min(end, first + turns - 1)
     if form == "json":
         show_value(formatter.history.trace(first, last))

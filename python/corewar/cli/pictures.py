@@ -17,7 +17,7 @@ from ..model.edits import Edit
 from ..model.errors import CorewarError, FileError, MarsError
 from ..model.settings import whole
 from ..model.printing import printable
-from .layout import Command, Number
+from .layout import Command, Number, checked_turn
 from .options import BattleOptions, Decorator, Output, Picture, battle_options, with_options
 
 # What follows the word of an edit: numbers, and a line of source.
@@ -41,8 +41,7 @@ def output_options(kind: Output, usual: str) -> tuple[Decorator, Decorator]:
 
 def frame_ends(history: History, first: int, turns: int | None, count: int) -> list[int]:
     """The turns at which `count` frames of a part of a battle end."""
-    if first > max(1, history.end):
-        raise click.BadParameter(f"the battle has turns 1 to {history.end}", param_hint="--from")
+    checked_turn(first, max(1, history.end), "--from")
     last = history.end if turns is None else min(history.end, first - 1 + turns)
     return part_ends(first - 1, last, count)
 

@@ -18,7 +18,7 @@ from ..battle.history import History
 from ..battle.labels import Sources
 from ..engine.calls import Match
 from ..pictures.terminal import Fragments, canvas_of, draw, styles_of
-from .layout import Command, Number
+from .layout import Command, Number, checked_turn
 from .options import BattleOptions, battle_options
 from .reporting import is_coloured
 
@@ -166,7 +166,7 @@ def watch(options: BattleOptions, turn: int) -> None:
         raise click.UsageError("expected a terminal; `corewar picture` draws a battle into a file")
     fight = options.fight()
     history = History(fight, options.round)
-    show = Show(fight, history, min(turn, history.end), 0 if turn else 1)
+    show = Show(fight, history, checked_turn(turn, history.end, "--turn"), 0 if turn else 1)
     control = FormattedTextControl(show.text, show_cursor=False)
     Application[None](
         Layout(Window(control, wrap_lines=False)),

@@ -59,7 +59,7 @@ def bad_token(source: Source, line: Line) -> Iterator[str]:
         new = f"{assigned[1]} EQU {assigned[2].rstrip()}"
         yield Advice(cause_sentence("assign", new=new), line.code.strip(), new)
     elif alone := AMPERSAND.search(line.code):
-        yield cause_sentence("ampersand", word=alone[1])
+        yield Advice(cause_sentence("ampersand", word=alone[1]), alone[1] or "&")
     else:
         counters = {loop.counter for loop in source.loops_around(line.number)}
         for token in TOKEN.findall(line.code):
