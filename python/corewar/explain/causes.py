@@ -172,18 +172,25 @@ def syntax(source: Source, line: Line) -> Iterator[str]:
 
 def unknown(source: Source, line: Line) -> Iterator[str]:
     labels, counters = source.labels(), {loop.counter for loop in source.loops_around(line.number)}
-    names, seen = [token for token in line.operands if NAME.match(token)], {*PREDEFINED, *counters}
+    # Each name with the line that has it: the names of an EQU are looked at, too.
+    names, seen = [(token, line) for token in line.operands if NAME.match(token)], {*PREDEFINED, *counters}
     if macro := source.equates.get(line.operation):
         for name in dict.fromkeys(name for one in source.equate(macro) for name in one.rest if name in counters):
             yield cause_sentence("equ counter", word=name, line=macro.number)
-    for name in names:
+    for name, place in names:
         if name in seen or "&" in name:
             continue
         seen.add(name)
         if name in source.equates:
-            names += [inner for inner in source.equates[name].operands if NAME.match(inner)]
+            head = source.equates[name]
+            names += [(inner, head) for inner in head.operands if NAME.match(inner)]
         elif name not in labels:
-            yield undefined(source, name, {**labels, **source.equates})
+            why = undefined(source, name, {**labels, **source.equates})
+            if place is line:
+                yield why
+            else:
+                sentence, new = cause_sentence("earlier", line=place.number, inner=why), getattr(why, "new", "")
+                yield Misspelt(sentence, name, new, place.number)
         elif line.text.lstrip().startswith(";"):
             yield cause_sentence("assert", word=name)
 

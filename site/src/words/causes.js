@@ -201,7 +201,8 @@ function syntax(_, line) {
 function unknown(source, line) {
   const { equates } = source;
   const labels = labelsOf(source);
-  const names = operandsOf(line).filter((token) => NAME.test(token));
+  // Each name with the line that has it: the names of an EQU are looked at, too.
+  const names = operandsOf(line).flatMap((token) => (NAME.test(token) ? [{ name: token, place: line }] : []));
   const counters = loopsAround(source, line.number).map(({ counter }) => counter);
   const seen = new Set([...PREDEFINED, ...counters]);
   const macro = equates.get(line.operation);
@@ -210,14 +211,17 @@ function unknown(source, line) {
   const found = [...new Set(inside)]
     .filter((word) => counters.includes(word))
     .map((word) => ({ cause: "equ counter", word, line: macro?.number }));
-  for (const name of names) {
+  for (const { name, place } of names) {
     if (seen.has(name) || name.includes("&")) continue;
     seen.add(name);
     const equate = equates.get(name);
-    // The names of an EQU are looked at, too.
-    if (equate) names.push(...operandsOf(equate).filter((token) => NAME.test(token)));
-    else if (!labels.has(name)) found.push(undefinedName(source, name, new Map([...labels, ...equates])));
-    else if (line.text.trimStart().startsWith(";")) found.push({ cause: "assert", word: name });
+    if (equate) {
+      const inner = operandsOf(equate).filter((token) => NAME.test(token));
+      names.push(...inner.map((token) => ({ name: token, place: equate })));
+    } else if (!labels.has(name)) {
+      const why = undefinedName(source, name, new Map([...labels, ...equates]));
+      found.push(place === line ? why : { cause: "earlier", line: place.number, inner: why });
+    } else if (line.text.trimStart().startsWith(";")) found.push({ cause: "assert", word: name });
   }
   return found;
 }
