@@ -38,7 +38,7 @@ class Instruction:
 
     def regrouped(self) -> list[str | None]:
         """Returns each operand as pMARS reads it: with parentheses where it computes in another order, or with 0 after
-        a mode alone; "" where both programs read the same, and None where only pMARS rejects it.
+        only a mode; "" where both programs read the same, and None where only pMARS rejects it.
         """
         found = list[str | None]()
         for tokens in self.operands:

@@ -56,7 +56,7 @@ def write_version(source: Source, lines: list[str], _: Load) -> None:
 
 
 def write_seq(source: Source, lines: list[str], _: Load) -> None:
-    """Writes SEQ for CMP, which pMARS tells apart, if the warrior has only one of them."""
+    """Writes SEQ for CMP, which pMARS keeps apart, if the warrior has only one of them."""
     kept = source.read_lines()
     if not any("SEQ" in (word.upper() for word in (line.operation, *line.rest[:1])) for line in kept):
         for line in kept:
