@@ -189,7 +189,8 @@ def test_contests(name: str) -> None:
 
 def test_first_wrong_cell() -> None:
     """Of several wrong cells of a warrior the first one is reported, whatever is wrong with it."""
-    no_cell, outside = (16, *CELL[1:]), (*CELL[:4], 800, 0)
+    no_cell: tuple[int, ...] = (16, *CELL[1:])
+    outside: tuple[int, ...] = (*CELL[:4], 800, 0)
     for cells, number in (([CELL, no_cell, outside, no_cell], 3), ([CELL, outside, no_cell, outside], 4)):
         for name in ("mars_match", "mars_outcomes", "mars_start"):
             arguments, fault = Arguments(), library()[0].new("MarsFault *")
@@ -212,8 +213,9 @@ def test_length_after_errors() -> None:
     (ffi, calls), (settings, _) = library(), Arguments().converted()
     length, fault, buffer = ffi.new("size_t *", 12345), ffi.new("MarsFault *"), untouched("uint8_t", 100)[1]
     assert calls.mars_lines(settings, 2, *text("MOV"), *buffer, length, fault) == 5
-    assert calls.mars_write_load(settings, *filled("MarsCell", []), ffi.new("MarsProgram *"), *buffer, length, fault) == 13
-    assert calls.mars_debug(*slice_of("uint32_t", array("uint32_t", 9)), 1, *text("show\n"), *buffer, length, fault) == 11
+    nothing, zeros = filled("MarsCell", []), slice_of("uint32_t", array("uint32_t", 9))
+    assert calls.mars_write_load(settings, *nothing, ffi.new("MarsProgram *"), *buffer, length, fault) == 13
+    assert calls.mars_debug(*zeros, 1, *text("show\n"), *buffer, length, fault) == 11
     assert length[0] == 12345
 
 
