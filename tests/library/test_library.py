@@ -371,7 +371,7 @@ def test_header() -> None:
     compiled = {name: getattr(library()[1], f"MARS_{name}") for name in numbers()}
     assert compiled == numbers() and len(compiled) > 100
     nameless = {kind for kind, enumeration in errors.KINDS.values() if not names(enumeration)}
-    assert nameless == {"done", "out of memory", "room"}
+    assert nameless == {"done", "out of memory", "room", "condition"}
     assert (len(cells.OPCODES), len(cells.MODIFIERS), cells.MODES) == (16, 7, "#$*@{<}>")
     words = [sys.executable, f"{TOP}/python/corewar/__main__.py", "--help"]
     environment = {**os.environ, "PYTHONPATH": f"{TOP}/python", "MARS_HEADER": "none.h"}

@@ -29,10 +29,14 @@ def fix(data: bytes, load: Load, is_rejected: bool = False) -> bytes:
     - `load`: assembles a source; it computes counts
     - `is_rejected`: replaces only what this kit rejects
     """
+    source = read_source(data)
     for one in [one for one in FIXES if not (is_rejected and one in READ_DIFFERENTLY)]:
         lines = data.decode("latin-1").split("\n")
-        one(read_source(data), lines, load)
-        data = "\n".join(lines).encode("latin-1")
+        one(source, lines, load)
+        changed = "\n".join(lines).encode("latin-1")
+        # Most fixes change nothing, and a large source takes seconds to read.
+        if changed != data:
+            data, source = changed, read_source(changed)
     return data
 
 
