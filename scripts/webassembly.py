@@ -30,8 +30,8 @@ DISASSEMBLE = "-S -emit-llvm -Xclang -disable-llvm-passes --no-default-config -x
 AS_NATIVE = ["-ffunction-sections", "-fno-vectorize", "-fno-slp-vectorize"]
 # The crates that no turn runs through. They are compiled for size.
 SMALL = "redcode_text|redcode_asm|mars_cell|mars_match|mars_session|mars_app|mars_c"
-# A function whose instances differ only after they are inlined. They are not inlined, and wasm-opt merges them.
-MERGED = "mars_core::machine::execution::execute_in_group"
+# Functions of which two callers have equal instances. They are not inlined, and wasm-opt merges them.
+MERGED = "mars_core::machine::rare::(?:places_of_pair|effect_of_number)"
 STACK, MAX_MEMORY = 1 << 20, 1 << 30
 LINK = [
     "-mwasm64",
