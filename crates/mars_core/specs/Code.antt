@@ -9,3 +9,4 @@ pub mod Tags
 pub mod Words
 pub mod Frequent
 pub mod Searches
+pub mod Lanes

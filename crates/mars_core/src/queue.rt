@@ -1,5 +1,5 @@
 //! Process queues, and how a queue accepts the addresses at which a process continues.
-ghost use Rattle.std.specs.Prelude.{◌≡◌, ℕ, ◌+◌, ◌-◌, ◌<◌, ◌≤◌, ◌∷◌, [], ◌++◌, length, take, All, IfOk, IfSome, IfNone, slice_get, ◌==◌, nat_lt, if◌then◌else◌, false};
+ghost use Rattle.std.specs.Prelude.{◌≡◌, ℕ, ◌+◌, ◌-◌, ◌<◌, ◌≤◌, ◌∷◌, [], ◌++◌, length, take, drop, All, IfOk, IfSome, IfNone, slice_get, ◌==◌, nat_lt, if◌then◌else◌, false};
 ghost use Rattle.mars_core.specs.State.{is_empty as spec_is_empty};
 ghost use Rattle.mars_core.specs.Queue.{Queue as Contents};
 ghost use Rattle.mars_core.specs.Code.Turns.{addresses_to};
@@ -105,16 +105,6 @@ impl ProcessQueue {
         self.ring.get(place).copied()
     }
 
-    /// Removes the process at the front, if there is one, and returns its address.
-    pub fn pop(&mut self) -> Option<u32>
-        ensures some { IfSome result (λ address. self.old.addresses ≡ address ∷ self.new.addresses) }
-        ensures none { IfNone result (self.old.addresses ≡ []) }
-        ensures left { IfNone result (self.new.addresses ≡ []) }
-        ensures limit { self.new.limit ≡ self.old.limit }
-    {
-        self.ring.pop_front()
-    }
-
     /// Removes the process at the front and returns its address.
     pub fn take_front(&mut self) -> u32
         requires { 1 ≤ length self.old.addresses }
@@ -124,6 +114,34 @@ impl ProcessQueue {
         match self.ring.pop_front() {
             Some(address) => address,
             None => unreachable!(),
+        }
+    }
+
+    /// Moves the first processes into `row`, which must not be longer than the queue.
+    pub fn take_into(&mut self, row: &mut [u32])
+        requires { length row.old ≤ length self.old.addresses }
+        ensures row { row.new ≡ take (length row.old) self.old.addresses }
+        ensures left { self.new.addresses ≡ drop (length row.old) self.old.addresses }
+        ensures limit { self.new.limit ≡ self.old.limit }
+    {
+        let _ = self.ring.read_into(row);
+    }
+
+    /// Appends processes, for which there must be capacity.
+    pub fn append(&mut self, addresses: &[u32])
+        requires { length self.old.addresses + length addresses.now ≤ self.old.limit }
+        ensures { self.new ≡ record { addresses = self.old.addresses ++ addresses.now; limit = self.old.limit } }
+    {
+        let _ = self.ring.fill_from_slice(addresses);
+    }
+
+    /// Puts processes before the others. There must be capacity for them.
+    pub fn put_before(&mut self, addresses: &[u32])
+        requires { length self.old.addresses + length addresses.now ≤ self.old.limit }
+        ensures { self.new ≡ record { addresses = addresses.now ++ self.old.addresses; limit = self.old.limit } }
+    {
+        for i in 0..addresses.len() {
+            let _ = self.ring.try_push_front(addresses[addresses.len() - 1 - i]);
         }
     }
 
@@ -143,33 +161,6 @@ impl ProcessQueue {
             then record { addresses = self.old.addresses ++ address ∷ []; limit = self.old.limit } else self.old) }
     {
         self.ring.try_push_back(address).is_ok()
-    }
-
-    /// Appends the addresses at which a process continues, as far as there is capacity; returns whether the queue is
-    /// empty after that. There must be capacity for one.
-    #[inline(always)]
-    #[tactic(auto, using(crate::proofs::Live::filled_by_one, crate::proofs::Live::filled_by_two))]
-    pub fn requeue(&mut self, continuation: Continuation) -> bool
-        requires { length self.old.addresses < self.old.limit }
-        ensures queue { self.new ≡ record {
-          addresses = self.old.addresses
-              ++ take (self.old.limit - length self.old.addresses) (addresses_to continuation);
-          limit = self.old.limit;
-        } }
-        ensures empty { result ≡ spec_is_empty self.new.addresses }
-    {
-        match continuation {
-            Continuation::Ends => self.is_empty(),
-            Continuation::Goes(address) => {
-                self.push(address);
-                false
-            }
-            Continuation::Splits(first, second) => {
-                self.push(first);
-                let _ = self.try_push(second);
-                false
-            }
-        }
     }
 
     /// Appends the addresses for which there is capacity, and returns them.
