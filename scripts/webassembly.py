@@ -30,8 +30,9 @@ DISASSEMBLE = "-S -emit-llvm -Xclang -disable-llvm-passes --no-default-config -x
 AS_NATIVE = ["-ffunction-sections", "-fno-vectorize", "-fno-slp-vectorize"]
 # The crates that no turn runs through. They are compiled for size.
 SMALL = "redcode_text|redcode_asm|mars_cell|mars_match|mars_session|mars_app|mars_c"
-# Functions of which two callers have equal instances. They are not inlined, and wasm-opt merges them.
-MERGED = "mars_core::machine::rare::(?:places_of_pair|effect_of_number)"
+# Functions with equal instances for battles with and without limits. They are not inlined, and wasm-opt merges them. No
+# function belongs here that returns a structure: each call of it would clear the result in every turn.
+MERGED = "mars_core::machine::rare::effect_of_number"
 STACK, MAX_MEMORY = 1 << 20, 1 << 30
 LINK = [
     "-mwasm64",
