@@ -60,3 +60,11 @@ pub deeds_in_three_cycles : (counts_of (round_start three_cycles (imp ∷ splitt
     × (counts_of (round_start three_cycles (imp ∷ splitter ∷ []) (0 ∷ 4 ∷ []) 0) 1 ≡ record { turns = 3; spawned = 2; executed = 2; written = 0; touched = 2 })
 unfolding counts_of turns_to_end start_state turn_of turn_record touched executed accepted execution_of effect_of evaluated direct_operand address_after fold write_cell advanced ends
 deeds_in_three_cycles = (refl, refl)
+
+-- In round 1 the splitter has the first turn. Each warrior has its own counts.
+pub counts_in_load_order :
+    (let s = round_start three_cycles (imp ∷ splitter ∷ []) (0 ∷ 4 ∷ []) 1 in fates_from (end_of s) (deeds_of true s) 1 0 (0 ∷ 4 ∷ []))
+    ≡ record { survived = true; turns = 6; start = 0; counts = record { turns = 3; spawned = 0; executed = 3; written = 3; touched = 4 } }
+    ∷ record { survived = true; turns = 6; start = 4; counts = record { turns = 3; spawned = 2; executed = 2; written = 0; touched = 2 } } ∷ []
+unfolding end_of counts_of turns_to_end start_state turn_of turn_record touched executed accepted execution_of effect_of evaluated direct_operand address_after fold write_cell advanced ends
+counts_in_load_order = refl

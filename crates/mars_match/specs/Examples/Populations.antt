@@ -1,5 +1,5 @@
 -- Examples: populations.
-use Rattle.std.specs.Prelude.{◌≡◌, ℕ, None, pos, List, [], ◌∷◌, Result, Ok, Err, codes, refl}
+use Rattle.std.specs.Prelude.{◌≡◌, ℕ, ◌^◌, None, pos, List, [], ◌∷◌, Result, Ok, Err, codes, refl}
 use Rattle.mars_cell.specs.Warriors.{WarriorValue}
 use Rattle.mars_cell.specs.declared.instruction.Op.TheVariants.{Dat}
 use Rattle.mars_cell.specs.declared.instruction.Modifier.TheVariants.{F}
@@ -16,7 +16,7 @@ use Rattle.redcode_text.specs.declared.fault.ExprFault.TheVariants.{Range}
 use Rattle.redcode_asm.specs.Formula.{formula_of}
 use Rattle.mars_match.specs.Battles.{survivors_of_round, end_of}
 use Rattle.mars_match.specs.Placement.{drawn, starts_of, next_seed}
-use Rattle.mars_match.specs.Populations.{population_of}
+use Rattle.mars_match.specs.Populations.{checked_sum, population_of}
 use Rattle.mars_match.specs.Rounds.{table_of}
 use Rattle.mars_match.specs.declared.fault.MatchFault.{MatchFault}
 use Rattle.mars_match.specs.declared.fault.MatchFault.TheVariants as fault
@@ -54,3 +54,10 @@ pub only_whole_sums_are_judged : sums_by (codes "4611686018427387904*(3-2*S)") (
     ≡ Ok (record { points = pos 4611686018427387904; wins = 2; ties = 1; losses = 0 } ∷ [])
 unfolding table_of starts_of drawn next_seed survivors_of_round end_of start_state overlap scanned value_of tree_within turn_of executed accepted execution_of effect_of evaluated direct_operand address_after fold advanced ends
 only_whole_sums_are_judged = refl
+
+-- Wins, ties and losses fit 64 bits, each by itself.
+pub each_number_is_judged :
+    (checked_sum (record { points = pos 0; wins = 2 ^ 64; ties = 0; losses = 0 }) ≡ Err (fault.Score Range))
+    × (checked_sum (record { points = pos 0; wins = 0; ties = 2 ^ 64; losses = 0 }) ≡ Err (fault.Score Range))
+    × (checked_sum (record { points = pos 0; wins = 0; ties = 0; losses = 2 ^ 64 }) ≡ Err (fault.Score Range))
+each_number_is_judged = (refl, refl, refl)
