@@ -1,3 +1,4 @@
 -- Lemmas that the laws use, but no function of this crate.
 pub mod Equal
 pub mod Recurring
+pub mod Rounds

@@ -2,7 +2,7 @@
 -- values out of range, and populations.
 pub mod Wrong
 pub mod Results
-use Rattle.std.specs.Prelude.{◌≡◌, ℕ, zero, suc, pos, refl, true, false, All, List, [], ◌∷◌, None, Some, Ok, Err, codes, replicate, slice_index_or}
+use Rattle.std.specs.Prelude.{◌≡◌, ℕ, zero, suc, pos, refl, true, false, All, List, [], ◌∷◌, ◌++◌, None, Some, Ok, Err, codes, replicate, slice_index_or}
 use Rattle.std.proofs.Common.{ap, arith, subst}
 use Rattle.std.proofs.lemmas.List.Elements.{All-cons, All-nil}
 use Rattle.mars_cell.specs.Cells.{FitsCore}
@@ -24,7 +24,9 @@ use Rattle.redcode_text.specs.Results.{◌>>=◌}
 use Rattle.redcode_text.specs.Tokens.{scanned}
 use Rattle.redcode_text.specs.declared.fault.ExprFault.TheVariants.{DivideByZero, Range}
 use Rattle.redcode_text.specs.declared.fault.TextProblem.TheVariants.{Expression}
+use Rattle.mars_core.specs.Block.{block_of, field_words, head_of}
 use Rattle.mars_core.specs.Start.{start_state, overlap}
+use Rattle.mars_core.specs.State.{State, ends}
 use Rattle.mars_core.specs.Touched.{touched}
 use Rattle.mars_core.specs.Examples.{the_machine, battle_of, cell_of, imp, of_eight, eight, lone}
 use Rattle.mars_core.specs.declared.battle.block.BlockFault.TheVariants as block
@@ -44,7 +46,7 @@ use Rattle.mars_match.specs.Examples.Placements.{sizes}
 use Rattle.mars_c.specs.Settings.{parameters_in}
 use Rattle.mars_c.specs.Battles.{round_start_state, placed_in}
 use Rattle.mars_c.specs.Cells.{plain_cell}
-use Rattle.mars_c.specs.Blocks.{Means, played_rows}
+use Rattle.mars_c.specs.Blocks.{IsWritten, Means, played_rows}
 use Rattle.mars_c.specs.Codes.{block_fault_of, fault_of, numbered}
 use Rattle.mars_c.specs.Contests.{population}
 use Rattle.mars_c.specs.Entrants.{AreEntrants, IsEntrant, named, plain_name, plain_program}
@@ -177,6 +179,32 @@ pub rows_are_played : (played_rows (λ s. s.turns) 2 (lone of_eight (eight []) (
     × (played_rows (λ s. s.turns) 0 (lone of_eight (eight []) (6 ∷ [])) (7 ∷ 7 ∷ []) ≡ 7 ∷ 7 ∷ [])
 unfolding the_machine
 rows_are_played = (refl, refl, refl)
+
+-- Two warriors after 9 turns and 11 cycles. The second one died in turn 10. No battle reaches this state: its numbers differ, so that
+-- none can stand for another.
+abbrev of_many_numbers : State
+of_many_numbers = record {
+  params = record { core_size = 2; processes = 3; cycles = 50; read_limit = 4; write_limit = 5; max_length = 6; distance = 7 };
+  core = imp ∷ cell_of Djn Ba BPostincrement 13 APredecrement 14 ∷ [];
+  queues = (1 ∷ 0 ∷ []) ∷ [] ∷ [];
+  next = 0;
+  cycle = 11;
+  turns = 9;
+  deaths = record { warrior = 1; turns = 10 } ∷ [];
+}
+
+-- A block has 16 words of fields, the number of processes of each of 16 warriors, 16 deaths of two words, three words for each cell, and
+-- the processes.
+pub block_is_laid_out : block_of of_many_numbers
+    ≡ (22167885 ∷ 72 ∷ 2 ∷ 3 ∷ 50 ∷ 4 ∷ 5 ∷ 6 ∷ 7 ∷ 2 ∷ 9 ∷ 11 ∷ 0 ∷ 1 ∷ 1 ∷ 0 ∷ [])
+    ++ (2 ∷ replicate 15 0) ++ (1 ∷ 10 ∷ replicate 30 0) ++ 16844289 ∷ 0 ∷ 1 ∷ 67568394 ∷ 13 ∷ 14 ∷ 1 ∷ 0 ∷ []
+unfolding block_of head_of field_words ends
+block_is_laid_out = refl
+
+-- The words after a block stay.
+pub words_behind_stay : IsWritten of_many_numbers (replicate 72 3 ++ 7 ∷ 8 ∷ []) (block_of of_many_numbers ++ 7 ∷ 8 ∷ [])
+unfolding block_of head_of field_words ends
+words_behind_stay = refl
 
 -- The setup of one round of one cycle in a core of four cells, with this formula.
 abbrev by_formula : List ℕ → Setup

@@ -1,9 +1,13 @@
--- The laws of the library: calls with the same arguments have the same results, and the same errors.
+-- The laws of the library: calls with the same arguments have the same results, and the same errors, and the debugger's battle is that of
+-- a round.
 use Rattle.std.specs.Prelude.{◌≡◌, ◌≤◌, ℕ, All, List, length}
 use Rattle.mars_core.specs.Limits.{max_warriors}
+use Rattle.mars_app.specs.Debugging.{first_round}
+use Rattle.mars_cell.specs.Warriors.{WarriorValue}
 use Rattle.mars_core.specs.State.{State}
 use Rattle.mars_match.specs.Leagues.{max_league_warriors}
-use Rattle.mars_c.specs.Battles.{IsStart}
+use Rattle.mars_match.specs.declared.setup.Setup.{Setup}
+use Rattle.mars_c.specs.Battles.{IsStart, round_start_state}
 use Rattle.mars_c.specs.Blocks.{HoldsStart, OverflowsStart, RefusesStart}
 use Rattle.mars_c.specs.Contests.{HoldsLeague, HoldsMatch, HoldsSums}
 use Rattle.mars_c.specs.Outcomes.{HoldsOutcomes, IsLineup, RefusesOutcomes, rows_for}
@@ -79,3 +83,7 @@ OutcomeErrorsRecur = (settings : MarsSettings) (cells : List MarsCell) (entrants
 abbrev pub StartsFitAgain : Type 0
 StartsFitAgain = (settings : MarsSettings) (cells : List MarsCell) (entrants : List MarsWarrior) (round : ℕ) (before after : List ℕ)
     → HoldsStart settings cells entrants round before after → OverflowsStart settings cells entrants round before → ⊥
+
+-- The battle that the program debugs is that with which round 0 of the match starts.
+abbrev pub DebugsRoundZero : Type 0
+DebugsRoundZero = (setup : Setup) (warriors : List WarriorValue) → first_round setup warriors ≡ round_start_state setup warriors 0

@@ -1,6 +1,6 @@
-//! Laws of the library: calls with the same arguments have the same results, and the same errors. The functions do nothing; their
-//! contracts are the laws.
-ghost use Rattle.mars_c.specs.Laws.{EqualLeagues, EqualMatches, EqualOutcomes, EqualPopulations, EqualStarts, LeagueErrorsRecur, MatchErrorsRecur, OutcomeErrorsRecur, PopulationErrorsRecur, StartErrorsRecur, StartsFitAgain};
+//! Laws of the library: calls with the same arguments have the same results, and the same errors, and the debugger's battle is that of a
+//! round. The functions do nothing; their contracts are the laws.
+ghost use Rattle.mars_c.specs.Laws.{DebugsRoundZero, EqualLeagues, EqualMatches, EqualOutcomes, EqualPopulations, EqualStarts, LeagueErrorsRecur, MatchErrorsRecur, OutcomeErrorsRecur, PopulationErrorsRecur, StartErrorsRecur, StartsFitAgain};
 
 /// There is only one table of a match.
 pub fn equal_matches()
@@ -56,4 +56,9 @@ pub fn start_errors_recur()
 /// The words in which a battle was started are not too few for a call with the same arguments.
 pub fn starts_fit_again()
     ensures { StartsFitAgain }
+{}
+
+/// The battle that the program debugs is that with which round 0 of the match starts.
+pub fn debugs_round_zero()
+    ensures { DebugsRoundZero }
 {}
