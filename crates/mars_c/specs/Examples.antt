@@ -49,7 +49,7 @@ use Rattle.mars_c.specs.Cells.{plain_cell}
 use Rattle.mars_c.specs.Blocks.{IsWritten, Means, played_rows}
 use Rattle.mars_c.specs.Codes.{block_fault_of, fault_of, numbered}
 use Rattle.mars_c.specs.Contests.{population}
-use Rattle.mars_c.specs.Entrants.{AreEntrants, IsEntrant, named, plain_name, plain_program}
+use Rattle.mars_c.specs.Entrants.{AreEntrants, IsEntrant, is_name, named, plain_name, plain_program}
 use Rattle.mars_c.specs.Records.{change_of, turn_row}
 use Rattle.mars_c.specs.Touches.{touched_row}
 use Rattle.mars_c.specs.Outcomes.{IsLineup, indices_of, is_counting, plain_fate, rows_for, seeded}
@@ -77,6 +77,10 @@ load_file_is_reported = refl
 pub warriors_are_reported : (fault_of (Warrior 1 (entrant.Field 4)) ≡ record { code = 13; number = 4; problem = 0; expression = 0; line = 4; warrior = 1 })
     × (fault_of (Warrior 2 entrant.Start) ≡ record { code = 13; number = 2; problem = 0; expression = 0; line = 0; warrior = 2 })
 warriors_are_reported = (refl, refl)
+
+-- A name has at most 60 bytes, all of them printable.
+pub names_are_short : (is_name (replicate 60 126) ≡ true) × (is_name (replicate 61 126) ≡ false) × (is_name (127 ∷ []) ≡ false)
+names_are_short = (refl, refl, refl)
 
 -- The third lineup has an index that no warrior has.
 pub lineup_is_reported : fault_of (Lineup 2 lineup.Index) ≡ record { code = 14; number = 2; problem = 0; expression = 0; line = 0; warrior = 2 }
