@@ -25,6 +25,7 @@ mod runs;
 mod started;
 mod streams;
 
+pub use command_line::{MAX_HISTORY, MAX_ROUNDS};
 pub use debugger::{DebugFault, debug, debug_within};
 pub use fault::RunFault;
 pub use files::{FileFault, MemoryFiles, SystemFiles, WarriorFiles};

@@ -11,6 +11,7 @@ use Rattle.redcode_text.specs.Results.{◌>>=◌}
 use Rattle.mars_session.specs.Script.{SessionState}
 use Rattle.mars_app.specs.Debugger.Transcript.{Completes}
 use Rattle.mars_app.specs.Debugging.{session_at}
+use Rattle.mars_app.specs.Limits.{max_history}
 use Rattle.mars_match.specs.Placement.{FitsTwo}
 use Rattle.mars_c.specs.Settings.{IsSetup}
 use Rattle.mars_c.specs.Entrants.{AreEntrants}
@@ -43,7 +44,7 @@ IsStart s cells entrants round start = (setup : Setup) × (ws : List WarriorValu
 
 -- A history may have this number of places.
 abbrev pub IsHistory : ℕ → Type 0
-IsHistory places = (1 ≤ places) × (places ≤ 1000000)
+IsHistory places = (1 ≤ places) × (places ≤ max_history)
 
 -- A session over the battle `start` has read the debugger's `lines`, up to `quit` or all of them, and replied `text`. `session`
 -- is its state then.

@@ -2,6 +2,7 @@
 use Rattle.std.specs.Prelude.{◌≡◌, ◌≤◌, ◌==◌, ℕ, if◌then◌else◌, List, None, Ok, Option, Some}
 use Rattle.mars_cell.specs.Parameters.{Parameters}
 use Rattle.mars_cell.specs.ParameterFaults.{checked_parameters}
+use Rattle.mars_app.specs.Limits.{max_rounds}
 use Rattle.mars_match.specs.declared.setup.Setup.{Setup}
 use Rattle.redcode_asm.specs.Formula.{formula_of}
 use Rattle.mars_c.specs.declared.settings.MarsSettings.{MarsSettings}
@@ -28,7 +29,7 @@ position_of position = if position == 0 then None else Some position
 
 -- The numbers of rounds that a match may have.
 abbrev pub AreRounds : ℕ → Type 0
-AreRounds rounds = (1 ≤ rounds) × (rounds ≤ 100000)
+AreRounds rounds = (1 ≤ rounds) × (rounds ≤ max_rounds)
 
 -- The seeds that the first round of a match may have.
 abbrev pub IsSeed : ℕ → Type 0

@@ -5,10 +5,8 @@ ghost use Rattle.mars_c.specs.Debugging.{Debugs, RefusesDebugging};
 use crate::battles::debugged;
 use crate::blocks::read;
 use crate::faults::BlockRefusal;
+use mars_app::MAX_HISTORY;
 use std::alloc::Global;
-
-/// Maximum number of places of a history.
-const MAX_HISTORY: u32 = 1_000_000;
 
 /// Returns what the debugger replies to `lines` over the battle whose block the words begin with.
 pub fn transcript(

@@ -10,14 +10,12 @@ ghost use Rattle.mars_c.specs.declared.warriors.MarsWarrior.{MarsWarrior as Warr
 
 use crate::faults::CallRefusal;
 use crate::ranges::SettingsFault;
+use mars_app::MAX_ROUNDS;
 use mars_cell::{ParamFault, Params};
 use mars_core::MAX_WARRIORS;
 use mars_match::{MAX_SEED, Plan, Setup};
 use redcode_asm::{Formula, FormulaFault};
 use std::alloc::Global;
-
-/// Maximum number of rounds of a match.
-const MAX_ROUNDS: u32 = 100_000;
 
 /// The settings of a match. A limit of 0 is the core size, and a position of 0 is none.
 #[repr(C)]
