@@ -23,7 +23,7 @@ from hypothesis import given
 import corewar
 from corewar import CorewarError, Edit, MarsError, Match, Settings, Warrior
 from corewar.battle.history import History
-from corewar.engine import outcomes as module, sources as assembling
+from corewar.engine import limits, outcomes as module
 from corewar.engine.outcomes import COUNTED, COUNTS, OUTCOME
 from corewar.engine.parts import call_there, versions
 from corewar.engine.warriors import read_load
@@ -465,6 +465,6 @@ def test_shares() -> None:
 
 def test_a_system_without_proc(monkeypatch: pytest.MonkeyPatch) -> None:
     """Such as a chroot: sources are assembled, under a looser limit of memory."""
-    monkeypatch.setattr(assembling, "STATM", "/nowhere/statm")
+    monkeypatch.setattr(limits, "STATM", "/nowhere/statm")
     with corewar.Assembler(corewar.Limit(5, 500)) as assembler:
         assert len(assembler.assemble("MOV 0, 1\n")) == 1

@@ -37,7 +37,7 @@ def new(folder: str) -> None:
     made, examples = Path(folder), next((path for path in EXAMPLES if path.is_dir()), None)
     try:
         made.mkdir(parents=True)
-        (made / "first.red").write_text(FIRST)
+        (made / "first.red").write_bytes(FIRST.encode())
         if examples:
             (made / "examples").mkdir()
             for source in sorted(examples.glob("*.red")):

@@ -1,7 +1,6 @@
 """Waits for what takes long, and shows its progress."""
 from __future__ import annotations
 
-import os
 import signal
 import sys
 from collections.abc import Callable, Iterator
@@ -10,9 +9,10 @@ from contextlib import ExitStack, contextmanager
 from multiprocessing import get_context
 
 from ..contests.contest import Progress
+from ..model.machine import FORK, processors
 from .reporting import report
 
-PROCESSORS = len(os.sched_getaffinity(0))
+PROCESSORS = processors()
 OTHER_ORDER = "{} of {} matches are stored only with the warriors in the other order; those are different matches"
 
 
@@ -54,11 +54,11 @@ class Waiting(ExitStack):
 
 @contextmanager
 def processes(count: int) -> Iterator[Executor | None]:
-    """Yields processes for a number of calls, or None for few. They are forked, so that the library is not loaded
-    again; Ctrl-C is only raised here.
+    """Yields processes for a number of calls, or None for few. Where that is safe, they are forked, so that the
+    library is not loaded again; Ctrl-C is only raised here.
     """
     if PROCESSORS == 1 or count < 2 * PROCESSORS:
         yield None
         return
-    with ProcessPoolExecutor(PROCESSORS, get_context("fork"), signal.signal, (signal.SIGINT, signal.SIG_IGN)) as pool:
+    with ProcessPoolExecutor(PROCESSORS, get_context(FORK), signal.signal, (signal.SIGINT, signal.SIG_IGN)) as pool:
         yield pool

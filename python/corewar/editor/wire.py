@@ -4,6 +4,8 @@ from __future__ import annotations
 import json
 import re
 import select
+import sys
+import time
 from io import FileIO
 from typing import Any
 
@@ -19,7 +21,7 @@ class Wire:
 
     def is_quiet(self, seconds: float) -> bool:
         """Returns whether no message comes for this time."""
-        return not select.select([self._reader], [], [], seconds)[0]
+        return not has_input(self._reader, seconds)
 
     def receive(self) -> Message | None:
         """Returns the next message, or None at the end of the stream. Raises ValueError if it is not a JSON object."""
@@ -45,3 +47,20 @@ class Wire:
         left = b"Content-Length: %d\r\n\r\n%s" % (len(body), body)
         while left:
             left = left[self._writer.write(left) :]
+
+
+def has_input(stream: FileIO, seconds: float) -> bool:
+    """Returns whether there is something to read, or the end, within this time."""
+    if sys.platform != "win32":
+        return bool(select.select([stream], [], [], seconds)[0])
+    # There, select knows only sockets.
+    import ctypes
+    import msvcrt
+
+    handle, count = ctypes.c_void_p(msvcrt.get_osfhandle(stream.fileno())), ctypes.c_ulong()
+    end = time.monotonic() + seconds
+    while ctypes.windll.kernel32.PeekNamedPipe(handle, None, 0, None, ctypes.byref(count), None) and not count.value:
+        if time.monotonic() >= end:
+            return False
+        time.sleep(0.01)
+    return True

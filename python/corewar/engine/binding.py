@@ -1,8 +1,9 @@
 """The library for C as its header declares it: its types as those of NumPy, and its calls.
 
-The library is the file that MARS_LIBRARY names; otherwise the first of these that exists: libmars.so.2 beside this
-file (in a wheel), build/libmars.so of the checkout that contains this file, lib/libmars.so.2 of the prefix in which
-the package is installed, or of the system. A call releases the interpreter lock, and several threads may call at once.
+The library is the file that MARS_LIBRARY names; otherwise the first of these that exists: the library beside this file
+(in a wheel), in `build` of the checkout that contains this file, or in `lib` of the prefix in which the package is
+installed, or of the system. It is libmars.so.2, on Windows mars-2.dll, on macOS libmars.2.dylib. A call releases the
+interpreter lock, and several threads may call at once.
 """
 from __future__ import annotations
 
@@ -18,7 +19,7 @@ import numpy as np
 from numpy.typing import NDArray
 
 from ..model.errors import CorewarError, MarsError
-from ..model.header import CHECKOUT, ENGINE, INSTALLED, content, declarations, header, numbers
+from ..model.header import CHECKOUT, ENGINE, INSTALLED, LIBRARY, content, declarations, header, numbers
 from ..model.settings import Settings
 
 # The result of a call whose buffer is too short, which is not an error.
@@ -48,11 +49,11 @@ def library() -> tuple[Any, Any]:
 @lru_cache(maxsize=None)
 def open_library() -> tuple[Any, Any]:
     """Returns the types of the header, and the library."""
-    below = [folder / "lib" / "libmars.so.2" for folder in INSTALLED]
-    built = [ENGINE / "libmars.so.2", CHECKOUT / "build" / "libmars.so", *below]
+    below = [folder / "lib" / LIBRARY for folder in INSTALLED]
+    built = [ENGINE / LIBRARY, CHECKOUT / "build" / LIBRARY, *below]
     shared = os.environ.get("MARS_LIBRARY") or next((str(path) for path in built if path.is_file()), None)
     if shared is None:
-        raise NoLibrary("cannot find libmars.so; build it with scripts/library or set MARS_LIBRARY")
+        raise NoLibrary(f"cannot find {LIBRARY}; build it with scripts/library or set MARS_LIBRARY")
     ffi, source = types()
     try:
         calls: Any = ffi.dlopen(shared)

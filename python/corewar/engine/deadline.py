@@ -3,11 +3,16 @@ from __future__ import annotations
 
 import signal
 import threading
+import time
 from collections.abc import Iterator
 from contextlib import contextmanager
 from typing import NoReturn
 
+from .limits import Clock
 from .sources import Limit, Overrun
+
+# Windows has neither this signal nor its timer: a thread takes their place, with a signal that nothing else sends.
+SIGNAL = getattr(signal, "SIGPROF", signal.SIGTERM)
 
 
 class Expired(BaseException):
@@ -22,17 +27,31 @@ def deadline(limit: Limit) -> Iterator[None]:
     if threading.current_thread() is not threading.main_thread():
         yield
         return
-    old = signal.signal(signal.SIGPROF, expire)
+    old = signal.signal(SIGNAL, expire)
     try:
-        try:
-            signal.setitimer(signal.ITIMER_PROF, limit.seconds)
+        with timer(limit.seconds):
             yield
-        finally:
-            signal.setitimer(signal.ITIMER_PROF, 0)
     except Expired:
         raise Overrun(f"reading the source takes more than {limit.seconds} s of CPU time") from None
     finally:
-        signal.signal(signal.SIGPROF, old)
+        signal.signal(SIGNAL, old)
+
+
+@contextmanager
+def timer(seconds: int) -> Iterator[None]:
+    """Sends the signal to the main thread once this process has taken the CPU time in its block."""
+    if SIGNAL == signal.SIGTERM:
+        clock = Clock(lambda: signal.raise_signal(SIGNAL), time.process_time() + seconds)
+        try:
+            yield
+        finally:
+            clock.stop()
+        return
+    try:
+        signal.setitimer(signal.ITIMER_PROF, seconds)
+        yield
+    finally:
+        signal.setitimer(signal.ITIMER_PROF, 0)
 
 
 def expire(*_: object) -> NoReturn:

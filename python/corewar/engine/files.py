@@ -10,6 +10,8 @@ from ..model.errors import FileError
 
 # Names that stand for open files, which another file cannot replace.
 OPEN_FILES = ("/dev/", "/proc/")
+# Windows writes CR LF in place of LF without it.
+BINARY = getattr(os, "O_BINARY", 0)
 
 
 def replace_file(path: str | Path, data: bytes) -> None:
@@ -31,7 +33,7 @@ def replace(path: Path, data: bytes) -> None:
     part = path.with_name(f".{secrets.token_hex(8)}.part")
     try:
         # Another program's file or link of this name is not followed.
-        handle = os.open(part, os.O_WRONLY | os.O_CREAT | os.O_EXCL, 0o666)
+        handle = os.open(part, os.O_WRONLY | os.O_CREAT | os.O_EXCL | BINARY, 0o666)
     except PermissionError:
         if not path.exists():
             raise

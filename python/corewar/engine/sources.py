@@ -5,7 +5,6 @@ from __future__ import annotations
 
 import multiprocessing
 import os
-import resource
 import signal
 import threading
 from collections.abc import Callable, Sequence
@@ -14,20 +13,21 @@ from multiprocessing.connection import Connection
 from typing import Any
 
 from ..model.errors import ASSEMBLY, LOAD, MEMORY, CorewarError, FileError, MarsError
+from ..model.machine import FORK
 from ..model.settings import MAX_FILE_SIZE, Settings, settings_of
 from .binding import library
 from .calls import assemble, encode_source
+from .limits import TOO_LONG, TimeLimit, limit_memory
 from .warriors import Warrior, read_load
 
-
-# Where the system says how much memory a process has, and what is taken for it in a chroot without that.
-STATM, MUCH_MEMORY = "/proc/self/statm", 4_000_000_000
+# How a process ends that took more than its CPU time.
+ENDS_OF_TIME = {TOO_LONG} | ({-signal.SIGXCPU} if hasattr(signal, "SIGXCPU") else set())
 
 
 @dataclass(frozen=True)
 class Limit:
-    """The limits for assembling one source: `seconds` of CPU time, and `megabytes` of memory, 1 or more of each. Raises
-    `CorewarError` for less.
+    """The limits for assembling one source: `seconds` of CPU time, and `megabytes` of memory, 1 or more of each. Only
+    Linux limits the memory. Raises `CorewarError` for less.
     """
 
     seconds: int = 10
@@ -132,7 +132,7 @@ class Server:
     def ask(self, source: bytes, given: dict[str, Any]) -> Warrior | Exception:
         """Returns the answer of the process for a source. Raises Overrun."""
         if self._is_spent:
-            raise self._overrun(-signal.SIGXCPU)
+            raise self._overrun(TOO_LONG)
         process, pipe = self._running or self._begin()
         # A process of which an answer may be left in the pipe is not used again, whatever interrupts this.
         self._running = None
@@ -158,7 +158,7 @@ class Server:
         # A missing library is reported by this call, and not by the process.
         library()
         # A process with threads is not forked, since the new process calls the library.
-        way = "fork" if threading.active_count() == 1 else "spawn"
+        way = FORK if threading.active_count() == 1 else "spawn"
         context: Any = multiprocessing.get_context(way)
         ours, theirs = context.Pipe()
         # A forked process also has our end, and does not notice that we have ended until it closes it.
@@ -181,7 +181,7 @@ class Server:
 
     def _overrun(self, code: int) -> Overrun:
         """Returns why the process has ended."""
-        if code == -signal.SIGXCPU:
+        if code in ENDS_OF_TIME:
             self._is_spent = self.is_total
             return Overrun(f"assembling takes more than {self.limit.seconds} s of CPU time")
         kind = Terminated if code == -signal.SIGTERM else Overrun
@@ -202,32 +202,20 @@ def serve(pipe: Connection, limit: Limit, is_total: bool, other: Connection | No
     signal.signal(signal.SIGINT, signal.SIG_IGN)
     threading.Thread(target=end_with_parent, daemon=True).start()
     # The limit is for what a source adds to the memory that the process has at its start.
-    lower_limit(resource.RLIMIT_AS, taken_memory() + limit.megabytes * 1_000_000)
-    lower_limit(resource.RLIMIT_CORE, 0)
-    is_limited = False
+    limit_memory(limit.megabytes)
+    time_limit, is_limited = TimeLimit(), False
     while True:
         try:
             given = pipe.recv()
         except (EOFError, OSError):
             return
         if not (is_limited and is_total):
-            used = resource.getrusage(resource.RUSAGE_SELF)
-            # The limit of the system is for the whole life of the process, and in whole seconds.
-            lower_limit(resource.RLIMIT_CPU, int(used.ru_utime + used.ru_stime) + 1 + limit.seconds)
+            time_limit.start(limit.seconds)
             is_limited = True
         try:
             pipe.send(assemble_or_error(*given))
         except BrokenPipeError:
             return
-
-
-def taken_memory() -> int:
-    """Returns the bytes of memory that this process has, or more than it has if the system doesn't say."""
-    try:
-        with open(STATM) as file:
-            return int(file.read().split()[0]) * resource.getpagesize()
-    except OSError:
-        return MUCH_MEMORY
 
 
 def end_with_parent() -> None:
@@ -246,12 +234,6 @@ def assemble_or_error(source: bytes, given: dict[str, Any]) -> Warrior | Excepti
         return fault
     except MemoryError:
         return MarsError(MEMORY)
-
-
-def lower_limit(kind: int, soft: int) -> None:
-    """Sets a soft limit of this process, as far as its hard one allows."""
-    hard = resource.getrlimit(kind)[1]
-    resource.setrlimit(kind, (soft if hard == resource.RLIM_INFINITY else min(soft, hard), hard))
 
 
 def read_file(path: str) -> bytes:

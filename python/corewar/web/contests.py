@@ -1,7 +1,6 @@
 """Leagues of the site: run on the processors of this machine, with results that are stored."""
 from __future__ import annotations
 
-import os
 from collections.abc import Generator
 from typing import Any
 
@@ -11,10 +10,11 @@ from ..engine.sources import Assembler, Overrun
 from ..contests.contest import Contest, Execution, run
 from ..contests.matches import Matches, all_pairs
 from ..model.errors import CorewarError, MarsError
+from ..model.machine import processors
 from ..model.settings import Settings
 from ..engine.warriors import Warrior
 
-JOBS = len(os.sched_getaffinity(0))
+JOBS = processors()
 # The names of settings in the messages of the page, in which 0 is the core size for a limit, and no position.
 NAMES = {"readLimit": "read_limit", "writeLimit": "write_limit"}
 

@@ -1,0 +1,14 @@
+"""What differs between systems."""
+from __future__ import annotations
+
+import os
+import sys
+
+# How a process without threads starts another: on macOS a library of the system may have threads, and Windows cannot
+# fork.
+FORK = "fork" if sys.platform == "linux" else "spawn"
+
+
+def processors() -> int:
+    """Returns the number of processors that this process may use, as far as the system says that."""
+    return len(os.sched_getaffinity(0)) if hasattr(os, "sched_getaffinity") else os.cpu_count() or 1
