@@ -35,6 +35,7 @@ def test_differences_are_shown() -> None:
         ("contests", 8),
         ("debugger", 20),
         ("program", 10),
+        ("wasm", 10),
     ],
 )
 def test_definitions_are_what_the_library_computes(area: str, count: int) -> None:

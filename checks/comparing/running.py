@@ -15,8 +15,10 @@ from .debugging import compare_transcripts
 from .examples import compare_examples
 from .library import TOP
 from .machine import compare_blocks, compare_edits, compare_turns
+from .pmars import compare_pmars
 from .program import compare_runs
 from .programs import compare_loads, compare_sources
+from .wasm import compare_wasm
 
 AREAS = {
     area.name: area
@@ -33,6 +35,8 @@ AREAS = {
         Area("fights", 40, compare_fights),
         Area("debugger", 400, compare_transcripts),
         Area("program", 300, compare_runs),
+        Area("wasm", 300, compare_wasm),
+        Area("pmars", 300, compare_pmars),
     )
 }
 # Errors of an evaluation, which only a mistake in a definition causes, and that of a process that computes.
