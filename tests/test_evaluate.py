@@ -11,9 +11,11 @@ from conftest import TOP
 
 sys.path.insert(0, str(TOP / "checks"))
 from comparing.comparison import shown, where_different  # noqa: E402
+from comparing.planting import mistakes_in  # noqa: E402
 from comparing.running import compare  # noqa: E402
 
 COMMAND = TOP / "checks" / "evaluate"
+MISTAKES = str(TOP / "checks" / "comparing" / "mistakes")
 
 
 def test_differences_are_shown() -> None:
@@ -42,6 +44,19 @@ def test_definitions_are_what_the_library_computes(area: str, count: int) -> Non
     """Other inputs than those of checks/evaluate."""
     result = compare(area, 2, 0, count)
     assert result.difference == "" and result.inputs == count and result.counts
+
+
+def test_a_mistake_in_a_definition_is_found() -> None:
+    mistake = next(iter(mistakes_in(MISTAKES)))
+    result = compare("machine", 1, 0, 100, {mistake.file: (mistake.before, mistake.after)})
+    assert result.difference.startswith("DIFFERENT in ")
+    assert "\n  again: checks/evaluate --only machine --seed 1 --first " in result.difference
+
+
+def test_mistakes_occur_once() -> None:
+    """Each text of the list of mistakes occurs once in its file."""
+    for mistake in mistakes_in(MISTAKES):
+        assert (TOP / mistake.file).read_text().count(mistake.before) == 1, mistake
 
 
 def test_command() -> None:
