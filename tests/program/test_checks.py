@@ -16,7 +16,7 @@ STEPS = [
     "bin/rt",
     "bin/make",
     "scripts/library",
-    *(f"checks/{name}" for name in ("memory", "documents", "tests", "trust", "rules")),
+    *(f"checks/{name}" for name in ("memory", "documents", "tests", "evaluate", "trust", "rules")),
 ]
 
 
@@ -42,7 +42,7 @@ def run_checks(**lines: Any) -> Any:
         return done.returncode, [line for line in printed if line.startswith("FAILED")] + printed[-2:]
 
 
-ALL = (0, ["0 skipped", "8 passed, 0 failed"])
+ALL = (0, ["0 skipped", "9 passed, 0 failed"])
 SKIPPED = "FAILED: skipped: a: it is away, though no package is missing"
 
 
@@ -52,21 +52,21 @@ SKIPPED = "FAILED: skipped: a: it is away, though no package is missing"
         ({}, ALL),
         ({"library": (0, "build/libmars.so")}, ALL),
         ({"make": (0, "build/site/app.js: 94 kB gzipped")}, ALL),
-        ({"make": (2, "make: no")}, (1, ["FAILED: make site", "0 skipped", "7 passed, 1 failed"])),
-        ({"library": (1, "library: no")}, (1, ["FAILED: scripts/library", "0 skipped", "7 passed, 1 failed"])),
-        ({"memory": (0, "")}, (1, ["FAILED: checks/memory", "0 skipped", "7 passed, 1 failed"])),
-        ({"rules": (1, "3 passed, 0 failed")}, (1, ["FAILED: checks/rules", "0 skipped", "10 passed, 1 failed"])),
+        ({"make": (2, "make: no")}, (1, ["FAILED: make site", "0 skipped", "8 passed, 1 failed"])),
+        ({"library": (1, "library: no")}, (1, ["FAILED: scripts/library", "0 skipped", "8 passed, 1 failed"])),
+        ({"memory": (0, "")}, (1, ["FAILED: checks/memory", "0 skipped", "8 passed, 1 failed"])),
+        ({"rules": (1, "3 passed, 0 failed")}, (1, ["FAILED: checks/rules", "0 skipped", "11 passed, 1 failed"])),
         (
             {"tests": (0, "skipped: a: it is away (package no-such-package)", "4 passed, 0 failed")},
-            (0, ["1 skipped", "11 passed, 0 failed"]),
+            (0, ["1 skipped", "12 passed, 0 failed"]),
         ),
         (
             {"tests": (0, "skipped: a: it is away (package sh)", "4 passed, 0 failed")},
-            (1, [SKIPPED, "1 skipped", "11 passed, 1 failed"]),
+            (1, [SKIPPED, "1 skipped", "12 passed, 1 failed"]),
         ),
         (
             {"tests": (0, "skipped: a: it is away", "4 passed, 0 failed")},
-            (1, [SKIPPED, "1 skipped", "11 passed, 1 failed"]),
+            (1, [SKIPPED, "1 skipped", "12 passed, 1 failed"]),
         ),
     ],
 )
