@@ -8,55 +8,78 @@ import sys
 
 import pytest
 from conftest import TOP
+from counting import skip
 
 sys.path.insert(0, str(TOP / "checks"))
 from comparing.comparison import shown, where_different  # noqa: E402
-from comparing.planting import mistakes_in  # noqa: E402
-from comparing.running import compare  # noqa: E402
+from comparing.running import AREAS, NEEDS, compare  # noqa: E402
 
 COMMAND = TOP / "checks" / "evaluate"
-MISTAKES = str(TOP / "checks" / "comparing" / "mistakes")
 
 
 def test_differences_are_shown() -> None:
     one, other = {"a": (1, {"b": 2})}, {"a": (1, {"b": 3})}
     assert where_different(one, other) == ".a[1].b: 2, not 3"
-    assert shown((("Some", 3), {"name": tuple(b"Imp!")})) == "[Some (3), {name = 'Imp!'}]"
+    assert shown("0123456789", 6) == "'01 .. 89'"
 
 
-@pytest.mark.parametrize(
-    "area, count",
-    [
-        ("machine", 20),
-        ("edits", 20),
-        ("blocks", 60),
-        ("loads", 30),
-        ("sources", 40),
-        ("formulas", 40),
-        ("placement", 10),
-        ("contests", 8),
-        ("debugger", 20),
-        ("program", 10),
-        ("wasm", 10),
-    ],
-)
-def test_definitions_are_what_the_library_computes(area: str, count: int) -> None:
+@pytest.mark.parametrize("area", [name for name in AREAS if name != "examples"])
+def test_definitions_are_what_is_computed(area: str) -> None:
     """Other inputs than those of checks/evaluate."""
+    if area in NEEDS and not NEEDS[area][0]():
+        skip(area, NEEDS[area][1])
+    count = 3 + AREAS[area].usual // 60
     result = compare(area, 2, 0, count)
     assert result.difference == "" and result.inputs == count and result.counts
 
 
-def test_a_mistake_in_a_definition_is_found() -> None:
-    mistake = next(iter(mistakes_in(MISTAKES)))
-    result = compare("machine", 1, 0, 100, {mistake.file: (mistake.before, mistake.after)})
+# Mistakes in definitions: an area that finds each, the file, a text that occurs once in it, and its replacement.
+MISTAKES = [
+    ("examples", "mars_core/specs/Operand.antt", "(lowered p.core_size)", "(raised p.core_size)"),
+    ("machine", "mars_core/specs/Turn.antt", "length (drop 1 queue)) (front", "length (drop 0 queue)) (front"),
+    ("machine", "mars_core/specs/ReferenceCode.antt", "(λ y x. y + m - x)", "(λ y x. x + m - x)"),
+    ("machine", "mars_core/specs/Touched.antt", "pc b.operand.write ∷ []", "pc b.operand.read ∷ []"),
+    ("machine", "mars_c/specs/Records.antt", "slice_get atom.cells.items 2", "slice_get atom.cells.items 1"),
+    ("wasm", "mars_core/specs/Addresses.antt", "nat_lt (limit / 2) r", "nat_lt (limit / 3) r"),
+    ("pmars", "mars_core/specs/Start.antt", "((s + w.start) % m)", "((s + 0) % m)"),
+    ("edits", "mars_core/specs/Edit.antt", "s.params.processes then None", "s.params.cycles then None"),
+    ("edits", "mars_c/specs/Codes.antt", "edit_number edit.QueueFull = 7", "edit_number edit.QueueFull = 8"),
+    (
+        "follows",
+        "mars_core/specs/Past.antt",
+        "changes s address then s.turns + 1",
+        "changes s address then s.turns + 0",
+    ),
+    ("follows", "mars_core/specs/Past.antt", "if copy.to == address", "if copy.from == address"),
+    ("follows", "mars_core/specs/Search.antt", "nat_le first number || nat_le", "nat_le first number && nat_le"),
+    ("follows", "mars_core/specs/Search.antt", "&& not (writes s address)", "&& not (changes s address)"),
+    ("blocks", "mars_core/specs/Validity.antt", "clock.next + 1", "clock.next + 2"),
+    ("loads", "mars_cell/specs/Numbers.antt", "nat_le (length word) 18", "nat_le (length word) 17"),
+    ("sources", "redcode_text/specs/Equates.antt", "depth_limit = 32", "depth_limit = 31"),
+    ("sources", "redcode_asm/specs/Assembly.antt", "name_value ps source 0 p.index", "name_value ps source 1 p.index"),
+    ("formulas", "redcode_text/specs/Expression.antt", "precedence Percent = 1", "precedence Percent = 2"),
+    ("placement", "mars_match/specs/Placement.antt", "(16807 * seed)", "(16806 * seed)"),
+    ("contests", "mars_match/specs/Populations.antt", "ties = sum.ties + row.ties", "ties = sum.ties + row.wins"),
+    (
+        "fights",
+        "mars_match/specs/Rounds.antt",
+        "has_lived i outcome && (how_many outcome.lived == 1)",
+        "has_lived i outcome && false",
+    ),
+    ("debugger", "mars_session/specs/Retention.antt", "take k before", "take 1 before"),
+    ("program", "mars_match/specs/Placement.antt", "(16807 * seed)", "(16806 * seed)"),
+]
+
+
+@pytest.mark.parametrize("area, file, before, after", MISTAKES)
+def test_a_mistake_in_a_definition_is_found(area: str, file: str, before: str, after: str) -> None:
+    if area in NEEDS and not NEEDS[area][0]():
+        skip(area, NEEDS[area][1])
+    text = (TOP / "crates" / file).read_text()
+    assert text.count(before) == 1
+    result = compare(area, 1, 0, AREAS[area].usual, {f"crates/{file}": text.replace(before, after)})
     assert result.difference.startswith("DIFFERENT in ")
-    assert "\n  again: checks/evaluate --only machine --seed 1 --first " in result.difference
-
-
-def test_mistakes_occur_once() -> None:
-    """Each text of the list of mistakes occurs once in its file."""
-    for mistake in mistakes_in(MISTAKES):
-        assert (TOP / mistake.file).read_text().count(mistake.before) == 1, mistake
+    assert f"\n  again: checks/evaluate --only {area} --seed 1 --first " in result.difference
 
 
 def test_command() -> None:
@@ -64,9 +87,11 @@ def test_command() -> None:
         return subprocess.run([COMMAND, *words], capture_output=True, text=True)
 
     done = run("--only", "machine", "--count", "3", "--first", str(random.randrange(100)))
-    assert done.stdout.startswith("machine: 3 inputs: 3 battles, 3 valid battles, ") and done.returncode == 0
+    assert done.stdout.startswith("machine: 3 inputs: 3 battles, 3 calls, ") and done.returncode == 0
     assert done.stdout.endswith(": equal\n1 passed, 0 failed\n")
     assert run("--only", "turns").stderr.startswith("evaluate: no area is named turns: examples, machine, ")
     text = "def mars_core__Addresses__raised(a0, a1):\n    return remainder((a1 + 1), a0)\n"
     assert run("--python", "mars_core.Addresses.raised").stdout == text
+    found = run("--mistakes", "machine,edits", "--only", "Effect", "--count", "9").stdout.splitlines()
+    assert re.fullmatch(r"\d+ found, \d+ not found", found[-1]) and found[0].startswith("mars_core: ")
     assert re.search(r"^mars_core: 1\d\d computed, ", run("--list").stdout, re.M)

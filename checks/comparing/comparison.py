@@ -1,4 +1,4 @@
-"""What comparisons share: a value by its definition beside the computed one, and random choices."""
+"""What comparisons share: a value by its definition beside the computed one, and where the two differ."""
 from __future__ import annotations
 
 import random
@@ -38,24 +38,9 @@ class Area:
 
 
 def shown(value: Value, width: int = 600) -> str:
-    """Returns a value in a few lines; a list of printable characters as a text."""
-    text = spelled(value)
+    """Returns a value in a few lines."""
+    text = repr(value)
     return text if len(text) <= width else f"{text[: width // 2]} .. {text[-width // 2 :]}"
-
-
-def spelled(value: Value) -> str:
-    """Returns a value as definitions write it, more or less."""
-    if isinstance(value, dict):
-        return "{" + "; ".join(f"{name} = {spelled(part)}" for name, part in value.items()) + "}"
-    if isinstance(value, bytes):
-        return repr(value.decode("latin-1"))
-    if isinstance(value, tuple) and len(value) > 3 and all(isinstance(one, int) and 9 < one < 127 for one in value):
-        return repr("".join(map(chr, value)))
-    if isinstance(value, tuple) and value and isinstance(value[0], str):
-        return " ".join([value[0], *(f"({spelled(part)})" for part in value[1:])])
-    if isinstance(value, (tuple, list)):
-        return f"[{', '.join(map(spelled, value))}]"
-    return str(value)
 
 
 def where_different(one: Value, other: Value, place: str = "") -> str:

@@ -1,21 +1,38 @@
-"""Placement, formulas, matches, leagues, populations and outcomes."""
+"""Score formulas, placement, matches, leagues, populations and outcomes."""
 from __future__ import annotations
 
 import random
-from collections.abc import Iterator
+from collections.abc import Callable, Iterator
 
 from evaluating.base import Value
 from evaluating.evaluator import Evaluator
 
 from .comparison import Comparison, some
-from .library import array, call, new, plain, room
+from .library import array, call, new, room, rows_in
 from .machine import random_cell
-from .programs import parameters, refused
-from .sources import examples, formula
+from .programs import examples, parameters, refused
+from .texts import formula
 
 FORMULA = tuple(b"(W*W-1)/S")
-STAY: Value = {"op": ("Jmp",), "modifier": ("B",), "a_mode": ("Direct",), "a": 0, "b_mode": ("Direct",), "b": 0}
-DIE: Value = {**STAY, "op": ("Dat",), "modifier": ("F",)}
+ROWS = {"match": "mars_c.Contests.plain_row", "league": "mars_c.Contests.plain_row"}
+ROWS |= {"population": "mars_c.Contests.plain_sum"}
+# An example has at most this many cells.
+LONGEST = 85
+
+
+def compare_formulas(definitions: Evaluator, dice: random.Random) -> Iterator[Comparison]:
+    """A score formula: what a survivor gets, or the error of the formula or of its value."""
+    text, warriors = formula(dice), dice.choice([1, 2, 3, 16, 1 << 31])
+    survivors = dice.choice([0, 1, 1, 2, 5, (1 << 32) - 1])
+    value = new("int64_t *", 0)
+    error = call("mars_score", *array("uint8_t", text), warriors, survivors, value)
+    points = definitions("redcode_asm.Formula.formula_of", text)
+    refusal = "Formula"
+    if points[0] == "Ok":
+        refusal, points = "Score", definitions("mars_c.Contests.points_each", points[1], warriors, survivors)
+    defined = refused(definitions, refusal, points[1]) if points[0] == "Err" else points[1]
+    given = bytes(text), warriors, survivors
+    yield Comparison("formulas", given, defined, error if error["code"] else value[0])
 
 
 def random_contest(dice: random.Random, core: int, longest: int, cycles: int) -> Value:
@@ -35,176 +52,116 @@ def random_contest(dice: random.Random, core: int, longest: int, cycles: int) ->
     }
 
 
-def warrior_of(*cells: Value, start: int = 0) -> Value:
-    """Returns a warrior without names."""
-    return {"name": (), "author": (), "cells": cells, "start": start}
+def random_fighters(dice: random.Random, core: int, longest: int, count: int) -> list[Value]:
+    """Returns warriors of random cells, without names."""
+    warriors = []
+    for _ in range(count):
+        length = dice.randint(1, longest)
+        cells = tuple(random_cell(dice, core) for _ in range(length))
+        warriors.append({"name": (), "author": (), "cells": cells, "start": dice.randrange(length)})
+    return warriors
 
 
-def fighters(definitions: Evaluator, warriors: list[Value]) -> tuple[object, ...]:
-    """Returns the arguments of the library for some warriors."""
-    plain_cell = definitions.get("mars_c.Cells.plain_cell")
-    cells = [plain_cell(cell) for warrior in warriors for cell in warrior["cells"]]
-    places = [{"length": len(warrior["cells"]), "start": warrior["start"]} for warrior in warriors]
-    return *array("MarsCell", cells), *array("MarsWarrior", places)
+class Contest:
+    """Warriors and settings, as definitions and as the library takes them."""
 
+    def __init__(self, definitions: Evaluator, settings: Value, warriors: list[Value]) -> None:
+        self.definitions, self.settings, self.warriors = definitions, settings, warriors
+        self.bounds = parameters(definitions, settings)[1]
+        self.numbers = some(settings["position"] or None), settings["rounds"], settings["seed"]
+        self.scored = definitions("redcode_asm.Formula.formula_of", FORMULA)[1]
+        plan = {"rounds": settings["rounds"], "seed": settings["seed"], "fixed": self.numbers[0]}
+        self.setup = {"params": self.bounds, "plan": {**plan, "formula": self.scored}}
+        plain_cell = definitions.get("mars_c.Cells.plain_cell")
+        cells = [plain_cell(cell) for warrior in warriors for cell in warrior["cells"]]
+        places = [{"length": len(warrior["cells"]), "start": warrior["start"]} for warrior in warriors]
+        self.given = new("MarsSettings *", settings), *array("MarsCell", cells), *array("MarsWarrior", places)
 
-def rows_or_error(definitions: Evaluator, result: Value, row: str) -> Value:
-    """Returns the rows of a contest as numbers, or the error that the caller gets."""
-    if result[0] == "Err":
-        return refused(definitions, *definitions.get("mars_c.Refusals.fight_refusal")(result[1]))
-    return tuple(map(definitions.get(row), result[1]))
+    def comparison(
+        self, kind: str, result: Value, row: Callable[[Value], Value], error: Value, computed: Value
+    ) -> Comparison:
+        """Returns the rows of a result beside the computed ones, or the errors that a caller gets."""
+        if result[0] == "Ok":
+            defined: Value = tuple(map(row, result[1]))
+        else:
+            defined = refused(self.definitions, *self.definitions("mars_c.Refusals.fight_refusal", result[1]))
+        return Comparison(kind, (self.settings, self.warriors), defined, error if error["code"] else computed)
 
-
-def compare_rows(
-    definitions: Evaluator, kind: str, settings: Value, text: Value, warriors: list[Value], count: int, result: Value
-) -> Comparison:
-    """The rows of a match, a league or a population, or their error."""
-    rows = room("MarsRow", count)
-    given = new("MarsSettings *", settings), *array("uint8_t", text), *fighters(definitions, warriors), *rows
-    answer, error = call(f"mars_{kind}", *given)
-    computed = error if answer else tuple(plain(rows[0][index]) for index in range(count))
-    row = "mars_c.Contests.plain_sum" if kind == "population" else "mars_c.Contests.plain_row"
-    plural = {"match": "matches", "league": "leagues", "population": "populations"}[kind]
-    return Comparison(plural, (settings, bytes(text), warriors), rows_or_error(definitions, result, row), computed)
-
-
-def compare_formulas(definitions: Evaluator, dice: random.Random) -> Iterator[Comparison]:
-    """A score formula in a match of warriors that stay alive or die at once, and its value or error."""
-    count = dice.randint(1, 4)
-    settings = {**random_contest(dice, 8, 1, 2), "distance": 1, "rounds": 1}
-    warriors = [warrior_of(dice.choice([STAY, STAY, DIE])) for _ in range(count)]
-    text = formula(dice)
-    checked = definitions.get("redcode_asm.Formula.formula_of")(text)
-    if checked[0] == "Err":
+    def rows(self, kind: str, count: int) -> Comparison:
+        """The rows of a match or a league, or the sums of a population with this many candidates."""
+        if kind == "population":
+            result = self.definitions("mars_c.Contests.population", self.setup, count, tuple(self.warriors))
+        else:
+            name = {"match": "mars_match.Rounds.table_of", "league": "mars_match.Leagues.league_of"}[kind]
+            result = self.definitions(name, self.bounds, tuple(self.warriors), self.scored, *self.numbers)
         rows = room("MarsRow", count)
-        given = new("MarsSettings *", settings), *array("uint8_t", text), *fighters(definitions, warriors), *rows
-        yield Comparison(
-            "formulas", bytes(text), refused(definitions, "Formula", checked[1]), call("mars_match", *given)[1]
+        error = call(f"mars_{kind}", self.given[0], *array("uint8_t", FORMULA), *self.given[1:], *rows)
+        return self.comparison(f"{kind} rows", result, self.definitions.get(ROWS[kind]), error, rows_in(*rows))
+
+    def outcomes(self, counting: bool) -> Comparison:
+        """How each warrior fares in each round, and what it does, if that is counted."""
+        count = len(self.warriors)
+        fates = self.definitions(
+            "mars_match.Fates.fates_of", counting, self.bounds, tuple(self.warriors), *self.numbers
         )
-        return
-    bounds = parameters(definitions, settings)[1]
-    table = definitions.get("mars_match.Rounds.table_of")(
-        bounds, tuple(warriors), checked[1], some(None), 1, settings["seed"]
-    )
-    yield compare_rows(definitions, "match", settings, text, warriors, count, table)
+        lineup = {"seed": 0, "count": count, "warrior": tuple(range(16)), "counting": int(counting)}
+        outcomes = room("MarsOutcome", self.settings["rounds"] * count)
+        error = call("mars_outcomes", *self.given, *array("MarsLineup", [lineup]), *outcomes)
+        return self.comparison(
+            "outcomes", fates, self.definitions.get("mars_c.Outcomes.plain_fate"), error, rows_in(*outcomes)
+        )
+
+    def start(self, number: int) -> Comparison:
+        """The battle with which a round starts."""
+        state = self.definitions("mars_c.Battles.round_start_state", self.setup, tuple(self.warriors), number)
+        words = room("uint32_t", 64 + 3 * self.settings["core"] + len(self.warriors) * self.settings["processes"])
+        error = call("mars_start", *self.given, number, *words)
+        result = ("Ok", self.definitions("mars_core.Block.block_of", state[1])) if state[0] == "Ok" else state
+        computed = tuple(words[0][0 : len(result[1])]) if state[0] == "Ok" else ()
+        return self.comparison("starts", result, int, error, computed)
 
 
 def compare_starts(definitions: Evaluator, dice: random.Random) -> Iterator[Comparison]:
-    """The starting positions of up to 16 warriors in some rounds."""
+    """The starting positions of up to 16 warriors in some rounds, if there is room for them."""
     count, core = dice.randint(1, 16), dice.choice([16, 17, 100, 8000])
     settings = {**random_contest(dice, core, 1, 1), "distance": dice.randint(1, max(1, core // count))}
     if dice.random() < 0.1:
         settings["distance"] = min(core, settings["distance"] + core // count)
-    bounds = parameters(definitions, settings)[1]
-    lineup = {"seed": 0, "count": count, "warrior": tuple(range(16)), "counting": 0}
-    outcomes = room("MarsOutcome", settings["rounds"] * count)
-    given = new("MarsSettings *", settings), *fighters(definitions, [warrior_of(STAY)] * count)
-    answer, error = call("mars_outcomes", *given, *array("MarsLineup", [lineup]), *outcomes)
+    contest = Contest(definitions, settings, random_fighters(dice, core, 1, count))
+    yield contest.outcomes(False)
     for number in range(settings["rounds"]):
-        placed = definitions.get("mars_c.Battles.placed_in")(bounds, count, some(None), number, settings["seed"])
-        defined = (
-            rows_or_error(definitions, placed, "mars_session.Commands.command_limit")
-            if placed[0] == "Err"
-            else placed[1]
+        placed = definitions(
+            "mars_c.Battles.placed_in", contest.bounds, count, contest.numbers[0], number, settings["seed"]
         )
-        first = number * count
-        computed = error if answer else tuple(outcomes[0][index].start for index in range(first, first + count))
-        yield Comparison("placements", (settings, count, number), defined, computed)
         if placed[0] == "Ok":
-            is_spaced = definitions.get("mars_match.Placement.IsSpaced")(core, settings["distance"], placed[1])
+            is_spaced = definitions("mars_match.Placement.IsSpaced", core, settings["distance"], placed[1])
             yield Comparison("distances", (settings, count, number), is_spaced, True)
-
-
-def random_fighters(dice: random.Random, core: int, longest: int, count: int) -> list[Value]:
-    """Returns warriors of random cells."""
-    warriors = []
-    for _ in range(count):
-        length = dice.randint(1, longest)
-        warriors.append(warrior_of(*(random_cell(dice, core) for _ in range(length)), start=dice.randrange(length)))
-    return warriors
 
 
 def compare_contests(definitions: Evaluator, dice: random.Random) -> Iterator[Comparison]:
     """A match, a league, a population and the outcomes of random warriors, and the start of a round."""
     core, longest, cycles = dice.choice([8, 12, 20, 31]), dice.choice([1, 2, 4]), dice.choice([1, 5, 30])
     settings = random_contest(dice, core, longest, cycles)
-    bounds = parameters(definitions, settings)[1]
-    scored = definitions.get("redcode_asm.Formula.formula_of")(FORMULA)[1]
     warriors = random_fighters(dice, core, longest, dice.choice([1, 2, 2, 3, 4]))
-    fixed = 0
+    contest = Contest(definitions, settings, warriors)
+    yield contest.rows("league", len(warriors))
+    yield contest.rows("population", dice.randint(0, len(warriors)))
     if len(warriors) == 2 and 2 * settings["distance"] <= core and dice.random() < 0.5:
-        fixed = dice.randint(settings["distance"], core - settings["distance"])
-    numbers = some(fixed or None), settings["rounds"], settings["seed"]
-    placed = {**settings, "position": fixed}
-    count = len(warriors)
-    table = definitions.get("mars_match.Rounds.table_of")(bounds, tuple(warriors), scored, *numbers)
-    yield compare_rows(definitions, "match", placed, FORMULA, warriors, count, table)
-    yield compare_outcomes(definitions, dice, placed, bounds, warriors, numbers)
-    yield compare_start(definitions, dice, placed, bounds, warriors, numbers)
-    numbers = some(None), settings["rounds"], settings["seed"]
-    league = definitions.get("mars_match.Leagues.league_of")(bounds, tuple(warriors), scored, *numbers)
-    yield compare_rows(definitions, "league", settings, FORMULA, warriors, count, league)
-    candidates = dice.randint(0, count)
-    setup = setup_of(bounds, scored, numbers)
-    sums = definitions.get("mars_c.Contests.population")(setup, candidates, tuple(warriors))
-    yield compare_rows(definitions, "population", settings, FORMULA, warriors, candidates, sums)
-
-
-def setup_of(bounds: Value, scored: Value, numbers: tuple[Value, int, int]) -> Value:
-    """Returns what settings and a formula describe."""
-    fixed, rounds, seed = numbers
-    return {"params": bounds, "plan": {"rounds": rounds, "seed": seed, "fixed": fixed, "formula": scored}}
-
-
-Numbers = tuple[Value, int, int]
-
-
-def compare_outcomes(
-    definitions: Evaluator, dice: random.Random, settings: Value, bounds: Value, warriors: list[Value], numbers: Numbers
-) -> Comparison:
-    """How each warrior fares in each round, and what it does, if that is counted."""
-    counting, count = dice.random() < 0.5, len(warriors)
-    fates = definitions.get("mars_match.Fates.fates_of")(counting, bounds, tuple(warriors), *numbers)
-    lineup = {"seed": 0, "count": count, "warrior": tuple(range(16)), "counting": int(counting)}
-    outcomes = room("MarsOutcome", settings["rounds"] * count)
-    given = new("MarsSettings *", settings), *fighters(definitions, warriors), *array("MarsLineup", [lineup]), *outcomes
-    answer, error = call("mars_outcomes", *given)
-    computed = error if answer else tuple(plain(outcomes[0][index]) for index in range(outcomes[1]))
-    defined = rows_or_error(definitions, fates, "mars_c.Outcomes.plain_fate")
-    return Comparison("outcomes", (settings, warriors), defined, computed)
-
-
-def compare_start(
-    definitions: Evaluator, dice: random.Random, settings: Value, bounds: Value, warriors: list[Value], numbers: Numbers
-) -> Comparison:
-    """The battle with which a round starts."""
-    number = dice.randrange(settings["rounds"])
-    setup = setup_of(bounds, None, numbers)
-    state = definitions.get("mars_c.Battles.round_start_state")(setup, tuple(warriors), number)
-    words = room("uint32_t", 64 + 3 * settings["core"] + len(warriors) * settings["processes"])
-    given = new("MarsSettings *", settings), *fighters(definitions, warriors), number, *words
-    answer, error = call("mars_start", *given)
-    if state[0] == "Err":
-        defined: Value = refused(definitions, *definitions.get("mars_c.Refusals.fight_refusal")(state[1]))
-        return Comparison("starts", (settings, warriors, number), defined, error)
-    defined = definitions.get("mars_core.Block.block_of")(state[1])
-    return Comparison(
-        "starts", (settings, warriors, number), defined, error if answer else tuple(words[0][0 : len(defined)])
-    )
+        position = dice.randint(settings["distance"], core - settings["distance"])
+        contest = Contest(definitions, {**settings, "position": position}, warriors)
+    yield contest.rows("match", len(warriors))
+    yield contest.outcomes(dice.random() < 0.5)
+    yield contest.start(dice.randrange(settings["rounds"]))
 
 
 def compare_fights(definitions: Evaluator, dice: random.Random) -> Iterator[Comparison]:
     """A match of two or three examples in a core that is large enough for them to live on."""
-    core, longest = dice.choice([200, 400, 800]), 85
-    settings = {**random_contest(dice, core, longest, dice.choice([20, 100, 300])), "processes": dice.choice([8, 80])}
-    settings |= {"rounds": dice.randint(1, 2), "distance": longest}
+    core = dice.choice([200, 400, 800])
+    settings = {**random_contest(dice, core, LONGEST, dice.choice([20, 100, 300])), "processes": dice.choice([8, 80])}
+    settings |= {"rounds": dice.randint(1, 2), "distance": LONGEST}
     bounds = parameters(definitions, settings)[1]
-    assembly = definitions.get("redcode_asm.Assembly.assembly")
-    texts = dice.sample(examples(definitions.top, 800), 2 if core < 300 else dice.choice([2, 3]))
-    assembled = [assembly(bounds, 1, 2, tuple(text.encode("latin-1"))) for text in texts]
-    warriors = [result[1] for result in assembled if result[0] == "Ok"]
-    scored = definitions.get("redcode_asm.Formula.formula_of")(FORMULA)[1]
-    numbers = some(None), settings["rounds"], settings["seed"]
-    table = definitions.get("mars_match.Rounds.table_of")(bounds, tuple(warriors), scored, *numbers)
-    yield compare_rows(definitions, "match", settings, FORMULA, warriors, len(warriors), table)
-    yield compare_start(definitions, dice, settings, bounds, warriors, numbers)
+    texts = dice.sample(examples(), 2 if core < 300 else dice.choice([2, 3]))
+    assembled = [definitions("redcode_asm.Assembly.assembly", bounds, 1, 2, tuple(map(ord, text))) for text in texts]
+    contest = Contest(definitions, settings, [result[1] for result in assembled if result[0] == "Ok"])
+    yield contest.rows("match", len(contest.warriors))
+    yield contest.start(settings["rounds"] - 1)

@@ -1,7 +1,6 @@
 """The worked examples of the definitions, which the toolchain has computed: here they hold, too."""
 from __future__ import annotations
 
-import glob
 import os
 import random
 from collections.abc import Iterator
@@ -10,19 +9,15 @@ from evaluating.evaluator import Evaluator
 from evaluating.words import NotReadable
 
 from .comparison import Comparison
+from .library import TOP
+from .listing import modules_of
 
-
-def modules_of_examples(top: str) -> list[str]:
-    """Returns the modules with worked examples."""
-    files = [*glob.glob(os.path.join(top, "crates", "*", "specs", "Examples.antt"))]
-    files += glob.glob(os.path.join(top, "crates", "*", "specs", "Examples", "*.antt"))
-    parts = [os.path.relpath(file, os.path.join(top, "crates")).removesuffix(".antt").split(os.sep) for file in files]
-    return sorted(f"Rattle.{'.'.join(part)}" for part in parts)
+CRATES = sorted(os.listdir(os.path.join(TOP, "bench", "mistakes")))
 
 
 def compare_examples(definitions: Evaluator, dice: random.Random) -> Iterator[Comparison]:
     """All worked examples whose statements can be computed."""
-    for module in modules_of_examples(definitions.top):
+    for module in (module for crate in CRATES for module in modules_of(crate) if ".specs.Examples" in module):
         file = definitions.file(module)
         for name in file.types:
             if name in file.clauses:

@@ -1,7 +1,11 @@
-"""The library for C, called with the records and lists of definitions."""
+"""The library for C, natively and as mars.wasm, called with the records and lists of definitions."""
 from __future__ import annotations
 
+import json
 import os
+import shutil
+import struct
+import subprocess
 import sys
 from collections.abc import Sequence
 from functools import lru_cache
@@ -10,7 +14,8 @@ from typing import Any
 from evaluating.base import Value
 
 TOP = os.path.dirname(os.path.dirname(os.path.dirname(os.path.abspath(__file__))))
-FAULT = ("code", "number", "problem", "expression", "line", "warrior")
+WASM = os.path.join(TOP, "build", "mars.wasm")
+SCRIPT = os.path.join(TOP, "checks", "comparing", "wasm.mjs")
 
 
 @lru_cache(maxsize=None)
@@ -22,20 +27,11 @@ def library() -> tuple[Any, Any]:
     return binding.library()
 
 
-def check_library() -> None:
-    """Ends the program with a message if there is no library."""
-    try:
-        library()
-    except Exception as fault:
-        sys.exit(f"evaluate: {fault}")
-
-
 def plain(value: Any) -> Value:
     """Returns a value of C as definitions have it: structures as records, arrays as lists."""
-    ffi, _ = library()
     if isinstance(value, int):
         return value
-    kind = ffi.typeof(value)
+    kind = library()[0].typeof(value)
     if kind.kind == "array":
         return tuple(map(plain, value))
     return {name: plain(getattr(value, name)) for name, _ in kind.fields}
@@ -63,19 +59,60 @@ def room(kind: str, count: int) -> tuple[Any, int]:
     return new(f"{kind}[]", count), count
 
 
-def call(name: str, *given: Any) -> tuple[int, Value]:
-    """Calls the library. Returns the result, and the error as a record; that of ROOM is not looked at."""
+def rows_in(pointer: Any, count: int) -> tuple[Value, ...]:
+    """Returns this many values at a pointer."""
+    return tuple(plain(pointer[index]) for index in range(count))
+
+
+def call(name: str, *given: Any) -> Value:
+    """Calls the library. Returns the error as a record, whose code is 0 if there is none."""
     fault = new("MarsFault *", {"code": 0})
     answer = getattr(library()[1], name)(*given, fault)
-    return answer, {name: getattr(fault, name) for name in FAULT}
+    # (the error of ROOM is not looked at, except for its code)
+    return {**plain(fault[0]), "code": answer}
 
 
-def read_text(name: str, *given: Any) -> tuple[int, Value]:
-    """Returns the result of a call that writes a text, and the text or the error."""
+def read_text(name: str, *given: Any) -> Value:
+    """Returns the text that a call writes, or its error."""
     length, size = new("size_t *", 0), 1 << 12
     while True:
         buffer = new("uint8_t[]", size)
-        answer, fault = call(name, *given, buffer, size, length)
-        if answer != library()[1].MARS_ROOM:
-            return answer, fault if answer else tuple(buffer[0 : length[0]])
+        fault = call(name, *given, buffer, size, length)
+        if fault["code"] != library()[1].MARS_ROOM:
+            return fault if fault["code"] else tuple(buffer[0 : length[0]])
         size = length[0]
+
+
+# ---- Turns, natively and in mars.wasm
+
+ROWS = ("MarsRecord", "MarsTouched")
+
+
+def play(words: Sequence[int], turns: int, counts: dict[str, int]) -> Value:
+    """Executes turns of a battle. Returns its words, and as many rows of each kind as are counted."""
+    block, rows = array("uint32_t", words), {kind: room(kind, counts[kind]) for kind in ROWS}
+    error = call("mars_play", *block, turns, *rows["MarsRecord"], *rows["MarsTouched"])
+    return {"error": error["code"], "words": tuple(block[0]), **{kind: rows_in(*row) for kind, row in rows.items()}}
+
+
+def has_wasm() -> bool:
+    """Whether mars.wasm was built, and there is a Node to run it."""
+    return os.path.isfile(WASM) and bool(shutil.which("node"))
+
+
+@lru_cache(maxsize=None)
+def node() -> subprocess.Popen[str]:
+    """Returns the process that executes turns in mars.wasm, one for each process that asks."""
+    return subprocess.Popen(["node", SCRIPT, WASM], stdin=subprocess.PIPE, stdout=subprocess.PIPE, text=True)
+
+
+def play_in_wasm(words: Sequence[int], turns: int, counts: dict[str, int]) -> Value:
+    """Executes turns of a battle in mars.wasm, by the site's engine, with the results of `play`."""
+    process = node()
+    assert process.stdin and process.stdout
+    print(json.dumps([words, turns, *(counts[kind] for kind in ROWS)]), file=process.stdin, flush=True)
+    after, *found = json.loads(process.stdout.readline())
+    rows = {kind: room(kind, counts[kind]) for kind in ROWS}
+    for kind, numbers in zip(ROWS, found):
+        library()[0].buffer(rows[kind][0])[0 : 4 * len(numbers)] = struct.pack(f"<{len(numbers)}I", *numbers)
+    return {"error": 0, "words": tuple(after), **{kind: rows_in(*row) for kind, row in rows.items()}}

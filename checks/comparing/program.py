@@ -12,28 +12,18 @@ from evaluating.base import Value
 from evaluating.evaluator import Evaluator
 
 from .comparison import Comparison, some
-from .debugging import random_lines, transcript
+from .debugging import transcript
 from .library import TOP
 from .programs import random_warrior
-from .sources import formula, made_source
+from .texts import debugger_lines, formula, text_of
 
 sys.path.insert(0, os.path.join(TOP, "scripts"))
 from program import find_program  # noqa: E402
 
-# The numbers of options, their letters or names, and whether they may be left out.
-NUMBERS = {
-    "rounds": ("-r", False),
-    "core": ("-s", False),
-    "cycles": ("-c", False),
-    "processes": ("-p", False),
-    "longest": ("-l", False),
-    "distance": ("-d", False),
-    "seed": ("--seed", False),
-    "history": ("--history", False),
-    "fixed": ("-F", True),
-    "read_limit": ("--read-limit", True),
-    "write_limit": ("--write-limit", True),
-}
+# The numbers of options, and those that may be left out.
+NUMBERS = {"rounds": "-r", "core": "-s", "cycles": "-c", "processes": "-p", "longest": "-l", "distance": "-d"}
+NUMBERS |= {"seed": "--seed", "history": "--history"}
+OPTIONAL = {"fixed": "-F", "read_limit": "--read-limit", "write_limit": "--write-limit"}
 FLAGS = {"debugger": "-e", "brief": "-b", "sorted": "-o", "league": "--league", "load": "--load"}
 
 
@@ -49,9 +39,7 @@ def random_options(dice: random.Random, files: list[str]) -> Value:
         "distance": dice.randint(longest, longest + 3),
         "seed": dice.randint(1, 2147483646),
         "history": dice.choice([1, 50]),
-        "fixed": some(dice.randint(1, core) if dice.random() < 0.2 else None),
-        "read_limit": some(dice.randint(1, core) if dice.random() < 0.3 else None),
-        "write_limit": some(dice.randint(1, core) if dice.random() < 0.3 else None),
+        **{name: some(dice.randint(1, core) if dice.random() < 0.3 else None) for name in OPTIONAL},
         "score": tuple(one for one in formula(dice) if 0 < one < 128) if dice.random() < 0.3 else tuple(b"(W*W-1)/S"),
         "files": tuple(tuple(name.encode()) for name in files),
         **dict.fromkeys(FLAGS, False),
@@ -65,10 +53,9 @@ def random_options(dice: random.Random, files: list[str]) -> Value:
 
 def words_of(options: Value) -> list[str]:
     """Returns the arguments of the program for some options."""
-    words = []
-    for name, (word, is_optional) in NUMBERS.items():
-        value = options[name][1:] if is_optional else [options[name]]
-        words += [part for number in value for part in (word, str(number))]
+    words = [part for name, word in NUMBERS.items() for part in (word, str(options[name]))]
+    for name, word in OPTIONAL.items():
+        words += [part for number in options[name][1:] for part in (word, str(number))]
     words += [word for name, word in FLAGS.items() if options[name]]
     score = bytes(options["score"]).decode("latin-1")
     return [*words, f"--score={score}", *(bytes(name).decode() for name in options["files"])]
@@ -78,50 +65,41 @@ def expected(definitions: Evaluator, options: Value, contents: list[bytes], line
     """Returns the exit status and the output, by the definitions in the order in which the program uses them."""
 
     def failed(*fault: Value, output: Value = ()) -> Value:
-        return definitions.get("mars_app.Status.status_of")(fault), output
+        return definitions("mars_app.Status.status_of", fault), output
 
-    if not definitions.get("mars_app.Options.are_allowed")(options):
+    if not definitions("mars_app.Options.are_allowed", options):
         return failed("Words")
-    given = definitions.get("mars_app.Options.parameters_of")(options)
-    bounds = definitions.get("mars_cell.ParameterFaults.checked_parameters")(given)
+    given = definitions("mars_app.Options.parameters_of", options)
+    bounds = definitions("mars_cell.ParameterFaults.checked_parameters", given)
     if bounds[0] == "Err":
         return failed("Parameters", bounds[1])
-    scored = definitions.get("redcode_asm.Formula.formula_of")(options["score"])
+    scored = definitions("redcode_asm.Formula.formula_of", options["score"])
     if scored[0] == "Err":
         return failed("Formula", ("Expression", scored[1]))
-    count = definitions.get("mars_app.Contests.contest_size")(options)
+    count = definitions("mars_app.Contests.contest_size", options)
     warriors: Value = ()
     for name, content in zip(options["files"], contents):
-        whole = bounds[1], options["rounds"], count, name, tuple(content)
-        found = definitions.get("mars_app.Loading.warrior_of_file")(*whole)
+        found = definitions(
+            "mars_app.Loading.warrior_of_file", bounds[1], options["rounds"], count, name, tuple(content)
+        )
         if found == ("None",):
             return failed("Load", None, None, None)
         warriors += (found[1],)
+    if options["load"]:
+        return 0, definitions("mars_cell.Written.load_text", options["core"], warriors[0])
     plan = {name: options[name] for name in ("rounds", "seed", "fixed")}
     setup = {"params": bounds[1], "plan": {**plan, "formula": scored[1]}}
-    if options["load"]:
-        return 0, definitions.get("mars_cell.Written.load_text")(options["core"], warriors[0])
-    return (debugged if options["debugger"] else contested)(definitions, options, setup, warriors, lines)
-
-
-def debugged(definitions: Evaluator, options: Value, setup: Value, warriors: Value, lines: tuple[int, ...]) -> Value:
-    """Returns the exit status and the transcript of the debugger over the first round."""
-    started = definitions.get("mars_app.Debugging.first_round")(setup, warriors)
+    if options["debugger"]:
+        started, output = definitions("mars_app.Debugging.first_round", setup, warriors), ()
+    else:
+        started = definitions("mars_app.Contests.contest", options["league"], setup, warriors)
+        output = definitions("mars_app.Contests.listing", options["core"], options["brief"], warriors)
     if started[0] == "Err":
-        fault = definitions.get("mars_app.Contests.fault_of")(started[1])
-        return definitions.get("mars_app.Status.status_of")(fault), ()
-    session = definitions.get("mars_app.Debugging.session_at")(options["history"], started[1])
-    return 0, transcript(definitions, session, lines)
-
-
-def contested(definitions: Evaluator, options: Value, setup: Value, warriors: Value, lines: tuple[int, ...]) -> Value:
-    """Returns the exit status, and the listing and the results of a match or a league."""
-    listing = definitions.get("mars_app.Contests.listing")(options["core"], options["brief"], warriors)
-    result = definitions.get("mars_app.Contests.contest")(options["league"], setup, warriors)
-    if result[0] == "Err":
-        fault = definitions.get("mars_app.Contests.fault_of")(result[1])
-        return definitions.get("mars_app.Status.status_of")(fault), listing
-    return 0, listing + definitions.get("mars_match.Results.results_text")(result[1], options["sorted"])
+        return failed(*definitions("mars_app.Contests.fault_of", started[1]), output=output)
+    if options["debugger"]:
+        session = definitions("mars_app.Debugging.session_at", options["history"], started[1])
+        return 0, transcript(definitions, session, lines)
+    return 0, output + definitions("mars_match.Results.results_text", started[1], options["sorted"])
 
 
 def compare_runs(definitions: Evaluator, dice: random.Random) -> Iterator[Comparison]:
@@ -130,19 +108,16 @@ def compare_runs(definitions: Evaluator, dice: random.Random) -> Iterator[Compar
     options = random_options(dice, [f"{index}.{dice.choice(['load', 'load', 'red'])}" for index in range(count)])
     core = min(max(options["core"], 1), 100)
     contents = []
-    for name in options["files"]:
+    for _ in options["files"]:
         warrior = random_warrior(dice, core, max(options["longest"] % 9, 1))
-        text = bytes(definitions.get("mars_cell.Written.load_text")(core, warrior))
-        contents.append(made_source(dice).encode("latin-1") if dice.random() < 0.1 else text)
-    state = {"params": {"core_size": core}, "queues": [()] * count, "cycle": 0, "turns": 0}
-    lines = random_lines(definitions, dice, state)
+        text = bytes(definitions("mars_cell.Written.load_text", core, warrior))
+        contents.append(text_of(dice, "source").encode("latin-1") if dice.random() < 0.1 else text)
+    lines = debugger_lines(dice, core, count)
     with tempfile.TemporaryDirectory() as folder:
         for name, content in zip(options["files"], contents):
             with open(os.path.join(folder, bytes(name).decode()), "wb") as file:
                 file.write(content)
         words = [find_program(), *words_of(options)]
-        done = subprocess.run(
-            [os.fsencode(word) for word in words], cwd=folder, input=bytes(lines), capture_output=True
-        )
+        done = subprocess.run(words, cwd=folder, input=bytes(lines), capture_output=True)
     defined = expected(definitions, options, contents, lines)
     yield Comparison("runs", (words[1:], contents, bytes(lines)), defined, (done.returncode, tuple(done.stdout)))

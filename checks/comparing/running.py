@@ -1,24 +1,25 @@
-"""Compares random inputs of the areas, in several processes."""
+"""Compares random inputs of the areas, also with a mistake in a definition."""
 from __future__ import annotations
 
 import random
 from collections import Counter
-from collections.abc import Mapping
+from collections.abc import Callable, Mapping
 from dataclasses import dataclass, field
-from functools import lru_cache
+from functools import lru_cache, partial
 
 from evaluating.evaluator import Evaluator, NoCase
+from evaluating.words import NotReadable
 
+from .changing import compare_edits, compare_follows
 from .comparison import Area, Comparison, shown, where_different
 from .contests import compare_contests, compare_fights, compare_formulas, compare_starts
 from .debugging import compare_transcripts
 from .examples import compare_examples
-from .library import TOP
-from .machine import compare_blocks, compare_edits, compare_turns
-from .pmars import compare_pmars
+from .library import TOP, has_wasm, play_in_wasm
+from .machine import compare_blocks, compare_turns
+from .pmars import compare_pmars, has_pmars
 from .program import compare_runs
 from .programs import compare_loads, compare_sources
-from .wasm import compare_wasm
 
 AREAS = {
     area.name: area
@@ -26,22 +27,27 @@ AREAS = {
         Area("examples", 1, compare_examples),
         Area("machine", 600, compare_turns),
         Area("edits", 600, compare_edits),
+        Area("follows", 300, compare_follows),
         Area("blocks", 1000, compare_blocks),
         Area("loads", 600, compare_loads),
         Area("sources", 1200, compare_sources),
-        Area("formulas", 1500, compare_formulas),
+        Area("formulas", 3000, compare_formulas),
         Area("placement", 300, compare_starts),
         Area("contests", 150, compare_contests),
         Area("fights", 40, compare_fights),
         Area("debugger", 400, compare_transcripts),
         Area("program", 300, compare_runs),
-        Area("wasm", 300, compare_wasm),
+        Area("wasm", 300, partial(compare_turns, played=play_in_wasm)),
         Area("pmars", 300, compare_pmars),
     )
 }
+# What an area needs besides the library, and why it may be missing.
+NEEDS: dict[str, tuple[Callable[[], bool], str]] = {
+    "wasm": (has_wasm, "mars.wasm: it is not built, or there is no node (package nodejs)"),
+    "pmars": (has_pmars, "pMARS: `bench/pmars build/pmars` builds it (package pmars)"),
+}
 # Errors of an evaluation, which only a mistake in a definition causes, and that of a process that computes.
 ERRORS = (NoCase, ArithmeticError, LookupError, RecursionError, RuntimeError, TypeError, ValueError)
-Changes = Mapping[str, tuple[str, str]]
 
 
 @dataclass
@@ -70,7 +76,7 @@ def unchanged() -> Evaluator:
     return Evaluator(TOP)
 
 
-def compare(name: str, seed: int, first: int, count: int, changes: Changes | None = None) -> Result:
+def compare(name: str, seed: int, first: int, count: int, changes: Mapping[str, str] | None = None) -> Result:
     """Compares some inputs of an area up to the first difference. Input number N is the same in each run of a seed."""
     definitions, result = Evaluator(TOP, changes) if changes else unchanged(), Result()
     for number in range(first, first + count):
@@ -81,7 +87,7 @@ def compare(name: str, seed: int, first: int, count: int, changes: Changes | Non
                 if comparison.defined != comparison.computed:
                     result.difference = report(name, seed, number, comparison)
                     return result
-        except ERRORS as fault:
+        except (*ERRORS, NotReadable) as fault:
             result.difference = f"DIFFERENT in input {number} of seed {seed}: {fault!r}"
             return result
     return result

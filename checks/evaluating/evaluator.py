@@ -72,10 +72,10 @@ class Evaluator:
     """The definitions of a repository, as Python functions.
 
     - `top`: the folder of the repository
-    - `changes`: for files, by their paths from `top`, a text and what is put in its place
+    - `changes`: for files, by their paths from `top`, another text
     """
 
-    def __init__(self, top: str, changes: Mapping[str, tuple[str, str]] | None = None) -> None:
+    def __init__(self, top: str, changes: Mapping[str, str] | None = None) -> None:
         self.top, self.changes = top, dict(changes or {})
         self.files: dict[str, File] = {}
         self.known: dict[tuple[str, str], Meaning] = {}
@@ -96,6 +96,10 @@ class Evaluator:
             self.functions[name] = of_values(self.space[meaning.name], meaning.later)
         return self.functions[name]
 
+    def __call__(self, name: str, *arguments: Value) -> Value:
+        """Returns the value of a definition for some arguments."""
+        return self.get(name)(*arguments)
+
     def source(self, name: str) -> str:
         """Returns the Python function of a definition as text."""
         return self.sources[self.meaning_of(name).name]
@@ -113,11 +117,8 @@ class Evaluator:
             if path is None:
                 raise NoStatement(f"{module} declares a type of values")
             with open(path) as file:
-                text = file.read()
-            before, after = self.changes.get(os.path.relpath(path, self.top), ("", ""))
-            if before and text.count(before) != 1:
-                raise NotReadable(f"{path}: the text occurs {text.count(before)} times: {before}")
-            self.files[module] = read_file(path, text.replace(before, after) if before else text)
+                text = self.changes.get(os.path.relpath(path, self.top)) or file.read()
+            self.files[module] = read_file(path, text)
         return self.files[module]
 
     def meaning_in(self, module: str, name: str) -> Meaning:

@@ -75,6 +75,12 @@ def replicated(n: int, x: Value) -> List:
     return (x,) * n
 
 
+@operation("range_with_len")
+def numbers_from(first: int, n: int) -> List:
+    """The first number and those after it, this many."""
+    return tuple(range(first, first + n))
+
+
 @operation("concat")
 def concatenated(xss: Iterable[List]) -> List:
     """The items of the lists, one list after the other."""

@@ -1,0 +1,162 @@
+"""Battles that are edited or followed: edits, the past of each cell, and turns that meet conditions."""
+from __future__ import annotations
+
+import random
+from collections.abc import Iterator, Sequence
+
+from evaluating.base import NONE, Value
+from evaluating.evaluator import Evaluator
+
+from .comparison import Comparison
+from .library import array, call, new, room, rows_in
+from .machine import block_words, compare_record, random_cell, random_state
+
+EDITS, STEPS, TURNS = 6, 3, 8
+WAYS = ("Executes", "Changes", "Reads")
+NUMBERS = ("Warrior", "Queued", "Died", "Address", "Owner", "Turn", "Origin", "Opcode", "NewOpcode")
+# An owner that is no warrior: the cell was edited.
+BY_HAND = 16
+
+
+def random_edit(definitions: Evaluator, dice: random.Random, state: Value) -> tuple[Value | None, Value]:
+    """Returns an edit, which may be impossible, and its numbers. There is no edit for a few of the numbers."""
+    core = state["params"]["core_size"]
+    address = dice.randrange(core) if dice.random() < 0.9 else core + dice.randrange(3)
+    warrior = dice.randrange(len(state["queues"]) + (dice.random() < 0.1))
+    place, what = dice.randrange(3), dice.randrange(4)
+    cell = random_cell(dice, core if dice.random() < 0.9 else core + 2)
+    edits = [
+        ("SetCell", address, cell),
+        ("MoveProcess", warrior, place, address),
+        ("KillProcess", warrior, place),
+        ("Spawn", warrior, address),
+    ]
+    plain_cell = definitions("mars_c.Cells.plain_cell", cell)
+    numbers = {"what": what + 1, "warrior": warrior, "place": place, "address": address, "cell": plain_cell}
+    if dice.random() < 0.97:
+        return edits[what], numbers
+    return None, dice.choice([{**numbers, "what": 5}, {**numbers, "what": 1, "cell": {**plain_cell, "modifier": 7}}])
+
+
+def made(definitions: Evaluator, state: Value, edits: Sequence[Value | None]) -> tuple[Value, Value]:
+    """Returns the state after edits, one after another, and no error; or the same state and the first error."""
+
+    def refused(*refusal: Value) -> tuple[Value, Value]:
+        return state, definitions("mars_c.Codes.block_fault_of", refusal)
+
+    if None in edits:
+        return refused("NoSuchEdit", edits.index(None))
+    after = state
+    for index, edit in enumerate(edits):
+        fault = definitions("mars_core.Edit.edit_fault", after, edit)
+        if fault != NONE:
+            return refused("Edit", index, fault[1])
+        after = definitions("mars_core.Edit.edited", after, edit)
+    return after, definitions("mars_c.Codes.numbered", 0, 0)
+
+
+def compare_edits(definitions: Evaluator, dice: random.Random) -> Iterator[Comparison]:
+    """Edits of a battle, some of them impossible, together and one by one; and their records."""
+    state = random_state(dice)
+    drawn = [random_edit(definitions, dice, state) for _ in range(EDITS)]
+    some = drawn[: dice.randint(0, 3)]
+    yield compare_call(definitions, "mars_edits", state, some, *array("MarsEdit", [numbers for _, numbers in some]))
+    for edit, numbers in drawn:
+        yield compare_call(definitions, "mars_edit", state, [(edit, numbers)], new("MarsEdit *", numbers))
+        if edit is None:
+            continue
+        yield Comparison("meanings", numbers, definitions("mars_c.Blocks.Means", numbers, edit), True)
+        after, error = made(definitions, state, [edit])
+        if error["code"] == 0:
+            record = definitions("mars_core.Edit.edit_record", state, edit)
+            yield compare_record(definitions, "records", record, state, after)
+        state = after
+
+
+def compare_call(definitions: Evaluator, name: str, state: Value, edits: Sequence[Value], *given: object) -> Comparison:
+    """The words of a battle after a call with edits, and its error."""
+    words = block_words(definitions, state)
+    block = array("uint32_t", words)
+    after, error = made(definitions, state, [edit for edit, _ in edits])
+    found = call(name, *block, *given)
+    is_written = definitions("mars_c.Blocks.IsWritten", after, words, tuple(block[0]))
+    return Comparison(f"calls of {name}", (state, edits), (error, True), (found, is_written))
+
+
+def random_pasts(dice: random.Random, core: int) -> list[Value]:
+    """Returns a past of each cell."""
+    return [
+        {"owner": dice.randrange(4), "turn": dice.randrange(3), "origin": dice.randrange(core + 2)} for _ in range(core)
+    ]
+
+
+def random_conditions(definitions: Evaluator, dice: random.Random, core: int) -> tuple[list[Value], list[Value]]:
+    """Returns conditions and their numbers; a few of the numbers mean none, and there are fewer conditions then."""
+    values, rows = [], []
+    for _ in range(dice.choice([0, 1, 1, 2, 3])):
+        way, number = (dice.choice(WAYS),), (dice.choice(NUMBERS),)
+        first = dice.randrange(core if number == ("Address",) else 17)
+        last = dice.choice([first, first + 1, first + core, max(first - 2, 0), 1 << 31])
+        values.append({"way": way, "number": number, "first": first, "last": last})
+        rows.append(definitions("mars_c.Following.plain_condition", values[-1]))
+    if rows and dice.random() < 0.1:
+        place = dice.randrange(len(rows))
+        rows[place] |= dice.choice([{"way": 0}, {"way": 4}, {"number": 0}, {"number": 10}])
+        del values[place:]
+    return values, rows
+
+
+def compare_follows(definitions: Evaluator, dice: random.Random) -> Iterator[Comparison]:
+    """Turns of a battle that are followed, with edits between: pasts, and the turns that meet conditions."""
+    state = random_state(dice)
+    core = state["params"]["core_size"]
+    pasts = tuple(random_pasts(dice, core))
+    for step in range(STEPS):
+        turns = dice.randrange(TURNS)
+        yield compare_follow(definitions, dice, state, turns, pasts)
+        pasts = definitions("mars_core.Past.followed", turns, state, pasts)
+        state = definitions("mars_core.Turn.after_turns", turns, state)
+        edited, _ = made(definitions, state, [random_edit(definitions, dice, state)[0]])
+        past = {"owner": BY_HAND, "turn": state["turns"], "origin": core + step}
+        pasts = tuple(past if edited["core"][at] != state["core"][at] else pasts[at] for at in range(core))
+        state = edited
+
+
+def compare_follow(
+    definitions: Evaluator, dice: random.Random, state: Value, turns: int, pasts: tuple[Value, ...]
+) -> Comparison:
+    """A call that follows turns: the battle, the pasts, and the numbers of the turns that are found, or its error."""
+    values, conditions = random_conditions(definitions, dice, len(pasts))
+    words = block_words(definitions, state)
+    is_short = dice.random() < 0.05 and words != definitions("mars_core.Block.block_of", state)
+    if dice.random() < 0.05:
+        pasts = pasts[1:]
+    block = array("uint32_t", words[: len(words) - is_short])
+    given, found, count = array("MarsPast", pasts), room("uint32_t", dice.randrange(TURNS)), new("uint32_t *", 0)
+    error = call("mars_follow", *block, turns, *given, *array("MarsCondition", conditions), *found, count)
+    refusal: Value = None
+    if len(values) < len(conditions):
+        refusal = ("Condition", len(values))
+    elif is_short or len(pasts) < state["params"]["core_size"]:
+        refusal = ("Capacity",) if is_short else ("Pasts",)
+    expected = (
+        definitions("mars_c.Codes.block_fault_of", refusal) if refusal else definitions("mars_c.Codes.numbered", 0, 0)
+    )
+    after = state if refusal else definitions("mars_core.Turn.after_turns", turns, state)
+    numbers = () if refusal else definitions("mars_core.Search.found_in", tuple(values), turns, state, pasts)
+    defined = {
+        "error": expected,
+        "written": True,
+        "pasts": pasts if refusal else definitions("mars_core.Past.followed", turns, state, pasts),
+        "found": definitions("mars_core.Search.filled", numbers, (0,) * found[1]),
+        "count": len(numbers),
+    }
+    whole = tuple(block[0])
+    computed = {
+        "error": error,
+        "written": definitions("mars_c.Blocks.IsWritten", after, words[: len(whole)], whole),
+        "pasts": rows_in(*given),
+        "found": tuple(found[0]),
+        "count": count[0],
+    }
+    return Comparison("calls", (state, turns, values, conditions, pasts), defined, computed)
