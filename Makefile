@@ -7,6 +7,7 @@
 #   make editors      the files for editors, in build/share
 #   make packages     the Debian packages `mars` and `corewar`, in build
 #   make wheel        a Python wheel of `corewar` that contains the library and the site, for x86-64 Linux and Python 3.11 or later, in build
+#   make vectors      battles, sources and matches with their answers for other simulators, in build/vectors (docs/dev/VECTORS.md)
 #   make check        all checks of CI
 #
 # DESTDIR is put before PREFIX when a package is made. Nothing is proved here; files that are not built are reported.
@@ -38,7 +39,7 @@ copy = mkdir -p $(2) && tar -c -C $(1) --mode=u=rwX,go=rX --exclude=__pycache__ 
 licences = mkdir -p $(1); set -e; for library in $(LIBRARIES); do for file in "$$(dirname "$$(rt doc)")"/rattle/$$library/LICENSE*; do \
 	cp "$$file" $(1)/$$library-$${file\#\#*/}; done; done$(if $(wildcard LICENSE*),; cp $(wildcard LICENSE*) $(1))
 
-.PHONY: all install uninstall site man completion editors packages wheel check
+.PHONY: all install uninstall site man completion editors packages wheel vectors check
 
 all: man completion editors
 
@@ -121,6 +122,9 @@ wheel: $(LIBRARY) $(SITE)
 	SOURCE_DATE_EPOCH=$$(git -c safe.directory='*' log -1 --format=%ct 2>/dev/null || stat -c %Y CHANGELOG.md) \
 		/usr/bin/python3 -m pip wheel --no-deps --no-build-isolation --no-cache-dir -q -w build build/wheel/kit
 	rm -r build/wheel
+
+vectors:
+	checks/vectors build/vectors
 
 check:
 	checks/run

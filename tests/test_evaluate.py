@@ -5,6 +5,7 @@ import random
 import re
 import subprocess
 import sys
+from pathlib import Path
 
 import pytest
 from conftest import TOP
@@ -12,6 +13,7 @@ from counting import skip
 
 sys.path.insert(0, str(TOP / "checks"))
 from comparing.comparison import shown, where_different  # noqa: E402
+from comparing.pmars import has_pmars  # noqa: E402
 from comparing.running import AREAS, NEEDS, compare  # noqa: E402
 
 COMMAND = TOP / "checks" / "evaluate"
@@ -95,3 +97,21 @@ def test_command() -> None:
     found = run("--mistakes", "machine,edits", "--only", "Effect", "--count", "9").stdout.splitlines()
     assert re.fullmatch(r"\d+ found, \d+ not found", found[-1]) and found[0].startswith("mars_core: ")
     assert re.search(r"^mars_core: 1\d\d computed, ", run("--list").stdout, re.M)
+
+
+def test_vectors(tmp_path: Path) -> None:
+    """The same seed gives the same files; pMARS has no other answers, but for a changed one."""
+    command = TOP / "checks" / "vectors"
+    for name in ("one", "other"):
+        subprocess.run([command, tmp_path / name, "--count", "25"], check=True)
+    texts = {path.name: path.read_text("latin-1") for path in sorted((tmp_path / "one").iterdir())}
+    assert [*texts] == ["battles.txt", "matches.txt", "sources.txt"]
+    for name, text in texts.items():
+        assert text.startswith("number 0\ncore ") and (tmp_path / "other" / name).read_text("latin-1") == text
+    if not has_pmars():
+        skip("vectors in pMARS", NEEDS["pmars"][1])
+    done = subprocess.run([command, "--pmars", tmp_path / "one"], capture_output=True, text=True)
+    assert (done.returncode, len(done.stdout.splitlines())) == (0, 3)
+    (tmp_path / "one" / "battles.txt").write_text(texts["battles.txt"].replace("lives 1 0", "lives 0 1"))
+    done = subprocess.run([command, "--pmars", tmp_path / "one"], capture_output=True, text=True)
+    assert done.returncode == 1 and done.stdout.startswith("wrong: battles ")

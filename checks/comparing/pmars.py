@@ -6,7 +6,7 @@ import random
 import re
 import subprocess
 import tempfile
-from collections.abc import Iterator
+from collections.abc import Iterator, Mapping
 
 from evaluating.base import Value
 from evaluating.evaluator import Evaluator
@@ -18,6 +18,8 @@ from .library import TOP
 # Where bench/pmars leaves it for the tests. That of Debian's package opens a window, and debugs nothing.
 PMARS = os.path.join(TOP, "build", "pmars", "pmars")
 PAGE = 15
+# A run that takes longer hangs, as pMARS does for some values of expressions.
+SECONDS = 5
 CELL = re.compile(r"(\d{5})   (?:([A-Z]{3})\.([A-Z]{1,2}) *(\S) *(-?\d+), (\S) *(-?\d+))?")
 MODES = {"#": "Immediate", "$": "Direct", "*": "AIndirect", "@": "BIndirect"}
 MODES |= {"{": "APredecrement", "<": "BPredecrement", "}": "APostincrement", ">": "BPostincrement"}
@@ -46,30 +48,37 @@ def cells_in(text: str, core: int) -> dict[int, Value]:
 
 
 class Round:
-    """A round of two warriors, the second one at a position."""
+    """A round in pMARS, of two warriors with the second one at a position, or of a single warrior.
 
-    def __init__(self, definitions: Evaluator, bounds: Value, position: int, warriors: list[Value]) -> None:
-        self.core, load_text = bounds["core_size"], definitions.get("mars_cell.Written.load_text")
-        self.texts = [bytes(load_text(self.core, warrior)) for warrior in warriors]
-        options = {"-s": self.core, "-c": bounds["cycles"], "-p": bounds["processes"], "-l": bounds["max_length"]}
-        options |= {"-d": bounds["distance"], "-F": position}
-        self.words = [str(word) for option in options.items() for word in option]
+    - `settings`: values of `core`, `cycles`, `processes`, `longest` and `distance`
+    - `texts`: the sources of the warriors
+    """
+
+    def __init__(self, settings: Mapping[str, int], texts: list[bytes], position: int = 0) -> None:
+        self.core, self.texts = settings["core"], texts
+        options = {"-s": "core", "-c": "cycles", "-p": "processes", "-l": "longest", "-d": "distance"}
+        self.words = [word for option, name in options.items() for word in (option, str(settings[name]))]
+        self.words += ["-F", str(position)] if position else []
 
     def run(self, *words: str, lines: str = "") -> str:
-        """Returns what pMARS prints, with these lines for its debugger."""
+        """Returns what pMARS prints, with these lines for its debugger; nothing if it hangs."""
         with tempfile.TemporaryDirectory() as folder:
-            files = [os.path.join(folder, name) for name in ("a.red", "b.red")]
+            files = [os.path.join(folder, f"{index}.red") for index in range(len(self.texts))]
             for file, text in zip(files, self.texts):
                 with open(file, "wb") as stream:
                     stream.write(text)
-            command = [PMARS, "-b", *words, *self.words, *files]
-            return subprocess.run(command, input=lines, capture_output=True, text=True, timeout=60).stdout
+            command = [PMARS, *words, *self.words, *files]
+            try:
+                done = subprocess.run(command, input=lines.encode(), capture_output=True, timeout=SECONDS)
+            except subprocess.TimeoutExpired:
+                return ""
+            return done.stdout.decode("latin-1")
 
     def core_after(self, turns: int) -> tuple[Value, Value]:
         """Returns the core that its debugger lists after some turns, at least one, and the next address."""
         # (`skip 0` makes one turn; more lines than PAGE would wait for a key)
         pages = [f"list {first},{min(first + PAGE, self.core) - 1}" for first in range(0, self.core, PAGE)]
-        text = self.run("-e", lines="\n".join([f"skip {turns - 1}", *pages, "quit", ""]))
+        text = self.run("-b", "-e", lines="\n".join([f"skip {turns - 1}", *pages, "quit", ""]))
         # The first line is the instruction before the first turn, the second one that after the turns.
         later = text.partition("(cdb) ")[2]
         cells, following = cells_in(later.partition("(cdb) ")[2], self.core), CELL.search(later)
@@ -77,7 +86,7 @@ class Round:
 
     def result(self) -> str:
         """Returns its line of wins and ties."""
-        found = re.search(r"^Results: (\d \d \d)$", self.run(), re.M)
+        found = re.search(r"^Results: (\d \d \d)$", self.run("-b"), re.M)
         return found[1] if found else "no line"
 
 
@@ -103,7 +112,9 @@ def compare_pmars(definitions: Evaluator, dice: random.Random) -> Iterator[Compa
         if reads_itself_changed(definitions, states[-1]):
             break
         states.append(definitions("mars_core.Turn.turn_of", states[-1]))
-    round = Round(definitions, *given)
+    settings = {"core": core, "cycles": bounds["cycles"], "processes": bounds["processes"]}
+    texts = [bytes(definitions("mars_cell.Written.load_text", core, warrior)) for warrior in given[2]]
+    round = Round({**settings, "longest": longest, "distance": longest}, texts, given[1])
     if len(states) - is_over > 1:
         turns = dice.randrange(1, len(states) - is_over)
         state = states[turns]
