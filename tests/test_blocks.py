@@ -1,11 +1,10 @@
 """Battles as blocks of words: their turns, their edits, and words that are not a battle.
 
-States and edits are compared with the replies of the debugger, rows with the states before and after their turns. The
-words that the library accepts are compared with `is_battle`, which is written from the rules of a battle only.
+States and edits are compared with the replies of the debugger, rows with the states before and after their turns.
+`checks/evaluate` compares the words that the library accepts with the definition of a battle.
 """
 from __future__ import annotations
 
-import random
 from collections.abc import Callable
 from typing import Any
 
@@ -238,71 +237,3 @@ def test_a_battle_of_a_caller() -> None:
     assert call("mars_check", *slices(words)) == 0
     records, _ = play(words, 3, 3)
     assert records["address"].tolist() == [3, 7, 4] and words[88:90].tolist() == [0, 5]
-
-
-def is_battle(words: list[int]) -> bool:
-    """Whether words begin with a battle."""
-    if len(words) < 64 or words[0] != MARK:
-        return False
-    length, core, processes, cycles, read, write, longest, distance, warriors = words[1:10]
-    turns, cycle, following, over, dead, unused = words[10:16]
-    ranges = (
-        (core, 1 << 20),
-        (processes, 1 << 16),
-        (cycles, 10**7),
-        (read, core),
-        (write, core),
-        (longest, core),
-        (warriors, 16),
-    )
-    if any(not 1 <= value <= maximum for value, maximum in ranges) or not longest <= distance <= core:
-        return False
-    counts = words[16 : 16 + warriors]
-    if length != 64 + 3 * core + sum(counts) or length > len(words) or unused or any(words[16 + warriors : 32]):
-        return False
-    for tags, a, b in (words[64 + 3 * address : 67 + 3 * address] for address in range(core)):
-        if any(tags >> 8 * k & 255 >= maximum for k, maximum in enumerate((16, 7, 8, 8))) or max(a, b) >= core:
-            return False
-    if max(counts) > processes or any(address >= core for address in words[64 + 3 * core : length]):
-        return False
-    if dead > 16 or any(words[32 + 2 * dead : 64]):
-        return False
-    alive = [warrior for warrior in range(warriors) if counts[warrior]]
-    if sorted(words[32 : 32 + 2 * dead : 2]) != [warrior for warrior in range(warriors) if not counts[warrior]]:
-        return False
-    if following >= warriors or cycle > cycles or turns > cycle * warriors + following + (not alive):
-        return False
-    if alive and (following not in alive or cycle == cycles and following != alive[0]):
-        return False
-    return over == (cycle == cycles or len(alive) <= (warriors > 1))
-
-
-SOURCES = ["MOV 0, 1", "SPL 0\nJMP -1", "DAT 0", "SPL 1\nDIV #0, 1"]
-
-
-def test_corrupted_blocks() -> None:
-    """Changed or shortened blocks are accepted if they are a battle, and are then written back unchanged."""
-    dice, accepted = random.Random(7), 0
-    settings = Settings(core=20, processes=4, cycles=30, longest=2, distance=2)
-    for _ in range(2000):
-        warriors = tuple(assemble(dice.choice(SOURCES), settings=settings) for _ in range(dice.randint(1, 3)))
-        words = started(Match(warriors, seed=dice.randint(1, 999), settings=settings))
-        play(words, dice.randint(0, 80))
-        words = words[: header(words)["words"] + dice.choice([0, 0, 5])]
-        for _ in range(dice.randint(1, 3)):
-            place = dice.choice([dice.randrange(64), dice.randrange(len(words))])
-            near = [max(0, int(words[place]) - 1), min(2**32 - 1, int(words[place]) + 1)]
-            words[place] = dice.choice([0, 1, 2, 3, 16, 17, 20, 255, 2**32 - 1, *near, *near])
-        words = words[: dice.choice([len(words)] * 5 + [dice.randrange(len(words))])]
-        try:
-            call("mars_check", *slices(words))
-        except MarsError as fault:
-            assert fault.code == BLOCK and not is_battle(words.tolist()), words
-            continue
-        assert is_battle(words.tolist()), words
-        accepted += 1
-        # The limit of processes may have become 255 for each of three warriors.
-        longer = np.concatenate([words, np.zeros(3 * 255, np.uint32)])
-        play(longer, 0)
-        assert np.array_equal(longer[: len(words)], words)
-    assert 100 < accepted < 1900

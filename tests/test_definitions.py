@@ -188,8 +188,8 @@ def test_what_is_not_read(define: Define, text: str) -> None:
 
 
 def test_each_operation_says_what_is_believed() -> None:
-    for name, (_, function) in OPERATIONS.items():
-        assert (function.__doc__ or "").endswith("."), name
+    for name, operation in OPERATIONS.items():
+        assert operation.sentence.endswith("."), name
 
 
 @pytest.mark.parametrize(
@@ -212,4 +212,4 @@ def test_each_operation_says_what_is_believed() -> None:
     ],
 )
 def test_operations(name: str, given: tuple[Any, ...], expected: Any) -> None:
-    assert OPERATIONS[name][1](*given) == expected
+    assert OPERATIONS[name].function(*given) == expected

@@ -100,7 +100,7 @@ def test_command() -> None:
 
 
 def test_vectors(tmp_path: Path) -> None:
-    """The same seed gives the same files; pMARS has no other answers, but for a changed one."""
+    """The same seed gives the same files; pMARS has no other answers, except to a changed one."""
     command = TOP / "checks" / "vectors"
     for name in ("one", "other"):
         subprocess.run([command, tmp_path / name, "--count", "25"], check=True)

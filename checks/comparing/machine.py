@@ -180,7 +180,7 @@ def compare_blocks(definitions: Evaluator, dice: random.Random) -> Iterator[Comp
         place = dice.choice([dice.randrange(16), dice.randrange(HEADER), dice.randrange(len(words))])
         near = [words[place] + 1, max(words[place] - 1, 0), dice.choice(words)]
         words[place] = dice.choice([*near, 0, 1, 1 << dice.randrange(32)])
-    del words[len(words) - (dice.random() < 0.1) :]
+    del words[len(words) - dice.choice([0] * 8 + [1, dice.randrange(len(words))]) :]
     words += [SEVEN] * dice.choice([0, 0, 3])
     is_battle = call("mars_check", *array("uint32_t", words))["code"] == 0
     yield Comparison("blocks", tuple(words), begins_with_battle(definitions, tuple(words)), is_battle)

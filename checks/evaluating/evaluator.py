@@ -7,7 +7,6 @@ import sys
 from collections.abc import Callable, Mapping
 from typing import Any
 
-from . import lists
 from .base import OPERATIONS, Value
 from .files import Clause, File, path_of, read_file
 from .patterns import CONSTRUCTORS, VALUES, Arities, shown
@@ -21,7 +20,6 @@ STANDARD = {*CONSTRUCTORS, *VALUES, "Some", "None", "Ok", "Err"}
 LIBRARY = re.compile(r"Rattle\.(std|clap)\.|Prim\.|lib\.|mathlib\.")
 TYPES = {"ℕ", "ℤ", "Bool", "List", "Option", "Result", "String", "Vec", "Global", "Type"}
 DEPTH = 1_000_000
-assert lists
 
 
 class NoCase(Exception):
@@ -84,9 +82,9 @@ class Evaluator:
         self.space: dict[str, Any] = {"given": given, "later": later, "no_case": no_case}
         self.sources: dict[str, str] = {}
         self.functions: dict[str, Callable[..., Value]] = {}
-        for count, function in OPERATIONS.values():
-            self.space[function.__name__] = function
-            self.space[f"each_{function.__name__}"] = one_by_one(function, (False,) * count)
+        for operation in OPERATIONS.values():
+            self.space[operation.name] = operation.function
+            self.space[f"each_{operation.name}"] = one_by_one(operation.function, (False,) * operation.arity)
         sys.setrecursionlimit(DEPTH)
 
     def get(self, name: str) -> Callable[..., Value]:
@@ -269,9 +267,8 @@ def library_meaning(name: str) -> Meaning:
     if name in TYPES:
         raise NoStatement(f"{name} is a type of values")
     if name not in OPERATIONS:
-        raise NotReadable(f"the toolchain's {name} has no operation in `base` or `lists`")
-    count, function = OPERATIONS[name]
-    return Meaning("operation", function.__name__, count)
+        raise NotReadable(f"the toolchain's {name} has no operation in `base`")
+    return Meaning("operation", OPERATIONS[name].name, OPERATIONS[name].arity)
 
 
 def python_name(module: str, name: str) -> str:
