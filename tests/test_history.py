@@ -22,10 +22,11 @@ from battles import (
 from conftest import EXAMPLES
 from hypothesis import given, strategies as st
 
-from corewar.battle import history as module
+from corewar.battle import history as module, runs
 from corewar.battle.conditions import Condition, last_change, search
 from corewar.battle.frames import frames, part_ends
-from corewar.battle.history import BY_HAND, NOBODY, History
+from corewar.battle.history import History
+from corewar.battle.runs import BY_HAND, NOBODY
 from corewar.engine.battles import Battle
 from corewar.engine.calls import Match, assemble
 from corewar.engine.sources import read
@@ -41,7 +42,8 @@ from corewar.model.settings import Settings
 def small_blocks(monkeypatch: pytest.MonkeyPatch) -> None:
     monkeypatch.setattr(module, "BLOCK_SIZE", 7)
     monkeypatch.setattr(module, "CACHED_BLOCKS", 3)
-    monkeypatch.setattr(module, "MAX_MARKS", 4)
+    monkeypatch.setattr(runs, "STRIDE", 7)
+    monkeypatch.setattr(runs, "MAX_MARKS", 4)
 
 
 def edited(history: History, places: list[tuple[float, str]]) -> tuple[History, list[str]]:
@@ -153,7 +155,8 @@ def test_a_cell_that_a_turn_does_not_touch_changes_nothing(fight: Match, part: f
 def test_reads_are_those_of_each_turn(fight: Match, first: int, more: int, places: list[tuple[float, str]]) -> None:
     """A turn reads the cells that it touches, except for those that it writes."""
     history, lines = edited(History(fight), places)
-    begin, cells = history.segments[-1].first, {(first + place) % history.core for place in range(more + 1)}
+    begin, last = history.segments[-1].first, (first + more) % history.core
+    cells = {(first + place) % history.core for place in range(more + 1)}
     rows, records = (call(fight, 0, lines, 0, history.end) for call in (touched, record))
     reads = []
     for turn, (row, one) in enumerate(zip(rows, records), begin + 1):
@@ -161,9 +164,9 @@ def test_reads_are_those_of_each_turn(fight: Match, first: int, more: int, place
         if cells & {*row["address"][: row["count"]].tolist()} - {*written}:
             reads.append(turn)
     for turn in range(begin, history.end + 1):
-        found = search(history, [Condition("reads", first, first + more)], turn)
+        found = search(history, [Condition("reads", first, last)], turn)
         assert (found and found[0]) == min((one for one in reads if one > turn), default=None)
-        found = search(history, [Condition("reads", first, first + more)], turn, False)
+        found = search(history, [Condition("reads", first, last)], turn, False)
         assert not reads or turn <= reads[0] or found and found[0] == max(one for one in reads if one < turn)
 
 

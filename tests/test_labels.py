@@ -7,10 +7,10 @@ from battles import edit_of, edits, matches
 from conftest import EXAMPLES
 from hypothesis import given, strategies as st
 
-from corewar.battle import history as module, labels
+from corewar.battle import history as module
+from corewar.battle.conditions import executed_origins
 from corewar.battle.history import History
 from corewar.battle.labels import Sources
-from corewar.battle.origins import Origins
 from corewar.engine.calls import Match, assemble, source_lines
 from corewar.engine.sources import read
 from corewar.engine.warriors import read_load
@@ -50,17 +50,6 @@ def test_labels_of_two_warriors() -> None:
     assert (sources.lines[2].warrior, sources.lines[2].number, sources.lines[2].text) == (0, 6, "lab&i MOV lab01, i")
 
 
-def test_late_lines_are_those_of_unchanged_cells(monkeypatch: pytest.MonkeyPatch) -> None:
-    """After the limit of tracing, only unchanged cells have a line."""
-    history = History(Match((read(str(EXAMPLES / "dwarf.red")), assemble("MOV 0, 1"))))
-    sources = Sources(history)
-    traced = {address: sources.line(history, address, 100) for address in range(8)}
-    monkeypatch.setattr(labels, "MAX_TRACED_TURNS", 99)
-    late = {address: sources.line(history, address, 100) for address in range(8)}
-    assert [address for address in range(8) if late[address]] == [0, 1, 2]
-    assert all(line == traced[address] for address, line in late.items() if line) and traced[3] and traced[7]
-
-
 @given(matches(), st.integers(0, 2), st.lists(st.tuples(st.floats(0, 1), edits()), max_size=3), st.floats(0, 1))
 def test_origins(fight: Match, round: int, places: list[tuple[float, str]], part: float) -> None:
     """At any turn and after edits, each cell has the opcode, the modifier and the modes of its origin."""
@@ -75,7 +64,7 @@ def test_origins(fight: Match, round: int, places: list[tuple[float, str]], part
             except CorewarError:
                 pass
         turn = int(part * history.end)
-        cells, found = history.state(turn).cells, Origins(history).at(turn)
+        cells, found = history.state(turn).cells, history.pasts(turn)["origin"]
         copies = found < history.core
         assert all(np.array_equal(cells[name][copies], loaded[name][found[copies]]) for name in KEPT)
         assert history.edits or copies.all()
@@ -85,16 +74,12 @@ PAIRS = ["dwarf imp", "silk imp", "paper imp", "scanner silk", "vampire spiral",
 
 
 def test_the_line_of_nearly_each_turn_is_known() -> None:
-    """Also the lines of copies. The rest is empty core, and no cell has the line of another instruction."""
+    """Also the lines of copies. The rest is empty core."""
     known, turns = 0, 0
     for names in PAIRS:
         history = History(Match(tuple(read(str(EXAMPLES / f"{name}.red")) for name in names.split())))
-        sources, origins, loaded = Sources(history), Origins(history), history.state(0).cells
-        for block in history.blocks():
-            known += int(np.isin(origins.executed(block), [*sources.lines]).sum())
-            turn = (block.first + block.last) // 2
-            cells, found = block.cells(turn), origins.at(turn)
-            assert all(np.array_equal(cells[name], loaded[name][found]) for name in KEPT)
+        sources = Sources(history)
+        known += int(np.isin(executed_origins(history, 0, history.end), [*sources.lines]).sum())
         turns += history.end
     assert known > 0.99 * turns
 

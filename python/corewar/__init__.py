@@ -34,7 +34,7 @@ from .model.cells import CELL, MODES, MODIFIERS, OPCODES, cell_limits, cell_of, 
 from .model.edits import Edit
 from .model.errors import CorewarError, FileError, MarsError
 from .model.settings import HILLS, MAX_SEED, MAX_WARRIORS, Settings
-from .model.types import Cell, Cells, Indices, Numbers, Owners, Positions, Rates, Records
+from .model.types import Cell, Cells, Indices, Numbers, Owners, Pasts, Positions, Rates, Records
 from .pages.player import Player
 
 # The version of the kit: of this package, the Debian packages and the library (MARS_VERSION in its header).
@@ -49,7 +49,7 @@ __all__ = [
     "CELL", "HILLS", "MAX_SEED", "MAX_WARRIORS", "MODES", "MODIFIERS", "OPCODES", "Access", "Assembler", "Battle",
     "Cell", "Cells", "Challenge", "Comparison", "Contest", "CorewarError", "Death", "Edit", "Executed", "FileError",
     "History", "Hit", "Indices", "League", "Limit", "MarsError", "Match", "Melee", "Numbers", "Overrun", "Owners",
-    "Place", "Player", "Positions", "Problem", "Progress", "Rates", "Records", "Round", "Row", "Settings",
+    "Pasts", "Place", "Player", "Positions", "Problem", "Progress", "Rates", "Records", "Round", "Row", "Settings",
     "Standings", "Study", "Tie", "Turn", "Warrior", "Why", "Write", "assemble", "cell_limits",
     "cell_of", "cell_text", "columns", "fates", "league", "match", "outcomes", "points", "population", "problems",
     "read", "rounds", "shares", "study",

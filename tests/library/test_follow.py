@@ -1,90 +1,102 @@
-"""mars_follow gives the owners, turns and origins of cells that a history gives, and finds the same turns.
-
-Each client gives numbers of its own to the origins of cells that an edit changed, so these are compared as one.
-"""
+"""The pasts of cells and the turns that a history finds are those of their definitions, read over records of turns."""
 from __future__ import annotations
 
-from typing import Any
+from typing import NamedTuple
 
 import numpy as np
+import pytest
 from battles import edit_of, edits, matches
 from hypothesis import given, strategies as st
-from numpy.typing import NDArray
 
-from corewar.battle.conditions import Condition
-from corewar.battle.history import BY_HAND, History
-from corewar.battle.origins import Origins
+from corewar.battle import history as module, runs
+from corewar.battle.conditions import CHANGES, EXECUTES, ORIGIN, READS, Row, executed_origins, find
+from corewar.battle.history import History
+from corewar.battle.runs import BY_HAND, NOBODY
 from corewar.engine.battles import Battle
-from corewar.engine.binding import array, call, library, slice_of
 from corewar.engine.calls import Match
+from corewar.model.cells import MODES, MODIFIERS, OPCODES
 from corewar.model.errors import CorewarError
-from corewar.model.header import numbers
 
-# A way, a number, and its range.
-Numbers = tuple[int, int, int, int]
-NAMES = numbers()
-EXECUTES, CHANGES, READS = NAMES["EXECUTES"], NAMES["CHANGES"], NAMES["READS"]
-WARRIOR, ADDRESS = NAMES["NUMBER_WARRIOR"], NAMES["NUMBER_ADDRESS"]
-# What a turn of a warrior does.
-EVENTS: dict[str, list[tuple[str, int]]] = {
-    "splits": [("QUEUED", 2)],
-    "ends": [("QUEUED", 0)],
-    "dies": [("DIED", 1)],
-    "moves": [],
-}
+# The owner, the turn and the origin of a cell, and what a turn does with cells: the addresses that it uses in each way,
+# and the numbers of each cell in the order of the header.
+Past = tuple[int, int, int]
 
 
-def follow(battle: Battle, pasts: NDArray[Any], turns: int, conditions: list[Numbers]) -> list[int]:
-    """Executes turns of a battle, keeps the pasts, and returns the turns that meet the conditions."""
-    asked, found = array("MarsCondition", len(conditions)), array("uint32_t", turns)
-    asked[:] = conditions
-    count = library()[0].new("uint32_t *")
-    rows = [*slice_of("MarsPast", pasts), *slice_of("MarsCondition", asked), *slice_of("uint32_t", found)]
-    call("mars_follow", *slice_of("uint32_t", battle._words), turns, *rows, count)
-    return [int(turn) for turn in found[: count[0]]]
+class Facts(NamedTuple):
+    uses: dict[int, list[int]]
+    numbers: list[list[int]]
 
 
-def followed(history: History, turn: int, conditions: list[Numbers]) -> tuple[Battle, NDArray[Any], list[int]]:
-    """Returns the battle, the pasts and the turns that are found after a turn and the edits there."""
-    battle, pasts = Battle(history.fight, history.round), array("MarsPast", history.core)
-    pasts["owner"] = History(history.fight, history.round).owners(0)
-    pasts["origin"] = np.arange(history.core)
-    found, origin = [], history.core
-    for at, edit in history.edits:
-        if at > turn:
-            break
-        found += follow(battle, pasts, at - battle.turns, conditions)
-        before = battle.cells.copy()
-        battle.edit(edit)
-        for address in np.flatnonzero(before != battle.cells):
-            pasts[address] = (BY_HAND, at, origin)
-            origin += 1
-    found += follow(battle, pasts, turn - battle.turns, conditions)
-    return battle, pasts, found
+@pytest.fixture(autouse=True)
+def small_blocks(monkeypatch: pytest.MonkeyPatch) -> None:
+    monkeypatch.setattr(module, "BLOCK_SIZE", 7)
+    monkeypatch.setattr(runs, "STRIDE", 5)
+    monkeypatch.setattr(runs, "MAX_MARKS", 4)
 
 
-def numbers_of(condition: Condition) -> list[Numbers]:
-    """Returns what is a condition of a history, as conditions of the library."""
-    way = {"at": EXECUTES, "changes": CHANGES, "reads": READS}.get(condition.word)
-    if way is None:
-        asked = [(NAMES[f"NUMBER_{name}"], value) for name, value in EVENTS[condition.word]]
-        return [(EXECUTES, kind, value, value) for kind, value in [(WARRIOR, condition.first), *asked]]
-    by = [] if condition.by is None else [(way, WARRIOR, condition.by, condition.by)]
-    return [(way, ADDRESS, condition.first, condition.last), *by]
+def executed(battle: Battle, pasts: list[Past]) -> Facts:
+    """Executes a turn of a battle and changes the pasts. Returns what is known of the turn."""
+    before, old = battle.cells.copy(), [*pasts]
+    (record,), (row,) = battle.play(1, records=1, touched=1)
+    at, warrior, after = int(record["address"]), int(record["warrior"]), battle.cells
+    touched, written = (
+        row["address"][: row["count"]].tolist(),
+        record["change"]["address"][: record["changes"]].tolist(),
+    )
+    changed = np.flatnonzero(before != after).tolist()
+    op, modifier, a_mode, *_ = before[at].tolist()
+    if (OPCODES[op], MODIFIERS[modifier]) == ("MOV", "I"):
+        # The pointers of A are before the cell that is copied; the target is last.
+        source, target = touched[1 if MODES[a_mode] in "#$" else 3], touched[-1]
+        pasts[target] = (*pasts[target][:2], old[source][2])
+    for address in changed:
+        pasts[address] = (warrior, battle.turns, pasts[address][2])
+    reads = [address for address in touched if address not in written]
+    of_turn = [warrior, int(record["queued"]), int(record["died"])]
+    opcodes = zip(before["op"].tolist(), after["op"].tolist())
+    numbers = [[*of_turn, address, *past, *ops] for address, (past, ops) in enumerate(zip(old, opcodes))]
+    return Facts({EXECUTES: [at], CHANGES: changed, READS: reads}, numbers)
 
 
-def places(history: History, condition: Condition) -> list[int]:
-    """Returns the turns for which a condition holds. `at` holds at the place before its turn."""
-    found = {int(place) for block in history.blocks() for place in condition.places(block, history.core)}
-    after = 1 if condition.word == "at" else 0
-    return sorted(place + after for place in found if place + after <= history.end)
+def read(history: History, last: int) -> tuple[list[Past], list[Facts]]:
+    """Returns the pasts after a turn and the edits there, and the facts of each turn up to it."""
+    battle, facts = Battle(history.fight, history.round), list[Facts]()
+    pasts = [(NOBODY, 0, address) for address in range(history.core)]
+    for number, warrior in enumerate(history.warriors):
+        first = int(battle.queues[number][0]) - warrior.start
+        for address in range(first, first + len(warrior)):
+            pasts[address % history.core] = (number, 0, address % history.core)
+    waiting = [*history.edits]
+    while True:
+        while waiting and waiting[0][0] == battle.turns:
+            before = battle.cells.copy()
+            battle.edit(waiting.pop(0)[1])
+            for address in np.flatnonzero(before != battle.cells).tolist():
+                pasts[address] = (BY_HAND, battle.turns, history.core)
+        if battle.turns == last:
+            return pasts, facts
+        facts.append(executed(battle, pasts))
+
+
+def meets(rows: list[Row], facts: Facts) -> bool:
+    """Returns whether a turn uses in each way a cell that meets all conditions on this way."""
+
+    def holds(row: Row, address: int) -> bool:
+        _, number, first, last = row
+        found = facts.numbers[address][number - 1]
+        return first <= found <= last if first <= last else found >= first or found <= last
+
+    return all(
+        any(all(holds(row, address) for row in rows if row[0] == way) for address in facts.uses[way])
+        for way in {way for way, *_ in rows}
+    )
 
 
 @st.composite
 def histories(draw: st.DrawFn) -> History:
     """A history with up to three edits."""
     fight: Match = draw(matches())
-    history, turn = History(fight), 0
+    history, turn = History(fight, draw(st.integers(0, 2))), 0
     for _ in range(draw(st.integers(0, 3))):
         turn = draw(st.integers(turn, history.end))
         try:
@@ -94,25 +106,27 @@ def histories(draw: st.DrawFn) -> History:
     return history
 
 
-@given(histories(), st.data())
-def test_pasts(history: History, data: st.DataObject) -> None:
-    turn = data.draw(st.integers(0, history.end))
-    battle, pasts, found = followed(history, turn, [])
-    assert battle == history.state(turn) and found == list(range(1, turn + 1))
-    owners, turns = history.written(turn)
-    assert (pasts["owner"].tolist(), pasts["turn"].tolist()) == (owners.tolist(), turns.tolist())
-    origins = Origins(history).at(turn)
-    edited = history.core
-    assert np.minimum(pasts["origin"], edited).tolist() == np.minimum(origins, edited).tolist()
+@given(histories(), st.lists(st.integers(0, 400), max_size=5))
+def test_pasts(history: History, turns: list[int]) -> None:
+    for turn in [*turns, history.end]:
+        turn = min(turn, history.end)
+        battle, pasts = history.followed(turn)
+        # The origins of edited cells are one here.
+        found = [(owner, when, min(origin, history.core)) for owner, when, origin in pasts.tolist()]
+        assert found == read(history, turn)[0] and battle == history.state(turn)
 
 
-@given(histories(), st.data())
-def test_searches(history: History, data: st.DataObject) -> None:
-    address, warrior = st.integers(0, history.core - 1), st.integers(0, len(history.warriors) - 1)
-    word = data.draw(st.sampled_from(["at", "changes", "reads", *EVENTS]))
-    if word in EVENTS:
-        first = last = data.draw(warrior)
-        condition = Condition(word, first, last)
-    else:
-        condition = Condition(word, data.draw(address), data.draw(address), data.draw(st.none() | warrior))
-    assert followed(history, history.end, numbers_of(condition))[2] == places(history, condition)
+NUMBERS = st.integers(0, 61) | st.sampled_from([BY_HAND, NOBODY])
+ROWS = st.tuples(st.integers(1, 3), st.integers(1, 9), NUMBERS, NUMBERS)
+
+
+@given(histories(), st.lists(ROWS, min_size=1, max_size=4), st.integers(0, 200), st.booleans())
+def test_searches(history: History, rows: list[Row], first: int, forward: bool) -> None:
+    # Origins of edited cells are numbered here in another way.
+    rows = [row for row in rows if row[1] != ORIGIN or max(row[2:]) < history.core]
+    facts, first = read(history, history.end)[1], min(first, history.end)
+    spans = [turns.tolist() for turns in find(history, rows, first, None, forward)]
+    expected = [turn for turn in range(first + 1, history.end + 1) if rows and meets(rows, facts[turn - 1])]
+    assert sum(spans if forward else reversed(spans), []) == expected
+    origins = [one.numbers[one.uses[EXECUTES][0]][ORIGIN - 1] for one in facts[first:]]
+    assert np.minimum(executed_origins(history, first, history.end), history.core).tolist() == origins

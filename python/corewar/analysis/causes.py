@@ -1,12 +1,15 @@
 """Why a warrior died, and how a cell got its value."""
 from __future__ import annotations
 
-from collections.abc import Iterator
+from collections.abc import Iterator, Sequence
 from dataclasses import dataclass
 from itertools import islice
 
-from ..battle.conditions import Condition, last_change, search
+from ..battle.conditions import EXECUTES, OWNER, TURN, Condition, by_warrior, find
+from ..battle.conditions import last_change, last_opcode_change, search
 from ..battle.history import History
+from ..battle.runs import BY_HAND
+from ..engine.binding import MAX_UINT32
 from ..model.cells import OPCODES
 from .endings import Executed, describe_survivor, executed_by, own_turns
 from .formatting import BattleFormatter
@@ -18,12 +21,14 @@ EXTRA_TURNS = 500
 
 def describe_change(formatter: BattleFormatter, address: int, turn: int) -> list[str]:
     """Describes the last change of a cell up to a turn, by a turn or by an edit."""
-    history = formatter.history
-    found, by_hand = last_change(history, address, turn), history.by_hand(address, turn)
-    if by_hand and by_hand[0] >= (found or 0):
+    history, by_hand = formatter.history, None
+    if history.pasts(turn)[address]["owner"] == BY_HAND:
+        by_hand = history.by_hand(address, turn)
+    if by_hand:
         edit_turn, before, after = by_hand
         change = f"{formatter.cell(before)} -> {formatter.cell(after)}"
         return [f"Cell {address} was edited after turn {edit_turn}: {change}"]
+    found = last_change(history, address, turn)
     if found is None:
         return [f"Cell {address} has not changed since the start."]
     return [f"Cell {address} was last changed in turn {found}:", *formatter.lines(found)]
@@ -42,9 +47,11 @@ def causes_of(history: History, address: int, turn: int) -> list[int]:
     """Returns the last turn, up to this one, that changed a cell, and if it is another one that which changed its
     opcode; nothing before an edit of the cell.
     """
-    by_hand = history.by_hand(address, turn)
-    found = [last_change(history, address, turn, word) for word in ("changes", "becomes")]
-    return [*dict.fromkeys(one for one in found if one is not None and (by_hand is None or by_hand[0] < one))]
+    found, by_hand = last_change(history, address, turn), history.by_hand(address, turn)
+    if found is None:
+        return []
+    became = last_opcode_change(history, address, turn)
+    return [*dict.fromkeys(one for one in (found, became) if one and (by_hand is None or by_hand[0] < one))]
 
 
 def foreign_write(history: History, turn: int) -> int | None:
@@ -52,6 +59,16 @@ def foreign_write(history: History, turn: int) -> int | None:
     record = history.record(turn)
     found = last_change(history, int(record["address"]), turn - 1)
     return found if found is not None and history.record(found)["warrior"] != record["warrior"] else None
+
+
+def foreign_turns(history: History, warrior: int, turns: Sequence[int]) -> Iterator[int]:
+    """Yields those of some turns of a warrior, the latest first, that executed a cell that another warrior wrote."""
+    # A range whose end is below its start goes around.
+    others = (EXECUTES, OWNER, warrior + 1, (warrior - 1) & MAX_UINT32)
+    rows = [by_warrior(warrior), others, (EXECUTES, TURN, 1, MAX_UINT32)]
+    for found in find(history, rows, turns[-1] - 1, turns[0], False) if turns else []:
+        # An edit is no warrior.
+        yield from (turn for turn in reversed(found.tolist()) if foreign_write(history, turn) is not None)
 
 
 def describe_turn(formatter: BattleFormatter, turn: int, shown: set[tuple[int, int]]) -> Iterator[str]:
@@ -95,7 +112,7 @@ def describe_death(formatter: BattleFormatter, warrior: int, count: int) -> Iter
     for turn in reversed(turns[:count]):
         yield from describe_turn(formatter, turn, shown)
     if not shown and foreign_write(history, death) is None:
-        earlier = next((turn for turn in turns[count:] if foreign_write(history, turn) is not None), None)
+        earlier = next(foreign_turns(history, warrior, turns[count:]), None)
         if earlier is not None:
             yield "Earlier it executed a cell that another warrior wrote:"
             yield from describe_turn(formatter, earlier, shown)

@@ -4,13 +4,12 @@ from __future__ import annotations
 from collections import Counter
 from collections.abc import Iterator, Sequence
 from dataclasses import dataclass
-from itertools import chain
+from itertools import chain, islice
 
-import numpy as np
-
-from ..battle.history import NOBODY, History
+from ..battle.conditions import EXECUTES, OWNER, TURN, by_warrior, executed_origins, find
+from ..battle.history import History
 from ..battle.labels import Line, Sources
-from ..battle.origins import latest, part
+from ..engine.binding import MAX_UINT32
 from .formatting import BattleFormatter, pluralize
 
 # How many of the last turns of a warrior are shown, and the most lines of a table.
@@ -21,20 +20,12 @@ MIN_SHARE = 0.01
 
 def own_turns(history: History, warrior: int, turn: int) -> Iterator[int]:
     """The turns of a warrior up to a turn, the latest first."""
-    for block in history.blocks_back(turn):
-        own = block.first + 1 + np.flatnonzero(block.records["warrior"] == warrior)
-        yield from (int(one) for one in own[own <= turn][::-1])
+    for turns in find(history, [by_warrior(warrior)], 0, turn, False):
+        yield from reversed(turns.tolist())
 
 
 def last_turns(history: History, warrior: int) -> list[int]:
-    found = np.empty(0, np.int64)
-    for block in history.blocks_back(history.end):
-        own = block.first + 1 + np.flatnonzero(block.records["warrior"] == warrior)
-        found = np.concatenate([found, own[::-1]])
-        if len(found) >= LAST_TURNS:
-            break
-    turns: list[int] = found[:LAST_TURNS].tolist()
-    return turns
+    return [*islice(own_turns(history, warrior, history.end), LAST_TURNS)]
 
 
 def executed_at(history: History, turns: Sequence[int]) -> list[int]:
@@ -78,18 +69,19 @@ def executed_by(formatter: BattleFormatter, warrior: int) -> tuple[list[Executed
     turns wrote.
     """
     history, written = formatter.history, dict[str, list[list[int]]]()
-    for turn in last_turns(history, warrior):
-        written.setdefault(describe_line(formatter, warrior, turn), []).append(written_by(history, turn))
+    turns = last_turns(history, warrior)
+    origins = executed_origins(history, turns[-1] - 1, turns[0])
+    for turn in turns:
+        line = formatter.sources.lines.get(int(origins[turn - turns[-1]]))
+        text = formatter.cell(history.executed(turn)) if line is None else describe_line(formatter, warrior, line)
+        written.setdefault(text, []).append(written_by(history, turn))
     rows = [Executed(len(turns), len({*chain(*turns)}), line) for line, turns in written.items()]
     cells = {*chain.from_iterable(chain.from_iterable(written.values()))}
     return sorted(rows, key=lambda row: -row.turns), cells
 
 
-def describe_line(formatter: BattleFormatter, warrior: int, turn: int) -> str:
-    """Returns the source line of the instruction that a turn executed or, if it has none, the instruction."""
-    line = formatter.sources.line(formatter.history, executed_at(formatter.history, [turn])[0], turn - 1)
-    if line is None:
-        return formatter.cell(formatter.history.executed(turn))
+def describe_line(formatter: BattleFormatter, warrior: int, line: Line) -> str:
+    """Returns a source line that a warrior executed, with the name of its warrior if that is another one."""
     owner = "" if line.warrior == warrior else f"{formatter.names[line.warrior]} "
     return f"{owner}{line.number}: {line.text}"
 
@@ -107,20 +99,8 @@ def summarize_last_turns(history: History, sources: Sources, names: Sequence[str
     """Returns in short what a survivor executed last: lines whose cells are as they were loaded except for their
     numbers, and whose other cells. Names are in the order of turns.
     """
-    turns, counts = np.array(last_turns(history, warrior)[::-1], np.int64), Counter[int | Line | None]()
-    writers = np.full(history.core, NOBODY, np.uint8)
-    for block in history.blocks():
-        changes = block.changes
-        # A warrior that changes numbers of its own code still executes the same line.
-        is_other = (changes.warriors != warrior) | changes.alters
-        when, where, who = changes.turns[is_other], changes.addresses[is_other], changes.warriors[is_other]
-        own = turns[(turns > block.first) & (turns <= block.last)]
-        addresses = block.records["address"][own - block.first - 1].astype(np.int64)
-        found = latest(where, when, addresses, own)
-        wrote = np.where(found >= 0, part(who, found), writers[addresses])
-        for (one, address), count in Counter(zip(wrote.tolist(), addresses.tolist())).items():
-            counts[one if one != NOBODY else sources.lines.get(address)] += count
-        writers[where] = who
+    turns = last_turns(history, warrior)
+    counts = Counter(what_executed(history, sources, warrior, turns[-1] - 1, turns[0]))
     often = [what for what, count in counts.items() if count >= MIN_SHARE * len(turns)]
     lines = [(what.warrior, what.number) for what in often if isinstance(what, Line)]
     parts = []
@@ -131,6 +111,24 @@ def summarize_last_turns(history: History, sources: Sources, names: Sequence[str
     for writer in sorted(writers_often, key=lambda one: (one != warrior, names[one])):
         parts.append(f"cells that {'it' if writer == warrior else names[writer]} wrote")
     return ", ".join(parts + ["cells without a line"] * (None in often))
+
+
+def what_executed(
+    history: History, sources: Sources, warrior: int, first: int, last: int
+) -> Iterator[int | Line | None]:
+    """Yields for each turn of a warrior after `first` up to `last` the line of the cell that it executed, or the number
+    of the warrior that wrote this cell.
+    """
+    origins, mine = executed_origins(history, first, last), by_warrior(warrior)
+    for turns in find(history, [mine, (EXECUTES, TURN, 0, 0)], first, last):
+        yield from map(sources.lines.get, executed_at(history, turns.tolist()))
+    for writer in range(len(history.warriors)):
+        rows = [mine, (EXECUTES, TURN, 1, MAX_UINT32), (EXECUTES, OWNER, writer, writer)]
+        for turn in chain.from_iterable(turns.tolist() for turns in find(history, rows, first, last)):
+            (address,) = executed_at(history, [turn])
+            # A warrior that changes numbers of its own code still executes the same line.
+            is_line = writer == warrior and origins[turn - first - 1] == address
+            yield sources.lines.get(address) if is_line else writer
 
 
 def ranges(numbers: set[int]) -> str:

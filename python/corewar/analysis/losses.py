@@ -10,9 +10,10 @@ from itertools import chain
 
 import numpy as np
 
-from ..battle.conditions import last_change
-from ..battle.history import NOBODY, History, make_distinct
+from ..battle.conditions import last_change, last_opcode_change
+from ..battle.history import History, make_distinct
 from ..battle.labels import Sources
+from ..battle.runs import NOBODY
 from ..engine.calls import Match
 from ..engine.outcomes import outcomes
 from ..engine.parts import in_order, run_parts
@@ -96,7 +97,7 @@ def cause_of_death(history: History, sources: Sources, names: Sequence[str], war
     """
     turn = history.death(warrior) or 0
     address = int(history.record(turn)["address"])
-    hit = last_change(history, address, turn - 1, "becomes") or last_change(history, address, turn - 1)
+    hit = last_opcode_change(history, address, turn - 1) or last_change(history, address, turn - 1)
     before = (hit or turn) - 1
     line = sources.line(history, address, before)
     if line is not None:

@@ -10,9 +10,10 @@ import numpy as np
 from numpy.typing import NDArray
 
 from ..battle.blocks import Block, Touches
-from ..battle.history import NOBODY, History
-from ..battle.labels import MAX_TRACED_TURNS, Sources
-from ..battle.origins import Origins
+from ..battle.conditions import executed_origins
+from ..battle.history import History
+from ..battle.labels import Sources
+from ..battle.runs import NOBODY
 from ..engine.calls import Match
 from ..engine.warriors import Warrior
 from ..model.types import Numbers
@@ -21,6 +22,8 @@ from ..model.settings import Settings, settings_of
 from .formatting import BattleFormatter, pluralize
 
 COMPARING = [OPCODES.index(name) for name in ("SEQ", "SNE", "SLT", "JMZ", "JMN", "DJN")]
+# Lines need some 3 seconds for this number of turns.
+MAX_TURNS = 1_000_000
 # The most lines of a table, the most strides of a line, and the least share of a stride that is shown.
 MAX_ROWS, MAX_STRIDES, MIN_SHARE = 8, 2, 0.2
 # The value of WARRIORS in the source, which is written for matches of two.
@@ -139,8 +142,7 @@ def study(warrior: Warrior, *, settings: Settings | str = "94nop") -> Study:
     Raises `MarsError` if the warrior is invalid.
     """
     given = settings_of(settings)
-    # Lines are known up to this turn.
-    given = replace(given, cycles=min(given.cycles, MAX_TRACED_TURNS))
+    given = replace(given, cycles=min(given.cycles, MAX_TURNS))
     return Observation(History(Match([warrior], settings=given))).study()
 
 
@@ -149,7 +151,8 @@ class Observation:
 
     def __init__(self, history: History) -> None:
         self.history, self.sources = history, Sources(history, WARRIORS)
-        self.formatter, self.origins = BattleFormatter(history, self.sources), Origins(history)
+        self.formatter = BattleFormatter(history, self.sources)
+        self.origins = executed_origins(history, 0, history.end)
         start = history.state(0)
         self.is_loaded, self.opcodes = history.owners(0) != NOBODY, start.cells["op"].copy()
         # The first turn that executed each cell, the first hit, and the number of processes at most.
@@ -175,7 +178,7 @@ class Observation:
 
     def _accesses(self, block: Block, touches: Touches) -> Accesses:
         rows = touches.turns - block.first - 1
-        places, origins = block.records["address"][rows].astype(np.int64), self.origins.executed(block)[rows]
+        places, origins = block.records["address"][rows].astype(np.int64), self.origins[touches.turns - 1]
         return Accesses(touches.turns, places, origins, touches.addresses.astype(np.int64))
 
     def _scanned(self, block: Block) -> Accesses:

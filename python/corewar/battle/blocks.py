@@ -34,12 +34,6 @@ class Changes(Touches):
     before: Cells
     after: Cells
 
-    @cached_property
-    def alters(self) -> NDArray[np.bool_]:
-        """Whether each change is one of more than the numbers of a cell: of its first word."""
-        before, after = (cells.view(np.uint32).reshape(-1, 3)[:, 0] for cells in (self.before, self.after))
-        return np.asarray(before != after)
-
 
 def changes_of(first: int, records: Records) -> Changes:
     """Returns the changes of the turns after `first`. Several writes of a cell in one turn are one change, from the

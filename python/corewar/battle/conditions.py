@@ -1,18 +1,26 @@
 """Conditions on turns, and searches for them in a battle, forwards and backwards."""
 from __future__ import annotations
 
-from collections.abc import Sequence
+from collections.abc import Iterator, Sequence
 from dataclasses import dataclass
 from operator import itemgetter
 
 import numpy as np
 from numpy.typing import NDArray
 
-from .blocks import Block, Touches
-from .history import History
+from ..engine.binding import MAX_UINT32, array
+from ..model.header import enumeration
+from .history import History, spans
+from .runs import BY_HAND
 
-# The conditions on cells, and those on a warrior.
-CELL_CONDITIONS, WARRIOR_CONDITIONS = ("at", "changes", "reads"), ("splits", "ends", "dies")
+EXECUTES, CHANGES, READS = enumeration("EXECUTES").values()
+WARRIOR, QUEUED, DIED, ADDRESS, OWNER, TURN, ORIGIN, OPCODE, NEW_OPCODE = enumeration("NUMBER_WARRIOR").values()
+# The conditions on cells and the way in which a turn uses the cell; and those on a warrior, and a number of its turn.
+CELL_CONDITIONS = {"at": EXECUTES, "changes": CHANGES, "reads": READS}
+WARRIOR_CONDITIONS = {"splits": (QUEUED, 2), "ends": (QUEUED, 0), "dies": (DIED, 1)}
+# The way, the number and the range of a condition of the library, as in `MarsCondition`.
+Row = tuple[int, int, int, int]
+Turns = NDArray[np.uint32]
 
 
 @dataclass(frozen=True)
@@ -20,7 +28,7 @@ class Condition:
     """A condition on a place, which is a number of executed turns.
 
     - `at`: one of the cells is executed next
-    - `changes`, `reads`: the last turn changed or read one of the cells; `becomes`: it changed the opcode of one
+    - `changes`, `reads`: the last turn changed or read one of the cells
     - `splits`, `ends`, `dies`: the warrior gained a process, lost one or died in the last turn; `moves`: that was its
       turn
 
@@ -33,40 +41,47 @@ class Condition:
     last: int
     by: int | None = None
 
-    def places(self, block: Block, core: int) -> NDArray[np.int64]:
-        """Returns the places of a block at which this holds, in order. `at` can hold at its first place, the others
-        only after its first turn.
-        """
-        records = block.records
-        if self.word == "at":
-            held = self._contains(records["address"], core) & self._is_by(records["warrior"])
-            return block.first + np.flatnonzero(held)
-        if self.word in ("changes", "reads", "becomes"):
-            found: Touches = block.reads if self.word == "reads" else block.changes
-            held = self._contains(found.addresses, core) & self._is_by(found.warriors)
-            if self.word == "becomes":
-                held &= block.changes.before["op"] != block.changes.after["op"]
-            return np.asarray(np.unique(found.turns[held]), np.int64)
-        fields = {"splits": ("queued", 2), "ends": ("queued", 0), "dies": ("died", 1), "moves": ("warrior", self.first)}
-        field, value = fields[self.word]
-        return block.first + 1 + np.flatnonzero((records["warrior"] == self.first) & (records[field] == value))
+    @property
+    def rows(self) -> list[Row]:
+        """The conditions of the library that its turn meets: for `at` the next turn."""
+        if self.word not in CELL_CONDITIONS:
+            number, value = WARRIOR_CONDITIONS.get(self.word, (WARRIOR, self.first))
+            return [by_warrior(self.first), (EXECUTES, number, value, value)]
+        way = CELL_CONDITIONS[self.word]
+        by = [] if self.by is None else [(way, WARRIOR, self.by, self.by)]
+        return [(way, ADDRESS, self.first, self.last), *by]
 
-    def _contains(self, addresses: NDArray[np.uint32], core: int) -> NDArray[np.bool_]:
-        distances = (addresses.astype(np.int64) - self.first) % core
-        return np.asarray(distances <= (self.last - self.first) % core)
 
-    def _is_by(self, warriors: NDArray[np.uint32]) -> NDArray[np.bool_]:
-        return np.asarray(warriors == self.by) if self.by is not None else np.ones(len(warriors), bool)
+def by_warrior(warrior: int) -> Row:
+    """Returns the condition that a turn is one of a warrior."""
+    return EXECUTES, WARRIOR, warrior, warrior
+
+
+def find(
+    history: History, rows: Sequence[Row], first: int = 0, last: int | None = None, forward: bool = True
+) -> Iterator[Turns]:
+    """Yields the turns after `first`, up to `last` or the end, that meet all conditions of the library: some at
+    once, in order, the latest ones first if it is not `forward`.
+    """
+    parts = spans(history, first, history.end if last is None else last)
+    is_past_asked = any(OWNER <= number <= ORIGIN for _, number, *_ in rows)
+    for start, end in parts if forward else reversed(parts):
+        # Without conditions on them, the pasts at the start do not matter.
+        unknown = None if is_past_asked else (history.state(start), array("MarsPast", history.core))
+        battle, pasts = unknown or history.followed(start)
+        yield battle.follow(pasts, end - start, rows)
 
 
 def search(
     history: History, conditions: Sequence[Condition], turn: int, forward: bool = True
 ) -> tuple[int, Condition] | None:
     """Returns the first place after a turn at which one of the conditions holds, or the last one before it."""
-    for block in history.blocks(turn) if forward else history.blocks_back(turn):
+    span = (turn, history.end) if forward else (0, turn)
+    for parts in zip(*(find(history, condition.rows, *span, forward) for condition in conditions)):
         found = []
-        for condition in conditions:
-            places = condition.places(block, history.core)
+        for condition, turns in zip(conditions, parts):
+            # `at` holds at the place before its turn.
+            places = turns.astype(np.int64) - (condition.word == "at")
             near = places[places > turn][:1] if forward else places[places < turn][-1:]
             found += [(int(place), condition) for place in near]
         if found:
@@ -74,7 +89,33 @@ def search(
     return None
 
 
-def last_change(history: History, address: int, turn: int, word: str = "changes") -> int | None:
-    """Returns the last turn, up to this one, that changed a cell, or with `becomes` its opcode."""
-    found = search(history, [Condition(word, address, address)], turn + 1, False)
-    return found and found[0]
+def last_change(history: History, address: int, turn: int) -> int | None:
+    """Returns the turn, up to this one, that changed a cell last, or None if the cell is as it was loaded or edited."""
+    past = history.pasts(turn)[address]
+    return int(past["turn"]) if past["turn"] and past["owner"] != BY_HAND else None
+
+
+def last_opcode_change(history: History, address: int, turn: int) -> int | None:
+    """Returns the last turn, up to this one, that gave a cell the opcode that it has after it, instead of another."""
+    opcode = int(history.block(turn).cell(address, turn)["op"])
+    # A range whose end is below its start goes around.
+    others = (CHANGES, OPCODE, opcode + 1, (opcode - 1) & MAX_UINT32)
+    rows = [(CHANGES, ADDRESS, address, address), others, (CHANGES, NEW_OPCODE, opcode, opcode)]
+    return next((int(turns[-1]) for turns in find(history, rows, 0, turn, False) if len(turns)), None)
+
+
+def executed_origins(history: History, first: int, last: int) -> NDArray[np.int64]:
+    """Returns the origin of the instruction of each turn after `first` up to `last`: a row for each turn."""
+    origins = np.zeros(last - first, np.int64)
+    for start, end in spans(history, first, last):
+        battle, pasts = history.followed(start)
+        names, numbers = np.unique(pasts["origin"], return_inverse=True)
+        found = np.zeros(end - start, np.int64)
+        # Each search finds a binary digit of the numbers.
+        for digit in range(len(names).bit_length()):
+            marked = pasts.copy()
+            marked["origin"] = numbers >> digit & 1
+            turns = battle.copy().follow(marked, end - start, [(EXECUTES, ORIGIN, 1, 1)])
+            found[turns.astype(np.int64) - start - 1] |= 1 << digit
+        origins[start - first : end - first] = names[found]
+    return origins

@@ -7,7 +7,7 @@ from dataclasses import dataclass
 import numpy as np
 from numpy.typing import NDArray
 
-from .history import BY_HAND, History
+from .history import History
 
 
 @dataclass(frozen=True, eq=False)
@@ -37,18 +37,6 @@ def frames(history: History, ends: list[int]) -> Iterator[Frame]:
 
 def frame(history: History, first: int, last: int) -> Frame:
     """Returns the frame of the turns after `first`, up to `last`."""
-    addresses, writers = [], []
-    for block in history.blocks(first, last):
-        start, end = block.count(first), block.count(last)
-        addresses.append(block.changes.addresses[start:end].astype(np.int64))
-        writers.append(block.changes.warriors[start:end].astype(np.uint8))
-        if block.last <= last:
-            by_hand = history.changed_by_hand(block.last)
-            addresses.append(by_hand)
-            writers.append(np.full(len(by_hand), BY_HAND, np.uint8))
-    queues = [history.block(last).queue(number, last) for number in range(len(history.warriors))]
-    if not addresses:
-        return Frame(last, np.empty(0, np.int64), np.empty(0, np.uint8), queues)
-    # The last change of each cell counts, which is the first one in reverse order.
-    changed, places = np.unique(np.concatenate(addresses)[::-1], return_index=True)
-    return Frame(last, changed, np.concatenate(writers)[::-1][places], queues)
+    battle, pasts = history.followed(last)
+    changed = np.flatnonzero(pasts["turn"] > first)
+    return Frame(last, changed, pasts["owner"][changed].astype(np.uint8), battle.queues)

@@ -1,8 +1,7 @@
 """The history of a battle: the state after any turn, who changed a cell, and the effects of edits.
 
 A run of a battle is kept as marks, whole battles at regular distances, and any other state is played from the mark
-before it. The records of turns are read in blocks, and a question about many turns is answered by one operation on an
-array.
+before it. The library follows the past of each cell and searches for turns. The records of turns are read in blocks.
 """
 from __future__ import annotations
 
@@ -17,13 +16,15 @@ from typing import TYPE_CHECKING, Any
 import numpy as np
 from numpy.typing import NDArray
 
-from ..engine.battles import Battle, battle_of_mark
+from ..engine.battles import Battle
+from ..engine.binding import array
 from ..engine.calls import Match
-from ..model.types import Owners, Records
+from ..model.types import Owners, Pasts, Records
 from ..model.edits import Edit
 from ..model.errors import CorewarError
 from ..model.settings import whole
 from .blocks import Block
+from .runs import BY_HAND, NOBODY, Run
 
 if TYPE_CHECKING:
     # These describe histories, and are loaded when they are called.
@@ -33,48 +34,6 @@ if TYPE_CHECKING:
 
 # The number of turns of a block, and of blocks in the cache, 5 to 13 MB each.
 BLOCK_SIZE, CACHED_BLOCKS = 65_536, 24
-# The maximum number of marks of a run, an even number, and of their bytes together.
-MAX_MARKS, MAX_MARK_BYTES = 64, 64 << 20
-# The owner of a cell: a warrior's number, or one of these.
-NOBODY, BY_HAND = 255, 254
-
-
-@dataclass(frozen=True, eq=False)
-class Run:
-    """A battle from its start, or from an edit, to its end.
-
-    - `first`: the turn after which it starts
-    - `marks`: copies of the battle as bytes: after the turn `first`, and after every `stride` turns from there
-    - `ending`: the battle at its end
-    - `edit`, `before`: the edit, and the battle before it; None at the start of the battle
-    """
-
-    first: int
-    marks: tuple[bytes, ...]
-    stride: int
-    ending: Battle
-    edit: Edit | None = None
-    before: Battle | None = None
-
-    def at(self, turn: int) -> Battle:
-        """Returns a copy of the battle after a turn."""
-        battle = battle_of_mark(self.marks[min((turn - self.first) // self.stride, len(self.marks) - 1)])
-        battle.play(turn - battle.turns)
-        return battle
-
-
-def run_of(battle: Battle, edit: Edit | None = None, before: Battle | None = None) -> Run:
-    """Plays a battle to its end. If the marks become too many, every other one is dropped, and the stride doubles."""
-    first, marks, stride = battle.turns, [bytes(battle)], BLOCK_SIZE
-    # An even number, so that the battle is at the last mark after every other one is dropped.
-    max_marks = max(2, min(MAX_MARKS, MAX_MARK_BYTES // len(marks[0]) // 2 * 2))
-    battle.play(stride)
-    while not battle.over:
-        marks.append(bytes(battle))
-        if len(marks) > max_marks:
-            marks, stride = marks[::2], 2 * stride
-        battle.play(stride)
-    return Run(first, tuple(marks), stride, battle, edit, before)
 
 
 @dataclass(frozen=True)
@@ -104,11 +63,10 @@ class History:
 
     def __init__(self, fight: Match, round: int = 0) -> None:
         self.fight, self.round, self.core = fight, round, fight.settings.core
-        self.segments = [whole_segment(run_of(Battle(fight, round)))]
+        self.segments = [whole_segment(Run(Battle(fight, round)))]
         self.warriors = fight.warriors[round % len(fight.warriors) :] + fight.warriors[: round % len(fight.warriors)]
         self.names = make_distinct([warrior.called for warrior in self.warriors])
         self._blocks = lru_cache(maxsize=CACHED_BLOCKS)(read_block)
-        self._written: dict[int, tuple[Owners, NDArray[np.int64]]] = {}
 
     def __repr__(self) -> str:
         return f"<History of {', '.join(self.names)}, round {self.round}, {self.end} turns>"
@@ -170,10 +128,10 @@ class History:
 
     def __getstate__(self) -> dict[str, Any]:
         # What is derived is computed again.
-        return {name: value for name, value in vars(self).items() if name not in ("_blocks", "_written", "_formatter")}
+        return {name: value for name, value in vars(self).items() if name not in ("_blocks", "_formatter")}
 
     def __setstate__(self, state: dict[str, Any]) -> None:
-        vars(self).update(state, _blocks=lru_cache(maxsize=CACHED_BLOCKS)(read_block), _written={})
+        vars(self).update(state, _blocks=lru_cache(maxsize=CACHED_BLOCKS)(read_block))
 
     def warrior(self, named: str) -> int:
         """Returns the number of the warrior with this number, name or file. Raises `CorewarError` if there is none."""
@@ -224,14 +182,6 @@ class History:
             block = self.block(turn)
             yield block
             turn = block.last
-
-    def blocks_back(self, last: int) -> Iterator[Block]:
-        """Yields the blocks with the turns up to `last`, the latest first."""
-        turn = last
-        while turn > 0:
-            block = self.block(turn - 1)
-            yield block
-            turn = block.first
 
     def record(self, turn: int) -> np.void:
         """Returns the record of a turn, from 1, without its writes, with the fields of `MarsRecord`. Raises
@@ -291,28 +241,33 @@ class History:
 
     def written(self, turn: int) -> tuple[Owners, NDArray[np.int64]]:
         """Returns the owner of each cell after a turn, as `owners`, and the turn that changed it last, or 0."""
-        # The keys are listed at once: another thread may add some.
-        near = max((at for at in [*self._written] if at <= turn), default=None)
-        owners, turns = self._loaded() if near is None else self._written[near]
-        owners, turns = owners.copy(), turns.copy()
-        for block in self.blocks(near or 0, turn):
-            self._written.setdefault(block.first, (owners.copy(), turns.copy()))
-            changes, count = block.changes, block.count(turn)
-            owners[changes.addresses[:count]] = changes.warriors[:count]
-            turns[changes.addresses[:count]] = changes.turns[:count]
-            if block.last <= turn:
-                by_hand = self.changed_by_hand(block.last)
-                owners[by_hand], turns[by_hand] = BY_HAND, block.last
-        return owners, turns
+        pasts = self.pasts(turn)
+        return pasts["owner"].astype(np.uint8), pasts["turn"].astype(np.int64)
 
-    def _loaded(self) -> tuple[Owners, NDArray[np.int64]]:
-        """Returns the owners and the turns of the start."""
-        owners = np.full(self.core, NOBODY, np.uint8)
+    def pasts(self, turn: int) -> Pasts:
+        """Returns the past of each cell after a turn and after the edits made there, with the fields of `MarsPast`. An
+        `origin` is the address of a loaded cell or, from the core size on, a cell that an edit set.
+        """
+        return self.followed(turn)[1]
+
+    def followed(self, turn: int) -> tuple[Battle, Pasts]:
+        """Returns the battle after a turn and after the edits made there, and the past of each cell."""
+        last = self._segment(turn)
+        for before, segment in zip([None, *self.segments], self.segments):
+            if not segment.run.is_followed:
+                segment.run.follow_from(before.run.followed(before.last)[1] if before else self._loaded())
+            if segment is last:
+                break
+        return last.run.followed(turn)
+
+    def _loaded(self) -> Pasts:
+        """Returns the pasts at the start."""
+        pasts = array("MarsPast", self.core)
+        pasts["owner"], pasts["origin"] = NOBODY, np.arange(self.core)
         for number in range(len(self.warriors)):
             first, length = self.loaded(number)
-            owners[(first + np.arange(length)) % self.core] = number
-        owners[self.changed_by_hand(0)] = BY_HAND
-        return owners, np.zeros(self.core, np.int64)
+            pasts["owner"][(first + np.arange(length)) % self.core] = number
+        return pasts
 
     def loaded(self, warrior: int) -> tuple[int, int]:
         """Returns the address at which a warrior was loaded, and its length."""
@@ -321,10 +276,8 @@ class History:
 
     def changed_by_hand(self, turn: int) -> NDArray[np.intp]:
         """Returns the addresses of the cells that the edits after a turn changed."""
-        runs = [one.run for one in self.segments if one.first == turn and one.run.before]
-        if not runs or runs[0].before is None:
-            return np.empty(0, np.intp)
-        return np.flatnonzero(runs[0].before.cells != runs[-1].at(turn).cells)
+        owners, turns = self.written(turn)
+        return np.flatnonzero((owners == BY_HAND) & (turns == turn))
 
     def by_hand(self, address: int, turn: int) -> tuple[int, np.void, np.void] | None:
         """Returns the last change of a cell by an edit up to a turn, or None: the turn after which it was made, and the
@@ -350,10 +303,20 @@ class History:
         edited.__dict__.update(vars(self))
         edited.__dict__.pop("_formatter", None)
         kept = [Segment(one.run, min(one.last, turn)) for one in self.segments if one.first <= turn]
-        edited.segments = [*kept, whole_segment(run_of(after, edit, before))]
-        # What is known at the turn itself lacks the cells that the edit changes.
-        edited._written = {at: written for at, written in self._written.items() if at < turn}
+        edited.segments = [*kept, whole_segment(Run(after, edit, before))]
         return edited
+
+
+def spans(history: History, first: int, last: int) -> list[tuple[int, int]]:
+    """Returns the turns after `first` up to `last` in parts of at most BLOCK_SIZE turns, between which there may be
+    edits: after which turn each begins, and its last turn.
+    """
+    found = list[tuple[int, int]]()
+    for segment in history.segments:
+        end = min(segment.last, last)
+        ends = [*range(max(segment.first, first), end, BLOCK_SIZE), end]
+        found += zip(ends, ends[1:])
+    return found
 
 
 def whole_segment(run: Run) -> Segment:

@@ -5,18 +5,12 @@ import re
 from collections import Counter
 from dataclasses import dataclass
 from functools import cached_property
-from weakref import WeakKeyDictionary
 
 from ..engine.calls import Match, source_lines
 from ..engine.warriors import Warrior
 from ..model.errors import CorewarError, MarsError
 from ..model.printing import printable
-from .history import BY_HAND, History
-from .origins import Origins
-
-# Copies are traced, which takes some 3 seconds and 50 MB for this number of turns. After it only a cell
-# that has not changed since it was loaded has a line.
-MAX_TRACED_TURNS = 1_000_000
+from .history import History
 
 
 @dataclass(frozen=True)
@@ -40,7 +34,6 @@ class Sources:
     def __init__(self, history: History, count: int | None = None) -> None:
         self.lines: dict[int, Line] = {}
         self._labels: list[tuple[int, str, int]] = []
-        self._origins: WeakKeyDictionary[History, Origins] = WeakKeyDictionary()
         for number, warrior in enumerate(history.warriors):
             first, _ = history.loaded(number)
             texts = (warrior.source or b"").decode("latin-1").split("\n")
@@ -53,12 +46,7 @@ class Sources:
 
     def line(self, history: History, address: int, turn: int) -> Line | None:
         """Returns the line from which the instruction at an address was copied, after a turn of a history."""
-        if turn > MAX_TRACED_TURNS:
-            owners, turns = history.written(turn)
-            return None if turns[address] or owners[address] == BY_HAND else self.lines.get(address)
-        if history not in self._origins:
-            self._origins[history] = Origins(history)
-        return self.lines.get(int(self._origins[history].at(turn)[address]))
+        return self.lines.get(int(history.pasts(turn)["origin"][address]))
 
     def describe_line(self, history: History, address: int, turn: int, warrior: int | None = None) -> str:
         """Returns the number and the text of this line, or "". They follow the name of the warrior if it is neither the

@@ -8,7 +8,7 @@ from typing import Any
 import numpy as np
 from numpy.typing import NDArray
 
-from ..model.types import Cells, Records
+from ..model.types import Cells, Pasts, Records
 from ..model.edits import SET, Edit
 from ..model.errors import EDIT, MarsError
 from ..model.header import numbers
@@ -20,7 +20,8 @@ from .warriors import clamp_fields
 Words = NDArray[np.uint32]
 # The number of words before the cells.
 HEADER = 64
-# The number of turns of a call that returns records or touched cells, and the types of these.
+# The number of turns of a call that returns records, touched cells or the turns that meet conditions, and the types of
+# the first two.
 RECORDED_TURNS, ROWS = 65_536, ("MarsRecord", "MarsTouched")
 # The size of the debugger's history in places, if none is given.
 HISTORY = 200_000
@@ -147,6 +148,29 @@ class Battle:
                 break
         recorded, seen = (one[0] if len(parts) == 1 else np.concatenate(one) for one in zip(*parts))
         return recorded, seen
+
+    def follow(
+        self, pasts: Pasts, turns: int, conditions: Sequence[tuple[int, int, int, int]] = ()
+    ) -> NDArray[np.uint32]:
+        """Executes turns, as many as are left at most, and keeps the past of each cell in place, as `mars_follow`.
+
+        - `pasts`: an array with the fields of `MarsPast` and a row for each cell
+        - `conditions`: the fields of each `MarsCondition`
+
+        Returns the numbers of the turns that meet all conditions, or no number without conditions. Raises `MarsError`
+        for a way or a number that does not exist, and if something that was written to the battle is invalid.
+        """
+        asked, count = array("MarsCondition", len(conditions)), library()[0].new("uint32_t *")
+        asked[:] = [*conditions]
+        parts, end = [array("uint32_t", 0)], self.turns + turns
+        while self.turns < end and not self.over:
+            # Python raises Ctrl-C between two calls.
+            made = min(end - self.turns, RECORDED_TURNS)
+            found = array("uint32_t", made if len(conditions) else 0)
+            rows = (("MarsPast", pasts), ("MarsCondition", asked), ("uint32_t", found))
+            call("mars_follow", *self._slice(), made, *chain(*(slice_of(*one) for one in rows)), count)
+            parts.append(found[: count[0]])
+        return np.concatenate(parts)
 
     def edit(self, edit: Edit) -> None:
         """Makes an edit, also if the battle is over.

@@ -11,6 +11,8 @@ Cell = tuple[int, int, int, int, int, int]
 # Arrays of cells, and of records of turns or deaths, with the fields of the header `include/mars.h`.
 Cells = NDArray[Any]
 Records = NDArray[Any]
+# The past of each cell, with the fields of `MarsPast`.
+Pasts = NDArray[Any]
 # The owner of each cell.
 Owners = NDArray[np.uint8]
 # Indices from 0, such as those of warriors or matches; whole numbers; and rates, such as scores and errors.

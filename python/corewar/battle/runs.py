@@ -1,0 +1,91 @@
+"""A run of a battle: states and pasts of its cells at regular distances, from which those after any turn follow."""
+from __future__ import annotations
+
+from typing import Any
+
+import numpy as np
+
+from ..engine.battles import Battle, battle_of_mark
+from ..model.types import Pasts
+from ..model.edits import Edit
+
+# The number of turns between two marks, at least.
+STRIDE = 65_536
+# The maximum number of marks of a run, an even number, and of their bytes together.
+MAX_MARKS, MAX_MARK_BYTES = 64, 64 << 20
+# The owner of a cell: a warrior's number, or one of these.
+NOBODY, BY_HAND = 255, 254
+
+
+class Run:
+    """A battle from its start, or from an edit, to its end.
+
+    - `first`: the turn after which it starts
+    - `marks`: copies of the battle as bytes: after the turn `first`, and after every `stride` turns from there
+    - `ending`: the battle at its end
+    - `edit`, `before`: the edit, and the battle before it; None at the start of the battle
+
+    The constructor plays a battle to its end. If the marks become too many, every other one is dropped, and the stride
+    doubles. Pasts are followed when they are needed, since that takes several times as long.
+    """
+
+    def __init__(self, battle: Battle, edit: Edit | None = None, before: Battle | None = None) -> None:
+        self.first, self.ending, self.edit, self.before = battle.turns, battle, edit, before
+        marks, self.stride = [bytes(battle)], STRIDE
+        # An even number, so that the battle is at the last mark after every other one is dropped.
+        max_marks = max(2, min(MAX_MARKS, MAX_MARK_BYTES // len(marks[0]) // 2 * 2))
+        battle.play(self.stride)
+        while not battle.over:
+            marks.append(bytes(battle))
+            if len(marks) > max_marks:
+                marks, self.stride = marks[::2], 2 * self.stride
+            battle.play(self.stride)
+        self.marks = tuple(marks)
+        # The pasts at the marks that are known, and a battle with its pasts, which were asked for last.
+        self._pasts: dict[int, Pasts] = {}
+        self._latest: tuple[Battle, Pasts] | None = None
+
+    def __getstate__(self) -> dict[str, Any]:
+        # What is derived is computed again.
+        return {**vars(self), "_pasts": {}, "_latest": None}
+
+    def at(self, turn: int) -> Battle:
+        """Returns a copy of the battle after a turn."""
+        battle = battle_of_mark(self.marks[self._mark(turn)])
+        battle.play(turn - battle.turns)
+        return battle
+
+    def _mark(self, turn: int) -> int:
+        """Returns the index of the last mark up to a turn."""
+        return min((turn - self.first) // self.stride, len(self.marks) - 1)
+
+    @property
+    def is_followed(self) -> bool:
+        """Whether the pasts at the start are known."""
+        return bool(self._pasts)
+
+    def follow_from(self, pasts: Pasts) -> None:
+        """Takes the pasts at the start, or those before the edit; the cells that it changed are changed by hand."""
+        start = pasts.copy()
+        if self.before:
+            changed = np.flatnonzero(self.before.cells != battle_of_mark(self.marks[0]).cells)
+            start["owner"][changed], start["turn"][changed] = BY_HAND, self.first
+            # No other cell has these origins.
+            start["origin"][changed] = max(len(pasts), int(pasts["origin"].max()) + 1) + np.arange(len(changed))
+        self._pasts[0] = start
+
+    def followed(self, turn: int) -> tuple[Battle, Pasts]:
+        """Returns copies of the battle and of its pasts after a turn. The pasts at the start must be known."""
+        mark, latest = self._mark(turn), self._latest
+        # The keys are listed at once: another thread may add some.
+        known = max(index for index in [*self._pasts] if index <= mark)
+        if latest and self.first + known * self.stride <= latest[0].turns <= turn:
+            battle, pasts = latest[0].copy(), latest[1].copy()
+        else:
+            battle, pasts = battle_of_mark(self.marks[known]), self._pasts[known].copy()
+        for index in range(known + 1, mark + 1):
+            battle.follow(pasts, self.first + index * self.stride - battle.turns)
+            self._pasts[index] = pasts.copy()
+        battle.follow(pasts, turn - battle.turns)
+        self._latest = battle.copy(), pasts.copy()
+        return battle, pasts
