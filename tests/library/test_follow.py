@@ -106,25 +106,24 @@ def histories(draw: st.DrawFn) -> History:
     return history
 
 
-@given(histories(), st.lists(st.integers(0, 400), max_size=5))
-def test_pasts(history: History, turns: list[int]) -> None:
-    for turn in [*turns, history.end]:
-        turn = min(turn, history.end)
+@given(histories(), st.lists(st.floats(0, 1), max_size=5))
+def test_pasts(history: History, parts: list[float]) -> None:
+    for turn in [history.end, *(int(part * history.end) for part in parts)]:
         battle, pasts = history.followed(turn)
         # The origins of edited cells are one here.
         found = [(owner, when, min(origin, history.core)) for owner, when, origin in pasts.tolist()]
         assert found == read(history, turn)[0] and battle == history.state(turn)
 
 
-NUMBERS = st.integers(0, 61) | st.sampled_from([BY_HAND, NOBODY])
+NUMBERS = st.integers(0, 2) | st.integers(0, 61) | st.sampled_from([BY_HAND, NOBODY])
 ROWS = st.tuples(st.integers(1, 3), st.integers(1, 9), NUMBERS, NUMBERS)
 
 
-@given(histories(), st.lists(ROWS, min_size=1, max_size=4), st.integers(0, 200), st.booleans())
-def test_searches(history: History, rows: list[Row], first: int, forward: bool) -> None:
+@given(histories(), st.lists(ROWS, min_size=1, max_size=3), st.floats(0, 1), st.booleans())
+def test_searches(history: History, rows: list[Row], part: float, forward: bool) -> None:
     # Origins of edited cells are numbered here in another way.
     rows = [row for row in rows if row[1] != ORIGIN or max(row[2:]) < history.core]
-    facts, first = read(history, history.end)[1], min(first, history.end)
+    facts, first = read(history, history.end)[1], int(part * part * history.end)
     spans = [turns.tolist() for turns in find(history, rows, first, None, forward)]
     expected = [turn for turn in range(first + 1, history.end + 1) if rows and meets(rows, facts[turn - 1])]
     assert sum(spans if forward else reversed(spans), []) == expected

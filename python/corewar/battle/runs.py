@@ -86,6 +86,7 @@ class Run:
         for index in range(known + 1, mark + 1):
             battle.follow(pasts, self.first + index * self.stride - battle.turns)
             self._pasts[index] = pasts.copy()
-        battle.follow(pasts, turn - battle.turns)
-        self._latest = battle.copy(), pasts.copy()
+        if turn > battle.turns or latest is None:
+            battle.follow(pasts, turn - battle.turns)
+            self._latest = battle.copy(), pasts.copy()
         return battle, pasts
