@@ -382,6 +382,8 @@ def test_the_debugger_has_a_line(page: Browser) -> None:
     ask("until 100")
     assert page.value("corewar.session.view.cycle") == 100
     assert ask("edit bomb+1 jmp bomb") == "after turn 200: edit 4 JMP.B $-1, $0"
+    assert ask("changed 4") == "cell 4 was edited after turn 200: DAT.F $0, $0 -> JMP.B $-1, $0"
+    assert ask("changed 2") == "cell 2 has not changed since the start"
     assert ask("move imp 0 3") == "after turn 200: move 1 0 3"
     ask("break at 3 by imp")
     assert ask("break at 2..4") == "breakpoint 1: at 2..4"

@@ -20,6 +20,7 @@ from test_explain import NEWCOMERS, SOURCES, line_to_correct, mutated
 from corewar.battle.conditions import WARRIOR_CONDITIONS, Condition, search
 from corewar.battle.history import History
 from corewar.battle.labels import Sources
+from corewar.battle.runs import BY_HAND
 from corewar.engine.calls import Match, assemble
 from corewar.explain import errors_of
 from corewar.explain.instructions import describe_instruction
@@ -130,6 +131,9 @@ def test_its_history_is_that_of_python() -> None:
             owners, written = history.written(turn)
             lines = [sources.line(history, address, turn) for address in range(history.core)]
             assert state["owner"] == owners.tolist() and state["written"] == written.tolist()
+            # An edit is reported if no turn has changed the cell since.
+            by_hand = [turn if owner == BY_HAND else None for owner, turn in zip(owners.tolist(), written.tolist())]
+            assert state["edited"] == by_hand
             assert state["lines"] == [line.number if line else 0 for line in lines]
             assert (state["head"], state["cycle"]) == (history.head(turn), block.cycle(turn))
             assert state["queues"] == [int(one) for queue in history.state(turn).queues for one in queue]

@@ -29,8 +29,9 @@ function answer({ turns, questions, ...fight }) {
   const states = turns.map((given) => {
     const turn = Math.min(given, end);
     const { owner, written, head, cycle, queues } = desk.turn(future, turn);
+    const edited = [...owner.keys()].map((address) => desk.cell(future, address, turn).edited?.turn ?? null);
     const found = [...desk.origins(future, turn)].map((origin) => lines[origin]?.line ?? 0);
-    return { turn, owner: [...owner], written: [...written], lines: found, head, cycle, queues: [...queues] };
+    return { turn, owner: [...owner], written: [...written], edited, lines: found, head, cycle, queues: [...queues] };
   });
   const found = questions.map(({ condition, turn, forward }) =>
     desk.search(future, [condition], Math.min(turn, end), forward),

@@ -41,7 +41,7 @@ class Run:
                 marks, self.stride = marks[::2], 2 * self.stride
             battle.play(self.stride)
         self.marks = tuple(marks)
-        # The pasts at the marks that are known, and a battle with its pasts, which were asked for last.
+        # The pasts at the marks that are known, and a battle with its pasts, which were requested last.
         self._pasts: dict[int, Pasts] = {}
         self._latest: tuple[Battle, Pasts] | None = None
 
@@ -65,7 +65,7 @@ class Run:
         return bool(self._pasts)
 
     def follow_from(self, pasts: Pasts) -> None:
-        """Takes the pasts at the start, or those before the edit; the cells that it changed are changed by hand."""
+        """Takes the pasts at the start, or those before the edit; the cells that it changed are changed manually."""
         start = pasts.copy()
         if self.before:
             changed = np.flatnonzero(self.before.cells != battle_of_mark(self.marks[0]).cells)

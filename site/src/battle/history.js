@@ -5,7 +5,7 @@
  * records of turns are read when they are needed.
  */
 import { MAX_TURNS } from "../model/settings.js";
-import { NOBODY, writeCell } from "../model/cells.js";
+import { CELL_WORDS, NOBODY, writeCell } from "../model/cells.js";
 import { describe } from "../engine/warrior.js";
 import { Origins, UNKNOWN } from "./origins.js";
 import { Chronicle, EVENT, Sampler } from "./overview.js";
@@ -303,6 +303,25 @@ export class History {
     }
     const { written } = this.place(last);
     return written[address] > first ? written[address] : null;
+  }
+
+  /**
+   * Returns the last change of a cell by an edit up to a turn, or null: the turn after which it was made, and the words
+   * of the cell before and after.
+   * @param {number} address
+   * @param {number} turn
+   */
+  byHand(address, turn) {
+    for (const [index, { run }] of [...this.segments.entries()].slice(1).reverse()) {
+      if (run.first > turn) continue;
+      const place = this.segments[index - 1].run.mark(run.first).copy();
+      place.play(this.mars, run.first - place.turn, null);
+      const [before, after] = [place, run.start].map(({ battle }) =>
+        battle.cells.slice(CELL_WORDS * address, CELL_WORDS * (address + 1)),
+      );
+      if (before.some((word, at) => word !== after[at])) return { turn: run.first, before, after };
+    }
+    return null;
   }
 
   /**

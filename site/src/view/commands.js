@@ -251,12 +251,15 @@ function explain(session, rest) {
 /** @type {Act} */
 async function changed(session, rest) {
   const address = readAddress(session, rest);
-  const { changes } = await session.desk.cell(session.future, address, session.turn);
+  const { changes, edited } = await session.desk.cell(session.future, address, session.turn);
   const { known } = session;
-  const text = (/** @type {Uint32Array} */ words) => cellText(readCell(words, 0), known.core);
-  if (!changes.length) return [`no turn so far has changed cell ${place(address, known)}`];
-  const [{ turn, warrior, before, after }] = changes;
-  return [`turn ${number(turn)}: ${known.names[warrior]}; ${place(address, known)}: ${text(before)} -> ${text(after)}`];
+  const where = place(address, known);
+  const change = (/** @type {{before: Uint32Array, after: Uint32Array}} */ { before, after }) =>
+    [before, after].map((words) => cellText(readCell(words, 0), known.core)).join(" -> ");
+  if (edited) return [`cell ${where} was edited after turn ${number(edited.turn)}: ${change(edited)}`];
+  if (!changes.length) return [`cell ${where} has not changed since the start`];
+  const [{ turn, warrior }] = changes;
+  return [`turn ${number(turn)}: ${known.names[warrior]}; ${where}: ${change(changes[0])}`];
 }
 
 /** @type {Act} */

@@ -5,7 +5,7 @@ import { ADDRESS, DIED, PROCESS, QUEUED, WARRIOR, changesOf } from "../battle/pl
 import { Painter } from "./picture.js";
 import { chainOf } from "./why.js";
 import { assembleAll, describe } from "../engine/warrior.js";
-import { CELL_WORDS } from "../model/cells.js";
+import { BY_HAND, CELL_WORDS } from "../model/cells.js";
 
 /** @typedef {import("../battle/conditions.js").Condition} Condition */
 /** @typedef {import("../battle/overview.js").Event} Event */
@@ -344,25 +344,27 @@ export class Desk {
   }
 
   /**
-   * Returns the last changes of a cell up to a turn, the latest first, and the turn of the next one.
+   * Returns the last changes of a cell up to a turn, the latest first, and the turn of the next one; also the last
+   * change by an edit, if no turn has changed the cell since.
    * @param {number} future
    * @param {number} address
    * @param {number} turn
    */
   cell(future, address, turn) {
     const history = this.#history(future);
+    const isEdited = (/** @type {number} */ at) => history.place(at).owner[address] === BY_HAND;
     /** @type {CellChange[]} */
     const changes = [];
-    for (let at = history.place(turn).written[address]; at > 0 && changes.length < MAX_CHANGES; ) {
+    for (let at = turn; changes.length < MAX_CHANGES && !isEdited(at); at--) {
+      at = history.place(at).written[address];
+      if (at === 0) break;
       const { records } = history.record(at);
-      const change = changesOf(records, 0).find((one) => one.address === address);
-      // An edit is no turn.
-      if (!change) break;
+      const [change] = changesOf(records, 0).filter((one) => one.address === address);
       const cell = (/** @type {number} */ first) => records.slice(first, first + CELL_WORDS);
       changes.push({ turn: at, warrior: records[WARRIOR], before: cell(change.before), after: cell(change.after) });
-      at = history.place(at - 1).written[address];
     }
-    return { changes, next: history.nextChange(address, turn) };
+    const edited = isEdited(turn) ? history.byHand(address, turn) : null;
+    return { changes, next: history.nextChange(address, turn), edited };
   }
 
   /**
