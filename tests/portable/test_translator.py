@@ -1,0 +1,147 @@
+"""Tests the rules of the translator: its C gives the numbers that LLVM's code gives, and edits of it are noticed."""
+from __future__ import annotations
+
+import ctypes
+import random
+import subprocess
+import sys
+from pathlib import Path
+from typing import Any
+
+import pytest
+from conftest import TOP
+from llvm_rules import RULES, module
+
+sys.path.insert(0, str(TOP / "scripts"))
+from machine import toolchain  # noqa: E402
+from translator import instructions  # noqa: E402
+from translator.reading import CannotTranslate  # noqa: E402
+from translator.writing import Translator  # noqa: E402
+
+EDGES = [
+    0,
+    1,
+    2,
+    3,
+    127,
+    128,
+    255,
+    256,
+    32767,
+    65535,
+    2**31 - 1,
+    2**31,
+    2**32 - 1,
+    2**32,
+    2**63 - 1,
+    2**63,
+    2**64 - 1,
+]
+DICE = random.Random(5)
+PAIRS = [(a, b) for a in EDGES for b in EDGES] + [(DICE.getrandbits(64), DICE.getrandbits(64)) for _ in range(200)]
+BEFORE = (TOP / "portable" / "before.c").read_text()
+HEAP = (TOP / "portable" / "heap.c").read_text()
+
+
+def built(command: list[str], source: Path) -> Any:
+    """Compiles a source as a shared library, and loads it."""
+    shared = source.with_suffix(".so")
+    subprocess.run([*command, "-shared", "-fPIC", "-o", str(shared), str(source)], check=True)
+    return ctypes.CDLL(str(shared))
+
+
+def numbers(library: Any, only: str = "") -> dict[str, list[int]]:
+    """Returns what each function gives for each pair, or only that of one rule."""
+    found = {}
+    for number, name in enumerate(RULES):
+        if only not in ("", name):
+            continue
+        function = getattr(library, f"f{number}")
+        function.argtypes, function.restype = [ctypes.c_uint64] * 2, ctypes.c_uint64
+        found[name] = [function(*pair) for pair in PAIRS]
+    return found
+
+
+def translated(folder: Path, before: str = BEFORE, *options: str, only: str = "") -> dict[str, list[int]]:
+    """Returns what the translated functions give."""
+    names = [f"f{number}" for number in range(len(RULES))]
+    after = "".join(f"u64 {name}(u64 a, u64 b) {{ return x_{name}(a, b); }}\n" for name in names)
+    source = folder / "translated.c"
+    source.write_text(Translator(module(RULES), names).text(before, HEAP, after))
+    return numbers(built(["gcc", "-O1", "-w", *options, f"-I{TOP / 'include'}"], source), only)
+
+
+@pytest.fixture(scope="module")
+def expected(tmp_path_factory: pytest.TempPathFactory) -> dict[str, list[int]]:
+    """What LLVM's code gives."""
+    source = tmp_path_factory.mktemp("llvm") / "rules.ll"
+    source.write_text(module(RULES))
+    clang = f"{toolchain()}/toolchain/bin/clang"
+    return numbers(built([clang, "--no-default-config", "-nostdlib", "-w", "-O0", "-fuse-ld=lld", "-x", "ir"], source))
+
+
+@pytest.mark.parametrize("options", ([], ["-DMARS_ANY_ENDIAN"]))
+def test_rules(tmp_path: Path, expected: dict[str, list[int]], options: list[str]) -> None:
+    found = translated(tmp_path, BEFORE, *options)
+    assert {name for name in RULES if found[name] != expected[name]} == set()
+
+
+@pytest.mark.parametrize(
+    "table, key, text, rule",
+    [
+        ("UNSIGNED", "ult", "<=", "ult i32"),
+        ("SIGNED", "slt", "<=", "slt i8"),
+        ("WIDE", "sle", "slt128({0}, {1})", "sle i128"),
+        ("PLAIN", "or", "^", "or i16"),
+        ("PLAIN", "urem", "/", "urem i64"),
+        ("OF_SIGNED", "srem", "/", "srem i32"),
+    ],
+)
+def test_another_rule_is_noticed(
+    tmp_path: Path,
+    expected: dict[str, list[int]],
+    monkeypatch: pytest.MonkeyPatch,
+    table: str,
+    key: str,
+    text: str,
+    rule: str,
+) -> None:
+    monkeypatch.setitem(getattr(instructions, table), key, text)
+    assert translated(tmp_path, only=rule)[rule] != expected[rule]
+
+
+@pytest.mark.parametrize(
+    "old, new, rule",
+    [
+        ("wide(0 - (a.high >> 63), a.high)", "wide(0, a.high)", "ashr i128"),
+        ("a.high - b.high - (a.low < b.low)", "a.high - b.high", "sub i128"),
+        ("a.high + b.high + (low < a.low)", "a.high + b.high", "add i128"),
+        ("high + a.high * b.low + a.low * b.high", "high", "mul i128"),
+        ("u64 sign = 0 - (a.high >> 63)", "u64 sign = 0", "add i256 of sext"),
+        ("add128(add128(a.high, b.high), carry)", "add128(a.high, b.high)", "add i256 of sext"),
+        ("carry = sum.high", "carry = 0", "mul i256 of zext"),
+        ("? (u64)__builtin_ctzll(v) : 64", "? (u64)__builtin_ctzll(v) : 63", "cttz i64"),
+        ("? (u64)__builtin_clzll(v) : 64", "? (u64)__builtin_clzll(v) : 63", "ctlz i64"),
+        ("(u8)(v.b[i] ^ 128) < (u8)(w.b[i] ^ 128)", "v.b[i] < w.b[i]", "slt vector"),
+    ],
+)
+def test_another_part_is_noticed(tmp_path: Path, expected: dict[str, list[int]], old: str, new: str, rule: str) -> None:
+    assert BEFORE.count(old) == 1
+    assert translated(tmp_path, BEFORE.replace(old, new), only=rule)[rule] != expected[rule]
+
+
+@pytest.mark.parametrize(
+    "text",
+    [
+        "%r = select i1 true, i64 %a0, i64 %a1\n",
+        "%r = freeze i64 %a0\n",
+        "%r = ashr i64 %a0, 3\n",
+        "%v = zext i64 %a0 to i128\n%w = lshr i128 %v, 3\n%r = trunc i128 %w to i64\n",
+        "%v = trunc i64 %a0 to i24\n%r = zext i24 %v to i64\n",
+        "%r = call i64 @unknown(i64 %a0)\n",
+        "%p = alloca i64, i64 %a0, align 8\n%r = load i64, ptr %p, align 8\n",
+    ],
+)
+def test_what_is_unknown_is_rejected(text: str) -> None:
+    with pytest.raises(CannotTranslate):
+        Translator(module({"unknown": text}), ["f0"]).text("", "", "")
