@@ -7,6 +7,8 @@
 #   make editors      the files for editors, in build/share
 #   make packages     the Debian packages `mars` and `corewar`, in build
 #   make wheel        a Python wheel of `corewar` that contains the library and the site, for x86-64 Linux and Python 3.11 or later, in build
+#   make portable     the library as one C file for any machine, in build/libmars-VERSION.tar.gz
+#   make dist         a source archive of `corewar`, which pip compiles on any machine, in build
 #   make vectors      battles, sources and matches with their answers for other simulators, in build/vectors (docs/dev/VECTORS.md)
 #   make check        all checks of CI
 #
@@ -17,6 +19,7 @@ ZSH = $(PREFIX)/share/zsh/site-functions
 VERSION := $(shell sed -n 's/^__version__ = "\(.*\)"/\1/p' python/corewar/__init__.py)
 # The day of the last commit, so that packing it again gives the same bytes.
 DATE = $(shell git -c safe.directory='*' log -1 --format=%cD 2>/dev/null || date -R)
+EPOCH = $(shell git -c safe.directory='*' log -1 --format=%ct 2>/dev/null || stat -c %Y CHANGELOG.md)
 PROGRAM = crates/mars/out/mars
 LIBRARY = build/libmars.so.2 build/libmars.a
 WASM = build/mars.wasm
@@ -39,7 +42,7 @@ copy = mkdir -p $(2) && tar -c -C $(1) --mode=u=rwX,go=rX --exclude=__pycache__ 
 licences = mkdir -p $(1); set -e; for library in $(LIBRARIES); do for file in "$$(dirname "$$(rt doc)")"/rattle/$$library/LICENSE*; do \
 	cp "$$file" $(1)/$$library-$${file\#\#*/}; done; done$(if $(wildcard LICENSE*),; cp $(wildcard LICENSE*) $(1))
 
-.PHONY: all install uninstall site man completion editors packages wheel vectors check
+.PHONY: all install uninstall site man completion editors packages wheel portable dist vectors check
 
 all: man completion editors
 
@@ -119,9 +122,46 @@ wheel: $(LIBRARY) $(SITE)
 	$(call copy,.,build/wheel/kit,pyproject.toml setup.py README.md python include build/libmars.so.2 build/site)
 	$(COREWAR) packaging/editors.py build/wheel/kit/build/share
 	$(call licences,build/wheel/kit/licences)
-	SOURCE_DATE_EPOCH=$$(git -c safe.directory='*' log -1 --format=%ct 2>/dev/null || stat -c %Y CHANGELOG.md) \
+	SOURCE_DATE_EPOCH=$(EPOCH) \
 		/usr/bin/python3 -m pip wheel --no-deps --no-build-isolation --no-cache-dir -q -w build build/wheel/kit
 	rm -r build/wheel
+
+# The library as C, and what makes an archive of it.
+C = build/portable/libmars.c
+CHECKER = portable/arguments.h portable/check.c portable/check.cmake
+TRANSLATOR = scripts/portable scripts/boundary.py scripts/translator/reading.py scripts/translator/values.py \
+	scripts/translator/instructions.py scripts/translator/writing.py
+
+$(C): $(LIBRARY) $(TRANSLATOR) include/mars.h portable/before.c portable/heap.c portable/calls.c
+	scripts/portable $@
+
+# Packs the folder build/archive/$(1)-VERSION, with the same bytes each time.
+pack = tar -c -z -f build/$(1)-$(VERSION).tar.gz -C build/archive --sort=name --owner=0 --group=0 --numeric-owner --mtime=@$(EPOCH) \
+	$(1)-$(VERSION) && rm -r build/archive
+
+portable: folder = build/archive/libmars-$(VERSION)
+portable: $(C) $(CHECKER)
+	rm -rf build/archive
+	mkdir -p $(folder)
+	cp $(C) include/mars.h portable/Makefile portable/README $(CHECKER) $(folder)
+	sed 's|@VERSION@|$(VERSION)|' portable/CMakeLists.txt >$(folder)/CMakeLists.txt
+	sed 's|@VERSION@|$(VERSION)|' packaging/mars.pc >$(folder)/mars.pc
+	$(call licences,$(folder)/licences)
+# What the proved library leaves.
+	gcc -O1 -Iinclude portable/check.c build/libmars.a -o build/archive/check
+	build/archive/check 2000 1 >$(folder)/check.expected
+	$(call pack,libmars)
+
+dist: folder = build/archive/corewar-$(VERSION)
+dist: $(C) $(SITE)
+	rm -rf build/archive
+	$(call copy,.,$(folder),pyproject.toml setup.py README.md python include build/site)
+	mkdir $(folder)/portable
+	cp $(C) $(folder)/portable
+	$(COREWAR) packaging/editors.py $(folder)/build/share
+	$(call licences,$(folder)/licences)
+	printf 'Metadata-Version: 2.1\nName: corewar\nVersion: $(VERSION)\n' >$(folder)/PKG-INFO
+	$(call pack,corewar)
 
 vectors:
 	checks/vectors build/vectors

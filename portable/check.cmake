@@ -1,0 +1,6 @@
+execute_process(COMMAND ${CHECK} 2000 1 OUTPUT_VARIABLE found RESULT_VARIABLE status)
+file(READ ${EXPECTED} expected)
+string(REPLACE "\r" "" found "${found}")
+if(status OR NOT found STREQUAL expected)
+  message(FATAL_ERROR "the calls do not agree")
+endif()

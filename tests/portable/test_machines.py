@@ -1,0 +1,73 @@
+"""Compiles the library as C for several machines, and compares what 2,000 random calls leave there with what the proved
+library leaves.
+
+All are compiled from the archive of `make portable`, by its own makefile, two at a time: each takes two minutes.
+"""
+from __future__ import annotations
+
+import shutil
+import subprocess
+from collections.abc import Iterator
+from concurrent.futures import Future, ThreadPoolExecutor
+from dataclasses import dataclass
+from pathlib import Path
+
+import corewar
+import pytest
+from conftest import TOP
+from counting import skip
+from test_install import make_well
+
+NAME = f"libmars-{corewar.__version__}"
+# The stack that its README promises.
+STACK = 256 * 1024
+Done = subprocess.CompletedProcess[str]
+
+
+@dataclass(frozen=True)
+class Machine:
+    """A compiler with its options, what runs a program for it, and the Debian packages that have both."""
+
+    compiler: str
+    run: str
+    packages: str
+
+    def missing(self) -> str | None:
+        """Returns the package of a command that is missing."""
+        commands = (self.compiler.split()[0], self.run.split()[0])
+        return next((one for name, one in zip(commands, self.packages.split()) if not shutil.which(name)), None)
+
+    def check(self, folder: Path) -> Done:
+        words = ["make", "check", f"CC={self.compiler}", "CFLAGS=-O1", f"RUN={self.run}"]
+        return subprocess.run(words, cwd=folder, capture_output=True, text=True, timeout=1200)
+
+
+MACHINES = {
+    "gcc": Machine("gcc", f"prlimit --stack={STACK}", "gcc util-linux"),
+    "clang": Machine("clang", f"prlimit --stack={STACK}", "clang util-linux"),
+    "arm64": Machine("aarch64-linux-gnu-gcc -static", "qemu-aarch64-static", "gcc-aarch64-linux-gnu qemu-user-static"),
+    "s390x": Machine("s390x-linux-gnu-gcc -static", "qemu-s390x-static", "gcc-s390x-linux-gnu qemu-user-static"),
+}
+
+
+@pytest.fixture(scope="module")
+def checks(tmp_path_factory: pytest.TempPathFactory) -> Iterator[dict[str, Future[Done]]]:
+    """What the checks of the machines print, which are compiled two at a time."""
+    make_well("portable")
+    folder = tmp_path_factory.mktemp("machines")
+    shutil.unpack_archive(TOP / "build" / f"{NAME}.tar.gz", folder)
+    with ThreadPoolExecutor(2) as pool:
+        yield {
+            name: pool.submit(machine.check, shutil.copytree(folder / NAME, folder / name))
+            for name, machine in MACHINES.items()
+            if not machine.missing()
+        }
+
+
+@pytest.mark.parametrize("name", MACHINES)
+def test_calls_agree(name: str, checks: dict[str, Future[Done]]) -> None:
+    missing = MACHINES[name].missing()
+    if missing:
+        skip(f"the library as C on {name}", "a compiler or an emulator is missing", missing)
+    done = checks[name].result()
+    assert (done.returncode, done.stdout.split("\n")[-2:]) == (0, ["2000 calls agree", ""]), done.stderr
