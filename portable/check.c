@@ -1,6 +1,8 @@
 /* Makes N random calls of the library, wrong ones among them, and prints a digest of what each leaves: the same on every machine.
  *
- * usage: check N SEED */
+ * usage: check N SEED
+ *
+ * No two arguments of a call are random, since compilers evaluate arguments in different orders. */
 #include "arguments.h"
 
 enum { OUT_CELLS = 300, OUTCOMES = 3000, ROWS = 40, RECORDS = 64, FOUND = 32, EDITS = 6 };
@@ -92,8 +94,8 @@ static uint32_t assemble(void)
 
 static uint32_t lines(void)
 {
-    size_t size = source();
-    uint32_t result = mars_lines(&s, 1 + below(4), text, size, out, chance(4) ? below(40) : sizeof out, &length, &fault);
+    size_t size = source(), most = chance(4) ? below(40) : sizeof out;
+    uint32_t result = mars_lines(&s, 1 + below(4), text, size, out, most, &length, &fault);
     add_text();
     return result;
 }
@@ -221,10 +223,11 @@ static void play(void)
 {
     static MarsRecord records[RECORDS];
     static MarsTouched touched[RECORDS];
-    size_t i, j, count = below(RECORDS);
+    size_t i, j, count = below(RECORDS), touched_count = below(RECORDS);
+    uint32_t turns = below(chance(3) ? 3000 : 70);
     memset(records, 0x44, sizeof records);
     memset(touched, 0x55, sizeof touched);
-    add_fault(mars_play(battle, words, below(chance(3) ? 3000 : 70), records, count, touched, below(RECORDS), &fault));
+    add_fault(mars_play(battle, words, turns, records, count, touched, touched_count, &fault));
     for (i = 0; i < RECORDS; i++) {
         add_words(&records[i].warrior, 7);
         for (j = 0; j < 3; j++) {
@@ -259,7 +262,8 @@ static void follow(void)
 {
     static MarsPast pasts[9000];
     MarsCondition conditions[3];
-    uint32_t found[FOUND], i, count = 77, core = s.core < 9000 ? s.core : 9000, condition_count = below(4);
+    uint32_t found[FOUND], i, count = 77, core = s.core < 9000 ? s.core : 9000;
+    uint32_t turns = below(400), past_count = chance(30) ? below(core) : core, condition_count = below(4), places = below(FOUND);
     for (i = 0; i < core; i++) {
         pasts[i].owner = chance(2) ? below(3) : 16;
         pasts[i].turn = 0;
@@ -272,8 +276,7 @@ static void follow(void)
         conditions[i].last = chance(9) ? wild() : below(16);
     }
     memset(found, 0x66, sizeof found);
-    add_fault(mars_follow(battle, words, below(400), pasts, chance(30) ? below(core) : core, conditions, condition_count, found,
-                          below(FOUND), &count, &fault));
+    add_fault(mars_follow(battle, words, turns, pasts, past_count, conditions, condition_count, found, places, &count, &fault));
     add(count, 4);
     add_words(found, FOUND);
     for (i = 0; i < core; i++) add_words(&pasts[i].owner, 3);
