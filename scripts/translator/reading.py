@@ -32,7 +32,8 @@ class Function:
 
 
 def unescaped(text: str) -> bytes:
-    return re.sub(rb"\\([0-9A-F]{2})", lambda hexed: bytes([int(hexed[1], 16)]), text.encode("latin-1"))
+    """Returns the bytes of a constant, in which a byte is `\\` and two digits, and a backslash is two."""
+    return re.sub(rb"\\(?:([0-9A-F]{2})|\\)", lambda it: bytes([int(it[1], 16)]) if it[1] else b"\\", text.encode("latin-1"))
 
 
 class Module:
