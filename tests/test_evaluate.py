@@ -10,13 +10,21 @@ from pathlib import Path
 import pytest
 from conftest import TOP
 from counting import skip
+from peer import build_pmars
 
 sys.path.insert(0, str(TOP / "checks"))
 from comparing.comparison import shown, where_different  # noqa: E402
-from comparing.pmars import has_pmars  # noqa: E402
 from comparing.running import AREAS, NEEDS, compare  # noqa: E402
 
 COMMAND = TOP / "checks" / "evaluate"
+
+
+def require(area: str) -> None:
+    """Skips a test on a machine without what an area needs. pMARS is built if it is not."""
+    if area == "pmars":
+        build_pmars()
+    if area in NEEDS and not NEEDS[area][0]():
+        skip(area, NEEDS[area][1])
 
 
 def test_differences_are_shown() -> None:
@@ -28,8 +36,7 @@ def test_differences_are_shown() -> None:
 @pytest.mark.parametrize("area", [name for name in AREAS if name != "examples"])
 def test_definitions_are_what_is_computed(area: str) -> None:
     """Other inputs than those of checks/evaluate."""
-    if area in NEEDS and not NEEDS[area][0]():
-        skip(area, NEEDS[area][1])
+    require(area)
     count = 3 + AREAS[area].usual // 60
     result = compare(area, 2, 0, count)
     assert result.difference == "" and result.inputs == count and result.counts
@@ -75,8 +82,7 @@ MISTAKES = [
 
 @pytest.mark.parametrize("area, file, before, after", MISTAKES)
 def test_a_mistake_in_a_definition_is_found(area: str, file: str, before: str, after: str) -> None:
-    if area in NEEDS and not NEEDS[area][0]():
-        skip(area, NEEDS[area][1])
+    require(area)
     text = (TOP / "crates" / file).read_text()
     assert text.count(before) == 1
     result = compare(area, 1, 0, AREAS[area].usual, {f"crates/{file}": text.replace(before, after)})
@@ -108,8 +114,7 @@ def test_vectors(tmp_path: Path) -> None:
     assert [*texts] == ["battles.txt", "matches.txt", "sources.txt"]
     for name, text in texts.items():
         assert text.startswith("number 0\ncore ") and (tmp_path / "other" / name).read_text("latin-1") == text
-    if not has_pmars():
-        skip("vectors in pMARS", NEEDS["pmars"][1])
+    require("pmars")
     done = subprocess.run([command, "--pmars", tmp_path / "one"], capture_output=True, text=True)
     assert (done.returncode, len(done.stdout.splitlines())) == (0, 3)
     (tmp_path / "one" / "battles.txt").write_text(texts["battles.txt"].replace("lives 1 0", "lives 0 1"))

@@ -46,7 +46,7 @@ class Module:
         self.names: dict[str, str] = {}
         self.here = Function("", "", [], "")
         self.read(text)
-        self.mark_inlined()
+        pass
 
     def read(self, text: str) -> None:
         kinds = {}
