@@ -12,9 +12,6 @@ ATTRIBUTES = (
 )
 KINDS = {"alwaysinline": "ALWAYS_INLINE ", "noinline": "NEVER_INLINE ", "inlinehint": "inline "}
 
-# The functions that run most turns.
-HOT = r"mars_core::machine::(cycles::run_cycles|lone::run_lone_cycles)\b"
-
 
 class CannotTranslate(Exception):
     """The module has something that this translator does not know; the text says what."""
@@ -33,7 +30,9 @@ class Function:
 
 def unescaped(text: str) -> bytes:
     """Returns the bytes of a constant, in which a byte is `\\` and two digits, and a backslash is two."""
-    return re.sub(rb"\\(?:([0-9A-F]{2})|\\)", lambda it: bytes([int(it[1], 16)]) if it[1] else b"\\", text.encode("latin-1"))
+    return re.sub(
+        rb"\\(?:([0-9A-F]{2})|\\)", lambda it: bytes([int(it[1], 16)]) if it[1] else b"\\", text.encode("latin-1")
+    )
 
 
 class Module:
@@ -46,7 +45,6 @@ class Module:
         self.names: dict[str, str] = {}
         self.here = Function("", "", [], "")
         self.read(text)
-        pass
 
     def read(self, text: str) -> None:
         kinds = {}
@@ -93,10 +91,10 @@ class Module:
         if not found:
             self.mixed_constant_of(line)
             return
-        length, data = int(found[2]), b""
-        if found[4] is not None:
-            data = unescaped(found[4])
-        self.constants[found[1]] = [data.ljust(length, b"\0")]
+        data = bytes(int(found[2])) if found[4] is None else unescaped(found[4])
+        if len(data) != int(found[2]):
+            raise CannotTranslate(line)
+        self.constants[found[1]] = [data]
 
     def mixed_constant_of(self, line: str) -> None:
         """Reads a constant of addresses and bytes."""
@@ -120,17 +118,6 @@ class Module:
         if found[4] is None:
             return (found[1] or found[3], int(found[2] or 0))
         return unescaped(found[5] or "").ljust(int(found[4]), b"\0")
-
-    def mark_inlined(self) -> None:
-        """Marks what the functions that run turns consist of. LLVM inlines it, and other compilers need to be told."""
-        waiting = [name for name in self.functions if re.match(HOT, name)]
-        seen = set(waiting)
-        while waiting:
-            for name in self.called(self.functions[waiting.pop()]) - seen:
-                if self.functions[name].kind != KINDS["noinline"]:
-                    self.functions[name].kind = KINDS["alwaysinline"]
-                    seen.add(name)
-                    waiting.append(name)
 
     def called(self, function: Function) -> set[str]:
         """Returns the functions of the module that a function calls."""

@@ -15,7 +15,7 @@ from llvm_rules import RULES, module
 sys.path.insert(0, str(TOP / "scripts"))
 from machine import toolchain  # noqa: E402
 from translator import instructions  # noqa: E402
-from translator.reading import CannotTranslate  # noqa: E402
+from translator.reading import CannotTranslate, unescaped  # noqa: E402
 from translator.writing import Translator  # noqa: E402
 
 EDGES = [
@@ -145,3 +145,8 @@ def test_another_part_is_noticed(tmp_path: Path, expected: dict[str, list[int]],
 def test_what_is_unknown_is_rejected(text: str) -> None:
     with pytest.raises(CannotTranslate):
         Translator(module({"unknown": text}), ["f0"]).text("", "", "")
+
+
+def test_bytes_of_constants() -> None:
+    """A byte is a backslash with two digits, or itself; a backslash is two."""
+    assert unescaped(r"[d\\\5C\00\22\FF?") == b'[d\\\\\0"\xff?'
