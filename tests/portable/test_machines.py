@@ -1,7 +1,7 @@
 """Compiles the library as C for several machines, and compares what 2,000 random calls leave there with what the proved
 library leaves.
 
-All are compiled from the archive of `make portable`, by its own makefile, two at a time: each takes two minutes.
+All are compiled from the archive of `make portable`, by its own makefile, two at a time: each takes a minute.
 """
 from __future__ import annotations
 
