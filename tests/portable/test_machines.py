@@ -44,7 +44,6 @@ class Machine:
 
 MACHINES = {
     "gcc": Machine("gcc", f"prlimit --stack={STACK}", "gcc util-linux"),
-    "clang": Machine("clang", f"prlimit --stack={STACK}", "clang util-linux"),
     "arm64": Machine("aarch64-linux-gnu-gcc -static", "qemu-aarch64-static", "gcc-aarch64-linux-gnu qemu-user-static"),
     "s390x": Machine("s390x-linux-gnu-gcc -static", "qemu-s390x-static", "gcc-s390x-linux-gnu qemu-user-static"),
 }
