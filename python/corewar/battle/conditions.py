@@ -67,8 +67,10 @@ def find(
     is_past_asked = any(OWNER <= number <= ORIGIN for _, number, *_ in rows)
     for start, end in parts if forward else reversed(parts):
         # Without conditions on them, the pasts at the start do not matter.
-        unknown = None if is_past_asked else (history.state(start), array("MarsPast", history.core))
-        battle, pasts = unknown or history.followed(start)
+        if is_past_asked:
+            battle, pasts = history.followed(start)
+        else:
+            battle, pasts = history.state(start), array("MarsPast", history.core)
         yield battle.follow(pasts, end - start, rows)
 
 
