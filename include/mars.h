@@ -311,6 +311,13 @@ typedef struct {
     uint32_t last;
 } MarsCondition;
 
+/* A turn that was found: its number, from 1, and the cell that it executed. */
+typedef struct {
+    uint32_t turn;
+    uint32_t address;
+    MarsPast past; /* of the cell, before the turn */
+} MarsFound;
+
 /* A death: the warrior, and the number of turns that all warriors had executed, including its last one. */
 typedef struct {
     uint32_t warrior;
@@ -468,7 +475,7 @@ uint32_t mars_play(uint32_t *battle, size_t words, uint32_t turns,
 
 /* Executes turns as mars_play, keeps the past of each cell in place, and finds the turns that meet all conditions. Conditions on the same
  * way are about one and the same cell; without conditions every turn meets them. *count is the number of turns that meet them, and the
- * numbers of the first ones, counted as in MarsBattle, are written to the front of `found`, as far as there are places; the others stay.
+ * first ones are written to the front of `found`, as far as there are places; the other places stay as they were.
  * `past_count` must be the core size. Returns MARS_CONDITION first, then MARS_BLOCK and MARS_ROOM as mars_play, then MARS_SETTINGS
  * (MARS_SETTINGS_ROWS) for a wrong `past_count`.
  *
@@ -481,7 +488,7 @@ uint32_t mars_play(uint32_t *battle, size_t words, uint32_t turns,
  * The turns that execute a copy of what was loaded at `line`: {MARS_EXECUTES, MARS_NUMBER_ORIGIN, line, line}. */
 uint32_t mars_follow(uint32_t *battle, size_t words, uint32_t turns, MarsPast *pasts, size_t past_count,
                      const MarsCondition *conditions, size_t condition_count,
-                     uint32_t *found, size_t found_count, uint32_t *count, MarsFault *fault);
+                     MarsFound *found, size_t found_count, uint32_t *count, MarsFault *fault);
 
 /* Makes an edit of a battle in place, also if the battle is over. A dead warrior stays dead. Returns MARS_EDIT with
  * MARS_EDIT_NO_SUCH_EDIT first, then MARS_BLOCK and MARS_ROOM as mars_play, then MARS_EDIT with the first of the other numbers that

@@ -262,7 +262,8 @@ static void follow(void)
 {
     static MarsPast pasts[9000];
     MarsCondition conditions[3];
-    uint32_t found[FOUND], i, count = 77, core = s.core < 9000 ? s.core : 9000;
+    MarsFound found[FOUND];
+    uint32_t i, count = 77, core = s.core < 9000 ? s.core : 9000;
     uint32_t turns = below(400), past_count = chance(30) ? below(core) : core, condition_count = below(4), places = below(FOUND);
     for (i = 0; i < core; i++) {
         pasts[i].owner = chance(2) ? below(3) : 16;
@@ -278,7 +279,7 @@ static void follow(void)
     memset(found, 0x66, sizeof found);
     add_fault(mars_follow(battle, words, turns, pasts, past_count, conditions, condition_count, found, places, &count, &fault));
     add(count, 4);
-    add_words(found, FOUND);
+    add_words(&found[0].turn, 5 * FOUND);
     for (i = 0; i < core; i++) add_words(&pasts[i].owner, 3);
 }
 

@@ -125,14 +125,15 @@ def compare_follows(definitions: Evaluator, dice: random.Random) -> Iterator[Com
 def compare_follow(
     definitions: Evaluator, dice: random.Random, state: Value, turns: int, pasts: tuple[Value, ...]
 ) -> Comparison:
-    """A call that follows turns: the battle, the pasts, and the numbers of the turns that are found, or its error."""
+    """A call that follows turns: the battle, the pasts, and the turns that are found, or its error."""
     values, conditions = random_conditions(definitions, dice, len(pasts))
     words = block_words(definitions, state)
     is_short = dice.random() < 0.05 and words != definitions("mars_core.Block.block_of", state)
     if dice.random() < 0.05:
         pasts = pasts[1:]
     block = array("uint32_t", words[: len(words) - is_short])
-    given, found, count = array("MarsPast", pasts), room("uint32_t", dice.randrange(TURNS)), new("uint32_t *", 0)
+    given, found, count = array("MarsPast", pasts), room("MarsFound", dice.randrange(TURNS)), new("uint32_t *", 0)
+    rows = rows_in(*found)
     error = call("mars_follow", *block, turns, *given, *array("MarsCondition", conditions), *found, count)
     refusal: Value = None
     if len(values) < len(conditions):
@@ -143,20 +144,20 @@ def compare_follow(
         definitions("mars_c.Codes.block_fault_of", refusal) if refusal else definitions("mars_c.Codes.numbered", 0, 0)
     )
     after = state if refusal else definitions("mars_core.Turn.after_turns", turns, state)
-    numbers = () if refusal else definitions("mars_core.Search.found_in", tuple(values), turns, state, pasts)
+    turns_found = () if refusal else definitions("mars_core.Search.found_in", tuple(values), turns, state, pasts)
     defined = {
         "error": expected,
         "written": True,
         "pasts": pasts if refusal else definitions("mars_core.Past.followed", turns, state, pasts),
-        "found": definitions("mars_core.Search.filled", numbers, (0,) * found[1]),
-        "count": len(numbers),
+        "found": definitions("mars_core.Search.filled", turns_found, rows),
+        "count": len(turns_found),
     }
     whole = tuple(block[0])
     computed = {
         "error": error,
         "written": definitions("mars_c.Blocks.IsWritten", after, words[: len(whole)], whole),
         "pasts": rows_in(*given),
-        "found": tuple(found[0]),
+        "found": rows_in(*found),
         "count": count[0],
     }
     return Comparison("calls", (state, turns, values, conditions, pasts), defined, computed)

@@ -66,7 +66,7 @@ typedef struct {
     MarsCell cells[20];
     uint32_t battle[WORDS];
     MarsPast pasts[800];
-    uint32_t found[9];
+    MarsFound found[9];
     uint32_t count;
     int64_t value;
     MarsProgram program;
@@ -220,6 +220,7 @@ static int are_turns_found(void) {
     if (mars_follow(followed.battle, WORDS, 500, followed.pasts, 800, CONDITIONS, 2, followed.found, 9, &followed.count, &followed.fault) != MARS_DONE) return 0;
     for (uint32_t turn = 0; turn < 500; turn++) {
         int is_found = 0;
+        MarsFound row = {turn + 1, records[turn].address, pasts[records[turn].address]};
         for (uint32_t i = 0; i < records[turn].changes; i++) {
             uint32_t address = records[turn].change[i].address, first = i, last = i;
             for (uint32_t j = 0; j < records[turn].changes; j++)
@@ -228,7 +229,7 @@ static int are_turns_found(void) {
             pasts[address] = (MarsPast){records[turn].warrior, turn + 1, 0};
             is_found |= records[turn].warrior >= 1 && records[turn].warrior <= 2 && (address >= 780 || address <= 20);
         }
-        if (is_found && count < 9 && followed.found[count] != turn + 1) return 0;
+        if (is_found && count < 9 && memcmp(&followed.found[count], &row, sizeof row)) return 0;
         count += is_found;
     }
     return count > 0 && count == followed.count && !memcmp(pasts, followed.pasts, sizeof pasts) && !memcmp(followed.battle, played.battle, sizeof played.battle);

@@ -264,9 +264,9 @@ def edits(arguments: Battle, fault: Any) -> tuple[int, NDArray[Any]]:
 
 def follow(arguments: Battle, fault: Any) -> tuple[int, NDArray[Any]]:
     words, block = battle(arguments)
-    pasts, found = array("MarsPast", arguments.pasts), array("uint32_t", 1)
+    pasts, found = array("MarsPast", arguments.pasts), array("MarsFound", 1)
     conditions = filled("MarsCondition", [(1, 4, 0, 0), (arguments.way, 9, 0, 0)])
-    given = [*slice_of("MarsPast", pasts), *conditions, *slice_of("uint32_t", found)]
+    given = [*slice_of("MarsPast", pasts), *conditions, *slice_of("MarsFound", found)]
     code = library()[1].mars_follow(*block, 1, *given, library()[0].new("uint32_t *"), fault)
     assert not pasts.view(np.uint32).any() and not found.any()
     return code, words

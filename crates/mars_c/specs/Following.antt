@@ -6,6 +6,7 @@ use Rattle.mars_core.specs.State.{State}
 use Rattle.mars_core.specs.Turn.{after_turns}
 use Rattle.mars_core.specs.declared.past.Past.{Past}
 use Rattle.mars_core.specs.declared.search.Condition.{Condition as ConditionValue}
+use Rattle.mars_core.specs.declared.search.Found.{Found}
 use Rattle.mars_core.specs.declared.search.Number.{Number}
 use Rattle.mars_core.specs.declared.search.Number.TheVariants as number
 use Rattle.mars_core.specs.declared.search.Way.{Way}
@@ -43,9 +44,9 @@ plain_condition condition = record {
 }
 
 -- After at most `turns` turns of the battle in the words `before`, the words `after` hold the battle, `pasts` the past of each cell,
--- and `rows` the numbers of the turns that meet the conditions; there are `count` of them.
+-- and `rows` the turns that meet the conditions; there are `count` of them.
 pub record IsFollowed (turns : ℕ) (conditions : List MarsCondition) (before after : List ℕ) (pasts_before pasts : List Past)
-    (rows_before rows : List ℕ) (count : ℕ) : Type 0 where
+    (rows_before rows : List Found) (count : ℕ) : Type 0 where
   pub state : State
   pub playable : IsPlayable state before
   pub values : List ConditionValue

@@ -5,11 +5,11 @@ ghost use Rattle.mars_c.specs.Following.{IsFollowed, RefusesFollow};
 use crate::blocks::{put, take};
 use crate::conditions::{MarsCondition, conditions_of};
 use crate::faults::BlockRefusal;
-use mars_core::Past;
+use mars_core::{Found, Past};
 use std::alloc::Global;
 
 /// Executes at most `turns` turns of the battle in a block, keeps the past of each cell, and searches for the turns that
-/// meet all conditions. Returns the count of those turns; their numbers are written to the front of `found`.
+/// meet all conditions. Returns the count of those turns; they are written to the front of `found`.
 ///
 /// # Errors
 ///
@@ -21,7 +21,7 @@ pub fn follow_in(
     turns: u32,
     pasts: &mut [Past],
     conditions: &[MarsCondition],
-    found: &mut [u32],
+    found: &mut [Found],
 ) -> Result<u32, BlockRefusal>
     ensures done { IfOk result (λ count. IsFollowed turns conditions.now words.old words.new pasts.old pasts.new found.old found.new count) }
     ensures refused { IfErr result (RefusesFollow words.old conditions.now (length pasts.old)) }

@@ -4,7 +4,7 @@ ghost use Rattle.mars_c.specs.Touches.{plain_touched, touched_row};
 
 use crate::playing::TurnRow;
 use crate::records::address_at;
-use mars_core::{Battle, MAX_TOUCHED};
+use mars_core::{Atom, Battle};
 
 /// The cells that a turn reads or writes: the number of addresses, and the addresses. Unused ones are 0.
 #[repr(C)]
@@ -30,10 +30,11 @@ impl TurnRow for MarsTouched {
     ghost row_of = { touched_row };
 
     fn of_turn(battle: &mut Battle) -> Option<Self> {
-        let touched = battle.touched();
-        match battle.turn() {
-            Ok(_) => Some(plain(touched.as_slice())),
-            Err(_) => None,
+        if battle.is_over() {
+            return None;
         }
+        let mut atom = Atom::default();
+        let touched = battle.turn_touching(&mut atom);
+        Some(plain(touched.as_slice()))
     }
 }

@@ -1,5 +1,6 @@
 -- Turns that were executed, and the conditions that they meet.
-use Rattle.std.proofs.Common.{◌≡◌, ℕ, zero, suc, ◌<◌, ◌≤◌, ◌==◌, ◌+◌, ◌-◌, Bool, true, false, not, ◌&&◌, ◌||◌, if◌then◌else◌, List, [], ◌∷◌, ◌++◌, All, get_or, length, set, take, add-one, append_assoc, append-nil, length-append, inl, inr, ◌⊎◌, refl, subst, sym, ap, ◌∙◌, arith}
+use Rattle.std.proofs.Common.{◌≡◌, ℕ, zero, suc, ◌<◌, ◌≤◌, ◌==◌, ◌+◌, ◌-◌, Bool, true, false, not, ◌&&◌, ◌||◌, if◌then◌else◌, List, [], ◌∷◌, ◌++◌, All, get_or, length, set, take, add-one, append_assoc, append-nil, length-append, inl, inr, ◌⊎◌, None, Some, refl, subst, sym, ap, ◌∙◌, arith}
+use Rattle.std.specs.Bool.{then_some}
 use Rattle.std.specs.List.{list_all, list_any, range_with_len}
 use Rattle.std.proofs.Math.Seq.{take-nil}
 use Rattle.std.proofs.lemmas.Bool.{and_from, and_parts, and_right, eq-eqb, eqb-true, eqb-false, ne_eqb}
@@ -12,7 +13,7 @@ use Rattle.mars_core.specs.Code.Searches.{AreUsed, IsSeen}
 use Rattle.mars_core.specs.Effect.{are_equal_cells}
 use Rattle.mars_core.specs.Past.{changes, followed, pasts_after}
 use Rattle.mars_core.specs.Record.{restored}
-use Rattle.mars_core.specs.Search.{filled, found_in, holds, meets, on, one_meets, uses}
+use Rattle.mars_core.specs.Search.{filled, found_in, found_turn, holds, meets, on, one_meets, uses}
 use Rattle.mars_core.specs.Start.{is_in}
 use Rattle.mars_core.specs.State.{State, cell_at, is_over_of}
 use Rattle.mars_core.specs.Turn.{after_turns, turn_of, turn_record}
@@ -20,9 +21,10 @@ use Rattle.mars_core.specs.declared.machine.writes.CellChange.{CellChange}
 use Rattle.mars_core.specs.declared.record.Atom.{Atom}
 use Rattle.mars_core.specs.declared.past.Past.{Past}
 use Rattle.mars_core.specs.declared.search.Condition.{Condition}
+use Rattle.mars_core.specs.declared.search.Found.{Found}
 use Rattle.mars_core.specs.declared.search.Way.{Way}
 use Rattle.mars_core.specs.Validity.{IsValid}
-use Rattle.mars_core.proofs.CallerLemmas.{shape-turn_of, turns-turn_of}
+use Rattle.mars_core.proofs.CallerLemmas.{shape-turn_of}
 use Rattle.mars_core.proofs.Inside.{AreInside}
 use Rattle.mars_core.proofs.Pasts.{after-over, after-turn, differs, followed-over, followed-turn, length-pasts_after, undone, writes_inside, written_if_differs}
 use Rattle.mars_core.proofs.Turns.{same_eq}
@@ -119,15 +121,14 @@ differs_changes s core atom a seen =
     ap (λ c. not (are_equal_cells (cell_at c a) (cell_at core a))) (seen_before s core atom seen)
     ∙ ap (λ c. not (are_equal_cells (cell_at s.core a) (cell_at c a))) seen.core_is
 
--- What the code has after the turn of the state `s`: the battle `start` made it and became `made`, whose core is `core`.
-pub turn_seen : (s start made : State) (core : List Cell) (atom : Atom) → start ≡ s → made ≡ turn_of start → atom ≡ turn_record start → core ≡ made.core
+-- What the code has after the turn of the state `s`, which makes it the state `made`, whose core is `core`.
+pub turn_seen : (s made : State) (core : List Cell) (atom : Atom) → made ≡ turn_of s → atom ≡ turn_record s → core ≡ made.core
     → IsValid made → IsSeen s core atom
-turn_seen s start made core atom same turn recorded core_is valid =
-    let after : made ≡ turn_of s = turn ∙ ap turn_of same in
+turn_seen s made core atom after recorded core_is valid =
     let params : made.params ≡ s.params = ap (λ (t : State). t.params) after ∙ (shape-turn_of s).params in
     record {
       core_is = core_is ∙ ap (λ (t : State). t.core) after;
-      atom_is = recorded ∙ ap turn_record same;
+      atom_is = recorded;
       size = ap length core_is ∙ valid.core.size ∙ ap (λ (p : Parameters). p.core_size) params;
     }
 
@@ -137,68 +138,68 @@ seen_inside s core atom seen positive =
     rw (seen.size, seen.atom_is) (writes_inside s (rw (← seen.size) positive))
 
 -- From the state `first` on, `made` of `turns` turns are executed, of which `count` meet the conditions.
-pub record IsFollowed (conditions : List Condition) (turns : ℕ) (first : State) (pasts_first : List Past) (rows_first : List ℕ)
-    (made : ℕ) (s : State) (pasts : List Past) (rows : List ℕ) (count : ℕ) : Type 0 where
+pub record IsFollowed (conditions : List Condition) (turns : ℕ) (first : State) (pasts_first : List Past) (rows_first : List Found)
+    (made : ℕ) (s : State) (pasts : List Past) (rows : List Found) (count : ℕ) : Type 0 where
   pub size : length pasts ≡ s.params.core_size
   pub few : count ≤ made
   pub pasts_are : followed turns first pasts_first ≡ followed (turns - made) s pasts
   pub battle_is : after_turns turns first ≡ after_turns (turns - made) s
   -- Those that were found so far, then those that are left.
-  pub numbers : List ℕ
-  pub all_are : found_in conditions turns first pasts_first ≡ numbers ++ found_in conditions (turns - made) s pasts
-  pub count_is : count ≡ length numbers
-  pub rows_are : rows ≡ filled numbers rows_first
+  pub found : List Found
+  pub all_are : found_in conditions turns first pasts_first ≡ found ++ found_in conditions (turns - made) s pasts
+  pub count_is : count ≡ length found
+  pub rows_are : rows ≡ filled found rows_first
 
-pub filled-none : (rows : List ℕ) → filled [] rows ≡ rows
+pub filled-none : (rows : List Found) → filled [] rows ≡ rows
 filled-none rows = rw (take-nil (length rows)) refl
 
-filled-push : (numbers : List ℕ) (n : ℕ) (rows : List ℕ) → set (filled numbers rows) (length numbers) n ≡ filled (numbers ++ n ∷ []) rows
+filled-push : (found : List Found) (n : Found) (rows : List Found) → set (filled found rows) (length found) n ≡ filled (found ++ n ∷ []) rows
 filled-push [] n [] = refl
 filled-push [] n (row ∷ rows) = rw (take-nil (length rows)) refl
-filled-push (m ∷ numbers) n [] = refl
-filled-push (m ∷ numbers) n (row ∷ rows) = ap (λ l. m ∷ l) (filled-push numbers n rows)
+filled-push (m ∷ found) n [] = refl
+filled-push (m ∷ found) n (row ∷ rows) = ap (λ l. m ∷ l) (filled-push found n rows)
 
 found-turn : (conditions : List Condition) (n k : ℕ) (s : State) (pasts : List Past) → n ≡ k + 1 → is_over_of s ≡ false
-    → found_in conditions n s pasts ≡ (if meets conditions s pasts then (s.turns + 1) ∷ [] else []) ++ found_in conditions k (turn_of s) (pasts_after s pasts)
+    → found_in conditions n s pasts ≡ (if meets conditions s pasts then found_turn s pasts ∷ [] else []) ++ found_in conditions k (turn_of s) (pasts_after s pasts)
 found-turn conditions n k s pasts e running = ap (λ m. found_in conditions m s pasts) e ∙ rw (add-one, running) refl
 
 found-over : (conditions : List Condition) (n : ℕ) (s : State) (pasts : List Past) → is_over_of s ≡ true → found_in conditions n s pasts ≡ []
 found-over conditions zero s pasts over = refl
 found-over conditions (suc n) s pasts over = rw over refl
 
-module _ (conditions : List Condition) (turns : ℕ) (first : State) (pasts_first : List Past) (rows_first : List ℕ) where
+module _ (conditions : List Condition) (turns : ℕ) (first : State) (pasts_first : List Past) (rows_first : List Found) where
   pub followed-none : length pasts_first ≡ first.params.core_size → IsFollowed conditions turns first pasts_first rows_first 0 first pasts_first rows_first 0
   followed-none size = record {
     size = size;
     few = omega arith;
     pasts_are = ap (λ n. followed n first pasts_first) (omega arith);
     battle_is = ap (λ n. after_turns n first) (omega arith);
-    numbers = [];
+    found = [];
     all_are = ap (λ n. found_in conditions n first pasts_first) (omega arith);
     count_is = refl;
     rows_are = sym (filled-none rows_first);
   }
 
-  module _ (made : ℕ) (s : State) (pasts : List Past) (rows : List ℕ) (count : ℕ)
+  module _ (made : ℕ) (s : State) (pasts : List Past) (rows : List Found) (count : ℕ)
       (f : IsFollowed conditions turns first pasts_first rows_first made s pasts rows count) where
     -- The turns are over: nothing more is found.
     pub followed-all : (turns - made ≡ 0) ⊎ (is_over_of s ≡ true)
-        → (found_in conditions turns first pasts_first ≡ f.numbers) × (followed turns first pasts_first ≡ pasts) × (after_turns turns first ≡ s)
+        → (found_in conditions turns first pasts_first ≡ f.found) × (followed turns first pasts_first ≡ pasts) × (after_turns turns first ≡ s)
     followed-all (inl none) = (
-      f.all_are ∙ rw none (append-nil f.numbers),
+      f.all_are ∙ rw none (append-nil f.found),
       f.pasts_are ∙ rw none refl,
       f.battle_is ∙ rw none refl,
     )
     followed-all (inr over) = (
-      f.all_are ∙ rw (found-over conditions (turns - made) s pasts over) (append-nil f.numbers),
+      f.all_are ∙ rw (found-over conditions (turns - made) s pasts over) (append-nil f.found),
       f.pasts_are ∙ followed-over (turns - made) s pasts over,
       f.battle_is ∙ after-over (turns - made) s over,
     )
 
     module _ (t : State) (pasts' : List Past) (below : made < turns) (running : is_over_of s ≡ false)
         (t_is : t ≡ turn_of s) (pasts_is : pasts' ≡ pasts_after s pasts) where
-      next : (new : List ℕ) (rows' : List ℕ) (count' : ℕ) → (if meets conditions s pasts then (s.turns + 1) ∷ [] else []) ≡ new
-          → count' ≡ count + length new → length new ≤ 1 → rows' ≡ filled (f.numbers ++ new) rows_first
+      next : (new : List Found) (rows' : List Found) (count' : ℕ) → (if meets conditions s pasts then found_turn s pasts ∷ [] else []) ≡ new
+          → count' ≡ count + length new → length new ≤ 1 → rows' ≡ filled (f.found ++ new) rows_first
           → IsFollowed conditions turns first pasts_first rows_first (made + 1) t pasts' rows' count'
       next new rows' count' new_is count_is one rows_are =
           let k = turns - (made + 1) in
@@ -208,22 +209,34 @@ module _ (conditions : List Condition) (turns : ℕ) (first : State) (pasts_firs
             few = omega (arith, f.few);
             pasts_are = f.pasts_are ∙ followed-turn _ k s pasts left running ∙ rw (pasts_is, t_is) refl;
             battle_is = f.battle_is ∙ after-turn _ k s left running ∙ rw t_is refl;
-            numbers = f.numbers ++ new;
+            found = f.found ++ new;
             all_are =
-                f.all_are ∙ ap (λ l. f.numbers ++ l) (found-turn conditions _ k s pasts left running ∙ rw (new_is, pasts_is, t_is) refl)
-                ∙ sym (append_assoc f.numbers new _);
-            count_is = omega (arith, count_is, f.count_is, length-append f.numbers new);
+                f.all_are ∙ ap (λ l. f.found ++ l) (found-turn conditions _ k s pasts left running ∙ rw (new_is, pasts_is, t_is) refl)
+                ∙ sym (append_assoc f.found new _);
+            count_is = omega (arith, count_is, f.count_is, length-append f.found new);
             rows_are = rows_are;
           }
 
       -- The turn meets the conditions.
-      pub followed-found : (number : ℕ) (rows' : List ℕ) → meets conditions s pasts ≡ true → number ≡ t.turns → rows' ≡ set rows count number
+      pub followed-found : (row : Found) (rows' : List Found) → meets conditions s pasts ≡ true → row ≡ found_turn s pasts → rows' ≡ set rows count row
           → IsFollowed conditions turns first pasts_first rows_first (made + 1) t pasts' rows' (count + 1)
-      followed-found number rows' met number_is rows_is =
-          let turn : number ≡ s.turns + 1 = number_is ∙ ap (λ (u : State). u.turns) t_is ∙ turns-turn_of s in
-          next ((s.turns + 1) ∷ []) rows' (count + 1) (rw met refl) refl (omega arith)
-          (rows_is ∙ rw (f.rows_are, f.count_is, turn) (filled-push f.numbers (s.turns + 1) rows_first))
+      followed-found row rows' met row_is rows_is =
+          next (found_turn s pasts ∷ []) rows' (count + 1) (rw met refl) refl (omega arith)
+          (rows_is ∙ rw (f.rows_are, f.count_is, row_is) (filled-push f.found (found_turn s pasts) rows_first))
 
       pub followed-missed : meets conditions s pasts ≡ false → IsFollowed conditions turns first pasts_first rows_first (made + 1) t pasts' rows count
       followed-missed missed =
-          next [] rows count (rw missed refl) (omega arith) (omega arith) (f.rows_are ∙ ap (λ l. filled l rows_first) (sym (append-nil f.numbers)))
+          next [] rows count (rw missed refl) (omega arith) (omega arith) (f.rows_are ∙ ap (λ l. filled l rows_first) (sym (append-nil f.found)))
+
+-- What the code returns of a turn that meets the conditions or not.
+pub given_if : (met : Bool) (turn : Found) → then_some met turn ≡ (if met then Some turn else None)
+given_if true turn = refl
+given_if false turn = refl
+
+pub given_some : (met : Bool) (turn row : Found) → (if met then Some turn else None) ≡ Some row → (met ≡ true) × (row ≡ turn)
+given_some true turn row e = (refl, cc e)
+given_some false turn row e = cc e
+
+pub given_none : (met : Bool) (turn : Found) → ((row : Found) → (if met then Some turn else None) ≡ Some row → ⊥) → met ≡ false
+given_none true turn none = absurd (none turn refl)
+given_none false turn none = refl

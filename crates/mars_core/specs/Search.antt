@@ -9,6 +9,7 @@ use Rattle.mars_core.specs.Past.{changes, past_at, pasts_after}
 use Rattle.mars_core.specs.declared.machine.writes.CellChange.{CellChange}
 use Rattle.mars_core.specs.declared.past.Past.{Past}
 use Rattle.mars_core.specs.declared.search.Condition.{Condition}
+use Rattle.mars_core.specs.declared.search.Found.{Found}
 use Rattle.mars_core.specs.declared.search.Number.{Number}
 use Rattle.mars_core.specs.declared.search.Number.TheVariants.{Warrior, Queued, Died, Address, Owner, Turn, Origin, Opcode, NewOpcode}
 use Rattle.mars_core.specs.declared.search.Way.{Way}
@@ -73,13 +74,19 @@ meets conditions s pasts =
     && (not (are_on Changes conditions) || one_meets Changes conditions s pasts)
     && (not (are_on Reads conditions) || one_meets Reads conditions s pasts)
 
--- The numbers of those of the next `n` turns that meet all conditions.
-abbrev pub found_in : List Condition → ℕ → State → List Past → List ℕ
+-- What is found of the turn: its number, the address that it executes, and the past of the cell there before it.
+abbrev pub found_turn : State → List Past → Found
+found_turn s pasts =
+    let address = front_of (queue_of s.queues s.next) in
+    record { turn = s.turns + 1; address = address; past = past_at pasts address }
+
+-- Those of the next `n` turns that meet all conditions.
+abbrev pub found_in : List Condition → ℕ → State → List Past → List Found
 found_in conditions zero s pasts = []
 found_in conditions (suc n) s pasts =
     if is_over_of s then []
-    else (if meets conditions s pasts then (s.turns + 1) ∷ [] else []) ++ found_in conditions n (turn_of s) (pasts_after s pasts)
+    else (if meets conditions s pasts then found_turn s pasts ∷ [] else []) ++ found_in conditions n (turn_of s) (pasts_after s pasts)
 
--- The rows with these numbers in the first ones, as far as there are rows.
-abbrev pub filled : List ℕ → List ℕ → List ℕ
-filled numbers rows = take (length rows) numbers ++ drop (length numbers) rows
+-- The rows with these turns in the first ones, as far as there are rows.
+abbrev pub filled : List Found → List Found → List Found
+filled turns rows = take (length rows) turns ++ drop (length turns) rows

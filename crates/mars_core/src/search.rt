@@ -61,6 +61,18 @@ pub struct Condition {
     pub last: u32,
 }
 
+/// A turn that was found.
+#[repr(C)]
+#[derive(Clone, Copy, Debug, PartialEq, Eq)]
+pub struct Found {
+    /// Its number, from 1.
+    pub turn: u32,
+    /// The address of the cell that it executed.
+    pub address: u32,
+    /// The past of that cell before the turn.
+    pub past: Past,
+}
+
 /// A turn that was executed: its record, the core after it, and the pasts before it.
 #[derive(Clone, Copy)]
 pub struct Seen<'t> {

@@ -163,9 +163,8 @@ fn note_turn(battle: &mut Battle, deeds: &mut [Deeds])
     ensures battle { battle.new ≡ turn_of battle.old }
 {
     let warrior = battle.next() as usize;
-    let touched = battle.touched();
     let mut atom = Atom::default();
-    battle.turn_into(&mut atom);
+    let touched = battle.turn_touching(&mut atom);
     if warrior < deeds.len() {
         deeds[warrior].note(&atom, touched.as_slice());
     }

@@ -6,10 +6,11 @@ from collections.abc import Iterator, Sequence
 from dataclasses import dataclass
 from itertools import chain, islice
 
-from ..battle.conditions import EXECUTES, OWNER, TURN, by_warrior, executed_origins, find
+from ..battle.conditions import by_warrior, executed, find
 from ..battle.history import History
 from ..battle.labels import Line, Sources
-from ..engine.binding import MAX_UINT32
+from ..battle.runs import BY_HAND
+from ..model.types import Records
 from .formatting import BattleFormatter, pluralize
 
 # How many of the last turns of a warrior are shown, and the most lines of a table.
@@ -24,13 +25,10 @@ def own_turns(history: History, warrior: int, turn: int) -> Iterator[int]:
         yield from reversed(turns.tolist())
 
 
-def last_turns(history: History, warrior: int) -> list[int]:
-    return [*islice(own_turns(history, warrior, history.end), LAST_TURNS)]
-
-
-def executed_at(history: History, turns: Sequence[int]) -> list[int]:
-    """Returns the address that each turn executed."""
-    return [int(history.record(turn)["address"]) for turn in turns]
+def last_executed(history: History, warrior: int) -> Records:
+    """Returns the last turns of a warrior with the cells that they executed, as `executed`."""
+    turns = [*islice(own_turns(history, warrior, history.end), LAST_TURNS)]
+    return executed(history, turns[-1] - 1 if turns else history.end, history.end, [by_warrior(warrior)])
 
 
 def written_by(history: History, turn: int) -> list[int]:
@@ -69,10 +67,8 @@ def executed_by(formatter: BattleFormatter, warrior: int) -> tuple[list[Executed
     turns wrote.
     """
     history, written = formatter.history, dict[str, list[list[int]]]()
-    turns = last_turns(history, warrior)
-    origins = executed_origins(history, turns[-1] - 1, turns[0])
-    for turn in turns:
-        line = formatter.sources.lines.get(int(origins[turn - turns[-1]]))
+    for turn, _, (_, _, origin) in reversed(last_executed(history, warrior).tolist()):
+        line = formatter.sources.lines.get(origin)
         text = formatter.cell(history.executed(turn)) if line is None else describe_line(formatter, warrior, line)
         written.setdefault(text, []).append(written_by(history, turn))
     rows = [Executed(len(turns), len({*chain(*turns)}), line) for line, turns in written.items()]
@@ -91,7 +87,7 @@ def describe_hits(formatter: BattleFormatter, warrior: int, cells: set[int]) -> 
     history = formatter.history
     for other, name in enumerate(formatter.names):
         if cells and other != warrior and history.death(other) is None:
-            count = len(cells.intersection(executed_at(history, last_turns(history, other))))
+            count = len(cells.intersection(last_executed(history, other)["address"].tolist()))
             yield f"In its last turns, {name} executed {count or 'none'} of the cells written."
 
 
@@ -99,9 +95,9 @@ def summarize_last_turns(history: History, sources: Sources, names: Sequence[str
     """Returns in short what a survivor executed last: lines whose cells are as they were loaded except for their
     numbers, and whose other cells. Names are in the order of turns.
     """
-    turns = last_turns(history, warrior)
-    counts = Counter(what_executed(history, sources, warrior, turns[-1] - 1, turns[0]))
-    often = [what for what, count in counts.items() if count >= MIN_SHARE * len(turns)]
+    last = last_executed(history, warrior)
+    counts = Counter(what_executed(sources, warrior, last))
+    often = [what for what, count in counts.items() if count >= MIN_SHARE * len(last)]
     lines = [(what.warrior, what.number) for what in often if isinstance(what, Line)]
     parts = []
     for owner in sorted({owner for owner, _ in lines}, key=lambda owner: owner != warrior):
@@ -113,22 +109,16 @@ def summarize_last_turns(history: History, sources: Sources, names: Sequence[str
     return ", ".join(parts + ["cells without a line"] * (None in often))
 
 
-def what_executed(
-    history: History, sources: Sources, warrior: int, first: int, last: int
-) -> Iterator[int | Line | None]:
-    """Yields for each turn of a warrior after `first` up to `last` the line of the cell that it executed, or the number
-    of the warrior that wrote this cell.
+def what_executed(sources: Sources, warrior: int, turns: Records) -> Iterator[int | Line | None]:
+    """Yields for each of these turns of a warrior the line of the cell that it executed, or the number of the warrior
+    that wrote this cell.
     """
-    origins, mine = executed_origins(history, first, last), by_warrior(warrior)
-    for turns in find(history, [mine, (EXECUTES, TURN, 0, 0)], first, last):
-        yield from map(sources.lines.get, executed_at(history, turns.tolist()))
-    for writer in range(len(history.warriors)):
-        rows = [mine, (EXECUTES, TURN, 1, MAX_UINT32), (EXECUTES, OWNER, writer, writer)]
-        for turn in chain.from_iterable(turns.tolist() for turns in find(history, rows, first, last)):
-            (address,) = executed_at(history, [turn])
-            # A warrior that changes numbers of its own code still executes the same line.
-            is_line = writer == warrior and origins[turn - first - 1] == address
-            yield sources.lines.get(address) if is_line else writer
+    for _, address, (writer, changed, origin) in turns.tolist():
+        # A warrior that changes numbers of its own code still executes the same line.
+        if not changed or (writer == warrior and origin == address):
+            yield sources.lines.get(address)
+        elif writer != BY_HAND:
+            yield writer
 
 
 def ranges(numbers: set[int]) -> str:

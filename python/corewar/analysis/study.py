@@ -10,7 +10,7 @@ import numpy as np
 from numpy.typing import NDArray
 
 from ..battle.blocks import Block, Touches
-from ..battle.conditions import executed_origins
+from ..battle.conditions import executed
 from ..battle.history import History
 from ..battle.labels import Sources
 from ..battle.runs import NOBODY
@@ -152,7 +152,7 @@ class Observation:
     def __init__(self, history: History) -> None:
         self.history, self.sources = history, Sources(history, WARRIORS)
         self.formatter = BattleFormatter(history, self.sources)
-        self.origins = executed_origins(history, 0, history.end)
+        self.origins = executed(history, 0, history.end)["past"]["origin"].astype(np.int64)
         start = history.state(0)
         self.is_loaded, self.opcodes = history.owners(0) != NOBODY, start.cells["op"].copy()
         # The first turn that executed each cell, the first hit, and the number of processes at most.

@@ -10,6 +10,7 @@ from numpy.typing import NDArray
 
 from ..engine.binding import MAX_UINT32, array
 from ..model.header import enumeration
+from ..model.types import Records
 from .history import History, spans
 from .runs import BY_HAND
 
@@ -20,6 +21,8 @@ CELL_CONDITIONS = {"at": EXECUTES, "changes": CHANGES, "reads": READS}
 WARRIOR_CONDITIONS = {"splits": (QUEUED, 2), "ends": (QUEUED, 0), "dies": (DIED, 1)}
 # The way, the number and the range of a condition of the library, as in `MarsCondition`.
 Row = tuple[int, int, int, int]
+# The condition that all turns meet.
+ALL: Row = (EXECUTES, ADDRESS, 0, MAX_UINT32)
 Turns = NDArray[np.uint32]
 
 
@@ -71,7 +74,7 @@ def find(
             battle, pasts = history.followed(start)
         else:
             battle, pasts = history.state(start), array("MarsPast", history.core)
-        yield battle.follow(pasts, end - start, rows)
+        yield battle.follow(pasts, end - start, rows)["turn"]
 
 
 def search(
@@ -106,18 +109,12 @@ def last_opcode_change(history: History, address: int, turn: int) -> int | None:
     return next((int(turns[-1]) for turns in find(history, rows, 0, turn, False) if len(turns)), None)
 
 
-def executed_origins(history: History, first: int, last: int) -> NDArray[np.int64]:
-    """Returns the origin of the instruction of each turn after `first` up to `last`: a row for each turn."""
-    origins = np.zeros(last - first, np.int64)
+def executed(history: History, first: int, last: int, rows: Sequence[Row] = (ALL,)) -> Records:
+    """Returns the turns after `first` up to `last` that meet all conditions of the library, with the cell that each
+    executed and its past: an array with the fields of `MarsFound`.
+    """
+    parts = [array("MarsFound", 0)]
     for start, end in spans(history, first, last):
         battle, pasts = history.followed(start)
-        names, numbers = np.unique(pasts["origin"], return_inverse=True)
-        found = np.zeros(end - start, np.int64)
-        # Each search finds a binary digit of the numbers.
-        for digit in range(len(names).bit_length()):
-            marked = pasts.copy()
-            marked["origin"] = numbers >> digit & 1
-            turns = battle.copy().follow(marked, end - start, [(EXECUTES, ORIGIN, 1, 1)])
-            found[turns.astype(np.int64) - start - 1] |= 1 << digit
-        origins[start - first : end - first] = names[found]
-    return origins
+        parts.append(battle.follow(pasts, end - start, rows))
+    return np.concatenate(parts)

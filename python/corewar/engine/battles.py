@@ -151,23 +151,24 @@ class Battle:
 
     def follow(
         self, pasts: Pasts, turns: int, conditions: Sequence[tuple[int, int, int, int]] = ()
-    ) -> NDArray[np.uint32]:
+    ) -> Records:
         """Executes turns, as many as are left at most, and keeps the past of each cell in place, as `mars_follow`.
 
         - `pasts`: an array with the fields of `MarsPast` and a row for each cell
         - `conditions`: the fields of each `MarsCondition`
 
-        Returns the numbers of the turns that meet all conditions, or no number without conditions. Raises `MarsError`
-        for a way or a number that does not exist, and if something that was written to the battle is invalid.
+        Returns the turns that meet all conditions, or none without conditions: an array with the fields of `MarsFound`.
+        Raises `MarsError` for a way or a number that does not exist, and if something that was written to the battle is
+        invalid.
         """
         asked, count = array("MarsCondition", len(conditions)), library()[0].new("uint32_t *")
         asked[:] = [*conditions]
-        parts, end = [array("uint32_t", 0)], self.turns + turns
+        parts, end = [array("MarsFound", 0)], self.turns + turns
         while self.turns < end and not self.over:
             # Python raises Ctrl-C between two calls.
             made = min(end - self.turns, RECORDED_TURNS)
-            found = array("uint32_t", made if len(conditions) else 0)
-            rows = (("MarsPast", pasts), ("MarsCondition", asked), ("uint32_t", found))
+            found = array("MarsFound", made if len(conditions) else 0)
+            rows = (("MarsPast", pasts), ("MarsCondition", asked), ("MarsFound", found))
             call("mars_follow", *self._slice(), made, *chain(*(slice_of(*one) for one in rows)), count)
             parts.append(found[: count[0]])
         return np.concatenate(parts)

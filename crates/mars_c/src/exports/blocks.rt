@@ -28,7 +28,7 @@ use crate::records::MarsRecord;
 use crate::settings::MarsSettings;
 use crate::touches::MarsTouched;
 use crate::warriors::MarsWarrior;
-use mars_core::Past;
+use mars_core::{Found, Past};
 use std::alloc::Global;
 
 /// Returns the maximum length of the block of a battle in words, or 0 if the settings and the number of warriors allow no
@@ -98,7 +98,7 @@ pub extern "C" fn mars_follow(
     turns: u32,
     pasts: &mut [Past],
     conditions: &[MarsCondition],
-    found: &mut [u32],
+    found: &mut [Found],
     count: &mut u32,
     fault: &mut MarsFault,
 ) -> u32

@@ -15,7 +15,7 @@ loaded address = record { owner = 9; turn = 0; origin = address }
 abbrev pub all_loaded : List Past
 all_loaded = map loaded (range_with_len 0 8)
 
-abbrev past : ℕ → ℕ → ℕ → Past
+abbrev pub past : ℕ → ℕ → ℕ → Past
 past owner turn origin = record { owner = owner; turn = turn; origin = origin }
 
 -- Each imp is a copy of the one before, and so of the first.

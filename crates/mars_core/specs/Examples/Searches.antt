@@ -6,16 +6,21 @@ use Rattle.mars_cell.specs.declared.instruction.Mode.TheVariants.{Direct, BPosti
 use Rattle.mars_core.specs.Past.{copy_by, pasts_after}
 use Rattle.mars_core.specs.Search.{filled, found_in, is_within, meets}
 use Rattle.mars_core.specs.State.{State}
+use Rattle.mars_core.specs.declared.past.Past.{Past}
 use Rattle.mars_core.specs.declared.search.Condition.{Condition}
+use Rattle.mars_core.specs.declared.search.Found.{Found}
 use Rattle.mars_core.specs.declared.search.Number.{Number}
 use Rattle.mars_core.specs.declared.search.Number.TheVariants.{Warrior, Queued, Address, Origin, Opcode, NewOpcode}
 use Rattle.mars_core.specs.declared.search.Way.{Way}
 use Rattle.mars_core.specs.declared.search.Way.TheVariants.{Executes, Changes, Reads}
 use Rattle.mars_core.specs.Examples.{the_machine, battle_of, cell_of, numbers, imp, of_eight, eight, lone}
-use Rattle.mars_core.specs.Examples.Pasts.{all_loaded}
+use Rattle.mars_core.specs.Examples.Pasts.{all_loaded, loaded, past}
 
 abbrev where_ : Way → Number → ℕ → ℕ → Condition
 where_ way number first last = record { way = way; number = number; first = first; last = last }
+
+abbrev found : ℕ → ℕ → Past → Found
+found turn address before = record { turn = turn; address = address; past = before }
 
 -- A range whose last number is the smaller one goes around.
 pub ranges_go_around : (is_within 6 1 7 ≡ true) × (is_within 6 1 1 ≡ true) × (is_within 6 1 3 ≡ false) × (is_within 3 3 3 ≡ true)
@@ -25,8 +30,9 @@ ranges_go_around = (refl, refl, refl, refl)
 abbrev two_imps : State
 two_imps = battle_of of_eight (eight (imp ∷ imp ∷ [])) ((0 ∷ []) ∷ (1 ∷ []) ∷ [])
 
-pub copies_are_found_where_they_are_executed : (found_in (where_ Executes Origin 0 0 ∷ where_ Executes Warrior 1 1 ∷ []) 6 two_imps all_loaded ≡ 2 ∷ 4 ∷ 6 ∷ [])
-    × (found_in (where_ Changes Address 2 2 ∷ []) 6 two_imps all_loaded ≡ 2 ∷ [])
+pub copies_are_found_where_they_are_executed : (found_in (where_ Executes Origin 0 0 ∷ where_ Executes Warrior 1 1 ∷ []) 6 two_imps all_loaded
+    ≡ found 2 1 (past 9 0 0) ∷ found 4 2 (past 1 2 0) ∷ found 6 3 (past 1 4 0) ∷ [])
+    × (found_in (where_ Changes Address 2 2 ∷ []) 6 two_imps all_loaded ≡ found 2 1 (past 9 0 0) ∷ [])
 unfolding the_machine copy_by pasts_after
 copies_are_found_where_they_are_executed = (refl, refl)
 
@@ -47,9 +53,13 @@ unfolding the_machine copy_by pasts_after
 written_cells_are_not_read = (refl, refl)
 
 -- `SPL.B $1, $0`: a turn that splits, and one that kills its warrior.
-pub splits_and_deaths_are_found : found_in (where_ Executes Queued 2 2 ∷ []) 1 (lone of_eight (eight (cell_of Spl B Direct 1 Direct 0 ∷ [])) (0 ∷ [])) all_loaded ≡ 1 ∷ []
+pub splits_and_deaths_are_found : found_in (where_ Executes Queued 2 2 ∷ []) 1 (lone of_eight (eight (cell_of Spl B Direct 1 Direct 0 ∷ [])) (0 ∷ [])) all_loaded ≡ found 1 0 (loaded 0) ∷ []
 unfolding the_machine copy_by pasts_after
 splits_and_deaths_are_found = refl
 
-pub rows_are_filled_as_far_as_there_are : (filled (4 ∷ 6 ∷ []) (0 ∷ 0 ∷ 0 ∷ []) ≡ 4 ∷ 6 ∷ 0 ∷ []) × (filled (4 ∷ 6 ∷ []) (0 ∷ []) ≡ 4 ∷ [])
+abbrev at_start : ℕ → Found
+at_start turn = found turn 0 (loaded 0)
+
+pub rows_are_filled_as_far_as_there_are : (filled (at_start 4 ∷ at_start 6 ∷ []) (at_start 0 ∷ at_start 1 ∷ at_start 2 ∷ []) ≡ at_start 4 ∷ at_start 6 ∷ at_start 2 ∷ [])
+    × (filled (at_start 4 ∷ at_start 6 ∷ []) (at_start 0 ∷ []) ≡ at_start 4 ∷ [])
 rows_are_filled_as_far_as_there_are = (refl, refl)

@@ -1,14 +1,15 @@
 //! The copy of a whole cell that an execution makes (`specs/Past`).
-ghost use Rattle.std.specs.Prelude.{◌≡◌, ◌<◌, IfSome};
-ghost use Rattle.mars_core.specs.Past.{copies as spec_copies, copy_by};
-ghost use Rattle.mars_core.specs.Validity.{IsCore};
+ghost use Rattle.std.specs.Prelude.{◌≡◌, ◌<◌, ℕ, IfSome, List};
+ghost use Rattle.mars_cell.specs.Parameters.{Parameters};
+ghost use Rattle.mars_cell.specs.declared.instruction.Cell.{Cell as CellValue};
+ghost use Rattle.mars_core.specs.Code.Operands.{AreOperands};
+ghost use Rattle.mars_core.specs.Past.{copies as spec_copies, copy_by as spec_copy_by};
+ghost use Rattle.mars_core.specs.State.{cell_at};
 ghost use Rattle.mars_core.specs.declared.machine.copy.CellCopy.{CellCopy as Copied};
 
 use crate::machine::effect::pairs::takes_whole_cells;
-use crate::machine::places::cell_at;
-use crate::machine::touched::operands_at;
-use crate::packed::PackedCell;
-use mars_cell::{Modifier, Op, Params};
+use crate::machine::execution::Operands;
+use mars_cell::{Cell, Modifier, Op};
 
 /// A copy of a whole cell: the address from which it is copied, and the address at which it is written.
 #[derive(Clone, Copy, Debug)]
@@ -28,22 +29,19 @@ fn copies(op: Op, modifier: Modifier) -> bool
     }
 }
 
-/// Returns the copy that the execution of the instruction at `pc` makes, or `None` if it makes none.
+/// Returns the copy that the execution of an instruction with these operands makes, or `None` if it makes none.
 #[inline(always)]
-pub fn copy_by(params: &Params, core: &mut [PackedCell], pc: u32) -> Option<CellCopy>
-    requires core { IsCore params.now.core_size core.old }
-    requires pc { pc < params.now.core_size }
-    ensures copy { result ≡ copy_by params.now core.old pc }
-    ensures core { core.new ≡ core.old }
-    ensures inside { IfSome result (λ (copy : Copied). copy.from < params.now.core_size × copy.to < params.now.core_size) }
+pub fn copy_by(instruction: Cell, operands: Operands) -> Option<CellCopy>
+    ensures copy { (p : Parameters) (core : List CellValue) (pc : ℕ) → instruction ≡ cell_at core pc → AreOperands p core pc operands
+        → result ≡ spec_copy_by p core pc }
+    ensures inside { (p : Parameters) (core : List CellValue) (pc : ℕ) → AreOperands p core pc operands
+        → IfSome result (λ (copy : Copied). copy.from < p.core_size × copy.to < p.core_size) }
 {
-    let packed = cell_at(core, pc);
-    if !copies(packed.op(), packed.modifier()) {
+    if !copies(instruction.op, instruction.modifier) {
         return None;
     }
-    let operands = operands_at(params, core, pc, packed.cell());
     Some(CellCopy {
-        from: operands.a.read,
-        to: operands.b.write,
+        from: operands.a_read,
+        to: operands.b_write,
     })
 }

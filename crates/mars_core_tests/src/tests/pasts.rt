@@ -1,7 +1,7 @@
 //! The past of cells, and a search: two imps, of which the second one executes copies of the first.
 
 use super::battle_of;
-use mars_core::{Condition, Number, Past, Way};
+use mars_core::{Condition, Found, Number, Past, Way};
 use std::process::Abort;
 use std::test::Fail;
 
@@ -11,6 +11,20 @@ fn is(number: Number, value: u32) -> Condition {
         number,
         first: value,
         last: value,
+    }
+}
+
+/// A turn that executes an instruction of the first imp at an address, after its owner changed it in a turn.
+fn found(turn: u32, address: u32, owner: u32, changed: u32) -> Found {
+    let past = Past {
+        owner,
+        turn: changed,
+        origin: 0,
+    };
+    Found {
+        turn,
+        address,
+        past,
     }
 }
 
@@ -27,13 +41,23 @@ fn imps_are_followed_and_found(rt: HostRuntime) -> Result<(), Fail> {
         })?;
     }
     let conditions = [is(Number::Origin, 0), is(Number::Warrior, 1)];
-    let mut found = [7; 4];
+    let none = found(7, 7, 9, 0);
+    let mut turns = [none; 4];
     if pasts.len() != battle.params().core_size() as usize {
         return Err("core size".into());
     }
-    let count = battle.follow(6, &mut pasts, &conditions, &mut found);
+    let count = battle.follow(6, &mut pasts, &conditions, &mut turns);
     assert_eq!(&rt; count, 3);
-    assert_eq!(&rt; found, [2, 4, 6, 7]);
+    // In turn 2 it executes the cell at which it was loaded, which is an equal copy of the first imp.
+    assert_eq!(&rt;
+        turns,
+        [
+            found(2, 1, 9, 0),
+            found(4, 2, 1, 2),
+            found(6, 3, 1, 4),
+            none
+        ]
+    );
     let second = Past {
         owner: 1,
         turn: 2,

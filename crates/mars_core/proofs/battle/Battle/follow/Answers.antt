@@ -1,8 +1,8 @@
 use Rattle.std.proofs.Common.{◌≡◌, false, length, sym, ap, ◌∙◌, inl, inr, arith}
-use Rattle.mars_core.specs.Search.{filled}
-use Rattle.mars_core.specs.State.{State, is_over_of}
-use Rattle.mars_core.proofs.Searches.{followed-all, followed-found, followed-missed, followed-none}
-use Rattle.mars_core.proofs.battle.Battle.follow.Goals.{then-follow_turn, else-follow_turn}
+use Rattle.mars_core.specs.Search.{filled, found_turn, meets}
+use Rattle.mars_core.specs.State.{is_over_of}
+use Rattle.mars_core.proofs.Searches.{followed-all, followed-found, followed-missed, followed-none, given_none, given_some}
+use Rattle.mars_core.proofs.battle.Battle.follow.Goals.{in-Some, in_default}
 use Rattle.mars_core.proofs.battle.Battle.follow.Goals as goal
 
 pub loop-made-init : goal.loop-made-init
@@ -14,16 +14,18 @@ loop-made-preserved c =
     let l = c.loop-made in
     let running : is_over_of l.self ≡ false = sym c.is_over.ensures.value ∙ c.if-is_over.false in
     let turn = c.follow_turn.ensures in
-    elim c.if-follow_turn.branch [
-      | then-follow_turn t ↦
+    elim c.match-follow_turn.branch [
+      | in-Some t ↦
+          let found = given_some (meets a.conditions.now l.self l.pasts) (found_turn l.self l.pasts) t.in-Some.turn (sym turn.found ∙ t.in-Some.is) in
           rw t.count-is
           (followed-found a.conditions.now a.turns a.self.now a.pasts.now a.found.now l.made l.self l.pasts l.found l.count l.invariant
           c.follow_turn.new.self c.follow_turn.new.pasts c.loop-made-test.true running turn.battle turn.pasts
-          _ _ (sym turn.met ∙ t.if-follow_turn.true) (ap (λ (s : State). s.turns) c.self.view_is) (t.found-is ∙ t.put.ensures))
-      | else-follow_turn t ↦
+          _ _ found.0 found.1 (t.found-is ∙ t.put.ensures))
+      | in_default t ↦
           rw (t.found-is, t.count-is)
           (followed-missed a.conditions.now a.turns a.self.now a.pasts.now a.found.now l.made l.self l.pasts l.found l.count l.invariant
-          c.follow_turn.new.self c.follow_turn.new.pasts c.loop-made-test.true running turn.battle turn.pasts (sym turn.met ∙ t.if-follow_turn.false))
+          c.follow_turn.new.self c.follow_turn.new.pasts c.loop-made-test.true running turn.battle turn.pasts
+          (given_none (meets a.conditions.now l.self l.pasts) (found_turn l.self l.pasts) (λ row e. t.in_default.not-Some row (turn.found ∙ e))))
     ]
 
 pub returns-then-is_over-clause-count : goal.returns-then-is_over-clause-count

@@ -5,15 +5,14 @@ use Rattle.mars_core.proofs.machine.copy.copy_by.Goals as goal
 
 pub returns-then-not-copies-clause-copy : goal.returns-then-not-copies-clause-copy
 unfolding copy_by
-returns-then-not-copies-clause-copy c =
-    let i = cell_at c.args.core.now c.args.pc in
+returns-then-not-copies-clause-copy c = λ p core pc is at.
+    let i = cell_at core pc in
     let copied : copies i.op i.modifier ≡ false = cc in
     rw copied
 
 pub returns-clause-copy : goal.returns-clause-copy
 unfolding copy_by
-returns-clause-copy c =
-    let i = cell_at c.args.core.now c.args.pc in
+returns-clause-copy c = λ p core pc is at.
+    let i = cell_at core pc in
     let copied : copies i.op i.modifier ≡ true = cc in
-    let at = c.operands_at-operands.ensures in
-    rw (copied, at.a, at.b, c.cell.ensures, c.cell_at-packed.ensures)
+    rw (copied, at.a_read, at.b_write)

@@ -10,15 +10,14 @@ use Rattle.mars_core.proofs.machine.touched.touched.Goals as goal
 in_order : (xs ys : List ℕ) (r s w : ℕ) → ((xs ++ r ∷ [] ++ ys) ++ s ∷ []) ++ w ∷ [] ≡ xs ++ r ∷ ys ++ s ∷ w ∷ []
 in_order xs ys r s w = append_assoc _ (s ∷ []) (w ∷ []) ∙ ap (λ l. l ++ s ∷ w ∷ []) (append_assoc xs (r ∷ []) ys)
 
-pub returns-clause-addresses : goal.returns-clause-addresses
+pub returns : goal.returns
 unfolding touched
-returns-clause-addresses c =
-    let both = c.operands_at-operands.ensures in
+returns c = λ core is at_pc.
     let p = c.args.params.now in
     let pc = c.args.pc in
-    let i = cell_at c.args.core.now pc in
-    let a = (a_evaluated p c.args.core.now pc i).operand in
-    let b = (b_evaluated p c.args.core.now pc i).operand in
+    let i = cell_at core pc in
+    let a = (a_evaluated p core pc i).operand in
+    let b = (b_evaluated p core pc i).operand in
     let at = address_after p.core_size pc in
     rw (
       c.push-4.ensures.items,
@@ -28,9 +27,9 @@ returns-clause-addresses c =
       c.add_pointed.ensures.added,
       c.push.ensures.items,
       c.new-addresses.ensures,
-      both.a,
-      both.b,
-      c.cell-instruction.ensures,
-      c.cell_at.ensures,
+      at_pc.a_read,
+      at_pc.b_read,
+      at_pc.b_write,
+      is,
     )
     (in_order (pc ∷ pointed_addresses p pc i.a_mode i.a) (pointed_addresses p pc i.b_mode i.b) (at a.read) (at b.read) (at b.write))
