@@ -8,7 +8,7 @@ from conftest import EXAMPLES
 from hypothesis import given, strategies as st
 
 from corewar.battle import history as module
-from corewar.battle.conditions import executed_origins
+from corewar.battle.conditions import executed
 from corewar.battle.history import History
 from corewar.battle.labels import Sources
 from corewar.engine.calls import Match, assemble, source_lines
@@ -79,7 +79,7 @@ def test_the_line_of_nearly_each_turn_is_known() -> None:
     for names in PAIRS:
         history = History(Match(tuple(read(str(EXAMPLES / f"{name}.red")) for name in names.split())))
         sources = Sources(history)
-        known += int(np.isin(executed_origins(history, 0, history.end), [*sources.lines]).sum())
+        known += int(np.isin(executed(history, 0, history.end)["past"]["origin"], [*sources.lines]).sum())
         turns += history.end
     assert known > 0.99 * turns
 

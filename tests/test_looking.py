@@ -15,7 +15,7 @@ import click
 import pytest
 from conftest import ENVIRONMENT, EXAMPLES, Run, begin
 
-from corewar.analysis.endings import last_turns, summarize_last_turns
+from corewar.analysis.endings import last_executed, summarize_last_turns
 from corewar.analysis.losses import fates_of_rounds, lost_rounds
 from corewar.battle.history import History
 from corewar.battle.labels import Sources
@@ -348,8 +348,8 @@ def test_lines_at_the_end_are_those_of_the_turns(names: tuple[str, ...]) -> None
             ties[(one + number) % len(names)] += 1
             traced = {
                 (line.warrior, line.number)
-                for turn in last_turns(history, one)
-                if (line := sources.line(history, int(history.record(turn)["address"]), turn - 1))
+                for turn, address, _ in last_executed(history, one).tolist()
+                if (line := sources.line(history, address, turn - 1))
             }
             summary = summarize_last_turns(history, sources, history.names, one)
             for owner, numbers in re.findall(r"(?:(\w+)'s )?lines? ((?:[\d-]+(?:, (?=\d))?)+)", summary):

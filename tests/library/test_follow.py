@@ -8,8 +8,8 @@ import pytest
 from battles import edit_of, edits, matches
 from hypothesis import given, strategies as st
 
-from corewar.battle import history as module, runs
-from corewar.battle.conditions import CHANGES, EXECUTES, ORIGIN, READS, Row, executed_origins, find
+from corewar.battle import conditions, history as module, runs
+from corewar.battle.conditions import ADDRESS, CHANGES, EXECUTES, ORIGIN, READS, Row, find
 from corewar.battle.history import History
 from corewar.battle.runs import BY_HAND, NOBODY
 from corewar.engine.battles import Battle
@@ -127,5 +127,15 @@ def test_searches(history: History, rows: list[Row], part: float, forward: bool)
     spans = [turns.tolist() for turns in find(history, rows, first, None, forward)]
     expected = [turn for turn in range(first + 1, history.end + 1) if rows and meets(rows, facts[turn - 1])]
     assert sum(spans if forward else reversed(spans), []) == expected
-    origins = [one.numbers[one.uses[EXECUTES][0]][ORIGIN - 1] for one in facts[first:]]
-    assert np.minimum(executed_origins(history, first, history.end), history.core).tolist() == origins
+
+
+@given(histories(), st.floats(0, 1))
+def test_executed_cells(history: History, part: float) -> None:
+    facts, first = read(history, history.end)[1], int(part * part * history.end)
+    numbers = [one.numbers[one.uses[EXECUTES][0]] for one in facts[first:]]
+    # The origins of edited cells are one here.
+    found = [
+        (turn, address, owner, when, min(origin, history.core))
+        for turn, address, (owner, when, origin) in conditions.executed(history, first, history.end).tolist()
+    ]
+    assert found == [(first + 1 + at, *row[ADDRESS - 1 : ORIGIN]) for at, row in enumerate(numbers)]

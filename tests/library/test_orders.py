@@ -268,7 +268,7 @@ def follow(arguments: Battle, fault: Any) -> tuple[int, NDArray[Any]]:
     conditions = filled("MarsCondition", [(1, 4, 0, 0), (arguments.way, 9, 0, 0)])
     given = [*slice_of("MarsPast", pasts), *conditions, *slice_of("MarsFound", found)]
     code = library()[1].mars_follow(*block, 1, *given, library()[0].new("uint32_t *"), fault)
-    assert not pasts.view(np.uint32).any() and not found.any()
+    assert not pasts.view(np.uint32).any() and not found.view(np.uint32).any()
     return code, words
 
 
