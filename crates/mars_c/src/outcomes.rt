@@ -11,8 +11,8 @@ use crate::faults::{CallRefusal, refused_fight};
 use crate::ranges::{LineupFault, SettingsFault};
 use crate::settings::{MarsSettings, make_setup, parameters};
 use mars_cell::Warrior;
-use mars_core::MAX_WARRIORS;
-use mars_match::{Fate, fight_rounds};
+use mars_core::{Battle, MAX_WARRIORS};
+use mars_match::{Fate, Fought, fight_rounds};
 use std::alloc::Global;
 
 /// A match of a batch: its warriors, and the seed of its first round.
@@ -156,22 +156,23 @@ fn choose(
     Ok(chosen)
 }
 
-/// Returns the fates of a lineup's match.
+/// Returns the fates of a lineup's match. It is fought in the memory of the last one's battle, if that fits.
 fn fight_lineup(
     alloc: Global,
     settings: &MarsSettings,
     warriors: &[Warrior],
     lineup: &MarsLineup,
-) -> Result<Vec<Fate>, CallRefusal>
+    last: Option<Box<Battle>>,
+) -> Result<Fought, CallRefusal>
     requires { IsLineup (length warriors.now) lineup.now }
-    ensures fought { IfOk result (λ fates. IsFought settings.now warriors.now lineup.now fates.items) }
+    ensures fought { IfOk result (λ fought. IsFought settings.now warriors.now lineup.now fought.fates.items) }
     ensures refused { IfErr result (RefusesLineup settings.now warriors.now lineup.now) }
 {
     let count = lineup.count as usize;
     let setup = make_setup(alloc, &seeded(settings, lineup.seed), b"0", count)?;
     let chosen = choose(alloc, warriors, lineup)?;
-    match fight_rounds(alloc, &setup, &chosen, lineup.counting != 0) {
-        Ok(fates) => Ok(fates),
+    match fight_rounds(alloc, &setup, chosen, lineup.counting != 0, last) {
+        Ok(fought) => Ok(fought),
         Err(fault) => Err(refused_fight(fault)),
     }
 }
@@ -201,9 +202,11 @@ fn fight_all(
     ensures refused { IfErr result (IsFirstFailure settings.now warriors.now lineups.now) }
 {
     let mut outcomes = Vec::new(alloc);
+    let mut last = None;
     for i in 0..lineups.len() {
-        let fates = fight_lineup(alloc, settings, warriors, &lineups[i])?;
-        append(&mut outcomes, &fates)?;
+        let fought = fight_lineup(alloc, settings, warriors, &lineups[i], last)?;
+        append(&mut outcomes, &fought.fates)?;
+        last = fought.last;
     }
     Ok(outcomes)
 }

@@ -1,6 +1,5 @@
 //! The fate of each warrior in each round of a match.
-ghost use Rattle.std.specs.Prelude.{◌≡◌, ◌++◌, ◌+◌, ◌-◌, ◌*◌, ◌%◌, ◌<◌, ◌≤◌, ◌≢◌, Box, IfErr, IfOk, IfSome, MatchResult, Vec, length, vec_len};
-ghost use Rattle.std.specs.Global.{Global};
+ghost use Rattle.std.specs.Prelude.{◌≡◌, ◌++◌, ◌+◌, ◌-◌, ◌*◌, ◌%◌, ◌<◌, ◌≤◌, ◌≢◌, IfErr, IfOk, IfSome, MatchResult, length, true};
 ghost use Rattle.mars_core.specs.Limits.{max_warriors};
 ghost use Rattle.mars_core.specs.State.{State};
 ghost use Rattle.mars_match.specs.Battles.{round_start};
@@ -10,6 +9,7 @@ ghost use Rattle.mars_match.specs.Code.Lineups.{HasRoom};
 ghost use Rattle.mars_match.specs.Fates.{ended, fate_of as spec_fate_of, fates, fates_from, fates_of, place_of as spec_place_of, turns_until as spec_turns_until};
 ghost use Rattle.mars_match.specs.Placement.{FitsTwo};
 ghost use Rattle.mars_match.specs.declared.fates.Fate.{Fate as FateValue};
+ghost use Rattle.mars_match.specs.declared.fates.Fought.{Fought as FoughtValue};
 ghost use Rattle.mars_match.specs.declared.fates.Played.{Played as PlayedValue};
 
 use crate::counts::{Counts, count_to_end};
@@ -134,23 +134,32 @@ fn append_fates(
     Ok(())
 }
 
+/// The fates of the rounds of a match, and the battle of its last round, in whose memory another one can start.
+#[derive(Drop)]
+pub struct Fought {
+    pub fates: Vec<Fate>,
+    pub last: Option<Box<Battle>>,
+}
+
 /// Returns the fates of all rounds of a match.
 fn fight_lineup(
     alloc: Global,
     setup: &Setup,
     lineup: &Lineup,
     counting: bool,
-) -> Result<Vec<Fate>, MatchFault>
+    last: Option<Box<Battle>>,
+) -> Result<Fought, MatchFault>
     requires some { 1 ≤ length lineup.now }
     requires few { length lineup.now ≤ max_warriors }
     requires fixed { IfSome setup.now.plan.fixed (λ position. length lineup.now ≡ 2) }
-    ensures { let plan = setup.now.plan in IsResult (λ (fates : Vec FateValue Global). fates.items)
+    requires room { IfSome last (λ battle. HasRoom setup.now.params (length lineup.now) battle.value) }
+    ensures { let plan = setup.now.plan in IsResult (λ (fought : FoughtValue). fought.fates.items)
         (fates counting setup.now.params lineup.now plan.fixed plan.rounds 0 plan.seed) result }
 {
     let mut starts = vec![in alloc; 0u32; lineup.len()]?;
     let mut fates = Vec::new(alloc);
     let mut seed = setup.plan.seed;
-    let mut last = None;
+    let mut last = last;
     for number in 0..setup.plan.rounds {
         seed = setup.place_round(seed, starts.as_mut_slice())?;
         let starts = starts.as_slice();
@@ -163,14 +172,43 @@ fn fight_lineup(
         append_fates(&mut fates, &played, number as usize % lineup.len(), starts)?;
         last = Some(played.battle);
     }
-    Ok(fates)
+    Ok(Fought { fates, last })
+}
+
+/// Returns whether a battle with these parameters and this number of warriors can start in the memory of another one.
+fn has_room(battle: &Battle, params: &Params, count: usize) -> bool
+    ensures { result ≡ true → HasRoom params.now count battle.now }
+{
+    let own = battle.params();
+    battle.warriors() == count
+        && own.core_size() == params.core_size()
+        && own.processes() == params.processes()
+        && own.cycles() == params.cycles()
+        && own.read_limit() == params.read_limit()
+        && own.write_limit() == params.write_limit()
+        && own.max_length() == params.max_length()
+        && own.distance() == params.distance()
+}
+
+/// Returns the battle if another one with these parameters and this number of warriors can start in its memory.
+fn with_room(last: Option<Box<Battle>>, params: &Params, count: usize) -> Option<Box<Battle>>
+    ensures { IfSome result (λ battle. HasRoom params.now count battle.value) }
+{
+    let Some(battle) = last else {
+        return None;
+    };
+    if !has_room(&battle, params, count) {
+        return None;
+    }
+    Some(battle)
 }
 
 /// Returns the fate of each warrior in each round of a match, in load order, one round after another.
 ///
 /// The rounds are those of `rounds` for the same setup, but no formula is evaluated. If `counting`, each turn is recorded to
-/// count what the warriors do, which takes several times as long. Allocates copies of the warriors, one battle, and the
-/// fates; if `counting`, also marks for the cells of each warrior in each round.
+/// count what the warriors do, which takes several times as long. The battles are fought in the memory of `last`, the battle
+/// of an earlier match, if that has the same parameters and number of warriors. Otherwise a battle is allocated, and in any
+/// case copies of the warriors, and the fates; if `counting`, also marks for the cells of each warrior in each round.
 ///
 /// # Errors
 ///
@@ -178,14 +216,16 @@ fn fight_lineup(
 pub fn fight_rounds(
     alloc: Global,
     setup: &Setup,
-    warriors: &[Warrior],
+    warriors: Vec<Warrior>,
     counting: bool,
-) -> Result<Vec<Fate>, MatchFault>
-    requires fixed { FitsTwo setup.now.params (length warriors.now) setup.now.plan.fixed }
-    ensures { let plan = setup.now.plan in IsResult (λ (fates : Vec FateValue Global). fates.items)
-        (fates_of counting setup.now.params warriors.now plan.fixed plan.rounds plan.seed) result }
+    last: Option<Box<Battle>>,
+) -> Result<Fought, MatchFault>
+    requires fixed { FitsTwo setup.now.params (length warriors.items) setup.now.plan.fixed }
+    ensures { let plan = setup.now.plan in IsResult (λ (fought : FoughtValue). fought.fates.items)
+        (fates_of counting setup.now.params warriors.items plan.fixed plan.rounds plan.seed) result }
 {
     check_count(warriors.len())?;
-    let lineup = Lineup::new(alloc, warriors)?;
-    fight_lineup(alloc, setup, &lineup, counting)
+    let lineup = Lineup::of(warriors)?;
+    let last = with_room(last, &setup.params, lineup.len());
+    fight_lineup(alloc, setup, &lineup, counting, last)
 }

@@ -36,14 +36,15 @@ impl Model for Lineup {
     ghost invariant = { λ l. GoesOn l.count l.copies.items };
 }
 
-/// Appends copies of warriors.
-fn append_copies(copies: &mut Vec<Warrior>, warriors: &[Warrior]) -> Result<(), AllocError>
-    ensures { IfOk result (λ _. copies.new.items ≡ copies.old.items ++ warriors.now) }
+/// Returns copies of warriors.
+fn copies_of(alloc: Global, warriors: &[Warrior]) -> Result<Vec<Warrior>, AllocError>
+    ensures { IfOk result (λ copies. copies.items ≡ warriors.now) }
 {
+    let mut copies = Vec::new(alloc);
     for warrior in warriors {
         copies.push(warrior.copy()?)?;
     }
-    Ok(())
+    Ok(copies)
 }
 
 impl Lineup {
@@ -52,13 +53,21 @@ impl Lineup {
         requires { 1 ≤ length warriors.now }
         ensures { IfOk result (λ lineup. lineup ≡ warriors.now) }
     {
-        let mut copies = Vec::new(alloc);
-        append_copies(&mut copies, warriors)?;
-        append_copies(&mut copies, &warriors[..warriors.len() - 1])?;
-        Ok(Lineup {
-            copies,
-            count: warriors.len(),
-        })
+        Lineup::of(copies_of(alloc, warriors)?)
+    }
+
+    /// Takes the warriors, in load order.
+    pub fn of(warriors: Vec<Warrior>) -> Result<Lineup, AllocError>
+        requires { 1 ≤ length warriors.items }
+        ensures { IfOk result (λ lineup. lineup ≡ warriors.items) }
+    {
+        let mut copies = warriors;
+        let count = copies.len();
+        for i in 0..count - 1 {
+            let copy = copies[i].copy()?;
+            copies.push(copy)?;
+        }
+        Ok(Lineup { copies, count })
     }
 
     /// Copies a warrior twice; `replace_second` then replaces the second copy.

@@ -30,7 +30,7 @@ mod setup;
 mod table;
 
 pub use counts::Counts;
-pub use fates::{Fate, fight_rounds};
+pub use fates::{Fate, Fought, fight_rounds};
 pub use fault::MatchFault;
 pub use fights::fight;
 pub use matches::{league, rounds};

@@ -149,9 +149,7 @@ class Battle:
         recorded, seen = (one[0] if len(parts) == 1 else np.concatenate(one) for one in zip(*parts))
         return recorded, seen
 
-    def follow(
-        self, pasts: Pasts, turns: int, conditions: Sequence[tuple[int, int, int, int]] = ()
-    ) -> Records:
+    def follow(self, pasts: Pasts, turns: int, conditions: Sequence[tuple[int, int, int, int]] = ()) -> Records:
         """Executes turns, as many as are left at most, and keeps the past of each cell in place, as `mars_follow`.
 
         - `pasts`: an array with the fields of `MarsPast` and a row for each cell

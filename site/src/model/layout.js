@@ -169,6 +169,13 @@ export const MarsCondition = {
   last: 12,
 };
 
+export const MarsFound = {
+  size: 20,
+  turn: 0,
+  address: 4,
+  past: 8,
+};
+
 export const MarsDeath = {
   size: 8,
   warrior: 0,

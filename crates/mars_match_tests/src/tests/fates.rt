@@ -2,7 +2,7 @@
 ghost use Rattle.std.specs.Prelude.{◌≡◌, IfOk, None};
 
 use super::{BY_DEFAULT, DEAD, STAY, one_cells, sizes};
-use mars_match::{Counts, Fate, MatchFault, Plan, Setup, fight_rounds};
+use mars_match::{Counts, Plan, Setup, fight_rounds};
 use redcode_asm::Formula;
 use std::alloc::Global;
 use std::process::Abort;
@@ -30,9 +30,10 @@ fn two_rounds(alloc: Global) -> Result<Setup, Fail>
 fn each_warrior_has_a_fate_in_each_round(rt: HostRuntime) -> Result<(), Fail> {
     let setup = two_rounds(rt.alloc())?;
     let warriors = one_cells(rt.alloc(), 6, &[STAY, DEAD, STAY])?;
-    let fates = fight_rounds(rt.alloc(), &setup, warriors.as_slice(), false)
+    let fought = fight_rounds(rt.alloc(), &setup, warriors, false, None)
         .ok()
         .ok_or("fates")?;
+    let fates = &fought.fates;
     assert!(rt; fates.len() == 6);
     // Ten cycles of two turns, and the turn of the warrior that dies: the second turn of round 0, the first turn of
     // round 1.
@@ -48,9 +49,10 @@ fn each_warrior_has_a_fate_in_each_round(rt: HostRuntime) -> Result<(), Fail> {
 fn each_warrior_is_counted(rt: HostRuntime) -> Result<(), Fail> {
     let setup = two_rounds(rt.alloc())?;
     let warriors = one_cells(rt.alloc(), 6, &[STAY, DEAD, STAY])?;
-    let fates = fight_rounds(rt.alloc(), &setup, warriors.as_slice(), true)
+    let fought = fight_rounds(rt.alloc(), &setup, warriors, true, None)
         .ok()
         .ok_or("fates")?;
+    let fates = &fought.fates;
     assert!(rt; fates.len() == 6);
     // The living warriors execute their one cell in each of ten cycles. In round 1, where the second warrior has the first
     // turn and the third one the second, both also have a turn in the last cycle.
@@ -71,7 +73,32 @@ fn each_warrior_is_counted(rt: HostRuntime) -> Result<(), Fail> {
 #[test]
 fn no_warrior_has_no_fate(rt: HostRuntime) -> Result<(), Fail> {
     let setup = two_rounds(rt.alloc())?;
-    let fates: Result<Vec<Fate>, MatchFault> = fight_rounds(rt.alloc(), &setup, &[], true);
-    assert!(rt; fates.is_err());
+    let none = Vec::new(rt.alloc());
+    assert!(rt; fight_rounds(rt.alloc(), &setup, none, true, None).is_err());
+    Ok(())
+}
+
+/// A battle of three warriors leaves nothing to a match of three others, nor to one of two.
+#[test]
+fn matches_share_memory(rt: HostRuntime) -> Result<(), Fail> {
+    let setup = two_rounds(rt.alloc())?;
+    let mut last = None;
+    for texts in [
+        &[STAY, DEAD, STAY] as &[&str],
+        &[DEAD, STAY, DEAD],
+        &[STAY, DEAD],
+        &[DEAD, DEAD],
+    ] {
+        let warriors = one_cells(rt.alloc(), 6, texts)?;
+        let fought = fight_rounds(rt.alloc(), &setup, warriors, false, last)
+            .ok()
+            .ok_or("fates")?;
+        let warriors = one_cells(rt.alloc(), 6, texts)?;
+        let alone = fight_rounds(rt.alloc(), &setup, warriors, false, None)
+            .ok()
+            .ok_or("fates")?;
+        assert!(rt; fought.fates.as_slice() == alone.fates.as_slice());
+        last = fought.last;
+    }
     Ok(())
 }

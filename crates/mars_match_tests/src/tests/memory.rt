@@ -140,29 +140,29 @@ fn fates_of_rounds(
     rt: &impl Abort,
     alloc: Global,
     setup: &Setup,
-    warriors: &[Warrior],
-) -> Result<Vec<Fate>, MatchFault>
+    texts: &[&str],
+) -> Result<Vec<Fate>, Fail>
     requires { setup.now.plan.fixed ≡ None }
 {
-    match fight_rounds(alloc, setup, warriors, true) {
+    match fight_rounds(alloc, setup, warriors_of(alloc, texts)?, true, None) {
         Err(fault) => {
             assert!(rt; is_of_memory(fault));
-            fight_rounds(alloc, setup, warriors, true)
+            let warriors = warriors_of(alloc, texts)?;
+            let fought = fight_rounds(alloc, setup, warriors, true, None)
+                .ok()
+                .ok_or("fates")?;
+            Ok(fought.fates)
         }
-        Ok(fates) => Ok(fates),
+        Ok(fought) => Ok(fought.fates),
     }
 }
 
 #[test]
 fn fates_are_reported(rt: HostRuntime) -> Result<(), Fail> {
     let setup = setup_of(rt.alloc(), 2)?;
-    let warriors = warriors_of(rt.alloc(), &[STAY, DEAD, IMP])?;
-    let fates = fates_of_rounds(&rt, rt.alloc(), &setup, warriors.as_slice())
-        .ok()
-        .ok_or("fates")?;
+    let fates = fates_of_rounds(&rt, rt.alloc(), &setup, &[STAY, DEAD, IMP])?;
     assert_eq!(rt; fates.len(), 6);
     assert!(rt; fates[0].survived && !fates[1].survived && fates[2].survived);
-    drop(warriors);
     Ok(())
 }
 

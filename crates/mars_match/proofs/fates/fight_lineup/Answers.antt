@@ -15,7 +15,7 @@ loop-number-init c =
     record {
       made = rw c.new-fates.ensures.items (begun c.args.counting c.args.setup.now.params c.args.lineup.now plan.fixed plan.rounds plan.seed);
       starts = search rules;
-      room = tt;
+      room = c.requires.room;
     }
 
 pub returns-in_err-seed : goal.returns-in_err-seed
