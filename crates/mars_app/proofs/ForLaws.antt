@@ -2,5 +2,6 @@
 pub mod Broken
 pub mod Failing
 pub mod Given
+pub mod Pauses
 pub mod Recurring
 pub mod Replies

@@ -1,7 +1,11 @@
 -- The laws of the program: theorems about the definitions. They say what a run has written and read, whatever the machine, its memory,
 -- and the division of the input into reads.
-use Rattle.std.specs.Prelude.{◌≡◌, ℕ, Bool, false, true, List, [], ◌++◌, All, Option, Some, IsSome}
+use Rattle.std.specs.Prelude.{◌≡◌, ℕ, Bool, false, true, List, [], ◌∷◌, ◌++◌, All, Option, Some, IsSome, drop}
 use Rattle.std.specs.Io.KnownBytes.{Keeps}
+use Rattle.mars_cell.specs.Load.{lines_of}
+use Rattle.mars_session.specs.Script.{SessionState}
+use Rattle.mars_app.specs.Debugger.Lines.{line_asks}
+use Rattle.mars_app.specs.Debugger.Transcript.{ReadFails, Transcript, WriteFails, answer, until_quit}
 use Rattle.mars_app.specs.Faults.{RunFails}
 use Rattle.mars_app.specs.Options.{AskForHelp, said_by}
 use Rattle.mars_app.specs.Runs.{RunSucceeds}
@@ -58,3 +62,18 @@ abbrev pub OnlyTheDebuggerReads : Type 0
 OnlyTheDebuggerReads = (words : List (List ℕ)) (known : List ℕ → Option (List ℕ)) (old new : StreamsValue) → (said_by words).debugger ≡ false
     → (RunSucceeds words known old new → Keeps old.unread new.unread)
     × ((f : RunFault) → RunFails words known old new f → Keeps old.unread new.unread)
+
+-- A failed read is a pause: the session that it leaves replies to the unfinished line, and to whatever comes after it, what is left
+-- of the replies to all of it.
+abbrev pub FailedReadsArePauses : Type 0
+FailedReadsArePauses = (core : ℕ) (input left v w : Option (List ℕ)) (s t u : SessionState) (failed : ReadFails core input left s v t w) (more text : List ℕ)
+    → Transcript core t (until_quit core (lines_of (failed.rest ++ more))) u text
+    → Transcript core s (until_quit core (lines_of (failed.bytes ++ more))) u (failed.text ++ text)
+
+-- A failed write is a pause, in which the end of one reply is lost: the session that it leaves replies to whatever lines come after
+-- the last one that was executed what is left of the replies to all of them.
+abbrev pub FailedWritesArePauses : Type 0
+FailedWritesArePauses = (core : ℕ) (input left v w : Option (List ℕ)) (s t u : SessionState) (failed : WriteFails core input left s v t w)
+    (lines : List (List ℕ)) (text : List ℕ) → Transcript core t lines u text →
+    let reply = (answer failed.broken.poor failed.broken.between (line_asks core failed.last)).1 in
+    Transcript core s (failed.lines ++ failed.last ∷ lines) u (failed.text ++ drop failed.broken.count reply ++ text)

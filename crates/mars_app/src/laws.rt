@@ -2,7 +2,7 @@
 //!
 //! They are about runs whose files and streams have known contents, as those in memory have; about the files and streams of the
 //! system no contract says what they contain. A run that requests the help is left out, since no definition has its text.
-ghost use Rattle.mars_app.specs.Laws.{EqualRunsWriteTheSame, ErrorsRecur, FailedRunsWriteABeginning, OnlyTheDebuggerReads};
+ghost use Rattle.mars_app.specs.Laws.{EqualRunsWriteTheSame, ErrorsRecur, FailedReadsArePauses, FailedRunsWriteABeginning, FailedWritesArePauses, OnlyTheDebuggerReads};
 
 /// Two runs without an error have written the same bytes, if they were given the same arguments, files and input.
 pub fn equal_runs_write_the_same()
@@ -23,4 +23,14 @@ pub fn errors_recur()
 /// A run that does not debug reads nothing of its input, with or without an error.
 pub fn only_the_debugger_reads()
     ensures { OnlyTheDebuggerReads }
+{}
+
+/// A failed read of the debugger is a pause: the session that it leaves, given the lines that are left, replies the rest.
+pub fn failed_reads_are_pauses()
+    ensures { FailedReadsArePauses }
+{}
+
+/// So is a failed write; only the end of the reply that was cut off is lost.
+pub fn failed_writes_are_pauses()
+    ensures { FailedWritesArePauses }
 {}

@@ -37,7 +37,7 @@ unfolding answer request_of first_word
 quiet_nothing core poor t n short = omega (arith, short)
 
 -- A text of which the last part was cut off, and what follows it.
-cut_off : (before reply rest text : List ℕ) (n : ℕ) → text ≡ before ++ take n reply → (before ++ reply) ++ rest ≡ text ++ (drop n reply ++ rest)
+pub cut_off : (before reply rest text : List ℕ) (n : ℕ) → text ≡ before ++ take n reply → (before ++ reply) ++ rest ≡ text ++ (drop n reply ++ rest)
 cut_off before reply rest text n is =
     append_assoc before reply rest
     ∙ ap (λ reply. before ++ (reply ++ rest)) (sym (take-append-drop n reply))
