@@ -1,13 +1,17 @@
 -- The laws of the library: calls with the same arguments have the same results, and the same errors, and the debugger's battle is that of
 -- a round.
-use Rattle.std.specs.Prelude.{◌≡◌, ◌≤◌, ℕ, All, List, length}
+use Rattle.std.specs.Prelude.{◌≡◌, ◌≤◌, ◌<◌, ◌%◌, ℕ, All, Bool, List, [], Ok, length, slice_index_or}
+use Rattle.std.specs.List.{flat_map}
 use Rattle.mars_core.specs.Limits.{max_warriors}
 use Rattle.mars_app.specs.Debugging.{first_round}
 use Rattle.mars_cell.specs.Warriors.{WarriorValue}
 use Rattle.mars_core.specs.State.{State}
+use Rattle.mars_match.specs.Battles.{end_of}
+use Rattle.mars_match.specs.Fates.{deeds_of, fates_from, fates_of}
 use Rattle.mars_match.specs.Leagues.{max_league_warriors}
+use Rattle.mars_match.specs.declared.fates.Fate.{Fate}
 use Rattle.mars_match.specs.declared.setup.Setup.{Setup}
-use Rattle.mars_c.specs.Battles.{IsStart, round_start_state}
+use Rattle.mars_c.specs.Battles.{IsStart, placed_in, round_start_state}
 use Rattle.mars_c.specs.Blocks.{HoldsStart, OverflowsStart, RefusesStart}
 use Rattle.mars_c.specs.Contests.{HoldsLeague, HoldsMatch, HoldsSums}
 use Rattle.mars_c.specs.Outcomes.{HoldsOutcomes, IsLineup, RefusesOutcomes, rows_for}
@@ -87,3 +91,14 @@ StartsFitAgain = (settings : MarsSettings) (cells : List MarsCell) (entrants : L
 -- The battle that the program debugs is that with which round 0 of the match starts.
 abbrev pub DebugsRoundZero : Type 0
 DebugsRoundZero = (setup : Setup) (warriors : List WarriorValue) → first_round setup warriors ≡ round_start_state setup warriors 0
+
+-- The fates of a match are those of its rounds, one after another. Those of round `k` are of the battle with which round `k` starts,
+-- played to its end. So one battle is that of `mars_start`, of the outcomes and, by the laws of matches, of the table.
+abbrev pub RoundsMakeTheFates : Type 0
+RoundsMakeTheFates = (setup : Setup) (warriors : List WarriorValue) (counting : Bool) (all : List Fate)
+    → fates_of counting setup.params warriors setup.plan.fixed setup.plan.rounds setup.plan.seed ≡ Ok all
+    → (rounds : List (List Fate)) × (all ≡ flat_map (λ (round : List Fate). round) rounds) × (length rounds ≡ setup.plan.rounds)
+    × ((k : ℕ) → k < setup.plan.rounds → (start : State) × (starts : List ℕ)
+    × (placed_in setup.params (length warriors) setup.plan.fixed k setup.plan.seed ≡ Ok starts)
+    × (round_start_state setup warriors k ≡ Ok start)
+    × (slice_index_or rounds k [] ≡ fates_from (end_of start) (deeds_of counting start) (k % length warriors) 0 starts))

@@ -1,6 +1,6 @@
-//! Laws of the library: calls with the same arguments have the same results, and the same errors, and the debugger's battle is that of a
-//! round. The functions do nothing; their contracts are the laws.
-ghost use Rattle.mars_c.specs.Laws.{DebugsRoundZero, EqualLeagues, EqualMatches, EqualOutcomes, EqualPopulations, EqualStarts, LeagueErrorsRecur, MatchErrorsRecur, OutcomeErrorsRecur, PopulationErrorsRecur, StartErrorsRecur, StartsFitAgain};
+//! Laws of the library: calls with the same arguments have the same results, and the same errors; and all calls are about one and the same
+//! battle of a round. The functions do nothing; their contracts are the laws.
+ghost use Rattle.mars_c.specs.Laws.{DebugsRoundZero, EqualLeagues, EqualMatches, EqualOutcomes, EqualPopulations, EqualStarts, LeagueErrorsRecur, MatchErrorsRecur, OutcomeErrorsRecur, PopulationErrorsRecur, RoundsMakeTheFates, StartErrorsRecur, StartsFitAgain};
 
 /// There is only one table of a match.
 pub fn equal_matches()
@@ -61,4 +61,9 @@ pub fn starts_fit_again()
 /// The battle that the program debugs is that with which round 0 of the match starts.
 pub fn debugs_round_zero()
     ensures { DebugsRoundZero }
+{}
+
+/// The outcomes of a match are, round by round, those of the battles with which the rounds start.
+pub fn rounds_make_the_fates()
+    ensures { RoundsMakeTheFates }
 {}
