@@ -1353,11 +1353,13 @@ def test_a_lesson_is_checked(page: Browser) -> None:
     check = "document.querySelector('#lesson-box .main').click()"
     verdict = "document.querySelector('#lesson-box .verdict').textContent === '%s'"
     page.run(begin, 1)
-    page.until("corewar.session.way === 1 && corewar.session.end === 7798")
-    go_to_turn(page, 536)
+    page.until("corewar.session.way === 1 && corewar.session.end === 163001")
+    # Waiting for the end is not enough.
+    go_to_turn(page, 163001)
     page.run(check)
-    page.until(verdict % "No warrior dies in turn 536.")
-    go_to_turn(page, 7798)
+    page.until(verdict % "No warrior dies in turn 163,001.")
+    page.run("corewar.session.jump(0); await corewar.theatre.leap('dies', true)")
+    page.until("corewar.session.turn === 9002 && corewar.session.isSettled")
     page.run(check)
     page.until(verdict % "Correct: a warrior dies in this turn.")
     page.run(begin, 3)
@@ -1587,6 +1589,7 @@ def test_a_screen_reader_follows(page: Browser) -> None:
     page.run("document.querySelectorAll('#lessons .lesson')[1].querySelector('button').click()")
     page.until("document.activeElement.id === 'lesson-box' && corewar.session.way === 1")
     assert page.run(HEADINGS)[:2] == [1, 2]
+    fight(page, "dwarf", "imp")
     go_to_turn(page, 7796)
     page.press("Right")
     announced = "[...document.querySelectorAll('#side [aria-live=polite]')].map(one => one.textContent).join('')"

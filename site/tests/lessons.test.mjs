@@ -35,12 +35,30 @@ carpet  DAT     #0, #0
 stun    SPL     #0, 42
 kill    DAT     <2410, #42
 `;
+const PAPER = `start   SPL     1
+        SPL     1
+        SPL     @0, 1234
+        MOV     }-1, >-1
+        SPL     @0, 3740
+        MOV     }-1, >-1
+        END     start
+`;
+const SCANNER = `start   ADD     bomb, look
+look    SNE     100, 4100
+        JMP     start
+        SUB     bomb, look
+clear   MOV     bomb, >look
+        MOV     bomb, }look
+        JMP     clear
+bomb    DAT     #9, #9
+        END     start
+`;
 const SOLUTIONS = {
   "a-tie-with-an-imp": "MOV 0, 1\n",
   "a-stone": stone(1),
   "an-imp-gate": "JMP 0, <-2\n",
-  "a-paper": example("paper.red"),
-  "a-scanner": example("scanner.red"),
+  "a-paper": PAPER,
+  "a-scanner": SCANNER,
   "stone-beats-scanner": stone(3039),
   "beat-folder": SCISSORS,
 };
@@ -67,18 +85,29 @@ test("there are ten lessons, and each has what it needs", () => {
 });
 
 for (const lesson of lessons.filter(({ judge }) => judge === "match")) {
-  test(`the lesson ${lesson.id} can be passed, but not by what it begins with`, () => {
+  test(`the lesson ${lesson.id} can be passed, but not by what it begins with or an example of its hint`, () => {
     assert(passes(lesson, SOLUTIONS[lesson.id]));
-    assert(!passes(lesson, lesson.start));
+    const named = [...lesson.hint.matchAll(/\w+\.red/g)].map(([name]) => example(name));
+    for (const source of [lesson.start, ...named]) assert(!passes(lesson, source));
   });
 }
 
-test("history can be changed so that no warrior dies", () => {
-  const lesson = lessons.find(({ judge }) => judge === "saved");
+/** Opens the battle of a lesson. */
+function opened(desk, kind) {
+  const lesson = lessons.find(({ judge }) => judge === kind);
   const warriors = lesson.opponents.map((name) => ({ name, text: example(name) }));
+  const terms = { settings: DEFAULTS, seed: 1, rounds: 100, round: 0, position: 0, formula: "" };
+  return desk.open({ ...terms, warriors, edits: [] });
+}
+
+test("the death that is to be found is one, and is not at the end", () => {
+  const { deaths, end } = opened(new Desk(mars), "death");
+  assert(deaths.length === 1 && deaths[0].turn < end);
+});
+
+test("history can be changed so that no warrior dies", () => {
   const desk = new Desk(mars);
-  const fight = { settings: DEFAULTS, seed: 1, rounds: 100, round: 0, position: 0, formula: "", warriors, edits: [] };
-  assert.equal(desk.open(fight).deaths.length, 1);
+  assert.equal(opened(desk, "saved").deaths.length, 1);
   const cell = desk.cellOf("jmp 0");
   assert.equal(desk.edit(0, 6000, { kind: "cell", address: 0, last: 0, cell }).deaths.length, 0);
 });
