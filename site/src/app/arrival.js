@@ -1,23 +1,20 @@
 /** Arriving: the page shows what its address names, when it is loaded and when the user goes back. */
 import { MAX_WARRIORS } from "../model/layout.js";
 import { FORMULA } from "../model/settings.js";
-import { clamp, element } from "../view/dom.js";
+import { clamp, element, make } from "../view/dom.js";
 import { errorWords } from "../view/host.js";
 import { readAddress, unpack } from "./link.js";
 import { ownFight } from "./parts.js";
 import { placeOf } from "./places.js";
 import { FIRST } from "./sources.js";
+import { damagedNames, deleteDamaged } from "./store.js";
 
-/** @typedef {import("../model/fight.js").Fight} Fight */
-/** @typedef {import("../model/fight.js").Source} Source */
-/** @typedef {import("./link.js").Selection} Selection */
-/** @typedef {import("./page.js").Page} Page */
 
 /** Whether the user wants no movement. */
 const isStill = () => matchMedia("(prefers-reduced-motion: reduce)").matches;
 
 export class Arrival {
-  /** @param {Page} page */
+  /** @param {import("./page.js").Page} page */
   constructor(page) {
     this.page = page;
   }
@@ -30,6 +27,18 @@ export class Arrival {
       await this.#arrive(ownFight());
       if (!page.session.latest) await this.#beginAnyway();
     });
+    this.#offerToDelete(damagedNames());
+  }
+
+  /** @param {string[]} names of what is stored and damaged */
+  #offerToDelete(names) {
+    if (!names.length) return;
+    this.page.complain(`Something that this browser had stored is damaged and was left out: ${names.join(", ")}. `);
+    const onclick = () => {
+      deleteDamaged();
+      this.page.complain("");
+    };
+    element("complaint").append(make("button", { className: "link", onclick }, "Delete what is damaged"));
   }
 
   /** Follows the user back or forth, or to an address that was typed. */
@@ -64,7 +73,7 @@ export class Arrival {
 
   /**
    * Shows a battle of the browser's history again.
-   * @param {Fight} fight
+   * @param {import("../model/fight.js").Fight} fight
    * @param {{turn?: number, pinned?: number | null, plays?: boolean}} shown
    * @param {boolean} isGuest whether its sources may not be in the list
    */
@@ -106,11 +115,11 @@ export class Arrival {
 
   /**
    * @param {string} text
-   * @param {Selection} selection
+   * @param {import("./link.js").Selection} selection
    */
   async #openLink(text, selection) {
     const { page } = this;
-    /** @type {Source[]} */
+    /** @type {import("../model/fight.js").Source[]} */
     let warriors = [];
     try {
       const { fight, turn, pinned } = await unpack(text, selection);

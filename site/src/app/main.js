@@ -16,7 +16,7 @@ async function main() {
     const page = new Page(workerParts, desk, server, data());
     await workerParts.module;
     page.listen();
-    await page.begin();
+    await page.arrival.begin();
     // For tests, and for the curious.
     Object.assign(window, { corewar: page, pageWith, shared });
   } catch (error) {

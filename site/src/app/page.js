@@ -5,7 +5,7 @@ import { showSheet } from "../view/assist.js";
 import { Bench } from "../view/bench.js";
 import { Cells } from "../view/cells.js";
 import { Console } from "../view/console.js";
-import { buttons, clamp, element, make, onClick, refill, typed, withCode } from "../view/dom.js";
+import { buttons, clamp, element, onClick, refill, typed, withCode } from "../view/dom.js";
 import { errorWords } from "../view/host.js";
 import { League } from "../view/league.js";
 import { Lines } from "../view/lines.js";
@@ -23,13 +23,10 @@ import { Lessons } from "./lessons.js";
 import { Places } from "./places.js";
 import { listenToShare } from "./share.js";
 import { Sources } from "./sources.js";
-import { damagedNames, deleteDamaged, keep, stored } from "./store.js";
+import { keep, stored } from "./store.js";
 import { Terms } from "./terms.js";
 import { Views } from "./views.js";
 
-/** @typedef {import("../model/fight.js").Source} Source */
-/** @typedef {import("./parts.js").Data} Data */
-/** @typedef {import("./server.js").Server} Server */
 /** @typedef {import("../view/host.js").MatchTerms} MatchTerms */
 
 const DEFAULT_TERMS = { settings: DEFAULTS, seed: 1, rounds: 100, position: 0, formula: FORMULA };
@@ -45,9 +42,9 @@ export class Page {
 
   /**
    * @param {import("../worker/pool.js").Parts} workerParts
-   * @param {import("../view/session.js").RemoteDesk} desk
-   * @param {Server | null} server
-   * @param {Data} given
+   * @param {import("../worker/pool.js").Remote} desk
+   * @param {import("./server.js").Server | null} server
+   * @param {import("./parts.js").Data} given
    */
   constructor(workerParts, desk, server, { examples, lessons, meanings }) {
     this.server = server;
@@ -165,7 +162,7 @@ export class Page {
   /**
    * Shows in the editor whether the battle has its text, and the line that is executed next if the battle is stopped.
    * A battle that is hidden does not play.
-   * @param {import("../view/session.js").Change} change
+   * @param {import("../view/turns.js").Change} change
    * @param {Side} side
    */
   #follow(change, side) {
@@ -189,7 +186,7 @@ export class Page {
 
   /**
    * Fights a round of a match, the first one unless the terms say otherwise, and shows it. The fields show the terms.
-   * @param {Source[]} warriors
+   * @param {import("../model/fight.js").Source[]} warriors
    * @param {boolean} plays
    * @param {Partial<MatchTerms> & {round?: number}} terms
    */
@@ -260,19 +257,6 @@ export class Page {
     this.#showTerms(fight);
     if (isGuest) this.session.rename(this.shelf.mark(fight.warriors));
     document.body.classList.add("running");
-  }
-
-  /** Begins with what the address names. */
-  async begin() {
-    await this.arrival.begin();
-    const names = damagedNames();
-    if (!names.length) return;
-    this.complain(`Something that this browser had stored is damaged and was left out: ${names.join(", ")}. `);
-    const onclick = () => {
-      deleteDamaged();
-      this.complain("");
-    };
-    element("complaint").append(make("button", { className: "link", onclick }, "Delete what is damaged"));
   }
 
   #showBench() {

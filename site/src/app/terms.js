@@ -26,6 +26,8 @@ export class Terms {
     this.hill = typed("hill", HTMLSelectElement);
     this.seed = typed("seed", HTMLInputElement);
     this.rounds = typed("rounds", HTMLInputElement);
+    this.dialog = typed("own", HTMLDialogElement);
+    this.formula = typed("own-formula", HTMLInputElement);
     this.seed.max = String(MAX_SEED);
     this.rounds.max = String(MAX_ROUNDS);
     this.changed = changed;
@@ -69,7 +71,7 @@ export class Terms {
   #choose() {
     if (!Object.hasOwn(HILLS, this.hill.value)) {
       this.#fill();
-      typed("own", HTMLDialogElement).showModal();
+      this.dialog.showModal();
       return;
     }
     this.#settings = HILLS[this.hill.value];
@@ -83,22 +85,20 @@ export class Terms {
       return make("label", {}, title, field);
     });
     element("own-settings").append(...fields);
-    onClick("own-cancel", () => typed("own", HTMLDialogElement).close());
-    const dialog = typed("own", HTMLDialogElement);
-    dialog.addEventListener("close", () => (this.hill.value = hillOf(this.#settings)));
+    onClick("own-cancel", () => this.dialog.close());
+    this.dialog.addEventListener("close", () => (this.hill.value = hillOf(this.#settings)));
     element("own-form").addEventListener("submit", (event) => {
       event.preventDefault();
       this.#apply();
     });
-    const formula = typed("own-formula", HTMLInputElement);
-    dialog.addEventListener("input", () => formula.setCustomValidity(""));
+    this.dialog.addEventListener("input", () => this.formula.setCustomValidity(""));
   }
 
   #fill() {
     for (const name of SETTINGS) typed(`own-${name}`, HTMLInputElement).value = String(this.#settings[name]);
     typed("own-position", HTMLInputElement).value = String(this.#position);
-    typed("own-formula", HTMLInputElement).value = this.#formula;
-    typed("own-formula", HTMLInputElement).setCustomValidity("");
+    this.formula.value = this.#formula;
+    this.formula.setCustomValidity("");
   }
 
   /** Takes what was entered if it is valid. Otherwise the dialog stays open, and says why. */
@@ -106,14 +106,13 @@ export class Terms {
     const number = (/** @type {string} */ id) => Number(typed(id, HTMLInputElement).value);
     const entries = SETTINGS.map((name) => [name, number(`own-${name}`)]);
     const settings = /** @type {Settings} */ (Object.fromEntries(entries));
-    const field = typed("own-formula", HTMLInputElement);
-    const formula = field.value.trim() || FORMULA;
-    field.setCustomValidity(await this.#faultOf(settings, formula));
-    if (!field.reportValidity()) return;
+    const formula = this.formula.value.trim() || FORMULA;
+    this.formula.setCustomValidity(await this.#faultOf(settings, formula));
+    if (!this.formula.reportValidity()) return;
     this.#settings = settings;
     this.#position = number("own-position");
     this.#formula = formula;
-    typed("own", HTMLDialogElement).close();
+    this.dialog.close();
     this.changed({ settings: this.#settings, position: this.#position, formula: this.#formula }, true);
   }
 

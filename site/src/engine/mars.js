@@ -5,29 +5,22 @@
  */
 import {
   ADD_PROCESS,
-  DONE,
   KILL_PROCESS,
   MOVE_PROCESS,
-  OUT_OF_MEMORY,
-  ROOM,
   SET_CELL,
   VERSION,
-  MarsCell,
   MarsEdit,
-  MarsFault,
   MarsLineup,
   MarsOutcome,
   MarsProgram,
   MarsRecord,
   MarsRow,
-  MarsSettings,
   MarsTouched,
-  MarsWarrior,
 } from "../model/layout.js";
-import { Battle } from "./battle.js";
 import { DEFAULTS, FORMULA } from "../model/settings.js";
 import { CELL_WORDS, writeCell } from "../model/cells.js";
-import { errorOf } from "./errors.js";
+import { Battle } from "./battle.js";
+import { Call } from "./call.js";
 
 export { MarsError } from "../model/errors.js";
 
@@ -40,25 +33,14 @@ export { MarsError } from "../model/errors.js";
  */
 /** @typedef {{points: number, wins: number, ties: number, losses: number}} Row the result of a warrior */
 /** @typedef {{settings?: Settings, rounds?: number, seed?: number, position?: number}} Terms */
-/** @typedef {(number | bigint)[]} Arguments */
-/**
- * The exports of the module. Addresses and sizes are BigInt.
- * @typedef {Record<string, (...given: Arguments) => number> & {memory: WebAssembly.Memory,
- *   mars_alloc: (size: bigint) => bigint, mars_free: (block: bigint) => void,
- *   mars_words: (settings: bigint, warriors: number) => bigint}} Exports
- */
+/** @typedef {import("./call.js").Exports} Exports */
 
 const RECORD_WORDS = MarsRecord.size / 4;
 const TOUCHED_WORDS = MarsTouched.size / 4;
 const KINDS = { cell: SET_CELL, move: MOVE_PROCESS, kill: KILL_PROCESS, add: ADD_PROCESS };
-/** The number of cells for which a buffer is made first. */
-const CELLS = 128;
 const encoder = new TextEncoder();
-const decoder = new TextDecoder();
 
 export class Mars {
-  /** @type {bigint[]} */
-  #blocks = [];
   /** @type {Exports} */
   #exports;
   /** Whether a call has trapped: the module may then be in the middle of a change of its memory. */
@@ -94,9 +76,9 @@ export class Mars {
    * @param {{settings?: Settings, rounds?: number, warriors?: number}} terms what ROUNDS and WARRIORS stand for
    */
   assemble(source, { settings = DEFAULTS, rounds = 1, warriors = 2 } = {}) {
-    return this.#within(() => {
-      const given = [this.#settings(settings, { rounds }), warriors, ...this.#bytes(source)];
-      return this.#program("mars_assemble", given);
+    return this.#within((call) => {
+      const given = [call.settings(settings, { rounds }), warriors, ...call.bytes(source)];
+      return call.program("mars_assemble", given);
     });
   }
 
@@ -106,7 +88,7 @@ export class Mars {
    * @param {{settings?: Settings}} terms
    */
   readLoad(load, { settings = DEFAULTS } = {}) {
-    return this.#within(() => this.#program("mars_read_load", [this.#settings(settings, {}), ...this.#bytes(load)]));
+    return this.#within((call) => call.program("mars_read_load", [call.settings(settings, {}), ...call.bytes(load)]));
   }
 
   /**
@@ -115,16 +97,16 @@ export class Mars {
    * @param {{settings?: Settings}} terms
    */
   writeLoad({ name, author, start, cells }, { settings = DEFAULTS } = {}) {
-    return this.#within(() => {
-      const program = this.#allocate(MarsProgram.size);
-      const bytes = new Uint8Array(this.#exports.memory.buffer, Number(program), MarsProgram.size).fill(0);
+    return this.#within((call) => {
+      const program = call.allocate(MarsProgram.size);
+      const bytes = call.bytesAt(program, MarsProgram.size).fill(0);
       // The library refuses a name of more than 60 bytes.
       bytes.set(encoder.encode(name).subarray(0, 64), MarsProgram.name);
       bytes.set(encoder.encode(author).subarray(0, 64), MarsProgram.author);
       const count = cells.length / CELL_WORDS;
-      this.#words(program, 2).set([count, start]);
-      const given = [this.#settings(settings, {}), this.#wordsOf(cells), BigInt(count), program];
-      return decoder.decode(this.#text("mars_write_load", given, 4096));
+      call.words(program, 2).set([count, start]);
+      const given = [call.settings(settings, {}), call.wordsOf(cells), BigInt(count), program];
+      return call.text("mars_write_load", given, 4096);
     });
   }
 
@@ -134,9 +116,9 @@ export class Mars {
    * @param {{settings?: Settings, rounds?: number, warriors?: number}} terms
    */
   lines(source, { settings = DEFAULTS, rounds = 1, warriors = 2 } = {}) {
-    return this.#within(() => {
-      const given = [this.#settings(settings, { rounds }), warriors, ...this.#bytes(source)];
-      const text = decoder.decode(this.#text("mars_lines", given, 4096)).trimEnd();
+    return this.#within((call) => {
+      const given = [call.settings(settings, { rounds }), warriors, ...call.bytes(source)];
+      const text = call.text("mars_lines", given, 4096).trimEnd();
       return text.split("\n").map((row) => {
         const [line, ...labels] = row.split(" ");
         return { line: Number(line), labels };
@@ -178,10 +160,10 @@ export class Mars {
    * @param {number} survivors
    */
   score(warriors, survivors, formula = FORMULA) {
-    return this.#within(() => {
-      const points = this.#allocate(8);
-      this.#call("mars_score", [...this.#bytes(formula), warriors, survivors, points]);
-      return Number(this.#view(points).getBigInt64(0, true));
+    return this.#within((call) => {
+      const points = call.allocate(8);
+      call.make("mars_score", [...call.bytes(formula), warriors, survivors, points]);
+      return Number(call.view(points).getBigInt64(0, true));
     });
   }
 
@@ -191,17 +173,15 @@ export class Mars {
    * @param {Terms} terms
    */
   survivors(warriors, { settings = DEFAULTS, rounds = 1, seed = 1, position = 0 } = {}) {
-    return this.#within(() => {
-      const [lineup, count] = [this.#allocate(MarsLineup.size), rounds * warriors.length];
+    return this.#within((call) => {
+      const [lineup, count] = [call.allocate(MarsLineup.size), rounds * warriors.length];
       // The seed is that of the settings, and nothing is counted.
       const numbers = [0, warriors.length, ...warriors.keys()];
-      this.#words(lineup, MarsLineup.size / 4)
-        .fill(0)
-        .set(numbers);
-      const outcomes = this.#allocate(MarsOutcome.size * count);
-      const given = [this.#settings(settings, { rounds, seed, position }), ...this.#fighters(warriors), lineup, 1n];
-      this.#call("mars_outcomes", [...given, outcomes, BigInt(count)]);
-      const words = this.#words(outcomes, (MarsOutcome.size / 4) * count);
+      call.words(lineup, MarsLineup.size / 4).fill(0).set(numbers);
+      const outcomes = call.allocate(MarsOutcome.size * count);
+      const given = [call.settings(settings, { rounds, seed, position }), ...call.fighters(warriors), lineup, 1n];
+      call.make("mars_outcomes", [...given, outcomes, BigInt(count)]);
+      const words = call.words(outcomes, (MarsOutcome.size / 4) * count);
       const survived = (/** @type {number} */ index) => words[(MarsOutcome.size * index + MarsOutcome.survived) / 4];
       return Uint8Array.from({ length: count }, (_, index) => survived(index));
     });
@@ -213,12 +193,12 @@ export class Mars {
    * @param {Terms & {round?: number}} terms
    */
   start(warriors, { settings = DEFAULTS, round = 0, rounds = round + 1, seed = 1, position = 0 } = {}) {
-    return this.#within(() => {
-      const given = this.#settings(settings, { rounds, seed, position });
+    return this.#within((call) => {
+      const given = call.settings(settings, { rounds, seed, position });
       const words = Number(this.#exports.mars_words(given, warriors.length));
-      const block = this.#allocate(4 * words);
-      this.#call("mars_start", [given, ...this.#fighters(warriors), round, block, BigInt(words)]);
-      return new Battle(this.#words(block, words).slice());
+      const block = call.allocate(4 * words);
+      call.make("mars_start", [given, ...call.fighters(warriors), round, block, BigInt(words)]);
+      return new Battle(call.words(block, words).slice());
     });
   }
 
@@ -230,18 +210,18 @@ export class Mars {
    * @param {{records?: number, touched?: number}} rows how many turns to report at most; a RangeError if below 0
    */
   play(battle, turns, { records = 0, touched = 0 } = {}) {
-    return this.#within(() => {
+    return this.#within((call) => {
       const first = battle.turns;
-      const [block, words] = this.#block(battle);
-      const recordRows = this.#allocate(MarsRecord.size * records);
-      const touchedRows = this.#allocate(MarsTouched.size * touched);
+      const [block, words] = call.block(battle);
+      const recordRows = call.allocate(MarsRecord.size * records);
+      const touchedRows = call.allocate(MarsTouched.size * touched);
       const given = [block, words, turns, recordRows, BigInt(records), touchedRows, BigInt(touched)];
-      this.#call("mars_play", given);
-      battle.words.set(this.#words(block, battle.words.length));
+      call.make("mars_play", given);
+      battle.words.set(call.words(block, battle.words.length));
       const played = battle.turns - first;
       return {
-        records: this.#words(recordRows, RECORD_WORDS * Math.min(played, records)).slice(),
-        touched: this.#words(touchedRows, TOUCHED_WORDS * Math.min(played, touched)).slice(),
+        records: call.words(recordRows, RECORD_WORDS * Math.min(played, records)).slice(),
+        touched: call.words(touchedRows, TOUCHED_WORDS * Math.min(played, touched)).slice(),
       };
     });
   }
@@ -253,15 +233,15 @@ export class Mars {
    *   cell?: Cell}} edit
    */
   edit(battle, { kind, warrior = 0, place = 0, address = 0, cell }) {
-    this.#within(() => {
-      const [block, words] = this.#block(battle);
-      const edit = this.#allocate(MarsEdit.size);
-      const fields = this.#words(edit, MarsEdit.size / 4);
+    this.#within((call) => {
+      const [block, words] = call.block(battle);
+      const edit = call.allocate(MarsEdit.size);
+      const fields = call.words(edit, MarsEdit.size / 4);
       fields.fill(0);
       fields.set([KINDS[kind], warrior, place, address]);
       if (cell) writeCell(fields.subarray(MarsEdit.cell / 4), 0, cell);
-      this.#call("mars_edit", [block, words, edit]);
-      battle.words.set(this.#words(block, battle.words.length));
+      call.make("mars_edit", [block, words, edit]);
+      battle.words.set(call.words(block, battle.words.length));
     });
   }
 
@@ -270,7 +250,7 @@ export class Mars {
    * @param {Battle} battle
    */
   check(battle) {
-    this.#within(() => this.#call("mars_check", this.#block(battle)));
+    this.#within((call) => call.make("mars_check", call.block(battle)));
   }
 
   /**
@@ -280,179 +260,29 @@ export class Mars {
    * @param {{history?: number}} size the number of places that can be walked back to
    */
   debug(battle, lines, { history = 200_000 } = {}) {
-    return this.#within(() => {
-      const given = [...this.#block(battle), history, ...this.#bytes(lines)];
-      return decoder.decode(this.#text("mars_debug", given, 65_536));
+    return this.#within((call) => {
+      const given = [...call.block(battle), history, ...call.bytes(lines)];
+      return call.text("mars_debug", given, 65_536);
     });
   }
 
   /**
    * Returns what `act` returns, and gives back the memory that it took. After a trap all calls are refused.
    * @template T
-   * @param {() => T} act
+   * @param {(call: Call) => T} act
    * @returns {T}
    */
   #within(act) {
     if (this.#failed) throw new Error("the machine has failed in an earlier call; load it again");
+    const call = new Call(this.#exports);
     try {
-      return act();
+      return act(call);
     } catch (error) {
       this.#failed = error instanceof WebAssembly.RuntimeError;
       throw error;
     } finally {
-      for (const block of this.#failed ? [] : this.#blocks.splice(0)) this.#exports.mars_free(block);
+      if (!this.#failed) call.end();
     }
-  }
-
-  /**
-   * Allocates a block until the end of the call. Throws a RangeError if the size is not one.
-   * @param {number} size in bytes
-   */
-  #allocate(size) {
-    if (!(Number.isSafeInteger(size) && size >= 0)) throw new RangeError(`expected a size of 0 or more, not ${size}`);
-    const block = this.#exports.mars_alloc(BigInt(Math.max(1, size)));
-    if (!block) throw errorOf(OUT_OF_MEMORY);
-    this.#blocks.push(block);
-    return block;
-  }
-
-  /**
-   * @param {bigint} block
-   * @param {number} length
-   */
-  #words(block, length) {
-    return new Uint32Array(this.#exports.memory.buffer, Number(block), length);
-  }
-
-  /** @param {bigint} block */
-  #view(block) {
-    return new DataView(this.#exports.memory.buffer, Number(block));
-  }
-
-  /**
-   * Copies bytes, or a text as UTF-8, into the memory; returns the arguments for them.
-   * @param {string | Uint8Array} data
-   * @returns {[bigint, bigint]}
-   */
-  #bytes(data) {
-    const bytes = typeof data === "string" ? encoder.encode(data) : data;
-    const block = this.#allocate(bytes.length);
-    new Uint8Array(this.#exports.memory.buffer, Number(block), bytes.length).set(bytes);
-    return [block, BigInt(bytes.length)];
-  }
-
-  /**
-   * Copies words into the memory; returns their address.
-   * @param {Uint32Array} words
-   */
-  #wordsOf(words) {
-    const block = this.#allocate(4 * words.length);
-    this.#words(block, words.length).set(words);
-    return block;
-  }
-
-  /**
-   * Copies a battle into the memory; returns the arguments for it.
-   * @param {Battle} battle
-   * @returns {[bigint, bigint]}
-   */
-  #block({ words }) {
-    return [this.#wordsOf(words), BigInt(words.length)];
-  }
-
-  /**
-   * @param {Settings} settings
-   * @param {{rounds?: number, seed?: number, position?: number}} terms
-   */
-  #settings(settings, { rounds = 1, seed = 1, position = 0 }) {
-    const block = this.#allocate(MarsSettings.size);
-    const { core, processes, cycles, readLimit, writeLimit, longest, distance } = settings;
-    const fields = { core, processes, cycles, longest, distance, rounds, seed, position };
-    const named = { ...fields, read_limit: readLimit, write_limit: writeLimit };
-    const view = this.#view(block);
-    for (const [name, value] of Object.entries(named)) {
-      view.setUint32(MarsSettings[/** @type {keyof typeof named} */ (name)], value, true);
-    }
-    return block;
-  }
-
-  /**
-   * Copies warriors into the memory; returns the arguments for them.
-   * @param {Warrior[]} warriors
-   */
-  #fighters(warriors) {
-    const counts = warriors.map(({ cells }) => cells.length / CELL_WORDS);
-    const total = counts.reduce((sum, count) => sum + count, 0);
-    const cells = this.#allocate(MarsCell.size * total);
-    let end = 0;
-    for (const warrior of warriors) {
-      this.#words(cells, CELL_WORDS * total).set(warrior.cells, end);
-      end += warrior.cells.length;
-    }
-    const places = this.#allocate(MarsWarrior.size * warriors.length);
-    this.#words(places, 2 * warriors.length).set(warriors.flatMap(({ start }, index) => [counts[index], start]));
-    return [cells, BigInt(total), places, BigInt(warriors.length)];
-  }
-
-  /**
-   * Makes a call and returns its result. Throws a MarsError for each result except DONE and the allowed one.
-   * @param {string} name
-   * @param {Arguments} given
-   */
-  #call(name, given, allowed = DONE) {
-    const fault = this.#allocate(MarsFault.size);
-    const result = this.#exports[name](...given, fault);
-    if (result === DONE || result === allowed) return result;
-    const view = this.#view(fault);
-    const word = (/** @type {number} */ offset) => view.getUint32(offset, true);
-    throw errorOf(result, {
-      number: word(MarsFault.number),
-      problem: word(MarsFault.problem),
-      expression: word(MarsFault.expression),
-      line: Number(view.getBigUint64(MarsFault.line, true)),
-      warrior: Number(view.getBigUint64(MarsFault.warrior, true)),
-    });
-  }
-
-  /**
-   * Makes a call that writes a program, a second time with a larger buffer if the first is too short.
-   * @param {string} name
-   * @param {Arguments} given
-   * @returns {Warrior}
-   */
-  #program(name, given) {
-    const program = this.#allocate(MarsProgram.size);
-    let cells = this.#allocate(MarsCell.size * CELLS);
-    const result = this.#call(name, [...given, cells, BigInt(CELLS), program], ROOM);
-    const [length, start] = this.#words(program, 2);
-    if (result === ROOM) {
-      cells = this.#allocate(MarsCell.size * length);
-      this.#call(name, [...given, cells, BigInt(length), program]);
-    }
-    const bytes = new Uint8Array(this.#exports.memory.buffer, Number(program), MarsProgram.size);
-    const [named, author] = [MarsProgram.name, MarsProgram.author].map((at) => {
-      const field = bytes.slice(at, at + 64);
-      return decoder.decode(field.subarray(0, field.indexOf(0)));
-    });
-    return { name: named, author, start, cells: this.#words(cells, CELL_WORDS * length).slice() };
-  }
-
-  /**
-   * Makes a call that writes bytes, a second time with a larger buffer if the first is too short.
-   * @param {string} name
-   * @param {Arguments} given
-   * @param {number} size
-   */
-  #text(name, given, size) {
-    const length = this.#allocate(8);
-    const lengthOf = () => Number(this.#view(length).getBigUint64(0, true));
-    let buffer = this.#allocate(size);
-    if (this.#call(name, [...given, buffer, BigInt(size), length], ROOM) === ROOM) {
-      const needed = lengthOf();
-      buffer = this.#allocate(needed);
-      this.#call(name, [...given, buffer, BigInt(needed), length]);
-    }
-    return new Uint8Array(this.#exports.memory.buffer, Number(buffer), lengthOf()).slice();
   }
 
   /**
@@ -464,11 +294,11 @@ export class Mars {
    * @returns {Row[]}
    */
   #rows(name, warriors, count, { settings = DEFAULTS, rounds = 1, seed = 1, position = 0, formula = FORMULA }) {
-    return this.#within(() => {
-      const rows = this.#allocate(MarsRow.size * count);
-      const given = [this.#settings(settings, { rounds, seed, position }), ...this.#bytes(formula)];
-      this.#call(name, [...given, ...this.#fighters(warriors), rows, BigInt(count)]);
-      const view = this.#view(rows);
+    return this.#within((call) => {
+      const rows = call.allocate(MarsRow.size * count);
+      const given = [call.settings(settings, { rounds, seed, position }), ...call.bytes(formula)];
+      call.make(name, [...given, ...call.fighters(warriors), rows, BigInt(count)]);
+      const view = call.view(rows);
       const number = (/** @type {number} */ offset) => Number(view.getBigInt64(offset, true));
       return Array.from({ length: count }, (_, index) => ({
         points: number(index * MarsRow.size + MarsRow.points),

@@ -4,13 +4,11 @@ import { countWords, number, pluralize } from "../words/battle.js";
 import { changeOf, isSure, verdict } from "../words/comparison.js";
 import { Stopped } from "../worker/pool.js";
 import { clamp, debounce, element, make, onClick, refill, throttle, typed, withCode } from "./dom.js";
-import { errorWords } from "./host.js";
+import { errorWords, sumOf } from "./host.js";
 import { PositionMap } from "./map.js";
 import { Tune } from "./tune.js";
 
-/** @typedef {import("./host.js").Host} Host */
 /** @typedef {import("./host.js").MatchTerms} MatchTerms */
-/** @typedef {import("../engine/mars.js").Row} Row */
 /** @typedef {import("./host.js").Source} Source */
 /** @typedef {import("../engine/warrior.js").Warrior} Warrior */
 /** @typedef {import("../words/comparison.js").Change} Change */
@@ -55,7 +53,7 @@ export class Bench {
   }, 350);
 
   /**
-   * @param {Host} host
+   * @param {import("./host.js").Host} host
    * @param {() => void} show shows the bench
    */
   constructor(host, show) {
@@ -210,13 +208,7 @@ export class Bench {
   #total() {
     const rows = [...this.rows.values()];
     if (!rows.length) return [];
-    const sum = rows.reduce((one, other) => ({
-      ...one,
-      points: one.points + other.points,
-      wins: one.wins + other.wins,
-      ties: one.ties + other.ties,
-      losses: one.losses + other.losses,
-    }));
+    const sum = rows.reduce((one, other) => ({ ...one, ...sumOf(one, other) }));
     const { points, far } = mean(sum);
     const rest = make("span", { className: "soft" }, ` ± ${fixed(far)} points per round`);
     return [make("strong", {}, fixed(points)), rest];
@@ -304,7 +296,7 @@ function described({ change, error }) {
 
 /**
  * Returns a bar with the shares of wins, ties and losses.
- * @param {Row} row
+ * @param {import("../engine/mars.js").Row} row
  */
 function stack(row) {
   const title = countWords(row);

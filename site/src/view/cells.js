@@ -7,10 +7,7 @@ import { buttons, element, make, onClick, refill, throttle, withCode } from "./d
 import { swatch } from "./palette.js";
 import { standingNames, standingOn, timesWords } from "./standing.js";
 
-/** @typedef {import("../battle/conditions.js").Word} Word */
 /** @typedef {import("../worker/desk.js").View} View */
-/** @typedef {import("./session.js").Session} Session */
-/** @typedef {import("./side.js").Side} Side */
 
 /** The number of cells before and after the one that is looked at. */
 const AROUND = 4;
@@ -25,8 +22,8 @@ export class Cells {
   #listed = "";
 
   /**
-   * @param {Session} session
-   * @param {Side} side
+   * @param {import("./session.js").Session} session
+   * @param {import("./side.js").Side} side
    */
   constructor(session, side) {
     this.session = session;
@@ -66,7 +63,7 @@ export class Cells {
   #showStops() {
     const { session } = this;
     for (const button of buttons("#seek [data-stop]")) {
-      const word = /** @type {Word} */ (button.dataset.stop);
+      const word = /** @type {import("../battle/conditions.js").Word} */ (button.dataset.stop);
       const first = session.pinned ?? 0;
       button.onclick = () => session.breaks.toggle({ word, first });
       button.setAttribute("aria-pressed", String(session.breaks.has({ word, first })));
@@ -154,12 +151,7 @@ export class Cells {
     const { session, focus } = this;
     const { known, future } = session;
     const request = (this.#request = `${future} ${focus} ${view.turn}`);
-    const { opened } = session;
-    const history = await session.desk.cell(future, focus, view.turn).catch((error) => {
-      // If another battle has been opened meanwhile, it may not have this turn.
-      if (opened === session.opened) throw error;
-      return null;
-    });
+    const history = await session.ofThisBattle(session.desk.cell(future, focus, view.turn));
     if (!history || request !== this.#request) return;
     const { changes, next } = history;
     const link = (/** @type {number} */ turn, /** @type {string} */ text) =>

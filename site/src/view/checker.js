@@ -10,9 +10,6 @@ import { errorWords } from "./host.js";
 /** @typedef {import("../model/settings.js").Settings} Settings */
 /** @typedef {import("../words/errors.js").Explained} Explained */
 /** @typedef {ReturnType<import("../worker/jobs.js").Jobs["assemble"]>} Assembled */
-/** @typedef {import("./editor.js").Editor} Editor */
-/** @typedef {import("./shelf.js").Host} Host */
-/** @typedef {import("./shelf.js").OpenSource} OpenSource */
 
 export class Checker {
   /** Whether the source in the editor has an error. */
@@ -20,15 +17,15 @@ export class Checker {
   #checks = 0;
 
   /**
-   * @param {Host} host
-   * @param {Editor} editor
+   * @param {import("./shelf.js").Host} host
+   * @param {import("./editor.js").Editor} editor
    */
   constructor(host, editor) {
     this.host = host;
     this.editor = editor;
   }
 
-  /** @param {OpenSource} shown the source in the editor */
+  /** @param {import("./shelf.js").OpenSource} shown the source in the editor */
   async check(shown) {
     const { host, editor } = this;
     const text = shown.doc.getValue();

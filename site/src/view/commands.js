@@ -30,7 +30,7 @@ const WORDS = ["at", "changes", "reads", "splits", "ends", "dies"];
  * @param {Session} session
  * @param {Condition} condition
  */
-export function conditionWords({ known }, { word, first, last = first, by }) {
+function conditionWords({ known }, { word, first, last = first, by }) {
   if (word === "splits" || word === "ends" || word === "dies") return `${word} ${known.names[first]}`;
   const range = last === first ? place(first, known) : `${place(first, known)}..${place(last, known)}`;
   return `${word} ${range}${by === undefined ? "" : ` by ${known.names[by]}`}`;
@@ -77,10 +77,7 @@ async function search(session, rest, forward) {
   return [`${conditionWords(session, conditions[found.index])}:`, ...here(session)];
 }
 
-/**
- * @param {Session} session
- * @param {string} rest
- */
+/** @type {Act} */
 async function goto(session, rest) {
   const { end } = session;
   const turn = rest === "start" ? 0 : rest === "end" ? end : readNumber(rest, "a turn, `start` or `end`");
@@ -89,10 +86,7 @@ async function goto(session, rest) {
   return here(session);
 }
 
-/**
- * @param {Session} session
- * @param {string} rest
- */
+/** @type {Act} */
 async function until(session, rest) {
   const cycle = readNumber(rest, "a number of cycles");
   if ((session.view?.cycle ?? 0) >= cycle) throw new CommandError(`cycle ${cycle} is already completed; use \`goto\``);
@@ -280,19 +274,10 @@ const HELP = [
  */
 const command = (usage, meaning, act, ...short) => ({ usage, meaning, short, act });
 
-/** @type {Act} */
-const run = (session, rest) => step(session, rest || String(session.end), 1);
-
-/** @type {Act} */
-const undo = (session) => session.undo().then(() => here(session));
-
-/** @type {Act} */
-const redo = (session) => session.redo().then(() => here(session));
-
 const COMMANDS = [
   command("step [N|W]", "execute one turn, N turns, or up to W's next turn", (s, rest) => step(s, rest, 1), "s", "n"),
   command("reverse-step [N|W]", "step back in the same way", (s, rest) => step(s, rest, -1), "rs", "back"),
-  command("run [N]", "execute N turns, or all that are left", run, "r"),
+  command("run [N]", "execute N turns, or all that are left", (s, rest) => step(s, rest || String(s.end), 1), "r"),
   command("goto T", "go to turn T, `start` or `end`", goto, "g"),
   command("until C", "execute turns until C cycles are completed", until),
   command("continue [CONDITION]", "go to the next breakpoint or condition", (s, rest) => search(s, rest, true), "c"),
@@ -304,8 +289,8 @@ const COMMANDS = [
   command("move W I A", "move process I of warrior W to A; process 0 is the next one", move),
   command("kill W I", "remove process I of warrior W", kill),
   command("spawn W A", "add a process of warrior W at A", spawn),
-  command("undo", "undo the last edit", undo, "u"),
-  command("redo", "redo the edit that was undone", redo),
+  command("undo", "undo the last edit", (s) => s.undo().then(() => here(s)), "u"),
+  command("redo", "redo the edit that was undone", (s) => s.redo().then(() => here(s))),
   command("futures [N]", "list the futures that edits have made, or switch to number N", futures),
   command("list [A [N]]", "list N cells, starting at A", list, "l"),
   command("queue [W [I]]", "list the processes of warrior W, starting at number I; 0 is the next one", queue, "p"),

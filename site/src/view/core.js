@@ -8,22 +8,8 @@ import { READABLE, bestColumns } from "./columns.js";
 import { SHADES } from "./palette.js";
 
 /** @typedef {import("../worker/desk.js").View} View */
+/** @typedef {import("./marks.js").Marks} Marks */
 /** @typedef {import("./palette.js").Palette} Palette */
-/**
- * What is drawn over the cells: addresses of cells that are looked at, that the last turn read and that differ from
- * another future, where warriors died, ranges with breakpoints, and arrows from cell to cell. `warrior` is the one that
- * made the last turn.
- * @typedef {object} Marks
- * @property {number | null} pinned
- * @property {number | null} hovered
- * @property {number | null} head
- * @property {number[]} reads
- * @property {number} warrior
- * @property {number[]} differences
- * @property {{address: number, warrior: number}[]} graves
- * @property {number[][]} breaks
- * @property {{from: number, to: number, warrior: number, isFaint: boolean}[]} arrows
- */
 
 /** The largest number of processes of a warrior with rings around them, and the cells in pixels that need none. */
 const MAX_RINGED = 3;
@@ -222,11 +208,9 @@ export class Core {
     const last = inner - inset;
     for (let y = inset; y < last; y++) {
       const line = start + y * width;
-      if (y - inset < thick || last - y <= thick) pixels.fill(colour, line + inset, line + last);
-      else {
-        pixels.fill(colour, line + inset, line + inset + thick);
-        pixels.fill(colour, line + last - thick, line + last);
-      }
+      const wide = y - inset < thick || last - y <= thick ? last - inset : thick;
+      pixels.fill(colour, line + inset, line + inset + wide);
+      pixels.fill(colour, line + last - wide, line + last);
     }
   }
 

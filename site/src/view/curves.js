@@ -1,14 +1,13 @@
 /** The battle as curves over time: above, the cells of each warrior, stacked; below, its processes. */
 import { number } from "../words/battle.js";
+import { clamp } from "./dom.js";
 
-/** @typedef {import("../battle/overview.js").Overview} Overview */
-/** @typedef {import("./palette.js").Palette} Palette */
 /**
  * What a film is drawn with: `x` is where a turn is; `middle` and `bottom` are the feet of the two curves.
  * @typedef {object} Drawing
  * @property {CanvasRenderingContext2D} context
- * @property {Palette} palette
- * @property {Overview} overview
+ * @property {import("./palette.js").Palette} palette
+ * @property {import("../battle/overview.js").Overview} overview
  * @property {number} warriors
  * @property {number} width
  * @property {number} middle
@@ -18,6 +17,33 @@ import { number } from "../words/battle.js";
 
 export const FONT = "11px system-ui, sans-serif";
 const GROUND = "#0e1217";
+
+/**
+ * Draws round values from one to another below a curve, as many as there is room for.
+ * @param {CanvasRenderingContext2D} context
+ * @param {{first: number, last: number, width: number, bottom: number, x: (value: number) => number}} scale
+ */
+export function drawScale(context, { first, last, width, bottom, x }) {
+  const step = roundStep((last - first) / (width / 90));
+  context.font = FONT;
+  for (let value = Math.ceil(first / step) * step; value <= last; value += step) {
+    const at = Math.round(x(value));
+    const room = context.measureText(number(value)).width / 2 + 4;
+    context.fillRect(at, bottom, 1, 4);
+    context.textAlign = at < room ? "left" : at > width - room ? "right" : "center";
+    // Zero has no sign.
+    context.fillText(number(value || 0), clamp(at, 5, width - 5), bottom + 14);
+  }
+}
+
+/**
+ * Returns the least round number from a minimum on.
+ * @param {number} minimum
+ */
+function roundStep(minimum) {
+  const power = 10 ** Math.floor(Math.log10(Math.max(1, minimum)));
+  return [1, 2, 5, 10].map((times) => times * power).find((value) => value >= minimum) ?? power;
+}
 
 /**
  * @param {Drawing} drawing
@@ -98,19 +124,17 @@ function drawTicks({ context, overview: { turns, splits, ends }, middle, x }) {
  * @param {number} maxCells
  * @param {number} maxProcesses
  */
-function drawLegend({ context, width, middle }, maxCells, maxProcesses) {
+function drawLegend({ context, middle }, maxCells, maxProcesses) {
   context.font = FONT;
-  context.textAlign = "right";
-  context.lineJoin = "round";
+  context.textAlign = "left";
   const texts = /** @type {const} */ ([
     [`cells, up to ${number(maxCells)}`, 13],
     [`processes, up to ${number(maxProcesses)}`, middle + 17],
   ]);
   for (const [text, y] of texts) {
-    context.strokeStyle = GROUND;
-    context.lineWidth = 4;
-    context.strokeText(text, width - 16, y);
+    context.fillStyle = GROUND;
+    context.fillRect(8, y - 11, context.measureText(text).width + 8, 15);
     context.fillStyle = "#aab4c0";
-    context.fillText(text, width - 16, y);
+    context.fillText(text, 12, y);
   }
 }

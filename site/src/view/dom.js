@@ -110,15 +110,6 @@ export function throttle(act, wait) {
 export const clamp = (value, low, high) => Math.max(low, Math.min(high, value));
 
 /**
- * Returns the least round number from a minimum on, for the steps of a scale.
- * @param {number} minimum
- */
-export function roundStep(minimum) {
-  const power = 10 ** Math.floor(Math.log10(Math.max(1, minimum)));
-  return [1, 2, 5, 10].map((times) => times * power).find((value) => value >= minimum) ?? power;
-}
-
-/**
  * Returns a text whose parts in backquotes are code.
  * @param {string} text
  */

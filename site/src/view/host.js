@@ -5,6 +5,7 @@ import { explain } from "../words/errors.js";
 
 /** @typedef {import("../model/fight.js").Source} Source */
 /** @typedef {import("../model/settings.js").Settings} Settings */
+/** @typedef {import("../engine/mars.js").Row} Row */
 /** @typedef {{settings: Settings, seed: number, rounds: number, position: number, formula: string}} MatchTerms */
 /**
  * @typedef {object} Host
@@ -37,6 +38,19 @@ const REASONS = {
 export async function allOf(pending) {
   for (const answer of await Promise.allSettled(pending)) if (answer.status === "rejected") throw answer.reason;
 }
+
+/**
+ * Returns the sum of two rows.
+ * @param {Row} one
+ * @param {Row} other
+ * @returns {Row}
+ */
+export const sumOf = (one, other) => ({
+  points: one.points + other.points,
+  wins: one.wins + other.wins,
+  ties: one.ties + other.ties,
+  losses: one.losses + other.losses,
+});
 
 /**
  * Returns why a call failed, in a sentence.

@@ -3,10 +3,9 @@ import { MarsError } from "../model/errors.js";
 import { countWords, number, pluralize } from "../words/battle.js";
 import { Stopped } from "../worker/pool.js";
 import { element, make, onClick, refill, throttle, typed, withCode } from "./dom.js";
-import { allOf, errorWords } from "./host.js";
+import { allOf, errorWords, sumOf } from "./host.js";
 
 /** @typedef {import("../engine/warrior.js").Warrior} Warrior */
-/** @typedef {import("./host.js").Host} Host */
 /** @typedef {import("./host.js").MatchTerms} MatchTerms */
 /** @typedef {import("../engine/mars.js").Row} Row */
 /** @typedef {import("./host.js").Source} Source */
@@ -18,6 +17,7 @@ import { allOf, errorWords } from "./host.js";
 
 /** The matrix of more warriors is a picture. */
 const MAX_TABLE_SIZE = 40;
+const NOTHING = { points: 0, wins: 0, ties: 0, losses: 0 };
 const WON = [0, 150, 130];
 const LOST = [214, 40, 92];
 
@@ -49,7 +49,7 @@ export class League {
   #later = throttle(() => this.draw(), 200);
 
   /**
-   * @param {Host} host
+   * @param {import("./host.js").Host} host
    * @param {Runner | null} runner
    */
   constructor(host, runner) {
@@ -165,9 +165,9 @@ export class League {
 
   /** Draws the table, the most points per round first. Rows and columns have the ranks of the warriors. */
   draw() {
-    const sums = this.against.map((line) => sumOf(line));
+    const sums = this.against.map((line) => line.flatMap((row) => row ?? []).reduce(sumOf, NOTHING));
     // Until all matches have ended, some warriors have fought more rounds than others.
-    const means = sums.map(([points, ...counts]) => points / Math.max(1, counts[0] + counts[1] + counts[2]));
+    const means = sums.map(({ points, wins, ties, losses }) => points / Math.max(1, wins + ties + losses));
     const order = [...sums.keys()].sort((one, other) => means[other] - means[one]);
     this.#drawProgress();
     const isPicture = order.length > MAX_TABLE_SIZE;
@@ -176,7 +176,9 @@ export class League {
     const ranks = isPicture ? [] : order.map((_, rank) => make("th", { className: "rank" }, rank + 1));
     const heads = ["Points", "Won", "Tied", "Lost"].map((head) => make("th", {}, head));
     const lines = order.map((who, rank) => {
-      const values = sums[who].map((value, index) => make("td", { className: index ? "soft" : "" }, number(value)));
+      const { points, wins, ties, losses } = sums[who];
+      const counts = [wins, ties, losses].map((count) => make("td", { className: "soft" }, number(count)));
+      const values = [make("td", {}, number(points)), ...counts];
       const name = make("th", { scope: "row" }, this.#names[who]);
       const cells = isPicture ? [] : order.map((other) => this.#cell(who, other));
       return make("tr", {}, make("td", { className: "soft" }, rank + 1), name, ...values, ...cells);
@@ -251,19 +253,6 @@ export class League {
       if (at(offsetX) !== at(offsetY)) this.#show(at(offsetY), at(offsetX));
     };
   }
-}
-
-/**
- * Returns points, wins, ties and losses of a warrior.
- * @param {(Row | null)[]} line
- */
-function sumOf(line) {
-  const sums = [0, 0, 0, 0];
-  for (const row of line) {
-    if (!row) continue;
-    [row.points, row.wins, row.ties, row.losses].forEach((value, index) => (sums[index] += value));
-  }
-  return sums;
 }
 
 /**

@@ -1,9 +1,22 @@
 /** What is marked on the core: what is looked at, what the turn did, deaths, breakpoints and other futures. */
 import { CELL_WORDS } from "../model/cells.js";
 
-/** @typedef {import("../worker/desk.js").View} View */
-/** @typedef {import("./core.js").Marks} Marks */
 /** @typedef {import("./session.js").Session} Session */
+/**
+ * What is drawn over the cells: addresses of cells that are looked at, that the last turn read and that differ from
+ * another future, where warriors died, ranges with breakpoints, and arrows from cell to cell. `warrior` is the one that
+ * made the last turn.
+ * @typedef {object} Marks
+ * @property {number | null} pinned
+ * @property {number | null} hovered
+ * @property {number | null} head
+ * @property {number[]} reads
+ * @property {number} warrior
+ * @property {number[]} differences
+ * @property {{address: number, warrior: number}[]} graves
+ * @property {number[][]} breaks
+ * @property {{from: number, to: number, warrior: number, isFaint: boolean}[]} arrows
+ */
 
 /** Below this speed the next instruction is marked while the battle plays. */
 const SLOW = 15;
@@ -14,7 +27,7 @@ const CELLS = ["at", "changes", "reads"];
 
 /**
  * @param {Session} session
- * @param {View} view the turn that is drawn
+ * @param {import("../worker/desk.js").View} view the turn that is drawn
  * @param {number | null} hovered the cell under the pointer
  * @returns {Marks}
  */

@@ -110,14 +110,12 @@ const known = new WeakMap();
  * @param {Palette} palette
  */
 function levelsOf(palette) {
-  const levels = known.get(palette) ?? new Uint32Array(256 * LEVELS);
-  if (!known.has(palette)) {
-    for (let index = 0; index < levels.length; index++) {
-      const light = (index % LEVELS) / (LEVELS - 1);
-      const owner = Math.floor(index / LEVELS);
-      levels[index] = palette.lit(owner, Math.min(1, light / FULL), Math.max(0, light - FULL) / (1 - FULL));
-    }
-  }
+  const found = known.get(palette);
+  if (found) return found;
+  const levels = Uint32Array.from({ length: 256 * LEVELS }, (_, index) => {
+    const light = (index % LEVELS) / (LEVELS - 1);
+    return palette.lit(Math.floor(index / LEVELS), Math.min(1, light / FULL), Math.max(0, light - FULL) / (1 - FULL));
+  });
   known.set(palette, levels);
   return levels;
 }

@@ -1,16 +1,14 @@
 /** The sources: a list, of which one is in the editor, and those that are marked fight. */
-import { lastOf } from "../engine/warrior.js";
 import { MAX_SOURCE_SIZE } from "../model/settings.js";
 import { pluralize } from "../words/battle.js";
 import { Checker } from "./checker.js";
 import { debounce, download, element, make, onClick, refill, withCode } from "./dom.js";
 import { Editor, newDocument } from "./editor.js";
 import { listenToFiles, textOf } from "./files.js";
+import { lineOf, titleOf } from "./names.js";
 
 /** @typedef {import("codemirror").Document} Document */
 /** @typedef {import("../model/fight.js").Source} Source */
-/** @typedef {import("../model/settings.js").Settings} Settings */
-/** @typedef {import("../worker/pool.js").Pool} Pool */
 /** @typedef {import("./rounds.js").Hits} Hits */
 /**
  * What a source is: the user's own, an example, one of a link, or the user's own for a lesson.
@@ -29,10 +27,10 @@ import { listenToFiles, textOf } from "./files.js";
  */
 /**
  * @typedef {object} Host
- * @property {Pool} pool
+ * @property {import("../worker/pool.js").Pool} pool
  * @property {Folder | null} folder
  * @property {Record<string, string>} meanings
- * @property {() => {settings: Settings, rounds: number}} terms
+ * @property {() => {settings: import("../model/settings.js").Settings, rounds: number}} terms
  * @property {() => boolean} store stores the sources and which of them fight; returns whether the browser lets it
  * @property {() => void} checked the source in the editor was assembled, or others fight
  * @property {() => void} reveal shows the editor
@@ -44,7 +42,6 @@ import { listenToFiles, textOf } from "./files.js";
  * @type {Kind[]}
  */
 const GUESTS = ["guest", "lesson"];
-const KINDS = { own: "", example: "example", guest: "from a link", lesson: "lesson" };
 const NEW = [";redcode-94", ";name My first warrior", ";author ", "; What does it do?", ""];
 NEW.push("start   MOV     0, 1            ; copies itself to the next cell", "        END     start", "");
 
@@ -258,21 +255,13 @@ export class Shelf {
 
   /** Draws the list. */
   list() {
-    const lines = this.sources.map((entry) => {
-      const { name, kind, fights } = entry;
-      const box = make("input", { type: "checkbox", checked: fights, "aria-label": `Select ${name}` });
-      box.onchange = () => {
-        entry.fights = box.checked;
-        this.#store();
-        this.host.checked();
-      };
-      const isShown = entry === this.shown;
-      const show = { className: "bare", onclick: () => this.show(entry), "aria-current": String(isShown) };
-      const button = make("button", show, ...titleOf(entry));
-      const label = make("label", { title: "Select" }, box);
-      return make("li", { className: isShown ? "shown" : "" }, label, button, make("small", {}, KINDS[kind]));
-    });
-    refill(element("names"), ...lines);
+    const mark = (/** @type {OpenSource} */ entry, /** @type {boolean} */ fights) => {
+      entry.fights = fights;
+      this.#store();
+      this.host.checked();
+    };
+    const acts = { mark, show: (/** @type {OpenSource} */ entry) => this.show(entry) };
+    refill(element("names"), ...this.sources.map((entry) => lineOf(entry, entry === this.shown, acts)));
     element("names").querySelector(".shown")?.scrollIntoView({ block: "nearest" });
   }
 
@@ -351,15 +340,3 @@ const sourceOf = ({ name, doc }) => ({ name, text: doc.getValue() });
 
 /** @param {OpenSource} entry */
 const isEdited = ({ kind, doc, saved }) => kind === "example" && doc.getValue() !== saved;
-
-/**
- * Returns the name of a source in the list, and that of its warrior, as the rest of the page has it, if it is another.
- * @param {OpenSource} entry
- */
-function titleOf({ name, doc, saved }) {
-  const text = doc.getValue();
-  const stem = name.replace(/\.red$/, "");
-  const warrior = lastOf(text, "name") || stem;
-  const isOther = warrior.toLowerCase() !== stem.toLowerCase();
-  return [stem + (text === saved ? "" : " •"), isOther ? make("small", {}, ` ${warrior}`) : ""];
-}

@@ -1,6 +1,6 @@
 /** The curve of a sweep: the points per round of each value. */
-import { number } from "../words/battle.js";
-import { clamp, colourOf, roundStep } from "./dom.js";
+import { FONT, drawScale } from "./curves.js";
+import { colourOf } from "./dom.js";
 
 /** @typedef {import("../engine/mars.js").Row} Row */
 /** @typedef {{value: number, row: Row | null, left: number}} Result `left` counts the matches that are not done */
@@ -28,7 +28,7 @@ export function drawSweep(canvas, results, { best, most, current }) {
   context.scale(ratio, ratio);
   const x = (/** @type {number} */ index) => ((index + 0.5) / results.length) * width;
   const y = (/** @type {number} */ mean) => HEIGHT - FOOT - (mean / most) * (HEIGHT - FOOT - TOP);
-  context.font = "11px system-ui, sans-serif";
+  context.font = FONT;
   context.fillStyle = ink;
   for (const share of [0, 0.5, 1]) {
     context.globalAlpha = 0.16;
@@ -49,28 +49,11 @@ export function drawSweep(canvas, results, { best, most, current }) {
     context.globalAlpha = 1;
     context.fillRect(x(index) - wide / 2, height - 1, wide, 2.5);
   });
-  drawValues(context, results, width, ink);
-}
-
-/**
- * Draws round values, as many as there is room for.
- * @param {CanvasRenderingContext2D} context
- * @param {Result[]} results
- * @param {number} width
- * @param {string} colour
- */
-function drawValues(context, results, width, colour) {
   if (!results.length) return;
-  context.fillStyle = colour;
-  context.globalAlpha = 0.7;
   const [first, last] = [results[0].value, results[results.length - 1].value];
-  const step = roundStep((last - first) / (width / 90));
-  const side = width / results.length;
-  for (let value = Math.ceil(first / step) * step; value <= last; value += step) {
-    const at = side * (((value - first) / Math.max(1, last - first)) * (results.length - 1) + 0.5);
-    const room = context.measureText(number(value)).width / 2 + 2;
-    context.textAlign = at < room ? "left" : at > width - room ? "right" : "center";
-    // Zero has no sign.
-    context.fillText(number(value || 0), clamp(at, 2, width - 2), HEIGHT - 4);
-  }
+  const across = (/** @type {number} */ value) =>
+    x(((value - first) / Math.max(1, last - first)) * (results.length - 1));
+  context.fillStyle = ink;
+  context.globalAlpha = 0.7;
+  drawScale(context, { first, last, width, bottom: HEIGHT - FOOT, x: across });
 }

@@ -3,16 +3,14 @@
  * below, its processes; between them, splits and ends of processes. Each death has a cross. A slider lies over it. A
  * part that is zoomed is painted and sampled again, so it is exact too.
  */
-import { number } from "../words/battle.js";
 import { BREAK } from "./core.js";
-import { FONT, drawCurves } from "./curves.js";
-import { clamp, debounce, roundStep } from "./dom.js";
+import { drawCurves, drawScale } from "./curves.js";
+import { clamp, debounce } from "./dom.js";
 import { Picture } from "./picture.js";
 
 /** @typedef {import("../battle/overview.js").Overview} Overview */
 /** @typedef {import("./palette.js").Palette} Palette */
 /** @typedef {{turn: number, warrior: number}} Death */
-/** @typedef {import("./curves.js").Drawing} Drawing */
 
 /** The least number of turns that are shown, and the height of the scale. */
 const MIN_LENGTH = 12;
@@ -56,7 +54,7 @@ export class Track {
     this.canvas = canvas;
     this.slider = slider;
     this.ask = (/** @type {number} */ first, /** @type {number} */ last) =>
-      session.desk.overview(session.future, first, last);
+      session.ofThisBattle(session.desk.overview(session.future, first, last));
     this.changed = changed;
     this.picture = new Picture((frame, from) => session.desk.paint(session.future, frame, from), changed);
   }
@@ -121,11 +119,7 @@ export class Track {
     this.changed();
     this.#paint();
     if (!this.hasCurves) return;
-    const overview = await this.ask(this.first, this.last).catch((error) => {
-      // If another battle has been opened meanwhile, it may not have these turns.
-      if (request === this.#request) throw error;
-      return null;
-    });
+    const overview = await this.ask(this.first, this.last);
     if (!overview || request !== this.#request) return;
     this.#overview = overview;
     this.changed();
@@ -142,12 +136,17 @@ export class Track {
     return this.show(first, first + length);
   }
 
+  /** @param {number} turn */
+  #isShown(turn) {
+    return turn >= this.first && turn <= this.last;
+  }
+
   /**
    * Keeps a turn among those that are shown.
    * @param {number} turn
    */
   follow(turn) {
-    if (turn >= this.first && turn <= this.last) return;
+    if (this.#isShown(turn)) return;
     const length = this.last - this.first;
     const first = turn - length * (turn < this.first ? 0.9 : 0.1);
     this.show(first, first + length);
@@ -231,18 +230,18 @@ export class Track {
     const x = (/** @type {number} */ turn) => this.#across(turn, width);
     const middle = Math.round(bottom * 0.56);
     const drawing = { context, palette, overview, warriors: this.#warriors, width, middle, bottom, x };
-    const isShown = (/** @type {{turn: number}} */ { turn }) => turn >= this.first && turn <= this.last;
-    if (this.hasCurves) drawCurves(drawing, this.#peaks.filter(isShown));
-    this.#drawScale(drawing);
+    if (this.hasCurves) drawCurves(drawing, this.#peaks.filter(({ turn }) => this.#isShown(turn)));
+    context.fillStyle = "#8793a2";
+    drawScale(context, { first: this.first, last: this.last, width, bottom, x });
     this.#drawMoments(drawing);
   }
 
   /**
    * Draws a line at each edit and each death.
-   * @param {Drawing} drawing
+   * @param {import("./curves.js").Drawing} drawing
    */
   #drawMoments({ context, palette, width, bottom, x }) {
-    const isShown = (/** @type {number} */ turn) => turn >= this.first && turn <= this.last;
+    const isShown = (/** @type {number} */ turn) => this.#isShown(turn);
     context.fillStyle = BREAK;
     for (const turn of this.#hits.filter(isShown)) context.fillRect(x(turn) - 1, bottom - 2, 2, 6);
     const line = (/** @type {number} */ turn, /** @type {string} */ colour, /** @type {number[]} */ dash) => {
@@ -256,23 +255,6 @@ export class Track {
       line(turn, palette.mark[warrior], []);
       context.lineWidth = 2;
       context.stroke(new Path2D(`M${clamp(x(turn), 5, width - 6) - 4} 3l8 8m0-8l-8 8`));
-    }
-  }
-
-  /**
-   * Draws round numbers of turns, as many as there is room for.
-   * @param {Drawing} drawing
-   */
-  #drawScale({ context, width, bottom, x }) {
-    const step = roundStep((this.last - this.first) / (width / 90));
-    context.fillStyle = "#8793a2";
-    context.font = FONT;
-    for (let turn = Math.ceil(this.first / step) * step; turn <= this.last; turn += step) {
-      const at = Math.round(x(turn));
-      const room = context.measureText(number(turn)).width / 2 + 4;
-      context.fillRect(at, bottom, 1, 4);
-      context.textAlign = at < room ? "left" : at > width - room ? "right" : "center";
-      context.fillText(number(turn), clamp(at, 5, width - 5), bottom + 14);
     }
   }
 }

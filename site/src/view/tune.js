@@ -4,15 +4,9 @@ import { readSource } from "../words/source.js";
 import { Stopped } from "../worker/pool.js";
 import { inBatches, spread } from "./batches.js";
 import { clamp, element, make, onClick, placeTip, refill, throttle, typed, withCode } from "./dom.js";
-import { allOf, errorWords } from "./host.js";
+import { allOf, errorWords, sumOf } from "./host.js";
 import { drawSweep, meanOf } from "./sweep.js";
 
-/** @typedef {import("codemirror").Position} Position */
-/** @typedef {import("../engine/mars.js").Row} Row */
-/** @typedef {import("./bench.js").Bench} Bench */
-/** @typedef {import("./host.js").Host} Host */
-/** @typedef {import("./host.js").MatchTerms} MatchTerms */
-/** @typedef {import("codemirror").Mark} Mark */
 /** @typedef {import("../engine/warrior.js").Warrior} Warrior */
 /** @typedef {import("./sweep.js").Result} Result */
 
@@ -28,7 +22,7 @@ const MARK = { className: "tuned", inclusiveRight: true, clearWhenEmpty: false }
 const NUMBER = /(?<![\w&])(?:(?<=(?:^|[^\w)\s])\s*)-)?\d+(?!\w)/g;
 
 export class Tune {
-  /** @type {Mark | null} */
+  /** @type {import("codemirror").Mark | null} */
   #mark = null;
   /** @type {Result[]} */
   results = [];
@@ -38,7 +32,7 @@ export class Tune {
   #later = throttle(() => this.#draw(), 60);
 
   /**
-   * @param {Host} host
+   * @param {import("./host.js").Host} host
    * @param {() => import("./host.js").Source[]} opponents
    * @param {() => void} show shows the bench
    */
@@ -149,7 +143,7 @@ export class Tune {
   /**
    * @param {{before: string, after: string}} source the text around the number
    * @param {import("./host.js").Source[]} opponents
-   * @param {MatchTerms} terms
+   * @param {import("./host.js").MatchTerms} terms
    * @param {number} run
    */
   async #fight(source, opponents, terms, run) {
@@ -259,16 +253,9 @@ const numbersIn = (code, line) =>
 
 /**
  * @param {Result} result
- * @param {Row | null} row null if the source with this value has an error
+ * @param {import("../engine/mars.js").Row | null} row null if the source with this value has an error
  */
 function add(result, row) {
   result.left--;
-  if (!row) return;
-  const sum = result.row ?? { points: 0, wins: 0, ties: 0, losses: 0 };
-  result.row = {
-    points: sum.points + row.points,
-    wins: sum.wins + row.wins,
-    ties: sum.ties + row.ties,
-    losses: sum.losses + row.losses,
-  };
+  if (row) result.row = result.row ? sumOf(result.row, row) : row;
 }

@@ -6,14 +6,12 @@ import { buttons, element, isNarrow, make, onClick, refill, withCode } from "./d
 import { swatch } from "./palette.js";
 
 /** @typedef {import("../words/why.js").Link} Link */
-/** @typedef {import("./session.js").Session} Session */
-/** @typedef {import("./side.js").Side} Side */
 /** @typedef {{name: string, line: number, className: string}} MarkedLine */
 
 export class Why {
   /**
-   * @param {Session} session
-   * @param {Side} side
+   * @param {import("./session.js").Session} session
+   * @param {import("./side.js").Side} side
    * @param {(lines: MarkedLine[]) => void} markLines
    */
   constructor(session, side, markLines) {
@@ -37,8 +35,8 @@ export class Why {
     const { opened, future } = session;
     const death = opened?.deaths.find((one) => one.warrior === warrior);
     if (!death) return;
-    const links = await session.desk.why(future, death.warrior);
-    if (opened !== session.opened) return;
+    const links = await session.ofThisBattle(session.desk.why(future, death.warrior));
+    if (!links) return;
     const write = links.filter(({ kind }) => kind === "write").at(-1);
     // On a narrow page the cell would cover the turns that led to it.
     session.pin(death.address < 0 || isNarrow() ? null : death.address);

@@ -2,6 +2,7 @@
 import { holds, readsOf, search } from "../battle/conditions.js";
 import { History } from "../battle/history.js";
 import { ADDRESS, DIED, PROCESS, QUEUED, WARRIOR, changesOf } from "../battle/place.js";
+import { Histories } from "./histories.js";
 import { Painter } from "./picture.js";
 import { chainOf } from "./why.js";
 import { assembleAll, describe } from "../engine/warrior.js";
@@ -9,14 +10,7 @@ import { BY_HAND, CELL_WORDS } from "../model/cells.js";
 
 /** @typedef {import("../battle/conditions.js").Condition} Condition */
 /** @typedef {import("../battle/overview.js").Event} Event */
-/** @typedef {import("../battle/overview.js").Overview} Overview */
-/** @typedef {import("../engine/mars.js").Mars} Mars */
-/** @typedef {import("../engine/warrior.js").Warrior} Warrior */
-/** @typedef {import("../model/cells.js").Cell} Cell */
-/** @typedef {import("../model/fight.js").Edit} Edit */
 /** @typedef {import("../model/fight.js").Fight} Fight */
-/** @typedef {import("../model/fight.js").Made} Made */
-/** @typedef {import("../words/battle.js").Move} Move */
 /**
  * A future as it is opened. Warriors are in the order of their turns; `order` says which source each is. `lines` has
  * the warrior and the line of each origin, and the address where it was loaded.
@@ -29,10 +23,10 @@ import { BY_HAND, CELL_WORDS } from "../model/cells.js";
  * @property {string[]} authors
  * @property {Event[]} deaths
  * @property {Event[]} events
- * @property {Overview} overview
+ * @property {import("../battle/overview.js").Overview} overview
  * @property {import("../words/battle.js").Label[]} labels
  * @property {{warrior: number, line: number, address: number}[]} lines
- * @property {Made[]} edits
+ * @property {import("../model/fight.js").Made[]} edits
  */
 /**
  * A battle after a turn. `head` is the address that is executed next, or null at the end; `queues` has the addresses of
@@ -51,25 +45,18 @@ import { BY_HAND, CELL_WORDS } from "../model/cells.js";
  */
 /** @typedef {{turn: number, warrior: number, before: Uint32Array, after: Uint32Array}} CellChange */
 
-/** The number of changes of a cell that are reported, and of futures whose histories are kept. */
+/** The number of changes of a cell that are reported. */
 const MAX_CHANGES = 5;
-const MAX_HISTORIES = 4;
 /** About the milliseconds that a piece of a picture takes: meanwhile no turn is answered. */
 const PIECE_TIME = 6;
 
 export class Desk {
-  /** @type {Map<number, History>} */
-  #histories = new Map();
-  /** @type {Made[][]} */
-  #futures = [];
-  /** @type {Fight | null} */
-  #fight = null;
-  /** @type {Warrior[]} */
-  #warriors = [];
+  /** @type {{fight: Fight, warriors: import("../engine/warrior.js").Warrior[], histories: Histories} | null} */
+  #battle = null;
   /** @type {Painter | null} */
   #painter = null;
 
-  /** @param {Mars} mars */
+  /** @param {import("../engine/mars.js").Mars} mars */
   constructor(mars) {
     this.mars = mars;
   }
@@ -81,68 +68,35 @@ export class Desk {
    */
   open(fight) {
     const warriors = assembleAll(this.mars, fight.warriors, fight.warriors.length, fight);
-    const history = History.fight(this.mars, { ...fight, warriors });
-    const before = { fight: this.#fight, warriors: this.#warriors, histories: this.#histories, futures: this.#futures };
-    const futures = [[], ...fight.edits.map((_, index) => fight.edits.slice(0, index + 1))];
-    this.#take({ fight, warriors, histories: new Map([[0, history]]), futures });
+    const histories = new Histories(History.fight(this.mars, { ...fight, warriors }), fight.edits);
+    const before = this.#battle;
+    this.#battle = { fight, warriors, histories };
     try {
-      return this.show(futures.length - 1);
+      return this.show(fight.edits.length);
     } catch (error) {
-      this.#take(before);
+      this.#battle = before;
       throw error;
     }
   }
 
-  /**
-   * @param {{fight: Fight | null, warriors: Warrior[], histories: Map<number, History>, futures: Made[][]}} battle
-   */
-  #take({ fight, warriors, histories, futures }) {
-    this.#fight = fight;
-    this.#warriors = warriors;
-    this.#histories = histories;
-    this.#futures = futures;
+  get battle() {
+    if (!this.#battle) throw new Error("no battle is open");
+    return this.#battle;
   }
 
-  get fight() {
-    if (!this.#fight) throw new Error("no battle is open");
-    return this.#fight;
-  }
-
-  /**
-   * Returns the history of a future; those that were used least recently are made again.
-   * @param {number} future
-   * @returns {History}
-   */
+  /** @param {number} future */
   #history(future) {
-    let found = this.#histories.get(future);
-    if (!found) {
-      const edits = this.#futures[future];
-      const before = this.#futures.findIndex((other) => isSame(other, edits.slice(0, -1)));
-      const { turn, edit } = edits[edits.length - 1];
-      found = this.#history(before).edited(turn, edit);
-    }
-    this.#histories.delete(future);
-    this.#histories.set(future, found);
-    const oldest = [...this.#histories.keys()].find((one) => one !== 0);
-    if (this.#histories.size > MAX_HISTORIES && oldest !== undefined) this.#histories.delete(oldest);
-    return found;
+    return this.battle.histories.of(future);
   }
 
   /**
-   * Edits a future after a turn. The edits after that turn belong to the future that is left.
+   * Edits a future after a turn, and returns the future that this makes.
    * @param {number} future
    * @param {number} turn
-   * @param {Edit} edit
+   * @param {import("../model/fight.js").Edit} edit
    */
   edit(future, turn, edit) {
-    const earlier = this.#futures[future].filter((one) => one.turn <= turn);
-    const edits = [...earlier, { turn, edit }];
-    const there = this.#futures.findIndex((other) => isSame(other, edits));
-    if (there >= 0) return this.show(there);
-    const before = this.#futures.findIndex((other) => isSame(other, earlier));
-    const edited = this.#history(before).edited(turn, edit);
-    this.#histories.set(this.#futures.push(edits) - 1, edited);
-    return this.show(this.#futures.length - 1);
+    return this.show(this.battle.histories.edit(future, turn, edit));
   }
 
   /**
@@ -152,9 +106,10 @@ export class Desk {
    */
   show(future) {
     const history = this.#history(future);
+    const { fight, warriors } = this.battle;
     const { core, end, order, deaths, events, edits } = history;
-    const found = order.map((source) => describe(this.#warriors[source], this.fight.warriors[source].text));
-    const names = found.map(({ name }, who) => name || this.fight.warriors[order[who]].name.replace(/\.\w+$/, ""));
+    const found = order.map((source) => describe(warriors[source], fight.warriors[source].text));
+    const names = found.map(({ name }, who) => name || fight.warriors[order[who]].name.replace(/\.\w+$/, ""));
     const overview = history.overview(0, end);
     return {
       ...{ future, core, end, order, deaths, events, edits, overview, names },
@@ -172,9 +127,9 @@ export class Desk {
     const labels = [];
     /** @type {Opened["lines"]} */
     const lines = [];
-    const { settings, rounds, warriors } = this.fight;
+    const { settings, rounds, warriors } = this.battle.fight;
     history.order.forEach((source, warrior) => {
-      const { start } = this.#warriors[source];
+      const { start } = this.battle.warriors[source];
       const first = history.start.battle.queue(warrior)[0] - start + history.core;
       const terms = { settings, rounds, warriors: warriors.length };
       this.mars.lines(warriors[source].text, terms).forEach(({ line, labels: names }, index) => {
@@ -228,7 +183,7 @@ export class Desk {
    * Returns what a turn did, from 1.
    * @param {number} future
    * @param {number} turn
-   * @returns {Move}
+   * @returns {import("../words/battle.js").Move}
    */
   move(future, turn) {
     const history = this.#history(future);
@@ -370,10 +325,11 @@ export class Desk {
   /**
    * Assembles a line of source as a cell of this battle. Throws a MarsError.
    * @param {string} line
-   * @returns {Cell}
+   * @returns {import("../model/cells.js").Cell}
    */
   cellOf(line) {
-    const terms = { ...this.fight, warriors: this.fight.warriors.length };
+    const { fight } = this.battle;
+    const terms = { ...fight, warriors: fight.warriors.length };
     const { cells } = describe(this.mars.assemble(`${line}\n`, terms));
     if (cells.length !== 1) throw new Error("expected one instruction");
     return cells[0];
@@ -381,14 +337,6 @@ export class Desk {
 
   /** Returns the bytes of the module's memory and of the marks of the futures that are kept. */
   memory() {
-    const runs = new Set([...this.#histories.values()].flatMap(({ segments }) => segments.map(({ run }) => run)));
-    const places = [...runs].flatMap(({ marks, ending }) => [...marks, ending]);
-    return { machine: this.mars.memory, marks: places.reduce((sum, { bytes }) => sum + bytes, 0) };
+    return { machine: this.mars.memory, marks: this.battle.histories.bytes };
   }
 }
-
-/**
- * @param {Made[]} one
- * @param {Made[]} other
- */
-const isSame = (one, other) => JSON.stringify(one) === JSON.stringify(other);

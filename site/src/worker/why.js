@@ -69,9 +69,8 @@ function linkOf(history, kind, turn, target) {
   const [warrior, address] = [records[WARRIOR], records[ADDRESS]];
   const cellAt = (/** @type {number} */ when, /** @type {number} */ at) =>
     history.place(when).battle.cells.slice(CELL_WORDS * at, CELL_WORDS * (at + 1));
-  const origin = history.originsAt(turn - 1)[address];
-  const after = history.place(turn).battle.cells.slice(CELL_WORDS * target, CELL_WORDS * (target + 1));
-  return { kind, turn, warrior, address, target, executed: cellAt(turn - 1, address), after, origin };
+  const [executed, after] = [cellAt(turn - 1, address), cellAt(turn, target)];
+  return { kind, turn, warrior, address, target, executed, after, origin: history.originsAt(turn - 1)[address] };
 }
 
 /**

@@ -1,0 +1,203 @@
+/** A call of mars.wasm, with the memory that it takes: its arguments and results as values of JavaScript. */
+import { CELL_WORDS } from "../model/cells.js";
+import {
+  DONE,
+  OUT_OF_MEMORY,
+  ROOM,
+  MarsCell,
+  MarsFault,
+  MarsProgram,
+  MarsSettings,
+  MarsWarrior,
+} from "../model/layout.js";
+import { errorOf } from "./errors.js";
+
+/** @typedef {import("./mars.js").Warrior} Warrior */
+/** @typedef {(number | bigint)[]} Arguments */
+/**
+ * The exports of the module. Addresses and sizes are BigInt.
+ * @typedef {Record<string, (...given: Arguments) => number> & {memory: WebAssembly.Memory,
+ *   mars_alloc: (size: bigint) => bigint, mars_free: (block: bigint) => void,
+ *   mars_words: (settings: bigint, warriors: number) => bigint}} Exports
+ */
+
+/** The number of cells for which a buffer is made first. */
+const CELLS = 128;
+const encoder = new TextEncoder();
+const decoder = new TextDecoder();
+
+export class Call {
+  /** @type {bigint[]} */
+  #blocks = [];
+  /** @type {Exports} */
+  #exports;
+
+  /** @param {Exports} exports */
+  constructor(exports) {
+    this.#exports = exports;
+  }
+
+  /** Gives back the memory. */
+  end() {
+    for (const block of this.#blocks) this.#exports.mars_free(block);
+  }
+
+  /**
+   * Allocates a block until the end of the call. Throws a RangeError if the size is not one.
+   * @param {number} size in bytes
+   */
+  allocate(size) {
+    if (!(Number.isSafeInteger(size) && size >= 0)) throw new RangeError(`expected a size of 0 or more, not ${size}`);
+    const block = this.#exports.mars_alloc(BigInt(Math.max(1, size)));
+    if (!block) throw errorOf(OUT_OF_MEMORY);
+    this.#blocks.push(block);
+    return block;
+  }
+
+  /**
+   * @param {bigint} block
+   * @param {number} length
+   */
+  words(block, length) {
+    return new Uint32Array(this.#exports.memory.buffer, Number(block), length);
+  }
+
+  /**
+   * @param {bigint} block
+   * @param {number} length
+   */
+  bytesAt(block, length) {
+    return new Uint8Array(this.#exports.memory.buffer, Number(block), length);
+  }
+
+  /** @param {bigint} block */
+  view(block) {
+    return new DataView(this.#exports.memory.buffer, Number(block));
+  }
+
+  /**
+   * Copies bytes, or a text as UTF-8, into the memory; returns the arguments for them.
+   * @param {string | Uint8Array} data
+   * @returns {[bigint, bigint]}
+   */
+  bytes(data) {
+    const bytes = typeof data === "string" ? encoder.encode(data) : data;
+    const block = this.allocate(bytes.length);
+    this.bytesAt(block, bytes.length).set(bytes);
+    return [block, BigInt(bytes.length)];
+  }
+
+  /**
+   * Copies words into the memory; returns their address.
+   * @param {Uint32Array} words
+   */
+  wordsOf(words) {
+    const block = this.allocate(4 * words.length);
+    this.words(block, words.length).set(words);
+    return block;
+  }
+
+  /**
+   * Copies a battle into the memory; returns the arguments for it.
+   * @param {{words: Uint32Array}} battle
+   * @returns {[bigint, bigint]}
+   */
+  block({ words }) {
+    return [this.wordsOf(words), BigInt(words.length)];
+  }
+
+  /**
+   * @param {import("../model/settings.js").Settings} settings
+   * @param {{rounds?: number, seed?: number, position?: number}} terms
+   */
+  settings(settings, { rounds = 1, seed = 1, position = 0 }) {
+    const block = this.allocate(MarsSettings.size);
+    const { core, processes, cycles, readLimit, writeLimit, longest, distance } = settings;
+    const fields = { core, processes, cycles, longest, distance, rounds, seed, position };
+    const named = { ...fields, read_limit: readLimit, write_limit: writeLimit };
+    const view = this.view(block);
+    for (const [name, value] of Object.entries(named)) {
+      view.setUint32(MarsSettings[/** @type {keyof typeof named} */ (name)], value, true);
+    }
+    return block;
+  }
+
+  /**
+   * Copies warriors into the memory; returns the arguments for them.
+   * @param {Warrior[]} warriors
+   */
+  fighters(warriors) {
+    const counts = warriors.map(({ cells }) => cells.length / CELL_WORDS);
+    const total = counts.reduce((sum, count) => sum + count, 0);
+    const cells = this.allocate(MarsCell.size * total);
+    let end = 0;
+    for (const warrior of warriors) {
+      this.words(cells, CELL_WORDS * total).set(warrior.cells, end);
+      end += warrior.cells.length;
+    }
+    const places = this.allocate(MarsWarrior.size * warriors.length);
+    this.words(places, 2 * warriors.length).set(warriors.flatMap(({ start }, index) => [counts[index], start]));
+    return [cells, BigInt(total), places, BigInt(warriors.length)];
+  }
+
+  /**
+   * Makes a call and returns its result. Throws a MarsError for each result except DONE and the allowed one.
+   * @param {string} name
+   * @param {Arguments} given
+   */
+  make(name, given, allowed = DONE) {
+    const fault = this.allocate(MarsFault.size);
+    const result = this.#exports[name](...given, fault);
+    if (result === DONE || result === allowed) return result;
+    const view = this.view(fault);
+    const word = (/** @type {number} */ offset) => view.getUint32(offset, true);
+    throw errorOf(result, {
+      number: word(MarsFault.number),
+      problem: word(MarsFault.problem),
+      expression: word(MarsFault.expression),
+      line: Number(view.getBigUint64(MarsFault.line, true)),
+      warrior: Number(view.getBigUint64(MarsFault.warrior, true)),
+    });
+  }
+
+  /**
+   * Makes a call that writes a program, a second time with a larger buffer if the first is too short.
+   * @param {string} name
+   * @param {Arguments} given
+   * @returns {Warrior}
+   */
+  program(name, given) {
+    const program = this.allocate(MarsProgram.size);
+    let cells = this.allocate(MarsCell.size * CELLS);
+    const result = this.make(name, [...given, cells, BigInt(CELLS), program], ROOM);
+    const [length, start] = this.words(program, 2);
+    if (result === ROOM) {
+      cells = this.allocate(MarsCell.size * length);
+      this.make(name, [...given, cells, BigInt(length), program]);
+    }
+    const bytes = this.bytesAt(program, MarsProgram.size);
+    const [named, author] = [MarsProgram.name, MarsProgram.author].map((at) => {
+      const field = bytes.slice(at, at + 64);
+      return decoder.decode(field.subarray(0, field.indexOf(0)));
+    });
+    return { name: named, author, start, cells: this.words(cells, CELL_WORDS * length).slice() };
+  }
+
+  /**
+   * Makes a call that writes a text, and returns it: a second time with a larger buffer if the first is too short.
+   * @param {string} name
+   * @param {Arguments} given
+   * @param {number} size
+   */
+  text(name, given, size) {
+    const length = this.allocate(8);
+    const lengthOf = () => Number(this.view(length).getBigUint64(0, true));
+    let buffer = this.allocate(size);
+    if (this.make(name, [...given, buffer, BigInt(size), length], ROOM) === ROOM) {
+      const needed = lengthOf();
+      buffer = this.allocate(needed);
+      this.make(name, [...given, buffer, BigInt(needed), length]);
+    }
+    return decoder.decode(this.bytesAt(buffer, lengthOf()));
+  }
+}
