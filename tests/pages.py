@@ -1114,6 +1114,9 @@ def test_versions_on_the_bench(page: Browser, tmp_path: Path) -> None:
         assert found and found[3] == verdict, (message, verdict)
         shown = [float(found[1].replace("−", "-")), float(found[2])]
         assert shown == pytest.approx(numbers, abs=0.006)
+    # No column is cut off.
+    table = "document.querySelector('table.bench').parentElement"
+    assert page.value(f"{table}.scrollWidth - {table}.clientWidth") <= 1
     # Results of an earlier text are marked.
     page.run("corewar.shelf.editor.mirror.setValue('x')")
     page.until("document.getElementById('bench-note').textContent.startsWith('The source has an error')")
@@ -1354,6 +1357,7 @@ def test_a_lesson_is_checked(page: Browser) -> None:
     verdict = "document.querySelector('#lesson-box .verdict').textContent === '%s'"
     page.run(begin, 1)
     page.until("corewar.session.way === 1 && corewar.session.end === 163001")
+    assert not page.value("document.getElementById('welcome').checkVisibility()")
     # Waiting for the end is not enough.
     go_to_turn(page, 163001)
     page.run(check)
