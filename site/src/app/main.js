@@ -1,20 +1,19 @@
 /** What the page begins with. */
+import { begun, data, pageWith } from "./parts.js";
 import { element, make, refill } from "../view/dom.js";
-import { remoteDesk } from "../worker/pool.js";
 import { Page } from "./page.js";
-import { data, pageWith, parts } from "./parts.js";
 import { Server } from "./server.js";
 import { shared } from "./share.js";
 import { startAfresh, stored } from "./store.js";
 
 async function main() {
   if (stored.theme) document.documentElement.dataset.theme = stored.theme;
-  const workerParts = parts();
-  const desk = remoteDesk(workerParts);
+  const { workerParts, desk } = await begun;
   const server = await Server.find();
   try {
-    const page = new Page(workerParts, desk, server, data());
+    // The desk starts while the page is made.
     await workerParts.module;
+    const page = new Page(workerParts, desk, server, data());
     page.listen();
     await page.arrival.begin();
     // For tests, and for the curious.

@@ -1,4 +1,5 @@
 /** What the page is made of: the machine, the script of its workers, and its data; beside the page, or inside it. */
+import { remoteDesk } from "../worker/pool.js";
 import { bytesOf, through } from "./link.js";
 
 /** @typedef {import("../model/fight.js").Source} Source */
@@ -32,7 +33,7 @@ async function compiled() {
  * Returns the parts at once: workers load their script while the machine is compiled.
  * @returns {Parts}
  */
-export function parts() {
+function parts() {
   const worker = textOf("worker-code");
   const module = compiled();
   // An error is reported by the first call of a worker.
@@ -40,6 +41,12 @@ export function parts() {
   if (!worker) return { script: "worker.js", module };
   return { script: URL.createObjectURL(new Blob([worker], { type: "text/javascript" })), module };
 }
+
+/** The parts and the desk, which begin while the rest of the page's script is evaluated. */
+export const begun = (async () => {
+  const workerParts = parts();
+  return { workerParts, desk: remoteDesk(workerParts) };
+})();
 
 /**
  * Returns the page in one file, with a fight in it.

@@ -91,7 +91,8 @@ export class Track {
     this.first = 0;
     this.#request++;
     this.picture.clear();
-    this.paint();
+    // The turn that is shown first comes before it.
+    this.#paint();
   }
 
   /**

@@ -165,7 +165,8 @@ export class Jobs {
     const deaths = isTie ? [] : this.#deaths(fight, History.fight(this.mars, { ...fight, warriors }));
     const living = warriors.length - deaths.length;
     const isDead = (/** @type {number} */ who) => deaths.some(({ warrior }) => warrior === who);
-    return { round, end, outcomes: warriors.map((_, who) => outcome(!isDead(who), living)), deaths };
+    const survives = living === 1 ? "win" : "tie";
+    return { round, end, outcomes: warriors.map((_, who) => (isDead(who) ? "loss" : survives)), deaths };
   }
 
   /**
@@ -190,14 +191,4 @@ export class Jobs {
       return { warrior: order[warrior], turn, line: hit?.line ?? 0, killer: order[other] ?? -1, by };
     });
   }
-}
-
-/**
- * @param {boolean} isAlive
- * @param {number} living
- * @returns {Outcome}
- */
-function outcome(isAlive, living) {
-  if (!isAlive) return "loss";
-  return living === 1 ? "win" : "tie";
 }
