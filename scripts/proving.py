@@ -9,9 +9,9 @@ import tempfile
 from collections.abc import Iterable
 
 from machine import free_memory, max_parallel, toolchain
+from modules import keeping_toolchain
 from program import BUILT as PROGRAM_FILE, CRATE, TOP
 from rooms import all_below, crate_lines, make_room
-from webassembly import keeping_toolchain
 
 # The lines of crates.txt of the program and of the library for C, and the files that are built from them.
 PROGRAM, LIBRARY = CRATE, "mars_c staticlib"

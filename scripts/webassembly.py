@@ -4,28 +4,16 @@ from __future__ import annotations
 
 import os
 import re
-import subprocess
 
+from modules import CannotBuild, clang_of, run, text_of
 from program import TOP
 
 HEAP = os.path.join(TOP, "site", "src", "engine", "heap.c")
 HEADER = os.path.join(TOP, "include", "mars.h")
-# Keeps the largest module that it compiles, which is that of the library, and the code that it makes from it. If these
-# cannot be copied, the native library is built all the same.
-KEEPING_CLANG = """#!/bin/sh
-'{clang}' "$@" || exit
-size() {{ stat -c %s "$1" 2>/dev/null || echo 0; }}
-case " $* " in *" module.bc -o module.o "*)
-    if [ "$(size module.bc)" -gt "$(size '{kept}')" ]; then cp module.bc '{kept}' && cp module.o '{kept}.o'; fi
-esac
-exit 0
-"""
 # wasm64 has pointers of 64 bits, as the native target has; the memory is lowered to 32 bits afterwards.
 TARGET = "wasm64-unknown-unknown"
 LAYOUT = "e-m:e-p:64:64-p10:8:8-p20:8:8-i64:64-i128:128-n32:64-S128-ni:1:10:20"
 COMPILE = [f"--target={TARGET}", "-mcpu=lime1", "-mbulk-memory", "-O2", "--no-default-config"]
-# Writes a module as text, as it is.
-DISASSEMBLE = "-S -emit-llvm -Xclang -disable-llvm-passes --no-default-config -x ir".split()
 # The options of the native library.
 AS_NATIVE = ["-ffunction-sections", "-fno-vectorize", "-fno-slp-vectorize"]
 # The crates that no turn runs through. They are compiled for size.
@@ -45,42 +33,6 @@ LINK = [
 ]
 FEATURES = "memory64 bulk-memory sign-ext nontrapping-float-to-int multivalue mutable-globals".split()
 TABLE, ELEMENTS = 4, 9
-
-
-class CannotBuild(Exception):
-    """mars.wasm cannot be built; the text says why."""
-
-
-def keeping_toolchain(toolchain: str, folder: str, kept: str) -> str:
-    """Makes a folder like that of the toolchain, whose clang keeps its module in the file `kept`, and its code beside
-    that.
-    """
-    os.makedirs(os.path.join(folder, "bin"))
-    for name in os.listdir(toolchain):
-        if name != "bin":
-            os.symlink(os.path.join(toolchain, name), os.path.join(folder, name))
-    for name in os.listdir(os.path.join(toolchain, "bin")):
-        if name != "clang":
-            os.symlink(os.path.join(toolchain, "bin", name), os.path.join(folder, "bin", name))
-    clang = os.path.join(folder, "bin", "clang")
-    with open(clang, "w") as file:
-        file.write(KEEPING_CLANG.format(kept=kept, clang=os.path.join(toolchain, "bin", "clang")))
-    os.chmod(clang, 0o755)
-    return folder
-
-
-def run(*words: str) -> str:
-    done = subprocess.run(words, capture_output=True, text=True)
-    if done.returncode:
-        raise CannotBuild(f"{os.path.basename(words[0])}: {(done.stderr or done.stdout).strip()[-600:]}")
-    return done.stdout
-
-
-def check_module(module: str, archive: str) -> None:
-    """Checks that the archive has the code that was made from the module, and nothing else."""
-    with open(f"{module}.o", "rb") as made:
-        if made.read() != subprocess.run(["ar", "p", archive], capture_output=True).stdout:
-            raise CannotBuild("the kept module is not that of the native library")
 
 
 def for_webassembly(text: str) -> str:
@@ -121,14 +73,11 @@ def exports() -> list[str]:
         return re.findall(r"^(?:uint32_t|size_t) (mars_\w+)\(", file.read(), re.M)
 
 
-def compiled(module: str, toolchain: str, room: str) -> list[str]:
-    """Compiles the module, and the heap that it calls, for wasm64. Returns the files of both."""
-    clang, text = os.path.join(toolchain, "bin", "clang"), os.path.join(room, "module.ll")
-    run(clang, *DISASSEMBLE, module, "-o", text)
-    with open(text) as file:
-        source = for_webassembly(file.read())
+def compiled(source: str, toolchain: str, room: str) -> list[str]:
+    """Compiles the text of the module, and the heap that it calls, for wasm64. Returns the files of both."""
+    clang, text = clang_of(toolchain), os.path.join(room, "module.ll")
     with open(text, "w") as file:
-        file.write(source)
+        file.write(for_webassembly(source))
     objects = [os.path.join(room, "library.o"), os.path.join(room, "heap.o")]
     run(clang, *COMPILE, *AS_NATIVE, "-c", "-x", "ir", text, "-o", objects[0])
     run(clang, *COMPILE, "-ffreestanding", "-fno-builtin", "-c", HEAP, "-o", objects[1])
@@ -137,8 +86,8 @@ def compiled(module: str, toolchain: str, room: str) -> list[str]:
 
 def build_wasm(module: str, archive: str, toolchain: str, room: str, out: str) -> None:
     """Builds mars.wasm in the file `out`. Raises CannotBuild."""
-    check_module(module, archive)
-    objects, linked = compiled(module, toolchain, room), os.path.join(room, "linked.wasm")
+    source = text_of(module, archive, toolchain)
+    objects, linked = compiled(source, toolchain, room), os.path.join(room, "linked.wasm")
     # LLVM's linker is one program, which links for WebAssembly if it is called by this name.
     linker = os.path.join(room, "wasm-ld")
     os.symlink(os.path.join(toolchain, "bin", "ld.lld"), linker)

@@ -95,6 +95,7 @@ class Place:
             "library",
             "prove",
             "machine.py",
+            "modules.py",
             "program.py",
             "progress.py",
             "proving.py",
