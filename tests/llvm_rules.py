@@ -106,9 +106,11 @@ def memory() -> Iterator[tuple[str, str]]:
         stored = PLACE.format(320) + AFTER + "store i64 %a0, ptr %p, align 1\nstore i64 %a1, ptr %q, align 1\n"
         near = "%o = getelementptr inbounds i8, ptr %p, i64 3\n"
         moved = f"call void @llvm.memmove.p0.p0.i64(ptr %o, ptr %p, i64 {size}, i1 false)\n"
-        yield f"memmove {size}", stored + near + moved + "%r = load i64, ptr %q, align 1\n"
+        both = "%x = load i64, ptr %o, align 1\n%y = load i64, ptr %q, align 1\n%r = sub i64 %x, %y\n"
+        yield f"memmove {size}", stored + near + moved + both
         cleared = f"call void @llvm.memset.p0.i64(ptr %o, i8 0, i64 {size}, i1 false)\n"
         yield f"memset {size}", stored + near + cleared + "%r = load i64, ptr %p, align 1\n"
+    yield "memset of a byte", PLACE.format(16).replace("i8 0", "i8 7") + "%r = load i64, ptr %p, align 1\n"
     filled = "%c = and i64 %a1, 15\ncall void @llvm.memset.p0.i64(ptr %p, i8 7, i64 %c, i1 false)\n"
     yield "memset of a length", PLACE.format(16) + filled + "%r = load i64, ptr %p, align 1\n"
     for kind in ("i16", "i32"):
@@ -126,15 +128,56 @@ def memory() -> Iterator[tuple[str, str]]:
     yield "constants", read + widened("i8")
 
 
+def numbers() -> Iterator[tuple[str, str]]:
+    yield "true", "%c = icmp ult i64 %a0, %a1\n%v = xor i1 %c, true\n" + widened("i1")
+    yield "trunc to i1", "%v = trunc i64 %a0 to i1\n" + widened("i1")
+    yield "null", PLACE.format(8) + "store ptr null, ptr %p, align 8\n%r = load i64, ptr %p, align 8\n"
+    yield "i128", BOTH + f"%v = add i128 %a, {(5 << 64) + 7}\n" + FOLD
+    for kind in NARROW:
+        yield f"negative {kind}", cut(kind) + f"%v = and {kind} %a, -6\n" + widened(kind)
+
+
+def variables() -> Iterator[tuple[str, str]]:
+    """Places that are used as a whole, and others that look so."""
+    one = "%p = alloca i64, align 8\nstore i64 %a0, ptr %p, align 8\n"
+    two = one + "%s = alloca i64, align 8\nstore i64 %a1, ptr %s, align 8\n"
+    ends = "%x = load i64, ptr %p, align 8\n%y = load i64, ptr %s, align 8\n%r = sub i64 %x, %y\n"
+    clear = "call void @llvm.memset.p0.i64(ptr %p, i8 0, i64 {0}, i1 false)\n"
+    copy = "call void @llvm.memmove.p0.p0.i64(ptr %{0}, ptr %{1}, i64 {2}, i1 false)\n"
+    for size in (8, 3):
+        yield f"cleared, {size} of 8 bytes", two + clear.format(size) + ends
+        yield f"copied, {size} of 8 bytes", two + copy.format("p", "s", size) + ends
+    wide = PLACE.format(16) + AFTER + "store i64 %a1, ptr %p, align 8\nstore i64 %a1, ptr %q, align 8\n"
+    part = "%s = alloca i64, align 8\nstore i64 %a0, ptr %s, align 8\n"
+    yield "copied to bytes", wide + part + copy.format("p", "s", 8) + ends.replace("%s", "%q")
+    yield "copied from bytes", wide + part + copy.format("s", "q", 8) + ends
+    half = (
+        "%s = alloca [16 x i8], align 8\n" + clear.format(16).replace("%p", "%s") + "store i64 %a0, ptr %s, align 8\n"
+    )
+    yield "half of a place", wide + half + copy.format("p", "s", 16) + "%r = load i64, ptr %q, align 8\n"
+
+
+def addresses() -> Iterator[tuple[str, str]]:
+    moved = PLACE.format(8) + "%q = getelementptr i8, ptr %p, i64 %a0\n"
+    for how in UNSIGNED:
+        yield f"{how} ptr", moved + f"%v = icmp {how} ptr %p, %q\n" + widened("i1")
+    integers = "%x = ptrtoaddr ptr %p to i64\n%y = ptrtoaddr ptr %q to i64\n%r = sub i64 %x, %y\n"
+    yield "ptrtoaddr", moved + integers
+    padded = PLACE.format(16) + AFTER + "store i64 %a0, ptr %p, align 8\nstore i64 %a1, ptr %q, align 8\n"
+    yield "padding", padded + "%v = load { i8, i64 }, ptr %p, align 8\n%r = extractvalue { i8, i64 } %v, 1\n"
+
+
 def jumps() -> Iterator[tuple[str, str]]:
     arms = "switch i64 %c, label %other [\n    i64 0, label %zero\n    i64 -1, label %last\n  ]\n"
     ends = "zero:\n  ret i64 10\nlast:\n  ret i64 20\nother:\n"
     yield "switch", "%d = and i64 %a0, 2\n%c = sub i64 0, %d\n" + arms + ends + "%r = add i64 %c, %a1\n"
+    short = "%c = trunc i64 %a1 to i8\n" + arms.replace("i64", "i8") + ends
+    yield "switch i8", short + "%r = add i64 %a0, %a1\n"
     branch = "%c = icmp ult i64 %a0, %a1\nbr i1 %c, label %less, label %more\n"
     yield "br", branch + "less:\n  ret i64 1\nmore:\n" + "%r = add i64 %a0, 7\n"
 
 
-RULES = dict([*arithmetic(), *comparisons(), *bits(), *memory(), *jumps()])
+RULES = dict([*arithmetic(), *comparisons(), *bits(), *memory(), *numbers(), *variables(), *addresses(), *jumps()])
 
 
 def module(rules: dict[str, str]) -> str:

@@ -3,8 +3,10 @@ from __future__ import annotations
 
 import ctypes
 import random
+import shutil
 import subprocess
 import sys
+from importlib import import_module
 from pathlib import Path
 from typing import Any
 
@@ -50,25 +52,30 @@ def built(command: list[str], source: Path) -> Any:
     return ctypes.CDLL(str(shared))
 
 
-def numbers(library: Any, only: str = "") -> dict[str, list[int]]:
-    """Returns what each function gives for each pair, or only that of one rule."""
+def numbers(library: Any, rules: dict[str, str]) -> dict[str, list[int]]:
+    """Returns what the function of each rule gives for each pair."""
     found = {}
-    for number, name in enumerate(RULES):
-        if only not in ("", name):
-            continue
+    for number, name in enumerate(rules):
         function = getattr(library, f"f{number}")
         function.argtypes, function.restype = [ctypes.c_uint64] * 2, ctypes.c_uint64
         found[name] = [function(*pair) for pair in PAIRS]
     return found
 
 
-def translated(folder: Path, before: str = BEFORE, *options: str, only: str = "") -> dict[str, list[int]]:
+def translated(
+    folder: Path, rules: dict[str, str], *options: str, before: str = BEFORE, translator: type[Any] = Translator
+) -> dict[str, list[int]]:
     """Returns what the translated functions give."""
-    names = [f"f{number}" for number in range(len(RULES))]
+    names = [f"f{number}" for number in range(len(rules))]
     after = "".join(f"u64 {name}(u64 a, u64 b) {{ return x_{name}(a, b); }}\n" for name in names)
     source = folder / "translated.c"
-    source.write_text(Translator(module(RULES), names).text(before, HEAP, after))
-    return numbers(built(["gcc", "-O1", "-w", *options, f"-I{TOP / 'include'}"], source), only)
+    source.write_text(translator(module(rules), names).text(before, HEAP, after))
+    return numbers(built(["gcc", "-O1", "-w", *options, f"-I{TOP / 'include'}"], source), rules)
+
+
+def only(rule: str) -> dict[str, str]:
+    """Returns a rule, with that of the type that the heap returns."""
+    return {name: RULES[name] for name in (rule, "struct")}
 
 
 @pytest.fixture(scope="module")
@@ -77,12 +84,14 @@ def expected(tmp_path_factory: pytest.TempPathFactory) -> dict[str, list[int]]:
     source = tmp_path_factory.mktemp("llvm") / "rules.ll"
     source.write_text(module(RULES))
     clang = f"{toolchain()}/toolchain/bin/clang"
-    return numbers(built([clang, "--no-default-config", "-nostdlib", "-w", "-O0", "-fuse-ld=lld", "-x", "ir"], source))
+    return numbers(
+        built([clang, "--no-default-config", "-nostdlib", "-w", "-O0", "-fuse-ld=lld", "-x", "ir"], source), RULES
+    )
 
 
 @pytest.mark.parametrize("options", ([], ["-DMARS_ANY_ENDIAN"]))
 def test_rules(tmp_path: Path, expected: dict[str, list[int]], options: list[str]) -> None:
-    found = translated(tmp_path, BEFORE, *options)
+    found = translated(tmp_path, RULES, *options)
     assert {name for name in RULES if found[name] != expected[name]} == set()
 
 
@@ -107,7 +116,7 @@ def test_another_rule_is_noticed(
     rule: str,
 ) -> None:
     monkeypatch.setitem(getattr(instructions, table), key, text)
-    assert translated(tmp_path, only=rule)[rule] != expected[rule]
+    assert translated(tmp_path, only(rule))[rule] != expected[rule]
 
 
 @pytest.mark.parametrize(
@@ -127,7 +136,53 @@ def test_another_rule_is_noticed(
 )
 def test_another_part_is_noticed(tmp_path: Path, expected: dict[str, list[int]], old: str, new: str, rule: str) -> None:
     assert BEFORE.count(old) == 1
-    assert translated(tmp_path, BEFORE.replace(old, new), only=rule)[rule] != expected[rule]
+    assert translated(tmp_path, only(rule), before=BEFORE.replace(old, new))[rule] != expected[rule]
+
+
+@pytest.mark.parametrize(
+    "file, old, new, rule",
+    [
+        ("instructions", '({value}) & 1" if found[3] == "i1"', '({value})" if found[3] == "i1"', "trunc to i1"),
+        ("instructions", "(uintptr_t)({a}) {UNSIGNED[how]} (uintptr_t)", "(intptr_t)({a}) < (intptr_t)", "ult ptr"),
+        ("instructions", "(u64)(uintptr_t)", "(u32)(uintptr_t)", "ptrtoaddr"),
+        ("instructions", "case {self.value(found[1], number)}:", "case {number}:", "switch i8"),
+        ("instructions", "{self.local(names[0])} = {self.zero(kind)};", ";", "cleared, 8 of 8 bytes"),
+        ("instructions", 'names[1] == "0" and names[2].isdigit()', "names[2].isdigit()", "memset of a byte"),
+        ("instructions", 'self.store("i8", names[0], self.load("i8", names[1]))', '";"', "memmove 1"),
+        (
+            "instructions",
+            "[names[1]], names[0], self.load(kind, names[1])",
+            "[names[1]], names[0], '0'",
+            "copied to bytes",
+        ),
+        ("values", "at = (at + size - 1) // size * size", "at = at", "padding"),
+        ("values", 'str(int(text == "true"))', '"0"', "true"),
+        ("values", "{number >> 64}", "{number >> 65}", "i128"),
+        ("values", "int(text) % (1 << BITS[kind])", "abs(int(text))", "negative i16"),
+        ("values", "(u8 *)0", "(u8 *)1", "null"),
+        ("writing", "self.size_of(found[1]) == size", "True", "half of a place"),
+        ("writing", "cleared and int(cleared[2]) == size", "cleared", "cleared, 3 of 8 bytes"),
+        ("writing", "copied and int(copied[3]) == size and", "copied and", "copied, 3 of 8 bytes"),
+    ],
+)
+def test_an_edit_is_noticed(
+    tmp_path: Path,
+    expected: dict[str, list[int]],
+    monkeypatch: pytest.MonkeyPatch,
+    file: str,
+    old: str,
+    new: str,
+    rule: str,
+) -> None:
+    edited = shutil.copytree(TOP / "scripts" / "translator", tmp_path / "translator") / f"{file}.py"
+    text = edited.read_text()
+    assert text.count(old) == 1
+    edited.write_text(text.replace(old, new))
+    for name in [name for name in sys.modules if name.split(".")[0] == "translator"]:
+        monkeypatch.delitem(sys.modules, name)
+    monkeypatch.syspath_prepend(tmp_path)
+    translator = import_module("translator.writing").Translator
+    assert translated(tmp_path, only(rule), translator=translator)[rule] != expected[rule]
 
 
 @pytest.mark.parametrize(
