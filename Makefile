@@ -6,7 +6,7 @@
 #   make man          the man pages, in build/man
 #   make editors      the files for editors, in build/share
 #   make packages     the Debian packages `mars` and `corewar`, in build
-#   make wheel        a Python wheel of `corewar` that contains the library and the site, for x86-64 Linux and Python 3.11 or later, in build
+#   make wheels       Python wheels of `corewar` that contain the library and the site, for Linux, Windows and macOS, in build
 #   make portable     the library as one C file for any machine, in build/libmars-VERSION.tar.gz
 #   make dist         a source archive of `corewar`, which pip compiles on any machine, in build
 #   make vectors      battles, sources and matches with their answers for other simulators, in build/vectors (docs/dev/VECTORS.md)
@@ -42,7 +42,7 @@ copy = mkdir -p $(2) && tar -c -C $(1) --mode=u=rwX,go=rX --exclude=__pycache__ 
 licences = mkdir -p $(1); set -e; for library in $(LIBRARIES); do for file in "$$(dirname "$$(rt doc)")"/rattle/$$library/LICENSE*; do \
 	cp "$$file" $(1)/$$library-$${file\#\#*/}; done; done$(if $(wildcard LICENSE*),; cp $(wildcard LICENSE*) $(1))
 
-.PHONY: all install uninstall site man completion editors packages wheel portable dist vectors check
+.PHONY: all install uninstall site man completion editors packages wheels portable dist vectors check
 
 all: man completion editors
 
@@ -116,14 +116,25 @@ packages: $(PROGRAM) $(LIBRARY) $(SITE)
 	$(call licences,build/package/licences)
 	cd build/package && dpkg-buildpackage -b -us -uc
 
-# Built from a copy, since setuptools leaves folders in its source; building it again gives the same bytes.
-wheel: $(LIBRARY) $(SITE)
+# The libraries of the wheels, in folders that have the names of the tags. That of x86-64 Linux is the built one.
+NATIVE = build/native
+HERE := $(shell sed -n 's/^HERE = "\(.*\)"/\1/p' setup.py)
+
+$(NATIVE): $(LIBRARY) scripts/natives scripts/targets.py portable/native.c portable/stack.s
+	rm -rf $@ $@.new
+	scripts/natives $@.new
+	install -D -m 755 -t $@.new/$(HERE) build/libmars.so.2
+	mv $@.new $@
+
+# Built from a copy, since setuptools leaves folders in its source; building them again gives the same bytes.
+wheels: $(NATIVE) $(SITE)
 	rm -rf build/wheel
-	$(call copy,.,build/wheel/kit,pyproject.toml setup.py README.md python include build/libmars.so.2 build/site)
+	$(call copy,.,build/wheel/kit,pyproject.toml setup.py README.md python include build/site)
 	$(COREWAR) packaging/editors.py build/wheel/kit/build/share
 	$(call licences,build/wheel/kit/licences)
-	SOURCE_DATE_EPOCH=$(EPOCH) \
-		/usr/bin/python3 -m pip wheel --no-deps --no-build-isolation --no-cache-dir -q -w build build/wheel/kit
+	set -e; for library in $(CURDIR)/$(NATIVE)/*/*; do rm -rf build/wheel/kit/build/lib* build/wheel/kit/build/bdist*; \
+		MARS_NATIVE=$$library SOURCE_DATE_EPOCH=$(EPOCH) \
+		/usr/bin/python3 -m pip wheel --no-deps --no-build-isolation --no-cache-dir -q -w build build/wheel/kit; done
 	rm -r build/wheel
 
 # The library as C, and what makes an archive of it.

@@ -1,11 +1,13 @@
 """Builds what pyproject.toml cannot express: a package with the library and mars.h, which any Python calls by cffi, and
 with the built site.
 
-The library is that in `build`, which scripts/library proves and builds. A source archive (`make dist`) has
-portable/libmars.c instead, which the system's C compiler compiles.
+The library is that in `build`, which scripts/library proves and builds. `make wheels` gives one for another system as
+MARS_NATIVE, in a folder that has the name of the wheel's tags. A source archive (`make dist`) has portable/libmars.c
+instead, which the system's C compiler compiles.
 """
 from __future__ import annotations
 
+import os
 import re
 import runpy
 import shutil
@@ -22,7 +24,9 @@ from wheel.bdist_wheel import bdist_wheel
 HEADER, SOURCE = "include/mars.h", "portable/libmars.c"
 SITE = "build/site"
 READER: dict[str, Any] = runpy.run_path("python/corewar/model/header.py")
-BUILT = Path("build", READER["LIBRARY"])
+BUILT = Path(os.environ.get("MARS_NATIVE") or Path("build", READER["LIBRARY"]))
+# The tags of the library in `build`, which requires glibc 2.14.
+HERE = "manylinux_2_17_x86_64.manylinux2014_x86_64"
 # The files for editors, which `make editors` writes.
 SHARE = Path("build/share")
 # Without -g, which Python's own options have, and with which GCC takes five times as long.
@@ -75,12 +79,12 @@ class BuildPackage(build_py):
 
 
 class Wheel(bdist_wheel):
-    """Tags the wheel by the library, which requires no particular Python. The built one requires glibc 2.14."""
+    """Tags the wheel by the library, which requires no particular Python."""
 
     def get_tag(self) -> tuple[str, str, str]:
         system = re.sub(r"\W", "_", sysconfig.get_platform())
         if BUILT.is_file():
-            system = "manylinux_2_17_x86_64.manylinux2014_x86_64"
+            system = BUILT.parent.name if "MARS_NATIVE" in os.environ else HERE
         return "py3", "none", system
 
 

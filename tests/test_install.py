@@ -4,6 +4,7 @@ Also the man pages, and the lists of packages.
 """
 from __future__ import annotations
 
+import fcntl
 import os
 import re
 import shutil
@@ -35,8 +36,12 @@ ZSH = ["share/zsh/site-functions/_corewar", "share/zsh/site-functions/_mars"]
 
 
 def make(*words: object, **how: object) -> subprocess.CompletedProcess[str]:
+    """Runs make. Tests that run at the same time wait for each other here: two runs would write the same files."""
     command = ["make", "--no-print-directory", *map(str, words), f"PROGRAM={PROGRAM}"]
-    return subprocess.run(command, cwd=TOP, capture_output=True, text=True, timeout=300, **how)  # type: ignore
+    with open(TOP / "build" / "lock", "w") as lock:
+        fcntl.flock(lock, fcntl.LOCK_EX)
+        # The libraries for other systems take three minutes of a processor.
+        return subprocess.run(command, cwd=TOP, capture_output=True, text=True, timeout=1800, **how)  # type: ignore
 
 
 def make_well(*words: object) -> None:

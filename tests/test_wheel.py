@@ -1,4 +1,6 @@
-"""Tests the wheel: it installs into a fresh virtual environment and runs there from any folder."""
+"""Tests the wheels: that of this system installs into a fresh virtual environment and runs there from any folder, and
+pip accepts each for its system.
+"""
 from __future__ import annotations
 
 import pickle
@@ -13,7 +15,17 @@ from conftest import EXAMPLES, TOP
 from counting import skip
 from test_install import make_well
 
-WHEEL = TOP / "build" / f"corewar-{corewar.__version__}-py3-none-manylinux_2_17_x86_64.manylinux2014_x86_64.whl"
+NAME = f"corewar-{corewar.__version__}-py3-none-"
+WHEEL = TOP / "build" / f"{NAME}manylinux_2_17_x86_64.manylinux2014_x86_64.whl"
+# Systems as pip names them, and the library of each.
+SYSTEMS = {
+    "manylinux_2_17_x86_64": "libmars.so.2",
+    "manylinux_2_17_aarch64": "libmars.so.2",
+    "musllinux_1_1_aarch64": "libmars.so.2",
+    "win_amd64": "mars-2.dll",
+    "macosx_14_0_arm64": "libmars.2.dylib",
+    "macosx_12_0_x86_64": "libmars.2.dylib",
+}
 # A user's script with two mistakes that a type checker finds: a warrior that is text, and a field that no row has.
 MISTAKEN = """\
 import corewar
@@ -31,7 +43,7 @@ def environment(tmp_path_factory: pytest.TempPathFactory) -> Iterator[Path]:
         code = f"import importlib.util, sys; sys.exit(importlib.util.find_spec('{module}') is None)"
         if subprocess.run(["/usr/bin/python3", "-c", code]).returncode:
             skip("the wheel", f"there is no module {module}", f"python3-{package}")
-    make_well("wheel")
+    make_well("wheels")
     folder = tmp_path_factory.mktemp("venv")
     for words in (
         ["/usr/bin/python3", "-m", "venv", "--system-site-packages", folder],
@@ -51,17 +63,38 @@ def started(environment: Path, *words: object, input: str = "", folder: object =
     return done.stdout
 
 
-def test_it_is_the_same_again() -> None:
-    make_well("wheel")
-    first = WHEEL.read_bytes()
-    make_well("wheel")
-    assert first == WHEEL.read_bytes()
+def test_they_are_the_same_again(environment: Path) -> None:
+    first = {path: path.read_bytes() for path in WHEEL.parent.glob(f"{NAME}*.whl")}
+    make_well("wheels")
+    assert len(first) == 5 and all(path.read_bytes() == content for path, content in first.items())
+
+
+@pytest.mark.parametrize("system", SYSTEMS)
+def test_pip_accepts_one_for_each_system(environment: Path, tmp_path: Path, system: str) -> None:
+    words = ["install", "-q", "--no-index", "--no-deps", "--only-binary=:all:", "--find-links", TOP / "build"]
+    started(environment, "pip", *words, "--platform", system, "--target", tmp_path, "corewar")
+    assert {path.name for path in tmp_path.glob("corewar/engine/*mars*")} == {SYSTEMS[system], "mars.h"}
 
 
 def test_it_calls_its_own_library(environment: Path) -> None:
     code = "import corewar.engine.binding as b; b.library(); print(b.ENGINE, open('/proc/self/maps').read())"
     output = started(environment, "python", "-c", code)
     assert output.startswith(f"{environment}/lib/") and f"{output.split()[0]}/libmars.so.2\n" in output
+
+
+def test_it_names_the_processor_that_it_needs(environment: Path) -> None:
+    """No tag says x86-64-v2, so the library does, and is not loaded on an older processor."""
+    (library,) = environment.glob("lib/python*/site-packages/corewar/engine/libmars.so.2")
+    words = [
+        "qemu-x86_64-static",
+        "-cpu",
+        "qemu64",
+        "/usr/bin/python3",
+        "-c",
+        f"import ctypes; ctypes.CDLL('{library}')",
+    ]
+    refused = subprocess.run(words, capture_output=True, text=True)
+    assert refused.stderr.endswith("libmars.so.2: CPU ISA level is lower than required\n")
 
 
 def test_no_header_is_parsed(environment: Path) -> None:

@@ -1,0 +1,63 @@
+"""Tests the libraries for other systems that `make wheels` packs: that of ARM64 Linux leaves after 2,000 random calls
+what the native library leaves; that of Windows has the calls of the header, and needs what Windows has.
+"""
+from __future__ import annotations
+
+import re
+import shutil
+import subprocess
+import sys
+from pathlib import Path
+
+import pytest
+from conftest import TOP
+from counting import skip
+from test_install import make_well
+
+sys.path.insert(0, str(TOP / "scripts"))
+from machine import toolchain  # noqa: E402
+from modules import CannotBuild  # noqa: E402
+from targets import ARM64_LINUX, WINDOWS, Compiler  # noqa: E402
+from webassembly import exports  # noqa: E402
+
+NATIVE = TOP / "build" / "native"
+CHECK = [str(TOP / "portable" / "check.c"), f"-I{TOP / 'include'}", "-O1"]
+CALLS = ["2000", "1"]
+
+
+@pytest.fixture(scope="module", autouse=True)
+def natives() -> None:
+    make_well("build/native")
+
+
+def output(*words: object) -> str:
+    return subprocess.run(list(map(str, words)), capture_output=True, text=True, check=True).stdout
+
+
+def test_calls_agree_on_arm64(tmp_path: Path) -> None:
+    for command, package in (
+        ("aarch64-linux-gnu-gcc", "gcc-aarch64-linux-gnu"),
+        ("qemu-aarch64-static", "qemu-user-static"),
+    ):
+        if not shutil.which(command):
+            skip("the library of ARM64 Linux", f"there is no {command}", package)
+    folder, here, there = NATIVE / ARM64_LINUX, tmp_path / "here", tmp_path / "there"
+    output("gcc", *CHECK, TOP / "build" / "libmars.a", "-o", here)
+    output("aarch64-linux-gnu-gcc", *CHECK, folder / "libmars.so.2", "-o", there)
+    emulated = ["qemu-aarch64-static", "-L", "/usr/aarch64-linux-gnu", "-E", f"LD_LIBRARY_PATH={folder}"]
+    expected = output(here, *CALLS)
+    assert expected.count("\n") == 2000 and output(*emulated, there, *CALLS) == expected
+
+
+def test_calls_of_windows() -> None:
+    listed = output("objdump", "-p", NATIVE / "win_amd64" / "mars-2.dll")
+    assert set(re.findall(r"^\t\[ *\d+\] (\w+)$", listed, re.M)) == set(exports())
+    assert re.findall(r"DLL Name: (.*)", listed) == ["ucrtbase.dll"]
+    assert set(re.findall(r"^\t\w+\t +\d+  (\w+)$", listed, re.M)) == set(WINDOWS)
+
+
+@pytest.mark.parametrize("triple", ["s390x-linux-gnu", "i686-linux-gnu", "aarch64_be-linux-gnu", "arm-linux-gnueabihf"])
+def test_other_layouts_are_refused(tmp_path: Path, triple: str) -> None:
+    """The module depends on little-endian order and addresses of 64 bits, which LLVM does not check."""
+    with pytest.raises(CannotBuild, match=f"^{triple}: "):
+        Compiler(f"{toolchain()}/toolchain", str(tmp_path)).head_of(triple)
