@@ -1,5 +1,6 @@
 """Tests the libraries for other systems that `make wheels` packs: that of ARM64 Linux leaves after 2,000 random calls
-what the native library leaves; that of Windows has the calls of the header, and needs what Windows has.
+what the native library leaves, on a stack that is as small; that of Windows has the calls of the header, and needs what
+Windows has.
 """
 from __future__ import annotations
 
@@ -21,7 +22,8 @@ from targets import ARM64_LINUX, WINDOWS, Compiler  # noqa: E402
 from webassembly import exports  # noqa: E402
 
 NATIVE = TOP / "build" / "native"
-CHECK = [str(TOP / "portable" / "check.c"), f"-I{TOP / 'include'}", "-O1"]
+INCLUDE = f"-I{TOP / 'include'}"
+CHECK = [TOP / "portable" / "check.c", "-O1"]
 CALLS = ["2000", "1"]
 
 
@@ -34,19 +36,34 @@ def output(*words: object) -> str:
     return subprocess.run(list(map(str, words)), capture_output=True, text=True, check=True).stdout
 
 
-def test_calls_agree_on_arm64(tmp_path: Path) -> None:
+def run_on_arm64(program: Path, *words: object, arguments: list[str]) -> str:
+    """Compiles a program with the library of ARM64 Linux, and returns what it prints."""
     for command, package in (
         ("aarch64-linux-gnu-gcc", "gcc-aarch64-linux-gnu"),
         ("qemu-aarch64-static", "qemu-user-static"),
     ):
         if not shutil.which(command):
             skip("the library of ARM64 Linux", f"there is no {command}", package)
-    folder, here, there = NATIVE / ARM64_LINUX, tmp_path / "here", tmp_path / "there"
-    output("gcc", *CHECK, TOP / "build" / "libmars.a", "-o", here)
-    output("aarch64-linux-gnu-gcc", *CHECK, folder / "libmars.so.2", "-o", there)
-    emulated = ["qemu-aarch64-static", "-L", "/usr/aarch64-linux-gnu", "-E", f"LD_LIBRARY_PATH={folder}"]
+    folder = NATIVE / ARM64_LINUX
+    output("aarch64-linux-gnu-gcc", *words, INCLUDE, folder / "libmars.so.2", "-o", program)
+    emulator = ["qemu-aarch64-static", "-L", "/usr/aarch64-linux-gnu", "-E", f"LD_LIBRARY_PATH={folder}"]
+    return output(*emulator, program, *arguments)
+
+
+def test_calls_agree_on_arm64(tmp_path: Path) -> None:
+    here = tmp_path / "here"
+    output("gcc", *CHECK, INCLUDE, TOP / "build" / "libmars.a", "-o", here)
     expected = output(here, *CALLS)
-    assert expected.count("\n") == 2000 and output(*emulated, there, *CALLS) == expected
+    assert expected.count("\n") == 2000
+    assert run_on_arm64(tmp_path / "there", *CHECK, arguments=CALLS) == expected
+
+
+def test_stack_on_arm64(tmp_path: Path) -> None:
+    """The calls that execute much leave a third of the 64 KiB that the header promises to be sufficient."""
+    source = TOP / "tests" / "library" / "stack.c"
+    lines = run_on_arm64(tmp_path / "stack", "-O2", "-pthread", source, arguments=[]).splitlines()
+    used = [int(line.rpartition(" ")[2]) for line in lines]
+    assert len(used) == 9 and 30_000 < max(used) <= 40 * 1024, lines
 
 
 def test_calls_of_windows() -> None:
