@@ -13,8 +13,8 @@ from .exact import strip_of
 from .matches import Matches
 from .standings import HEAD, NAMES, RATES, Standings, Sums, head_of, names_of, rates_of
 
-# The width of a strip in a table.
-STRIP = 32
+# The width of a strip in a table, whose head fits into 80 columns.
+STRIP = 24
 
 
 @dataclass(frozen=True, eq=False)
