@@ -74,6 +74,7 @@ SOURCES = [
     ("mov 0, 1 # copy\n", "line 1: 4 Expression 1 Syntax", "A comment begins with `;`."),
     ("s1 = 3364\nmov 0, s1\n", "line 1: 1 Text 2 BadToken", "by EQU: write `s1 EQU 3364`."),
     ("a mov 0, 1\njmp a:\n", "line 2: 4 Expression 1 Syntax", "write `a` here."),
+    ("a mov 0, 1\njmp: a\n", "line 2: 4 Expression 1 Syntax", "write `jmp` here."),
     ("i FOR 2\nq&i&01 mov 0, 1\nROF\n", "line 2: 1 Text 2 BadToken", "`01` is no counter."),
     ("m EQU mov i, 1\n EQU nop\ni FOR 2\nm\nROF\n", "line 4: 4 Expression 2 Unknown", "`i` is a counter in the EQU"),
     ("mod MOV 0, 1\n", "line 1: 4 Expression 1 Syntax", "`mod` is an opcode and cannot be a label"),

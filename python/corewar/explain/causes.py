@@ -164,7 +164,7 @@ def syntax(source: Source, line: Line) -> Iterator[str]:
             found = re.search(rf"{re.escape(before)}\s*{re.escape(after)}", line.code)
             old = found[0] if found else ""
             yield Advice(cause_sentence("comma", before=before, after=after), old, f"{before}, {after}")
-    for name in [before for before, after in zip(tokens, tokens[1:]) if after == ":" and NAME.match(before)]:
+    for name in [one for one, after in zip([line.operation, *tokens], tokens) if after == ":" and NAME.match(one)]:
         yield Advice(cause_sentence("colon", new=name), f"{name}:", name)
     if tokens.count("(") != tokens.count(")"):
         yield cause_sentence("parentheses", opened=tokens.count("("), closed=tokens.count(")"))

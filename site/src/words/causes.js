@@ -191,7 +191,7 @@ function syntax(_, line) {
     const isMissing = (before === ")" || isWord(before)) && (OPENING.includes(after) || isWord(after));
     return isMissing ? { cause: "comma", word: after, before, after } : [];
   });
-  const labels = tokens.filter((name, index) => NAME.test(name) && tokens[index + 1] === ":");
+  const labels = [line.operation, ...tokens].filter((name, index) => NAME.test(name) && tokens[index] === ":");
   found.push(...labels.map((name) => ({ cause: "colon", word: `${name}:`, new: name })));
   const [opened, closed] = ["(", ")"].map((one) => tokens.filter((token) => token === one).length);
   return opened === closed ? found : [...found, { cause: "parentheses", opened, closed }];
