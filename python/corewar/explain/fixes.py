@@ -10,9 +10,8 @@ from .errors import kind_of, replaced
 from .definitions import definitions_of
 from .equates import move_equates, replace_name
 from .operands import instructions_of
-from .pmars import is_register, is_unchecked, loops_of_modifiers, names_of_assert, opens_in_pmars, unused_equates
-from .rewrites import choose_start, commented, join_numbers, obey_directives, take_lone_labels
-from .rewrites import write_operands, write_seq, write_version
+from .pmars import is_unchecked, loops_of_modifiers, names_of_assert, opens_in_pmars
+from .rewrites import commented, obey_directives, take_lone_labels, write_operands, write_seq, write_version
 from .source import ASSERT, OPCODES, Line, Load, Source, read_source
 
 # A fix changes the lines of a source; a line may become several, separated by ends of lines.
@@ -99,27 +98,11 @@ def remove_asserts(source: Source, lines: list[str], _: Load) -> None:
             lines[one.line.number - 1] = lines[one.line.number - 1][: found.start(1)] + text
 
 
-def drop_unused(source: Source, lines: list[str], _: Load) -> None:
-    """Makes a comment of each EQU line that no line uses and that this kit rejects."""
-    for line in unused_equates(source):
-        lines[line.number - 1] = commented(lines[line.number - 1])
-
-
 def comment_prose(source: Source, lines: list[str], _: Load) -> None:
     """Makes a comment of text in a loop that is skipped, which begins a loop here and not in pMARS."""
     for line in source.lines:
         if line.skipped and line.word == "FOR" and len(line.labels) < 2 and not opens_in_pmars(line):
             lines[line.number - 1] = commented(lines[line.number - 1])
-
-
-def zero_registers(source: Source, lines: list[str], _: Load) -> None:
-    """Writes 0 for each name in a count that pMARS reads as a register."""
-    for loop in source.loops:
-        for name in loop.head.rest:
-            if is_register(source, loop.head, name) and not loop.head.skipped:
-                head = re.match(r"(.*?\bFOR\b)(.*)", lines[loop.head.number - 1], re.I | re.S)
-                if head:
-                    lines[loop.head.number - 1] = head[1] + replace_name(head[2], name, "0")
 
 
 def compute_counts(source: Source, lines: list[str], load: Load) -> None:
@@ -180,17 +163,13 @@ FIXES: list[Fix] = [
     separate_labels,
     remove_asserts,
     comment_prose,
-    join_numbers,
     write_version,
     write_seq,
     write_operands,
     move_equates,
-    drop_unused,
     rename_counters,
-    zero_registers,
     compute_counts,
     bound_counts,
-    choose_start,
 ]
 # What this kit accepts, too.
-READ_DIFFERENTLY = [obey_directives, take_lone_labels, write_version, write_seq, write_operands, choose_start]
+READ_DIFFERENTLY = [obey_directives, take_lone_labels, write_version, write_seq, write_operands]

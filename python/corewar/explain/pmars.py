@@ -158,13 +158,8 @@ def counts(source: Source) -> Found:
         for name in line.rest if line.word == "FOR" else []:
             if name in labels:
                 yield line.number, f"pMARS accepts the label `{name}` in a count; write the number."
-            elif is_register(source, line, name):
+            elif len(name) == 1 and name in source.equates and source.equates[name].number > line.number:
                 yield line.number, f"pMARS reads `{name}` as 0 here, since its EQU is later; move the EQU up."
-
-
-def is_register(source: Source, line: Line, name: str) -> bool:
-    """Returns whether pMARS reads a name as a register in a count: it has one letter, and its EQU is later."""
-    return len(name) == 1 and name in source.equates and source.equates[name].number > line.number
 
 
 @check
@@ -187,19 +182,13 @@ def equates(source: Source) -> Found:
 
 @check
 def unused(source: Source) -> Found:
-    for line in unused_equates(source):
-        yield line.number, "pMARS accepts this EQU as long as no line uses it; remove it."
-
-
-def unused_equates(source: Source) -> list[Line]:
-    """Returns the EQU lines that no line uses, with a word that is none, or that joins a name which is no counter."""
-    used, found = {word for line in source.lines for word in line.uses}, list[Line]()
-    for name, head in source.equates.items():
-        for line in source.equate(head) if name not in used else []:
-            joined = {part for token in line.rest if NAME.match(token) for part in token.split("&")[1:]}
-            joined -= {loop.counter for loop in source.loops_around(line.number)} if joined else set()
-            found += [line] if joined or any(map(NO_WORD.match, line.rest)) else []
-    return found
+    used = {word for line in source.lines for word in line.uses}
+    for line in [line for name, head in source.equates.items() if name not in used for line in source.equate(head)]:
+        # It has a word that is none, or that joins a name which is no counter.
+        joined = {part for token in line.rest if NAME.match(token) for part in token.split("&")[1:]}
+        joined -= {loop.counter for loop in source.loops_around(line.number)} if joined else set()
+        if joined or any(map(NO_WORD.match, line.rest)):
+            yield line.number, "pMARS accepts this EQU as long as no line uses it; remove it."
 
 
 @check

@@ -2,14 +2,13 @@
 from __future__ import annotations
 
 import re
-from collections.abc import Callable
 
 from .operands import instructions_of
-from .pmars import DIRECTIVE, lone_labels_of, start_by_org
+from .pmars import DIRECTIVE, lone_labels_of
 from .source import ASSERT, Line, Load, Source
 
 
-def replace_in_code(line: Line, lines: list[str], pattern: str, new: str | Callable[[re.Match[str]], str]) -> None:
+def replace_in_code(line: Line, lines: list[str], pattern: str, new: str) -> None:
     """Replaces a pattern in the code of a line, or in the expression of an assert."""
     text, found = lines[line.number - 1], ASSERT.match(line.text)
     start = found.start(1) if found else 0
@@ -64,15 +63,6 @@ def write_seq(source: Source, lines: list[str], _: Load) -> None:
             replace_in_code(line, lines, r"(?i)(?<![\w.&])cmp(?![\w&])", "seq")
 
 
-def choose_start(source: Source, lines: list[str], load: Load) -> None:
-    """Makes a comment of each ORG if its value is 0 and END says another start."""
-    kept = [line for line in source.lines if not line.unread]
-    if any(line.word == "END" and line.rest for line in kept) and start_by_org(source, load) == 0:
-        for line in kept:
-            if line.word == "ORG":
-                lines[line.number - 1] = commented(lines[line.number - 1])
-
-
 def obey_directives(source: Source, lines: list[str], _: Load) -> None:
     """Removes the space before the name of a directive, and ends the source at a second `;redcode`."""
     seen = 0
@@ -84,14 +74,3 @@ def obey_directives(source: Source, lines: list[str], _: Load) -> None:
             if seen == 2 and not source.loops_around(line.number):
                 lines[line.number - 1] = f"END\n{lines[line.number - 1]}"
                 return
-
-
-def join_numbers(source: Source, lines: list[str], _: Load) -> None:
-    """Joins numbers that are separated by spaces."""
-    for line in source.read_lines():
-        if any(one.isdecimal() and two.isdecimal() for one, two in zip(line.operands, line.operands[1:])):
-            replace_in_code(line, lines, r"(?<![\w.&])(\d+(?:\s+\d+)+)(?![\w&])", joined)
-
-
-def joined(found: re.Match[str]) -> str:
-    return "".join(found[0].split())
