@@ -5,11 +5,11 @@ import re
 from collections.abc import Iterator
 from dataclasses import dataclass
 
-from ..explain.source import NAME, OPERATIONS, PREDEFINED, TOKEN, Line, Loop, Source
+from ..explain.source import NAME, OPERATIONS, PREDEFINED, TOKEN, Line, Source
 
 ASSERT = re.compile(r"\s*;assert\b", re.I)
-# The most loops around a line, and the most digits that their counters have together.
-MAX_LOOPS, MAX_DIGITS = 32, 160
+# The most digits that the counters around a line have together.
+MAX_DIGITS = 160
 
 
 @dataclass(frozen=True)
@@ -50,13 +50,11 @@ class Names:
         self._stems = {name.partition("&")[0] for name in (*self.labels, *source.equates) if "&" in name}
         # The line of each counter that can be used in a line.
         self._counters: dict[str, str] = {}
-        heads, loops = {loop.head.number: loop for loop in source.loops}, list[Loop]()
+        around, heads = source.around(), {loop.head.number: [loop] for loop in source.loops}
         edges = {*heads, *(loop.last for loop in source.loops)}
         for line in source.lines:
-            while loops and loops[-1].last <= line.number:
-                loops.pop()
-            loops += [heads[line.number]] if line.number in heads else []
-            self._counters = {loop.counter: str(loop.head.number) for loop in loops[-MAX_LOOPS:]}
+            loops = [*around[line.number], *heads.get(line.number, [])]
+            self._counters = {loop.counter: str(loop.head.number) for loop in loops}
             # Of a FOR 0, the line itself and its ROF are read.
             is_read = not line.unread and (not line.skipped or line.number in edges)
             self.tokens += self._tokens(line) if is_read else comment(line, 0)
