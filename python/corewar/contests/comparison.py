@@ -7,7 +7,7 @@ from typing import TYPE_CHECKING, Any
 import numpy as np
 from numpy.typing import NDArray
 
-from ..engine.rewards import score_of
+from ..engine.rewards import values_of
 from ..engine.warriors import Warrior
 from ..model.types import Indices, Rates
 from ..model.printing import printable
@@ -122,8 +122,6 @@ def text_of(old: float, new: float, change: float, error: float) -> str:
 def scores_of(rows: NDArray[Any], formula: str) -> Rates:
     """Returns the points of the first warrior of matches in each round, from the rows of the library."""
     own, others = np.moveaxis(rows["survived"].astype(bool), 2, 0)
-    scores = np.zeros(own.shape)
-    # A formula needs no value for rounds that do not occur.
-    for survivors, rounds in ((1, own & ~others), (2, own & others)):
-        scores[rounds] = score_of(formula, 2, survivors) if rounds.any() else 0
-    return scores
+    wins, ties = own & ~others, own & others
+    win, tie = values_of(formula, wins, ties)
+    return np.asarray(wins * float(win) + ties * float(tie))

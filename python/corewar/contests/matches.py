@@ -12,7 +12,7 @@ from numpy.typing import NDArray
 
 from ..engine.calls import fits
 from ..engine.outcomes import play, run_lineups, table_of
-from ..engine.rewards import score_of, survivals
+from ..engine.rewards import survivals, values_of
 from ..engine.warriors import Warrior
 from ..model.types import Indices, Numbers
 from ..model.errors import SCORE, CorewarError, MarsError
@@ -41,8 +41,8 @@ def points_of(formula: str, wins: NDArray[Any], ties: NDArray[Any]) -> NDArray[A
     """Returns the points of both warriors, which may have more than 64 bits, from their wins and ties. Raises
     `MarsError`.
     """
-    values = [score_of(formula, 2, left) if many.any() else 0 for left, many in ((1, wins), (2, ties))]
-    return np.asarray(wins.astype(object) * values[0] + ties[:, None].astype(object) * values[1])
+    win, tie = values_of(formula, wins, ties)
+    return np.asarray(wins.astype(object) * win + ties[:, None].astype(object) * tie)
 
 
 def check_counts(counts: object, matches: int, contest: Contest) -> Numbers:

@@ -9,7 +9,7 @@ from typing import TYPE_CHECKING, Any, ClassVar
 
 import numpy as np
 
-from ..engine.rewards import score_of
+from ..engine.rewards import values_of
 from ..engine.warriors import Warrior
 from ..model.types import Indices, Numbers, Rates
 from .matches import Matches
@@ -176,8 +176,7 @@ def spreads(matches: Matches) -> Rates:
     """Returns the variances of the points of both warriors in different matches, and their covariance."""
     contest, example = matches.contest, np.unique(matches.same, return_index=True)[1]
     wins, ties, losses = matches.counts[example, 1:4].astype(float).T
-    values = ((1, wins + losses), (2, ties))
-    win, tie = (float(score_of(contest.formula, 2, left)) if many.any() else 0.0 for left, many in values)
+    win, tie = map(float, values_of(contest.formula, wins + losses, ties))
     ours, theirs, rounds = wins * win + ties * tie, losses * win + ties * tie, contest.rounds
     # The opponents are given, so only the rounds of a match differ from each other by chance.
     own, other, both = ours**2, theirs**2, ours * theirs

@@ -30,6 +30,11 @@ def scores_of(formula: str, counts: NDArray[Any]) -> list[int]:
     return [score_of(formula, size, left) if left and counts[..., left].any() else 0 for left in range(size + 1)]
 
 
+def values_of(formula: str, wins: NDArray[Any], ties: NDArray[Any]) -> list[int]:
+    """Returns the points of a win and of a tie of two; 0 if there are none, for which a formula needs no value."""
+    return [score_of(formula, 2, left) if many.any() else 0 for left, many in ((1, wins), (2, ties))]
+
+
 def points(made: NDArray[Any], formula: str = FORMULA) -> NDArray[np.int64]:
     """Returns the points of each warrior of outcomes in each round, an array of their shape.
 
