@@ -393,7 +393,10 @@ def test_the_debugger_has_a_line(page: Browser) -> None:
     assert ask("queue dwarf").endswith(" 7")
     assert ask("futures").startswith("> 3: after turn 200")
     assert "unknown command" in ask("nonsense") and "not an address" in ask("edit 8000 nop 0")
+    # Numbers may have separators, as the page shows them.
+    assert ask("list 5,203 1").split()[0] == "5203" and ask("goto 1,000") == "the battle has turns 0 to 202"
     assert ask("goto start").startswith("next: Dwarf")
+    assert ask("list").split()[0] == str(page.value("corewar.session.view.queues.at(-1)") + 3)
     # The last line of each answer.
     assert ask("explain") == "Add 4 to the B-number of bomb."
     assert ask("explain 1") == "Copy bomb to the cell pointed to by the B-number of bomb."

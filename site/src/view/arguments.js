@@ -10,6 +10,12 @@ const CONDITIONS = "expected a condition: at, changes or reads A[..B] [by W], or
 /** A label in a line of source, as `bomb` or as `1.bomb`. */
 const LABEL = /(?<![\w.])(?:\d+\.)?[A-Za-z_]\w*/g;
 
+/** A number with separators, as the page shows it. */
+const SEPARATED = /\b\d{1,3}(,\d{3})+\b/g;
+
+/** @param {string} text */
+const withoutSeparators = (text) => text.replace(SEPARATED, (digits) => digits.replaceAll(",", ""));
+
 /** Why a command was not done. */
 export class CommandError extends Error {}
 
@@ -18,8 +24,9 @@ export class CommandError extends Error {}
  * @param {string} what
  */
 export function readNumber(text, what) {
-  if (!/^\d{1,9}$/.test(text)) throw new CommandError(`expected ${what}, not \`${text}\``);
-  return Number(text);
+  const digits = withoutSeparators(text);
+  if (!/^\d{1,9}$/.test(digits)) throw new CommandError(`expected ${what}, not \`${text}\``);
+  return Number(digits);
 }
 
 /**
@@ -43,7 +50,7 @@ export function readWarrior({ known: { names } }, text) {
  */
 export function readAddress({ known, view }, text) {
   const { core, addresses } = known;
-  const found = /^(\.|[\w.]+?)((?:[+-]\d{1,9})*)$/.exec(text);
+  const found = /^(\.|[\w.]+?)((?:[+-]\d{1,9})*)$/.exec(withoutSeparators(text));
   const base = found?.[1] ?? "";
   const isOver = base === "." && view?.head === null;
   if (isOver) throw new CommandError("`.` is the cell to execute next, but the battle is over");

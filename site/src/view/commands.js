@@ -20,8 +20,8 @@ import {
 /** @typedef {(session: Session, rest: string) => Promise<string[]> | string[]} Act */
 /** @typedef {{usage: string, meaning: string, short: string[], act: Act}} Command */
 
-/** The number of cells that `list` shows. */
-const CELLS = 11;
+/** The number of cells that `list` shows, and around each warrior's next process. */
+const [CELLS, AROUND] = [11, 7];
 /** The number of processes that `queue` lists at most. */
 const LISTED = 20;
 const WORDS = ["at", "changes", "reads", "splits", "ends", "dies"];
@@ -178,18 +178,43 @@ async function futures(session, rest) {
   });
 }
 
+/**
+ * Returns a line for each of some cells.
+ * @param {Session} session
+ * @param {number} first
+ * @param {number} count
+ */
+function cellLines({ view, known }, first, count) {
+  if (!view) return [];
+  return Array.from({ length: Math.min(count, known.core, 1000) }, (_, index) => {
+    const address = (first + index + known.core) % known.core;
+    const cell = cellText(readCell(view.cells, address), known.core);
+    const label = (known.labels.get(address) ?? "").padEnd(10);
+    return `${address === view.head ? ">" : " "} ${String(address).padStart(6)} ${label} ${cell}`;
+  });
+}
+
+/**
+ * Returns the addresses of a warrior's processes, the next one first.
+ * @param {import("../worker/desk.js").View} view
+ * @param {number} warrior
+ */
+function queueOf({ processes, queues }, warrior) {
+  const before = processes.slice(0, warrior).reduce((sum, count) => sum + count, 0);
+  return queues.slice(before, before + processes[warrior]);
+}
+
 /** @type {Act} */
 function list(session, rest) {
   const { view, known } = session;
   if (!view) return [];
   const [where, count] = rest.split(/\s+/);
-  const first = where ? readAddress(session, where) : (view.head ?? 0);
-  const length = Math.min(count ? readNumber(count, "a number of cells") : CELLS, known.core, 1000);
-  return Array.from({ length }, (_, index) => {
-    const address = (first + index) % known.core;
-    const cell = cellText(readCell(view.cells, address), known.core);
-    const label = (known.labels.get(address) ?? "").padEnd(10);
-    return `${address === view.head ? ">" : " "} ${String(address).padStart(6)} ${label} ${cell}`;
+  if (where) {
+    return cellLines(session, readAddress(session, where), count ? readNumber(count, "a number of cells") : CELLS);
+  }
+  return known.names.flatMap((name, warrior) => {
+    const [next] = queueOf(view, warrior);
+    return next === undefined ? [] : [`${name}:`, ...cellLines(session, next - (AROUND >> 1), AROUND)];
   });
 }
 
@@ -202,11 +227,10 @@ function queue(session, rest) {
   const [, named, index] = (!isName && /^(.+) (\d+)$/.exec(rest)) || ["", rest];
   const warrior = named ? readWarrior(session, named) : view.next;
   const start = index ? readProcess(session, warrior, index) : 0;
-  const before = view.processes.slice(0, warrior).reduce((sum, count) => sum + count, 0);
-  const [count, end] = [view.processes[warrior], start + LISTED];
-  const more = end < count ? ` and ${number(count - end)} more: \`queue ${warrior} ${end}\`` : "";
-  const listed = view.queues.slice(before + start, before + Math.min(count, end));
-  return [`${known.names[warrior]}: ${listed.join(" ")}${more}`];
+  const [processes, end] = [queueOf(view, warrior), start + LISTED];
+  const left = processes.length - end;
+  const more = left > 0 ? ` and ${number(left)} more: \`queue ${warrior} ${end}\`` : "";
+  return [`${known.names[warrior]}: ${processes.slice(start, end).join(" ")}${more}`];
 }
 
 /** @type {Act} */
@@ -292,7 +316,7 @@ const COMMANDS = [
   command("undo", "undo the last edit", (s) => s.undo().then(() => here(s)), "u"),
   command("redo", "redo the edit that was undone", (s) => s.redo().then(() => here(s))),
   command("futures [N]", "list the futures that edits have made, or switch to number N", futures),
-  command("list [A [N]]", "list N cells, starting at A", list, "l"),
+  command("list [A [N]]", "list N cells, starting at A, or the cells around each warrior's next process", list, "l"),
   command("queue [W [I]]", "list the processes of warrior W, starting at number I; 0 is the next one", queue, "p"),
   command("show", "show the turn, the cycle and the state of each warrior", show, "i"),
   command("why [W]", "explain why warrior W died, or what comes next", why),
