@@ -9,7 +9,6 @@ import { placeOf } from "./places.js";
 import { FIRST } from "./sources.js";
 import { damagedNames, deleteDamaged } from "./store.js";
 
-
 /** Whether the user wants no movement. */
 const isStill = () => matchMedia("(prefers-reduced-motion: reduce)").matches;
 
