@@ -16,7 +16,6 @@ from llvm_rules import RULES, module
 
 sys.path.insert(0, str(TOP / "scripts"))
 from machine import toolchain  # noqa: E402
-from translator import instructions  # noqa: E402
 from translator.reading import CannotTranslate, unescaped  # noqa: E402
 from translator.writing import Translator  # noqa: E402
 
@@ -96,30 +95,6 @@ def test_rules(tmp_path: Path, expected: dict[str, list[int]], options: list[str
 
 
 @pytest.mark.parametrize(
-    "table, key, text, rule",
-    [
-        ("UNSIGNED", "ult", "<=", "ult i32"),
-        ("SIGNED", "slt", "<=", "slt i8"),
-        ("WIDE", "sle", "slt128({0}, {1})", "sle i128"),
-        ("PLAIN", "or", "^", "or i16"),
-        ("PLAIN", "urem", "/", "urem i64"),
-        ("OF_SIGNED", "srem", "/", "srem i32"),
-    ],
-)
-def test_another_rule_is_noticed(
-    tmp_path: Path,
-    expected: dict[str, list[int]],
-    monkeypatch: pytest.MonkeyPatch,
-    table: str,
-    key: str,
-    text: str,
-    rule: str,
-) -> None:
-    monkeypatch.setitem(getattr(instructions, table), key, text)
-    assert translated(tmp_path, only(rule))[rule] != expected[rule]
-
-
-@pytest.mark.parametrize(
     "old, new, rule",
     [
         ("wide(0 - (a.high >> 63), a.high)", "wide(0, a.high)", "ashr i128"),
@@ -142,6 +117,12 @@ def test_another_part_is_noticed(tmp_path: Path, expected: dict[str, list[int]],
 @pytest.mark.parametrize(
     "file, old, new, rule",
     [
+        ("instructions", '"ult": "<",', '"ult": "<=",', "ult i32"),
+        ("instructions", '"slt": "<",', '"slt": "<=",', "slt i8"),
+        ("instructions", '"!slt128({1}, {0})"', '"slt128({0}, {1})"', "sle i128"),
+        ("instructions", '"or": "|"', '"or": "^"', "or i16"),
+        ("instructions", '"urem": "%"', '"urem": "/"', "urem i64"),
+        ("instructions", '"srem": "%"', '"srem": "/"', "srem i32"),
         ("instructions", '({value}) & 1" if found[3] == "i1"', '({value})" if found[3] == "i1"', "trunc to i1"),
         ("instructions", "(uintptr_t)({a}) {UNSIGNED[how]} (uintptr_t)", "(intptr_t)({a}) < (intptr_t)", "ult ptr"),
         ("instructions", "(u64)(uintptr_t)", "(u32)(uintptr_t)", "ptrtoaddr"),
