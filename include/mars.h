@@ -311,12 +311,22 @@ typedef struct {
     uint32_t last;
 } MarsCondition;
 
-/* A turn that was found: its number, from 1, and the cell that it executed. */
+/* A turn that was found. */
 typedef struct {
-    uint32_t turn;
-    uint32_t address;
-    MarsPast past; /* of the cell, before the turn */
+    uint32_t turn;    /* its number, from 1 */
+    uint32_t warrior; /* its warrior */
+    uint32_t queued;  /* number of processes that it queued: 2 if it split, 0 if its process ended */
+    uint32_t address; /* address of the cell that it executed */
+    MarsPast past;    /* of that cell, before the turn */
 } MarsFound;
+
+/* A battle at a moment. */
+typedef struct {
+    uint32_t turns;         /* number of turns that all warriors executed together */
+    uint32_t found;         /* number of turns since the moment before that meet the conditions */
+    uint32_t cells[16];     /* number of cells whose owner is 0, 1, .. */
+    uint32_t processes[16]; /* number of processes of each warrior; 0 after the last warrior */
+} MarsMoment;
 
 /* A death: the warrior, and the number of turns that all warriors had executed, including its last one. */
 typedef struct {
@@ -489,6 +499,12 @@ uint32_t mars_play(uint32_t *battle, size_t words, uint32_t turns,
 uint32_t mars_follow(uint32_t *battle, size_t words, uint32_t turns, MarsPast *pasts, size_t past_count,
                      const MarsCondition *conditions, size_t condition_count,
                      MarsFound *found, size_t found_count, uint32_t *count, MarsFault *fault);
+
+/* Executes turns as mars_follow, in steps: row k of `moments` is the battle after k + 1 steps of `step` turns, or at its end if that
+ * comes before. `found` of a row is the number of turns of its step that meet all conditions. Returns the errors of mars_follow. */
+uint32_t mars_moments(uint32_t *battle, size_t words, uint32_t step, MarsPast *pasts, size_t past_count,
+                      const MarsCondition *conditions, size_t condition_count,
+                      MarsMoment *moments, size_t moment_count, MarsFault *fault);
 
 /* Makes an edit of a battle in place, also if the battle is over. A dead warrior stays dead. Returns MARS_EDIT with
  * MARS_EDIT_NO_SUCH_EDIT first, then MARS_BLOCK and MARS_ROOM as mars_play, then MARS_EDIT with the first of the other numbers that

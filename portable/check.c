@@ -263,6 +263,7 @@ static void follow(void)
     static MarsPast pasts[9000];
     MarsCondition conditions[3];
     MarsFound found[FOUND];
+    MarsMoment moments[FOUND];
     uint32_t i, count = 77, core = s.core < 9000 ? s.core : 9000;
     uint32_t turns = below(400), past_count = chance(30) ? below(core) : core, condition_count = below(4), places = below(FOUND);
     for (i = 0; i < core; i++) {
@@ -277,9 +278,12 @@ static void follow(void)
         conditions[i].last = chance(9) ? wild() : below(16);
     }
     memset(found, 0x66, sizeof found);
-    add_fault(mars_follow(battle, words, turns, pasts, past_count, conditions, condition_count, found, places, &count, &fault));
+    memset(moments, 0x77, sizeof moments);
+    if (chance(3)) add_fault(mars_moments(battle, words, turns / FOUND, pasts, past_count, conditions, condition_count, moments, places, &fault));
+    else add_fault(mars_follow(battle, words, turns, pasts, past_count, conditions, condition_count, found, places, &count, &fault));
     add(count, 4);
-    add_words(&found[0].turn, 5 * FOUND);
+    add_words(&found[0].turn, 7 * FOUND);
+    add_words(&moments[0].turns, 34 * FOUND);
     for (i = 0; i < core; i++) add_words(&pasts[i].owner, 3);
 }
 

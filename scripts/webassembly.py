@@ -86,7 +86,11 @@ def compiled(source: str, toolchain: str, room: str) -> list[str]:
 
 def build_wasm(module: str, archive: str, toolchain: str, room: str, out: str) -> None:
     """Builds mars.wasm in the file `out`. Raises CannotBuild."""
-    source = text_of(module, archive, toolchain)
+    build_wasm_of(text_of(module, archive, toolchain), toolchain, room, out)
+
+
+def build_wasm_of(source: str, toolchain: str, room: str, out: str) -> None:
+    """Builds mars.wasm from the text of a module."""
     objects, linked = compiled(source, toolchain, room), os.path.join(room, "linked.wasm")
     # LLVM's linker is one program, which links for WebAssembly if it is called by this name.
     linker = os.path.join(room, "wasm-ld")

@@ -107,13 +107,14 @@ def random_conditions(definitions: Evaluator, dice: random.Random, core: int) ->
 
 
 def compare_follows(definitions: Evaluator, dice: random.Random) -> Iterator[Comparison]:
-    """Turns of a battle that are followed, with edits between: pasts, and the turns that meet conditions."""
+    """Turns of a battle that are followed, with edits between: pasts, the turns that meet conditions, and moments."""
     state = random_state(dice)
     core = state["params"]["core_size"]
     pasts = tuple(random_pasts(dice, core))
     for step in range(STEPS):
         turns = dice.randrange(TURNS)
-        yield compare_follow(definitions, dice, state, turns, pasts)
+        for compare in (compare_follow, compare_moments):
+            yield compare(definitions, Followed(definitions, dice, state, pasts), turns)
         pasts = definitions("mars_core.Past.followed", turns, state, pasts)
         state = definitions("mars_core.Turn.after_turns", turns, state)
         edited, _ = made(definitions, state, [random_edit(definitions, dice, state)[0]])
@@ -122,42 +123,63 @@ def compare_follows(definitions: Evaluator, dice: random.Random) -> Iterator[Com
         state = edited
 
 
-def compare_follow(
-    definitions: Evaluator, dice: random.Random, state: Value, turns: int, pasts: tuple[Value, ...]
-) -> Comparison:
+class Followed:
+    """A battle whose turns are followed: the arguments of a call, some of them wrong, and what the definitions make of
+    them.
+    """
+
+    def __init__(self, definitions: Evaluator, dice: random.Random, state: Value, pasts: tuple[Value, ...]) -> None:
+        self.state, self.dice = state, dice
+        self.values, conditions = random_conditions(definitions, dice, len(pasts))
+        self.words = block_words(definitions, state)
+        is_short = dice.random() < 0.05 and self.words != definitions("mars_core.Block.block_of", state)
+        self.pasts = pasts[1:] if dice.random() < 0.05 else pasts
+        self.block = array("uint32_t", self.words[: len(self.words) - is_short])
+        self.rows, self.conditions = array("MarsPast", self.pasts), array("MarsCondition", conditions)
+        self.refusal: Value = None
+        if len(self.values) < len(conditions):
+            self.refusal = ("Condition", len(self.values))
+        elif is_short or len(self.pasts) < state["params"]["core_size"]:
+            self.refusal = ("Capacity",) if is_short else ("Pasts",)
+
+    def compared(self, definitions: Evaluator, turns: int, defined: Value, error: Value, computed: Value) -> Comparison:
+        """Compares the results of a call that executes turns, with its error, its battle and its pasts."""
+        state, pasts = self.state, self.pasts
+        expected = definitions("mars_c.Codes.numbered", 0, 0)
+        if self.refusal:
+            expected = definitions("mars_c.Codes.block_fault_of", self.refusal)
+        else:
+            state = definitions("mars_core.Turn.after_turns", turns, self.state)
+            pasts = definitions("mars_core.Past.followed", turns, self.state, self.pasts)
+        whole = tuple(self.block[0])
+        written = definitions("mars_c.Blocks.IsWritten", state, self.words[: len(whole)], whole)
+        return Comparison(
+            "calls",
+            (self.state, turns, self.values, self.pasts),
+            {"error": expected, "written": True, "pasts": pasts, **defined},
+            {"error": error, "written": written, "pasts": rows_in(*self.rows), **computed},
+        )
+
+
+def compare_follow(definitions: Evaluator, given: Followed, turns: int) -> Comparison:
     """A call that follows turns: the battle, the pasts, and the turns that are found, or its error."""
-    values, conditions = random_conditions(definitions, dice, len(pasts))
-    words = block_words(definitions, state)
-    is_short = dice.random() < 0.05 and words != definitions("mars_core.Block.block_of", state)
-    if dice.random() < 0.05:
-        pasts = pasts[1:]
-    block = array("uint32_t", words[: len(words) - is_short])
-    given, found, count = array("MarsPast", pasts), room("MarsFound", dice.randrange(TURNS)), new("uint32_t *", 0)
+    found, count = room("MarsFound", given.dice.randrange(TURNS)), new("uint32_t *", 0)
     rows = rows_in(*found)
-    error = call("mars_follow", *block, turns, *given, *array("MarsCondition", conditions), *found, count)
-    refusal: Value = None
-    if len(values) < len(conditions):
-        refusal = ("Condition", len(values))
-    elif is_short or len(pasts) < state["params"]["core_size"]:
-        refusal = ("Capacity",) if is_short else ("Pasts",)
-    expected = (
-        definitions("mars_c.Codes.block_fault_of", refusal) if refusal else definitions("mars_c.Codes.numbered", 0, 0)
-    )
-    after = state if refusal else definitions("mars_core.Turn.after_turns", turns, state)
-    turns_found = () if refusal else definitions("mars_core.Search.found_in", tuple(values), turns, state, pasts)
-    defined = {
-        "error": expected,
-        "written": True,
-        "pasts": pasts if refusal else definitions("mars_core.Past.followed", turns, state, pasts),
-        "found": definitions("mars_core.Search.filled", turns_found, rows),
-        "count": len(turns_found),
-    }
-    whole = tuple(block[0])
-    computed = {
-        "error": error,
-        "written": definitions("mars_c.Blocks.IsWritten", after, words[: len(whole)], whole),
-        "pasts": rows_in(*given),
-        "found": rows_in(*found),
-        "count": count[0],
-    }
-    return Comparison("calls", (state, turns, values, conditions, pasts), defined, computed)
+    error = call("mars_follow", *given.block, turns, *given.rows, *given.conditions, *found, count)
+    turns_found: tuple[Value, ...] = ()
+    if not given.refusal:
+        turns_found = definitions("mars_core.Search.found_in", tuple(given.values), turns, given.state, given.pasts)
+    defined = {"found": definitions("mars_core.Search.filled", turns_found, rows), "count": len(turns_found)}
+    return given.compared(definitions, turns, defined, error, {"found": rows_in(*found), "count": count[0]})
+
+
+def compare_moments(definitions: Evaluator, given: Followed, step: int) -> Comparison:
+    """A call that follows steps of turns: the battle, the pasts, and the moments, or its error."""
+    count = given.dice.randrange(STEPS)
+    moments = room("MarsMoment", count)
+    rows = rows_in(*moments)
+    error = call("mars_moments", *given.block, step, *given.rows, *given.conditions, *moments)
+    if not given.refusal:
+        conditions = tuple(given.values)
+        rows = definitions("mars_core.Moments.moments_after", count, step, conditions, given.state, given.pasts)
+    return given.compared(definitions, count * step, {"moments": rows}, error, {"moments": rows_in(*moments)})

@@ -46,7 +46,7 @@ static const MarsEdit EDIT = {4, 1, 0, 5, {0, 0, 0, 0, 0, 0}};
 /* Fills three cells, then moves a process there and kills it. */
 static const MarsEdit EDITS[] = {{1, 0, 0, 5, {1, 6, 1, 1, 0, 1}}, {1, 0, 0, 6, {1, 6, 1, 1, 0, 1}}, {1, 0, 0, 7, {1, 6, 1, 1, 0, 1}}, {2, 2, 0, 6, {0, 0, 0, 0, 0, 0}}, {3, 1, 0, 0, {0, 0, 0, 0, 0, 0}}};
 static const MarsCondition CONDITIONS[] = {{MARS_CHANGES, MARS_NUMBER_ADDRESS, 780, 20}, {MARS_CHANGES, MARS_NUMBER_WARRIOR, 1, 2}};
-enum { WORDS = 64 + 3 * 800 + 3 * 800, CELLS = 5, CALLS = 16 };
+enum { WORDS = 64 + 3 * 800 + 3 * 800, CELLS = 5, CALLS = 17 };
 static MarsCell cells[17 * CELLS];
 static MarsWarrior warriors[17]; /* the same warrior several times */
 static MarsProgram program;
@@ -67,6 +67,7 @@ typedef struct {
     uint32_t battle[WORDS];
     MarsPast pasts[800];
     MarsFound found[9];
+    MarsMoment moments[9];
     uint32_t count;
     int64_t value;
     MarsProgram program;
@@ -100,6 +101,7 @@ static void call(int which, Left *got) {
     if (which == 13) got->answer = mars_follow(got->battle, WORDS, 200, got->pasts, 800, CONDITIONS, 2, got->found, 9, &got->count, &got->fault);
     if (which == 14) got->answer = mars_edits(got->battle, WORDS, EDITS, 5, &got->fault);
     if (which == 15) got->answer = mars_score(formula, bytes, 3, 2, &got->value, &got->fault);
+    if (which == 16) got->answer = mars_moments(got->battle, WORDS, 50, got->pasts, 800, CONDITIONS, 2, got->moments, 9, &got->fault);
 }
 
 static int is_kept(const Left *got, const Left *blank) {
@@ -158,6 +160,7 @@ static int are_nulls_taken(void) {
         && mars_debug(block, WORDS, 9, NULL, 0, NULL, 0, &got.length, &got.fault) == MARS_DONE && got.length == 0
         && mars_play(got.battle, 0, 1, NULL, 0, NULL, 0, &got.fault) == MARS_BLOCK && got.fault.number == MARS_BLOCK_SHORT
         && mars_follow(got.battle, 0, 1, NULL, 0, NULL, 0, NULL, 0, &got.count, &got.fault) == MARS_BLOCK && got.fault.number == MARS_BLOCK_SHORT
+        && mars_moments(got.battle, 0, 1, NULL, 0, NULL, 0, NULL, 0, &got.fault) == MARS_BLOCK && got.fault.number == MARS_BLOCK_SHORT
         && mars_edits(got.battle, 0, NULL, 0, &got.fault) == MARS_BLOCK && got.fault.number == MARS_BLOCK_SHORT
         && mars_check(NULL, 0, &got.fault) == MARS_BLOCK && got.fault.number == MARS_BLOCK_SHORT;
 }
@@ -220,7 +223,7 @@ static int are_turns_found(void) {
     if (mars_follow(followed.battle, WORDS, 500, followed.pasts, 800, CONDITIONS, 2, followed.found, 9, &followed.count, &followed.fault) != MARS_DONE) return 0;
     for (uint32_t turn = 0; turn < 500; turn++) {
         int is_found = 0;
-        MarsFound row = {turn + 1, records[turn].address, pasts[records[turn].address]};
+        MarsFound row = {turn + 1, records[turn].warrior, records[turn].queued, records[turn].address, pasts[records[turn].address]};
         for (uint32_t i = 0; i < records[turn].changes; i++) {
             uint32_t address = records[turn].change[i].address, first = i, last = i;
             for (uint32_t j = 0; j < records[turn].changes; j++)
@@ -233,6 +236,26 @@ static int are_turns_found(void) {
         count += is_found;
     }
     return count > 0 && count == followed.count && !memcmp(pasts, followed.pasts, sizeof pasts) && !memcmp(followed.battle, played.battle, sizeof played.battle);
+}
+
+/* Moments are those of the battle after each step, as it is followed. They end with the battle. */
+static int are_moments_true(void) {
+    enum { STEP = 7000, ROWS = 9 };
+    Left whole, steps;
+    prepare(16, &whole), prepare(13, &steps);
+    memset(whole.pasts, 0, sizeof whole.pasts), memset(steps.pasts, 0, sizeof steps.pasts);
+    if (mars_moments(whole.battle, WORDS, STEP, whole.pasts, 800, CONDITIONS, 2, whole.moments, ROWS, &whole.fault) != MARS_DONE) return 0;
+    const MarsBattle *head = (const MarsBattle *)steps.battle;
+    for (int row = 0; row < ROWS; row++) {
+        MarsMoment moment = {0};
+        if (mars_follow(steps.battle, WORDS, STEP, steps.pasts, 800, CONDITIONS, 2, NULL, 0, &moment.found, &steps.fault) != MARS_DONE) return 0;
+        moment.turns = head->turns;
+        memcpy(moment.processes, head->queue, sizeof moment.processes);
+        for (int cell = 0; cell < 800; cell++) moment.cells[steps.pasts[cell].owner]++;
+        if (memcmp(&moment, &whole.moments[row], sizeof moment)) return 0;
+    }
+    return head->over && whole.moments[ROWS - 1].turns < ROWS * STEP && !memcmp(whole.battle, steps.battle, sizeof whole.battle)
+        && !memcmp(whole.pasts, steps.pasts, sizeof whole.pasts);
 }
 
 /* The value of a formula is the points of a match that ends so, and its errors are those of that match. */
@@ -333,10 +356,10 @@ int main(void) {
             passed += is_so, failed += !is_so;
             if (!is_so) printf("call %d, %s refused\n", which, each ? "all from one on" : "one");
         }
-    int others[] = {mars_version() == MARS_VERSION, are_faults_cleared(), are_nulls_taken(), are_lines_reported(), are_loads_read(), are_outcomes_rows(), are_mistakes_reported_in_order(), are_battles_values(), are_turns_found(), are_edits_all_or_none(), are_scores_points()};
+    int others[] = {mars_version() == MARS_VERSION, are_faults_cleared(), are_nulls_taken(), are_lines_reported(), are_loads_read(), are_outcomes_rows(), are_mistakes_reported_in_order(), are_battles_values(), are_turns_found(), are_moments_true(), are_edits_all_or_none(), are_scores_points()};
     for (size_t i = 0; i < sizeof others / sizeof *others; i++) {
         passed += others[i], failed += !others[i];
-        if (!others[i]) printf("%s\n", (const char *[]){"the version", "errors of calls that succeed", "null pointers", "the lines of a source", "load files", "outcomes", "the order of mistakes", "battles as values", "turns that are found", "several edits", "scores"}[i]);
+        if (!others[i]) printf("%s\n", (const char *[]){"the version", "errors of calls that succeed", "null pointers", "the lines of a source", "load files", "outcomes", "the order of mistakes", "battles as values", "turns that are found", "moments", "several edits", "scores"}[i]);
     }
     printf("%d passed, %d failed\n", passed, failed);
     return failed != 0;

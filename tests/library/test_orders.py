@@ -262,14 +262,21 @@ def edits(arguments: Battle, fault: Any) -> tuple[int, NDArray[Any]]:
     return library()[1].mars_edits(*block, *changes, fault), words
 
 
-def follow(arguments: Battle, fault: Any) -> tuple[int, NDArray[Any]]:
+def follow(arguments: Battle, fault: Any, rows: str = "MarsFound") -> tuple[int, NDArray[Any]]:
     words, block = battle(arguments)
-    pasts, found = array("MarsPast", arguments.pasts), array("MarsFound", 1)
+    pasts, found = array("MarsPast", arguments.pasts), array(rows, 1)
     conditions = filled("MarsCondition", [(1, 4, 0, 0), (arguments.way, 9, 0, 0)])
-    given = [*slice_of("MarsPast", pasts), *conditions, *slice_of("MarsFound", found)]
-    code = library()[1].mars_follow(*block, 1, *given, library()[0].new("uint32_t *"), fault)
+    given = [*block, 1, *slice_of("MarsPast", pasts), *conditions, *slice_of(rows, found)]
+    if rows == "MarsMoment":
+        code = library()[1].mars_moments(*given, fault)
+    else:
+        code = library()[1].mars_follow(*given, library()[0].new("uint32_t *"), fault)
     assert not pasts.view(np.uint32).any() and not found.view(np.uint32).any()
     return code, words
+
+
+def moments(arguments: Battle, fault: Any) -> tuple[int, NDArray[Any]]:
+    return follow(arguments, fault, "MarsMoment")
 
 
 def debug(arguments: Battle, fault: Any) -> tuple[int, NDArray[Any]]:
@@ -281,9 +288,11 @@ def debug(arguments: Battle, fault: Any) -> tuple[int, NDArray[Any]]:
 
 # A battle as it starts needs fewer words than its maximum length.
 BLOCK = [other("mark", 1, 11, 2), other("words", 2500, 10, 0)]
+FOLLOWING = [other("way", 4, 15, 0, 1), *BLOCK, other("pasts", 799, 2, 7)]
 ON_BATTLES = {
     "mars_play": (play, BLOCK),
-    "mars_follow": (follow, [other("way", 4, 15, 0, 1), *BLOCK, other("pasts", 799, 2, 7)]),
+    "mars_follow": (follow, FOLLOWING),
+    "mars_moments": (moments, FOLLOWING),
     "mars_edit": (edit, [other("what", 5, 12, 1), *BLOCK, other("address", 800, 12, 2)]),
     "mars_edits": (edits, [other("what", 5, 12, 1, 1), *BLOCK, other("address", 800, 12, 2, 1)]),
     "mars_debug": (debug, [other("history", 0, 2, 6), BLOCK[0], other("buffer", 10, 10, 0)]),

@@ -1,9 +1,11 @@
--- Following the turns of a battle in a block: the conditions that numbers mean, what is found, and why calls are rejected.
-use Rattle.std.specs.Prelude.{◌≡◌, ◌≢◌, ℕ, ⊤, List, length, map, Some, slice_get, take}
+-- Following the turns of a battle in a block: the conditions that numbers mean, what is found, moments, and why calls are rejected.
+use Rattle.std.specs.Prelude.{◌≡◌, ◌≢◌, ℕ, ◌*◌, ⊤, List, length, map, Some, slice_get, take}
+use Rattle.mars_core.specs.Moments.{moments_after}
 use Rattle.mars_core.specs.Past.{followed}
 use Rattle.mars_core.specs.Search.{filled, found_in}
 use Rattle.mars_core.specs.State.{State}
 use Rattle.mars_core.specs.Turn.{after_turns}
+use Rattle.mars_core.specs.declared.battle.moments.Moment.{Moment}
 use Rattle.mars_core.specs.declared.past.Past.{Past}
 use Rattle.mars_core.specs.declared.search.Condition.{Condition as ConditionValue}
 use Rattle.mars_core.specs.declared.search.Found.{Found}
@@ -55,6 +57,18 @@ pub record IsFollowed (turns : ℕ) (conditions : List MarsCondition) (before af
   pub pasts_are : pasts ≡ followed turns state pasts_before
   pub rows_are : rows ≡ filled (found_in values turns state pasts_before) rows_before
   pub count_is : count ≡ length (found_in values turns state pasts_before)
+
+-- After `count` steps of at most `step` turns of the battle in the words `before`, the words `after` hold the battle, `pasts` the past of
+-- each cell, and `moments`, which has `count` rows, the moment after each step.
+pub record HasMoments (step : ℕ) (conditions : List MarsCondition) (before after : List ℕ) (pasts_before pasts : List Past)
+    (count : ℕ) (moments : List Moment) : Type 0 where
+  pub state : State
+  pub playable : IsPlayable state before
+  pub values : List ConditionValue
+  pub mean : map plain_condition values ≡ conditions
+  pub battle : IsWritten (after_turns (count * step) state) before after
+  pub pasts_are : pasts ≡ followed (count * step) state pasts_before
+  pub moments_are : moments ≡ moments_after count step values state pasts_before
 
 -- The numbers mean conditions.
 abbrev pub AreConditions : List MarsCondition → Type 0

@@ -1,12 +1,48 @@
-//! Turns of a battle in a block, with the past of each cell and a search.
-ghost use Rattle.std.specs.Prelude.{◌≡◌, IfErr, IfOk, OnErr, length};
-ghost use Rattle.mars_c.specs.Following.{IsFollowed, RefusesFollow};
+//! Turns of a battle in a block, with the past of each cell, a search, and moments.
+ghost use Rattle.std.specs.Prelude.{◌≡◌, IfErr, IfOk, OnErr, OnOk, length, map};
+ghost use Rattle.mars_c.specs.Blocks.{IsPlayable};
+ghost use Rattle.mars_c.specs.Following.{HasMoments, IsFollowed, RefusesFollow, plain_condition};
 
 use crate::blocks::{put, take};
 use crate::conditions::{MarsCondition, conditions_of};
 use crate::faults::BlockRefusal;
-use mars_core::{Found, Past};
+use mars_core::{Battle, Condition, Found, Moment, Past};
 use std::alloc::Global;
+
+/// A battle whose turns are followed, and the conditions that are looked for.
+#[derive(Drop)]
+struct Followed {
+    battle: Battle,
+    conditions: Vec<Condition>,
+}
+
+/// Returns the battle in a block and the conditions that the numbers mean, if there are this many pasts as cells.
+///
+/// # Errors
+///
+/// In this order: `Condition`, `Block`, `Capacity`, `Pasts`; `OutOfMemory` if an allocation fails.
+fn to_follow(
+    alloc: Global,
+    words: &[u32],
+    conditions: &[MarsCondition],
+    pasts: usize,
+) -> Result<Followed, BlockRefusal>
+    ensures done { IfOk result (λ f. IsPlayable f.battle words.now × (map plain_condition f.conditions.items ≡ conditions.now) × (pasts ≡ f.battle.params.core_size)) }
+    ensures refused { IfErr result (RefusesFollow words.now conditions.now pasts) }
+{
+    let conditions = match conditions_of(alloc, conditions) {
+        Ok(conditions) => conditions,
+        Err(refusal) => return Err(refusal),
+    };
+    let battle = match take(alloc, words) {
+        Ok(battle) => battle,
+        Err(refusal) => return Err(refusal),
+    };
+    if pasts != battle.params().core_size() as usize {
+        return Err(BlockRefusal::Pasts);
+    }
+    Ok(Followed { battle, conditions })
+}
 
 /// Executes at most `turns` turns of the battle in a block, keeps the past of each cell, and searches for the turns that
 /// meet all conditions. Returns the count of those turns; they are written to the front of `found`.
@@ -27,18 +63,47 @@ pub fn follow_in(
     ensures refused { IfErr result (RefusesFollow words.old conditions.now (length pasts.old)) }
     ensures kept { OnErr result ((words.new ≡ words.old) × (pasts.new ≡ pasts.old) × (found.new ≡ found.old)) }
 {
-    let conditions = match conditions_of(alloc, conditions) {
-        Ok(conditions) => conditions,
-        Err(refusal) => return Err(refusal),
-    };
-    let mut battle = match take(alloc, words) {
-        Ok(battle) => battle,
-        Err(refusal) => return Err(refusal),
-    };
-    if pasts.len() != battle.params().core_size() as usize {
-        return Err(BlockRefusal::Pasts);
+    match to_follow(alloc, words, conditions, pasts.len()) {
+        Ok(followed) => {
+            let mut followed = followed;
+            let count = followed
+                .battle
+                .follow(turns, pasts, &followed.conditions, found);
+            put(&followed.battle, words);
+            Ok(count)
+        }
+        Err(refusal) => Err(refusal),
     }
-    let count = battle.follow(turns, pasts, &conditions, found);
-    put(&battle, words);
-    Ok(count)
+}
+
+/// Executes `step` turns of the battle in a block for each of the moments, or as many as are left, keeps the past of each
+/// cell, and writes the moment after them.
+///
+/// # Errors
+///
+/// In this order: `Condition`, `Block`, `Capacity`, `Pasts`; `OutOfMemory` if an allocation fails. All arguments are
+/// unchanged then.
+pub fn moments_in(
+    alloc: Global,
+    words: &mut [u32],
+    step: u32,
+    pasts: &mut [Past],
+    conditions: &[MarsCondition],
+    moments: &mut [Moment],
+) -> Result<(), BlockRefusal>
+    ensures done { OnOk result (HasMoments step conditions.now words.old words.new pasts.old pasts.new (length moments.old) moments.new) }
+    ensures refused { IfErr result (RefusesFollow words.old conditions.now (length pasts.old)) }
+    ensures kept { OnErr result ((words.new ≡ words.old) × (pasts.new ≡ pasts.old) × (moments.new ≡ moments.old)) }
+{
+    match to_follow(alloc, words, conditions, pasts.len()) {
+        Ok(followed) => {
+            let mut followed = followed;
+            followed
+                .battle
+                .moments(step, pasts, &followed.conditions, moments);
+            put(&followed.battle, words);
+            Ok(())
+        }
+        Err(refusal) => Err(refusal),
+    }
 }

@@ -5,6 +5,7 @@ pub mod Reach
 pub mod Touched
 pub mod Pasts
 pub mod Searches
+pub mod Moments
 pub mod Ends
 pub mod Validity
 pub mod Starts

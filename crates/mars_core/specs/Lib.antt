@@ -17,6 +17,7 @@ pub mod Record
 pub mod Past
 pub mod Touched
 pub mod Search
+pub mod Moments
 -- Definitions that only the laws use, and no contract of a call.
 pub mod Moved
 pub mod Reach

@@ -74,11 +74,18 @@ meets conditions s pasts =
     && (not (are_on Changes conditions) || one_meets Changes conditions s pasts)
     && (not (are_on Reads conditions) || one_meets Reads conditions s pasts)
 
--- What is found of the turn: its number, the address that it executes, and the past of the cell there before it.
+-- What is found of the turn: its number, its warrior, how many processes it queues, the address that it executes, and the past of the
+-- cell there before it.
 abbrev pub found_turn : State → List Past → Found
 found_turn s pasts =
     let address = front_of (queue_of s.queues s.next) in
-    record { turn = s.turns + 1; address = address; past = past_at pasts address }
+    record {
+      turn = s.turns + 1;
+      warrior = s.next;
+      queued = length (turn_record s).queued.items;
+      address = address;
+      past = past_at pasts address;
+    }
 
 -- Those of the next `n` turns that meet all conditions.
 abbrev pub found_in : List Condition → ℕ → State → List Past → List Found

@@ -67,6 +67,10 @@ pub struct Condition {
 pub struct Found {
     /// Its number, from 1.
     pub turn: u32,
+    /// Its warrior.
+    pub warrior: u32,
+    /// The number of processes that it queued: 2 if it split, 0 if its process ended.
+    pub queued: u32,
     /// The address of the cell that it executed.
     pub address: u32,
     /// The past of that cell before the turn.

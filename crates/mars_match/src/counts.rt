@@ -1,8 +1,8 @@
 //! What each warrior does in a battle, counted while the battle runs.
 ghost use Rattle.std.specs.Prelude.{◌≡◌, ◌+◌, ◌*◌, ◌-◌, ◌<◌, ◌≤◌, ◌==◌, ℕ, All, IfOk, Vec, false, true, if◌then◌else◌, length, map, replicate, slice_index_or, slice_set};
 ghost use Rattle.mars_cell.specs.Limits.{max_core_size};
-ghost use Rattle.mars_core.specs.Limits.{max_warriors, turns_bound};
-ghost use Rattle.mars_core.specs.State.{State, is_over_of};
+ghost use Rattle.mars_core.specs.Limits.{turns_bound};
+ghost use Rattle.mars_core.specs.State.{is_over_of};
 ghost use Rattle.mars_core.specs.Turn.{turn_of};
 ghost use Rattle.mars_match.specs.Battles.{end_of};
 ghost use Rattle.mars_match.specs.Counts.{counts_of, how_many_below, turns_to_end};

@@ -1,14 +1,12 @@
 //! The fate of each warrior in each round of a match.
-ghost use Rattle.std.specs.Prelude.{◌≡◌, ◌++◌, ◌+◌, ◌-◌, ◌*◌, ◌%◌, ◌<◌, ◌≤◌, ◌≢◌, IfErr, IfOk, IfSome, MatchResult, length, true};
+ghost use Rattle.std.specs.Prelude.{◌≡◌, ◌++◌, ◌+◌, ◌-◌, ◌%◌, ◌<◌, ◌≤◌, IfOk, IfSome, MatchResult, length, true};
 ghost use Rattle.mars_core.specs.Limits.{max_warriors};
-ghost use Rattle.mars_core.specs.State.{State};
 ghost use Rattle.mars_match.specs.Battles.{round_start};
 ghost use Rattle.mars_match.specs.CallResults.{IsResult};
 ghost use Rattle.mars_match.specs.Code.Deeds.{AreCounts, listed_at};
 ghost use Rattle.mars_match.specs.Code.Lineups.{HasRoom};
 ghost use Rattle.mars_match.specs.Fates.{ended, fate_of as spec_fate_of, fates, fates_from, fates_of, place_of as spec_place_of, turns_until as spec_turns_until};
 ghost use Rattle.mars_match.specs.Placement.{FitsTwo};
-ghost use Rattle.mars_match.specs.declared.fates.Fate.{Fate as FateValue};
 ghost use Rattle.mars_match.specs.declared.fates.Fought.{Fought as FoughtValue};
 ghost use Rattle.mars_match.specs.declared.fates.Played.{Played as PlayedValue};
 

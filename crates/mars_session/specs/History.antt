@@ -8,8 +8,9 @@ pub record Place : Type 0 where
   pub mark : Bool
 
 -- Places in order, one of which is the present one. `before` has the places before it, the nearest first; `after` has those
--- after it, in order. The definitions below step from the present place. The laws state what they do in terms of `places`, the
--- whole list: commands_append, undo_finds_nearest, redo_finds_nearest, goto_finds_first, moves_keep_places.
+-- after it, in order. So a move back or forward takes a place from the front of one list to the front of the other, as the definitions
+-- below do one by one. The laws state what they do in terms of `places`, the whole list: commands_append, undo_finds_nearest,
+-- redo_finds_nearest, goto_finds_first, moves_keep_places.
 pub record History : Type 0 where
   pub before : List Place
   pub present : Place

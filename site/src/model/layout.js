@@ -170,10 +170,20 @@ export const MarsCondition = {
 };
 
 export const MarsFound = {
-  size: 20,
+  size: 28,
   turn: 0,
-  address: 4,
-  past: 8,
+  warrior: 4,
+  queued: 8,
+  address: 12,
+  past: 16,
+};
+
+export const MarsMoment = {
+  size: 136,
+  turns: 0,
+  found: 4,
+  cells: 8,
+  processes: 72,
 };
 
 export const MarsDeath = {

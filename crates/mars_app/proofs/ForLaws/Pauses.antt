@@ -1,5 +1,5 @@
 -- The debugger continues after a failed read or write.
-use Rattle.std.proofs.Common.{◌≡◌, refl, ap, subst, sym, ◌∙◌, ℕ, List, [], ◌∷◌, ◌++◌, drop, take, append_assoc}
+use Rattle.std.proofs.Common.{◌≡◌, refl, ap, subst, sym, ◌∙◌, ◌∷◌, ◌++◌, drop, append_assoc}
 use Rattle.std.specs.List.{flat_map}
 use Rattle.mars_cell.specs.Load.{lines_of}
 use Rattle.mars_cell.specs.Written.{with_newline}

@@ -8,7 +8,7 @@ ghost use Rattle.mars_core.specs.Block.{Spells, head_words};
 ghost use Rattle.mars_c.specs.Blocks.{HoldsEdited, HoldsEdits, HoldsStart, IsPlayable, IsWritten, OverflowsStart, RefusesEdit, RefusesEdits, RefusesPlay, RefusesStart, RefusesWords, Reports, played_rows};
 ghost use Rattle.mars_c.specs.Codes.{numbered};
 ghost use Rattle.mars_c.specs.Debugging.{Debugs, RefusesDebugging};
-ghost use Rattle.mars_c.specs.Following.{IsFollowed, RefusesFollow};
+ghost use Rattle.mars_c.specs.Following.{HasMoments, IsFollowed, RefusesFollow};
 ghost use Rattle.mars_c.specs.Programs.{HoldsText, OverflowsText};
 ghost use Rattle.mars_c.specs.Records.{turn_row};
 ghost use Rattle.mars_c.specs.Refusals.{AreWarriors, HasCause};
@@ -23,12 +23,12 @@ use crate::edits::MarsEdit;
 use crate::entrants::Entrants;
 use crate::exports::{answer, copy_to_buffer};
 use crate::faults::{MarsFault, block_fault, given, to_c_fault};
-use crate::following::follow_in;
+use crate::following::{follow_in, moments_in};
 use crate::records::MarsRecord;
 use crate::settings::MarsSettings;
 use crate::touches::MarsTouched;
 use crate::warriors::MarsWarrior;
-use mars_core::{Found, Past};
+use mars_core::{Found, Moment, Past};
 use std::alloc::Global;
 
 /// Returns the maximum length of the block of a battle in words, or 0 if the settings and the number of warriors allow no
@@ -113,6 +113,29 @@ pub extern "C" fn mars_follow(
             *count = total;
             answer(fault, given(true))
         }
+        Err(refusal) => answer(fault, block_fault(refusal)),
+    }
+}
+
+/// Executes turns of the battle in a block in steps, keeps the past of each cell, and writes the moment after each step.
+#[unsafe(no_mangle)]
+pub extern "C" fn mars_moments(
+    alloc: Global,
+    battle: &mut [u32],
+    step: u32,
+    pasts: &mut [Past],
+    conditions: &[MarsCondition],
+    moments: &mut [Moment],
+    fault: &mut MarsFault,
+) -> u32
+    ensures code { result ≡ fault.new.code }
+    ensures cleared { result ≡ 0 → fault.new ≡ numbered 0 0 }
+    ensures refused { result ≢ 0 → Reports (RefusesFollow battle.old conditions.now (length pasts.old)) fault.new }
+    ensures done { result ≡ 0 → HasMoments step conditions.now battle.old battle.new pasts.old pasts.new (length moments.old) moments.new }
+    ensures kept { result ≢ 0 → (battle.new ≡ battle.old) × (pasts.new ≡ pasts.old) × (moments.new ≡ moments.old) }
+{
+    match moments_in(alloc, battle, step, pasts, conditions, moments) {
+        Ok(()) => answer(fault, given(true)),
         Err(refusal) => answer(fault, block_fault(refusal)),
     }
 }

@@ -1,8 +1,8 @@
 -- Searches for turns.
 use Rattle.std.specs.Prelude.{◌≡◌, ℕ, [], ◌∷◌, true, false, refl}
-use Rattle.mars_cell.specs.declared.instruction.Op.TheVariants.{Mov, Spl}
-use Rattle.mars_cell.specs.declared.instruction.Modifier.TheVariants.{B, I}
-use Rattle.mars_cell.specs.declared.instruction.Mode.TheVariants.{Direct, BPostincrement}
+use Rattle.mars_cell.specs.declared.instruction.Op.TheVariants.{Add, Jmp, Mov, Spl}
+use Rattle.mars_cell.specs.declared.instruction.Modifier.TheVariants.{Ab, B, I}
+use Rattle.mars_cell.specs.declared.instruction.Mode.TheVariants.{Immediate, Direct, BPostincrement}
 use Rattle.mars_core.specs.Past.{copy_by, pasts_after}
 use Rattle.mars_core.specs.Search.{filled, found_in, is_within, meets}
 use Rattle.mars_core.specs.State.{State}
@@ -16,23 +16,24 @@ use Rattle.mars_core.specs.declared.search.Way.TheVariants.{Executes, Changes, R
 use Rattle.mars_core.specs.Examples.{the_machine, battle_of, cell_of, numbers, imp, of_eight, eight, lone}
 use Rattle.mars_core.specs.Examples.Pasts.{all_loaded, loaded, past}
 
-abbrev where_ : Way → Number → ℕ → ℕ → Condition
+abbrev pub where_ : Way → Number → ℕ → ℕ → Condition
 where_ way number first last = record { way = way; number = number; first = first; last = last }
 
-abbrev found : ℕ → ℕ → Past → Found
-found turn address before = record { turn = turn; address = address; past = before }
+-- A turn of the warrior that queues one process.
+abbrev found : ℕ → ℕ → ℕ → Past → Found
+found turn warrior address before = record { turn = turn; warrior = warrior; queued = 1; address = address; past = before }
 
 -- A range whose last number is the smaller one goes around.
 pub ranges_go_around : (is_within 6 1 7 ≡ true) × (is_within 6 1 1 ≡ true) × (is_within 6 1 3 ≡ false) × (is_within 3 3 3 ≡ true)
 ranges_go_around = (refl, refl, refl, refl)
 
 -- Two imps in turn: the second one executes copies of the first from its second turn on, which is turn 4.
-abbrev two_imps : State
+abbrev pub two_imps : State
 two_imps = battle_of of_eight (eight (imp ∷ imp ∷ [])) ((0 ∷ []) ∷ (1 ∷ []) ∷ [])
 
 pub copies_are_found_where_they_are_executed : (found_in (where_ Executes Origin 0 0 ∷ where_ Executes Warrior 1 1 ∷ []) 6 two_imps all_loaded
-    ≡ found 2 1 (past 9 0 0) ∷ found 4 2 (past 1 2 0) ∷ found 6 3 (past 1 4 0) ∷ [])
-    × (found_in (where_ Changes Address 2 2 ∷ []) 6 two_imps all_loaded ≡ found 2 1 (past 9 0 0) ∷ [])
+    ≡ found 2 1 1 (past 9 0 0) ∷ found 4 1 2 (past 1 2 0) ∷ found 6 1 3 (past 1 4 0) ∷ [])
+    × (found_in (where_ Changes Address 2 2 ∷ []) 6 two_imps all_loaded ≡ found 2 1 1 (past 9 0 0) ∷ [])
 unfolding the_machine copy_by pasts_after
 copies_are_found_where_they_are_executed = (refl, refl)
 
@@ -52,13 +53,20 @@ pub written_cells_are_not_read : (meets (where_ Reads Address 1 1 ∷ []) two_ch
 unfolding the_machine copy_by pasts_after
 written_cells_are_not_read = (refl, refl)
 
--- `SPL.B $1, $0`: a turn that splits, and one that kills its warrior.
-pub splits_and_deaths_are_found : found_in (where_ Executes Queued 2 2 ∷ []) 1 (lone of_eight (eight (cell_of Spl B Direct 1 Direct 0 ∷ [])) (0 ∷ [])) all_loaded ≡ found 1 0 (loaded 0) ∷ []
+-- `SPL.B $1, $0`: a turn that splits.
+pub splits_are_found : found_in (where_ Executes Queued 2 2 ∷ []) 1 (lone of_eight (eight (cell_of Spl B Direct 1 Direct 0 ∷ [])) (0 ∷ [])) all_loaded
+    ≡ record { turn = 1; warrior = 0; queued = 2; address = 0; past = loaded 0 } ∷ []
 unfolding the_machine copy_by pasts_after
-splits_and_deaths_are_found = refl
+splits_are_found = refl
+
+-- `ADD.AB #1, $0` changes itself: it is found with its past before that.
+pub a_past_is_that_before_the_turn : found_in (where_ Changes Address 0 0 ∷ []) 2 (lone of_eight (eight (cell_of Add Ab Immediate 1 Direct 0 ∷ cell_of Jmp B Direct 7 Direct 0 ∷ [])) (0 ∷ [])) all_loaded
+    ≡ found 1 0 0 (loaded 0) ∷ []
+unfolding the_machine copy_by pasts_after
+a_past_is_that_before_the_turn = refl
 
 abbrev at_start : ℕ → Found
-at_start turn = found turn 0 (loaded 0)
+at_start turn = found turn 0 0 (loaded 0)
 
 pub rows_are_filled_as_far_as_there_are : (filled (at_start 4 ∷ at_start 6 ∷ []) (at_start 0 ∷ at_start 1 ∷ at_start 2 ∷ []) ≡ at_start 4 ∷ at_start 6 ∷ at_start 2 ∷ [])
     × (filled (at_start 4 ∷ at_start 6 ∷ []) (at_start 0 ∷ []) ≡ at_start 4 ∷ [])

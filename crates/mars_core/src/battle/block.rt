@@ -12,7 +12,7 @@ ghost use Rattle.mars_core.specs.Block.{AreParts, Spells, block_of, core_words, 
 pub mod cells;
 mod deaths;
 mod parts;
-mod queues;
+pub mod queues;
 mod validity;
 
 use crate::battle::Battle;
@@ -84,7 +84,7 @@ pub fn max_words(params: &Params, warriors: usize) -> usize
 }
 
 /// Writes a list to the front of `places`, and zeros to the rest.
-fn put_padded(list: &[u32], places: &mut [u32])
+pub fn put_padded(list: &[u32], places: &mut [u32])
     requires { length list.now ≤ length places.old }
     ensures { places.new ≡ padded (length places.old) list.now }
 {

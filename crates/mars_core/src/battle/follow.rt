@@ -76,6 +76,8 @@ impl Battle {
         let met = meets(conditions, seen, pc, touched.as_slice());
         let found = met.then_some(Found {
             turn: self.turns,
+            warrior: owner,
+            queued: atom.queued.len() as u32,
             address: pc,
             past: pasts[pc as usize],
         });

@@ -1,7 +1,7 @@
-//! The past of cells, and a search: two imps, of which the second one executes copies of the first.
+//! The past of cells, a search, and moments: two imps, of which the second one executes copies of the first.
 
 use super::battle_of;
-use mars_core::{Condition, Found, Number, Past, Way};
+use mars_core::{Battle, Condition, Found, MAX_WARRIORS, Moment, Number, Past, Way};
 use std::process::Abort;
 use std::test::Fail;
 
@@ -14,7 +14,8 @@ fn is(number: Number, value: u32) -> Condition {
     }
 }
 
-/// A turn that executes an instruction of the first imp at an address, after its owner changed it in a turn.
+/// A turn of the second imp that executes an instruction of the first one at an address, after its owner changed it in a
+/// turn.
 fn found(turn: u32, address: u32, owner: u32, changed: u32) -> Found {
     let past = Past {
         owner,
@@ -23,15 +24,17 @@ fn found(turn: u32, address: u32, owner: u32, changed: u32) -> Found {
     };
     Found {
         turn,
+        warrior: 1,
+        queued: 1,
         address,
         past,
     }
 }
 
-#[test]
-fn imps_are_followed_and_found(rt: HostRuntime) -> Result<(), Fail> {
+/// Two imps, and the past of each cell: each was loaded by warrior 9.
+fn two_imps(rt: &HostRuntime) -> Result<(Battle, Vec<Past>), Fail> {
     let imps = &[(0, "MOV.I $0, $1"), (1, "MOV.I $0, $1")];
-    let mut battle = battle_of(rt.alloc(), (8, 8, 8, 8), imps)?;
+    let battle = battle_of(rt.alloc(), (8, 8, 8, 8), imps)?;
     let mut pasts = Vec::new(rt.alloc());
     for address in 0..8 {
         pasts.push(Past {
@@ -40,6 +43,12 @@ fn imps_are_followed_and_found(rt: HostRuntime) -> Result<(), Fail> {
             origin: address,
         })?;
     }
+    Ok((battle, pasts))
+}
+
+#[test]
+fn imps_are_followed_and_found(rt: HostRuntime) -> Result<(), Fail> {
+    let (mut battle, mut pasts) = two_imps(&rt)?;
     let conditions = [is(Number::Origin, 0), is(Number::Warrior, 1)];
     let none = found(7, 7, 9, 0);
     let mut turns = [none; 4];
@@ -64,5 +73,40 @@ fn imps_are_followed_and_found(rt: HostRuntime) -> Result<(), Fail> {
         origin: 0,
     };
     assert_eq!(&rt; pasts.get(2).copied(), Some(second));
+    Ok(())
+}
+
+#[test]
+fn moments_are_after_each_step(rt: HostRuntime) -> Result<(), Fail> {
+    let (mut battle, mut pasts) = two_imps(&rt)?;
+    let mut none = Moment {
+        turns: 0,
+        found: 0,
+        cells: [0; MAX_WARRIORS],
+        processes: [0; MAX_WARRIORS],
+    };
+    none.cells[9] = 8;
+    let mut moments = [none; 3];
+    if pasts.len() != battle.params().core_size() as usize {
+        return Err("core size".into());
+    }
+    // Turns 2, 4, 6 and 8 are the second one's, and each changes a cell. The last step is cut off by the end.
+    battle.moments(7, &mut pasts, &[is(Number::Warrior, 1)], &mut moments);
+    assert_eq!(&rt; moments[0].turns, 7);
+    assert_eq!(&rt;
+        (moments[0].found, moments[0].cells[1], moments[0].cells[9]),
+        (3, 3, 5)
+    );
+    assert_eq!(&rt;
+        (
+            moments[0].processes[0],
+            moments[0].processes[1],
+            moments[0].processes[2]
+        ),
+        (1, 1, 0)
+    );
+    assert_eq!(&rt; moments[1].turns, 14);
+    assert_eq!(&rt; moments[2].turns, 20);
+    assert_eq!(&rt; battle.turns(), 20);
     Ok(())
 }

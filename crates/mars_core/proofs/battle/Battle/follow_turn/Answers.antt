@@ -102,7 +102,9 @@ returns-clause-found c =
     let met = c.meets-met.ensures s seen c.front-pc.ensures.value (λ asked. c.as_slice.ensures.value
     ∙ c.touched_for-touched.ensures.touched s.core is at asked ∙ ap (λ p. touched p s.core c.front-pc.result) params ∙ ap (λ a. touched s.params s.core a) c.front-pc.ensures.value) in
     let turn = ap (λ (t : State). t.turns) (c.self-2.view_is ∙ c.recorded_turn-operands.ensures.state) ∙ turns-turn_of s in
-    rw (c.then_some-found.ensures, met, turn, c.front-pc.ensures.value) (given_if (meets c.args.conditions.now s c.args.pasts.now) (found_turn s c.args.pasts.now))
+    let owner = ap (λ (t : State). t.next) c.self.view_is in
+    let queued = ap (λ (a : Atom). length a.queued.items) c.recorded_turn-operands.ensures.«record» in
+    rw (c.then_some-found.ensures, met, turn, owner, c.len.ensures.value, queued, c.front-pc.ensures.value) (given_if (meets c.args.conditions.now s c.args.pasts.now) (found_turn s c.args.pasts.now))
 
 pub returns-clause-pasts : goal.returns-clause-pasts
 returns-clause-pasts c =
