@@ -4,6 +4,7 @@
 #   make uninstall    removes them
 #   make site         the site, in build/site, a folder that any web server can serve
 #   make man          the man pages, in build/man
+#   make api          the page of the Python package's API, build/API-PYTHON.md
 #   make editors      the files for editors, in build/share
 #   make packages     the Debian packages `mars` and `corewar`, in build
 #   make wheels       Python wheels of `corewar` that contain the library and the site, for Linux, Windows and macOS, in build
@@ -42,9 +43,9 @@ copy = mkdir -p $(2) && tar -c -C $(1) --mode=u=rwX,go=rX --exclude=__pycache__ 
 licences = mkdir -p $(1); set -e; for library in $(LIBRARIES); do for file in "$$(dirname "$$(rt doc)")"/rattle/$$library/LICENSE*; do \
 	cp "$$file" $(1)/$$library-$${file\#\#*/}; done; done$(if $(wildcard LICENSE*),; cp $(wildcard LICENSE*) $(1))
 
-.PHONY: all install uninstall site man completion editors packages wheels portable dist vectors check
+.PHONY: all install uninstall site man api completion editors packages wheels portable dist vectors check
 
-all: man completion editors
+all: man api completion editors
 
 $(PROGRAM):
 	@echo "$@ is not built; prove and build it with ./mars --help" >&2; exit 1
@@ -69,6 +70,10 @@ man: $(PROGRAM)
 	$(mars)
 	$(COREWAR) packaging/man.py build/man
 
+api:
+	mkdir -p build
+	scripts/api >build/API-PYTHON.md
+
 completion: $(PROGRAM)
 	mkdir -p build/completion
 	$(mars)
@@ -80,7 +85,7 @@ editors:
 	rm -rf build/share
 	$(COREWAR) packaging/editors.py build/share
 
-install: $(PROGRAM) $(LIBRARY) $(SITE) man completion editors
+install: $(PROGRAM) $(LIBRARY) $(SITE) man api completion editors
 	rm -rf $(documents) $(package)/corewar
 	install -D -m 755 $(PROGRAM) $(to)/bin/mars
 	install -D -m 755 packaging/corewar $(to)/bin/corewar
@@ -97,6 +102,7 @@ install: $(PROGRAM) $(LIBRARY) $(SITE) man completion editors
 	install -D -m 644 -t $(zsh) build/completion/_mars build/completion/_corewar
 	set -e; for file in $$(find build/share -type f -printf '%P\n'); do install -D -m 644 build/share/$$file $(to)/share/$$file; done
 	$(call copy,.,$(documents),README.md CONTRIBUTING.md CHANGELOG.md docs examples)
+	install -m 644 build/API-PYTHON.md $(documents)/docs/user
 
 uninstall:
 	rm -f $(to)/bin/mars $(to)/bin/corewar $(to)/lib/libmars.so $(to)/lib/libmars.so.2 $(to)/lib/libmars.a

@@ -25,6 +25,7 @@ INSTALLED = [
     *("lib/pkgconfig/mars.pc", "lib/python3/dist-packages/corewar/pages/site/one.html"),
     *("share/bash-completion/completions/corewar", "share/bash-completion/completions/mars"),
     *("share/doc/mars/README.md", "share/doc/mars/CONTRIBUTING.md", "share/doc/mars/docs/user/TUTORIAL.md"),
+    "share/doc/mars/docs/user/API-PYTHON.md",
     "share/doc/mars/examples/rust/src/main.rs",
     *("share/man/man1/corewar-why.1", "share/man/man1/corewar.1", "share/man/man1/mars.1"),
     *("share/corewar/redcode.sublime-syntax", "share/corewar/vscode/package.json"),
