@@ -111,7 +111,7 @@ def man(text: str) -> str:
         page += f".SS {group}\n" if listed else ""
         for one in listed:
             page += f".TP\n\\fB{escaped(one.word)}\\fR \\fI{one.value}\\fR\n{escaped(one.meaning)}\n"
-    page += roff(section("REFERENCE.md", "## Options of mars").rpartition("```\n")[2])
+    page += roff(section("REFERENCE.md", "## Options of mars"))
     example = re.findall("^Example: (.*)", rest, re.M)[0]
     page += f".SH EXAMPLES\n.EX\n{escaped(example)}\n.EE\n"
     return page + "".join(f".SH {name}\n{roff(section(*where))}" for name, *where in SECTIONS) + SEE
