@@ -395,7 +395,8 @@ def test_the_debugger_has_a_line(page: Browser) -> None:
     assert "unknown command" in ask("nonsense") and "not an address" in ask("edit 8000 nop 0")
     # Numbers may have separators, as the page shows them.
     assert ask("list 5,203 1").split()[0] == "5203" and ask("goto 1,000") == "the battle has turns 0 to 202"
-    assert ask("goto start").startswith("next: Dwarf")
+    assert ask("goto start").startswith("next: Dwarf") and ask("goto -1") == "the battle has turns 0 to 202"
+    assert ask("goto +3").startswith("next: ") and page.value("corewar.session.turn") == 3 and ask("goto start")
     assert ask("list").split()[0] == str(page.value("corewar.session.view.queues.at(-1)") + 3)
     # The last line of each answer.
     assert ask("explain") == "Add 4 to the B-number of bomb."
@@ -416,12 +417,14 @@ def test_labels_of_several_warriors(page: Browser) -> None:
     fight(page, "dwarf", "scanner")
     ask = functools.partial(answer, page)
     shared = "bomb is a label of several warriors; use 0.bomb or 1.bomb"
-    assert ask("list bomb") == shared and ask("edit 0 jmp bomb") == shared
+    assert ask("list bomb") == shared and ask("edit 700 jmp bomb") == shared
+    # In a warrior, labels are its own.
+    assert ask("edit 0 jmp bomb").endswith("edit 0 JMP.B $3, $0") and ask("undo")
     there = page.value("corewar.session.known.addresses.get('1.bomb')")
     assert ask("list 1.bomb 1").split()[:2] == [str(there), "1.bomb"]
     assert ask("edit 2 mov 0.bomb, @1.bomb+1").endswith(f"edit 2 MOV.I $1, @{there - 1}")
     assert ask("explain 0") == "Add 4 to the B-number of 0.bomb."
-    page.run("corewar.session.pin(2); await new Promise(done => setTimeout(done, 200))")
+    page.run("corewar.session.pin(700); await new Promise(done => setTimeout(done, 200))")
     page.click("#listing .focus .text")
     page.type("jmp bomb")
     page.press("Enter")

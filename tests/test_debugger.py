@@ -13,6 +13,7 @@ from conftest import EXAMPLES, Run, begin
 from costly import slow
 from hypothesis import given, strategies as st
 
+from corewar.analysis.formatting import paint
 from corewar.battle.history import History, make_distinct
 from corewar.battle.labels import Sources
 from corewar.debugger.commands import COMMANDS, QuitDebugger, execute, find_command
@@ -21,6 +22,7 @@ from corewar.debugger.session import Session
 from corewar.engine.calls import Match, assemble
 from corewar.engine.sources import read
 from corewar.model.errors import CorewarError
+from corewar.model.printing import COLOUR
 
 
 def session_of(*names: str) -> Session:
@@ -62,7 +64,12 @@ def test_moves() -> None:
         assert session.turn == turn, line
     assert refused(session, "until 5") == "cycle 5 is already completed in turn 7798; use `goto` with an earlier turn"
     assert execute(session, "goto end")[-1] == "the battle is over: Dwarf survives"
-    assert refused(session, "goto 7799") == "the battle has turns 0 to 7798"
+    assert refused(session, "goto 7799") == refused(session, "goto +1") == "the battle has turns 0 to 7798"
+    assert (
+        execute(session, "goto -8")[0].startswith("turn 7790: ") and execute(session, "g +5") and session.turn == 7795
+    )
+    assert refused(session, "goto soon") == "expected a turn, `start`, `end`, +N or -N, not `soon`"
+    execute(session, "goto end")
     assert refused(session, "step imp") == "Imp has no turn after turn 7798"
 
 
@@ -84,6 +91,7 @@ def test_searches_go_both_ways() -> None:
     assert execute(session, "break") == ["no breakpoint is set"]
     assert refused(session, "rc dies imp") == "not found before turn 1"
     assert refused(session, "c dies nobody") == "no warrior `nobody`; the warriors are 0 Dwarf, 1 Imp"
+    assert execute(session, "c changes 0..7999 by dwar")[0].endswith(" by Dwarf:") and execute(session, "goto 1")
     assert refused(session, "break sees 3").startswith("expected a condition: at, changes or reads A")
     assert execute(session, "c reads bomb")[:2] == [
         "reads 3 (bomb):",
@@ -103,6 +111,25 @@ def test_a_list_is_as_wide_as_its_names() -> None:
         ">      0 loop       ADD.AB #4, $3            Dwarf ; 9: loop ADD #step, bomb",
         "       1            MOV.I $2, @2                   ; 10: MOV bomb, @bomb",
     ]
+
+
+def test_a_list_fits_a_narrow_terminal() -> None:
+    """Columns are as wide as they need, and sources are cut."""
+    session = session_of("dwarf", "imp")
+    wide = execute(session, "list 0 4")
+    session.width = lambda: max(map(len, wide))
+    assert execute(session, "list 0 4") == wide
+    session.width = lambda: 53
+    session.paint = paint
+    lines = execute(session, "list 0 4")
+    assert lines[0] == f"> 0 loop ADD.AB #4, $3 {paint(0, 'Dwarf')} ; 9: loop ADD #step, b.."
+    assert [COLOUR.sub("", line) for line in lines[1:]] == [
+        "  1      MOV.I $2, @2        ; 10: MOV bomb, @bomb",
+        "  2      JMP.B $-2, $0       ; 11: JMP loop",
+        "  3 bomb DAT.F #0, #0        ; 12: bomb DAT #0, #0",
+    ]
+    session.width = lambda: 24
+    assert [*map(len, execute(session, "list 1 3"))] == [21, 22, 21]
 
 
 def test_edits_of_processes_show_a_part_of_a_long_queue() -> None:
@@ -345,7 +372,8 @@ def test_labels_of_several_warriors() -> None:
     session = session_of("dwarf", "bomber")
     assert refused(session, "list bomb") == "`bomb` is a label of several warriors; use 0.bomb or 1.bomb"
     assert execute(session, "list 1.bomb 1")[0].split()[1] == "1.bomb"
-    assert refused(session, "edit 0 jmp bomb") == "`bomb` is a label of several warriors; use 0.bomb or 1.bomb"
+    assert refused(session, "edit 700 jmp bomb") == "`bomb` is a label of several warriors; use 0.bomb or 1.bomb"
+    assert execute(session, "edit 0 jmp bomb")[0].endswith("-> JMP.B $3, $0")
     there = session.sources.addresses["1.bomb"]
     assert execute(session, "edit 2 mov 0.bomb, @1.bomb+1")[0].endswith(f"-> MOV.I $1, @{there - 1}")
     assert "incomplete" in refused(session, "edit 2 jmp 2.bomb")

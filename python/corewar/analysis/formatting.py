@@ -10,10 +10,14 @@ from ..battle.history import History
 from ..battle.labels import Sources
 from ..model.types import Cell
 from ..model.cells import cell_text
+from ..model.printing import COLOUR
 from .turns import Place, Turn, Write
 
 # How many of many texts are shown, and how many processes around one that was edited.
 MAX_LISTED, MAX_PROCESSES = 8, 20
+
+# The widths of the first columns of a list of cells: the mark, the address, the label and the cell.
+COLUMNS = (1, 6, 10, 24)
 
 # The colours of warriors, as a terminal numbers them.
 COLOUR_CODES = (91, 94, 92, 93, 95, 96, 31, 34, 32, 33, 35, 36)
@@ -37,6 +41,22 @@ def join_names(names: Sequence[str]) -> str:
 def pluralize(count: int, noun: str) -> str:
     """Returns a number with its noun, as in `1 loss` and `2 losses`."""
     return f"{count} {noun}" + ("" if count == 1 else "es" if noun.endswith("s") else "s")
+
+
+def fitted(rows: Sequence[Sequence[str]], width: int) -> Iterator[str]:
+    """Returns rows of cells as lines, with narrow columns and a cut last one if they would be longer than a width."""
+    # A painted name has more letters than it shows.
+    lengths = [[len(COLOUR.sub("", text)) for text in row] for row in rows]
+    narrow = [max(column) for column in zip(*lengths)]
+    sizes = [*COLUMNS, *narrow[len(COLUMNS) : -1]]
+    if width and any(sum(sizes) + len(sizes) + row[-1] > width for row in lengths):
+        sizes = narrow[:-1]
+    room = width - sum(sizes) - len(sizes)
+    for row, shown in zip(rows, lengths):
+        texts = [text + " " * (size - length) for text, size, length in zip(row, sizes, shown)]
+        texts[1] = row[1].rjust(sizes[1])
+        source = row[-1] if not width or shown[-1] <= room else f"{row[-1][: room - 2]}.." if room > 2 else ""
+        yield " ".join([*texts, source]).rstrip()
 
 
 class BattleFormatter:
@@ -166,29 +186,21 @@ class BattleFormatter:
             rest = f" (processes {first} to {first + MAX_PROCESSES - 1}; `queue` also lists the other {others})"
         return f"{self.names[warrior]}: {' '.join(map(str, found))}".rstrip() + rest
 
-    def cells(self, turn: int, first: int, count: int) -> Iterator[str]:
+    def cells(self, turn: int, first: int, count: int, width: int = 0) -> Iterator[str]:
         """Describes cells from an address on: `>` before the next one to execute, labels, processes, and lines of
-        sources.
+        sources. If a row is longer than `width`, unless that is 0, columns are narrower, and sources are cut.
         """
         history, cells, head = self.history, self.history.block(turn).cells(turn), self.history.head(turn)
         queues = [history.block(turn).queue(number, turn) for number in range(len(self.names))]
         here = Counter((int(at), number) for number, queue in enumerate(queues) for at in queue)
-        shown = [(first + offset) % history.core for offset in range(count)]
-        times = {
-            address: [(number, here[address, number]) for number in range(len(self.names)) if here[address, number]]
-            for address in shown
-        }
-        # A painted name has more letters than it shows.
-        lengths = {address: len(self._processes_at(history.names, found)) for address, found in times.items()}
-        width = max(lengths.values(), default=0)
-        for address in shown:
+        rows = list[tuple[str, ...]]()
+        for address in ((first + offset) % history.core for offset in range(count)):
             mark, label = ">" if address == head else " ", self.sources.labels.get(address, "")
-            source = self.sources.describe_line(history, address, turn)
-            processes = self._processes_at(self.names, times[address]) + " " * (width - lengths[address])
-            text = f"{mark} {address:6} {label:10} {self.cell(cells[address]):24} {processes} {source}"
-            yield text.rstrip()
+            times = [(number, here[address, number]) for number in range(len(self.names)) if here[address, number]]
+            processes, source = self._processes_at(times), self.sources.describe_line(history, address, turn)
+            rows.append((mark, str(address), label, self.cell(cells[address]), processes, source))
+        yield from fitted(rows, width)
 
-    @staticmethod
-    def _processes_at(names: Sequence[str], times: Sequence[tuple[int, int]]) -> str:
+    def _processes_at(self, times: Sequence[tuple[int, int]]) -> str:
         """Returns the warriors with processes at a cell, and how many."""
-        return ", ".join(names[number] + (f" x {count}" if count > 1 else "") for number, count in times)
+        return ", ".join(self.names[number] + (f" x {count}" if count > 1 else "") for number, count in times)

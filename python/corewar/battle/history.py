@@ -134,7 +134,9 @@ class History:
         vars(self).update(state, _blocks=lru_cache(maxsize=CACHED_BLOCKS)(read_block))
 
     def warrior(self, named: str) -> int:
-        """Returns the number of the warrior with this number, name or file. Raises `CorewarError` if there is none."""
+        """Returns the number of the warrior with this number, name or file, or of the only one whose name begins so.
+        Raises `CorewarError` if there is none.
+        """
         number = whole(named)
         if number is not None and number < len(self.names):
             return number
@@ -144,6 +146,9 @@ class History:
         for number, warrior in enumerate(self.warriors):
             if named and named in warrior.files:
                 return number
+        begun = [number for number, name in enumerate(self.names) if name.lower().startswith(named.lower())]
+        if named and not named.isdecimal() and len(begun) == 1:
+            return begun[0]
         listing = ", ".join(f"{number} {name}" for number, name in enumerate(self.names))
         raise CorewarError(f"no warrior `{named}`; the warriors are {listing}")
 

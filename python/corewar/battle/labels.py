@@ -66,6 +66,12 @@ class Sources:
         alone = {label: address for _, label, address in self._labels if owners[label] == 1}
         return {**alone, **{f"{number}.{label}": address for number, label, address in self._labels}}
 
+    def addresses_at(self, address: int) -> dict[str, int]:
+        """The same in a line of source for an address: labels of the warrior that was loaded there need no number."""
+        line = self.lines.get(address)
+        own = {label: at for number, label, at in self._labels if line and number == line.warrior}
+        return {**self.addresses, **own}
+
     def check(self, name: str) -> None:
         """Raises CorewarError for a label of several warriors."""
         several = [label for label in self.addresses if name and label.partition(".")[2] == name]

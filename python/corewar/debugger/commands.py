@@ -1,6 +1,7 @@
 """The commands of the debugger: a table by name, each with its arguments, help, short names and function."""
 from __future__ import annotations
 
+import re
 from collections.abc import Callable, Iterable, Iterator
 from dataclasses import dataclass
 from typing import NoReturn
@@ -112,12 +113,14 @@ def run(session: Session, rest: str) -> Iterator[str]:
     yield from step_by(session, rest or str(session.history.end), 1)
 
 
-@command("goto T", "go to turn T, `start` or `end`", "g")
+@command("goto T", "go to turn T, `start` or `end`, or by +N or -N turns", "g")
 def goto(session: Session, rest: str) -> Iterator[str]:
     end = session.history.end
     turn = {"start": 0, "end": end}.get(rest)
-    turn = session.number(rest, "the number of a turn, `start` or `end`") if turn is None else turn
-    if turn > end:
+    if turn is None and re.fullmatch(r"[+-]\d{1,9}", rest):
+        turn = session.turn + int(rest)
+    turn = session.number(rest, "a turn, `start`, `end`, +N or -N") if turn is None else turn
+    if not 0 <= turn <= end:
         raise CorewarError(f"the battle has turns 0 to {end}")
     session.go(turn)
     yield from show_position(session)
@@ -283,17 +286,17 @@ def futures(session: Session, rest: str) -> Iterator[str]:
     "list [A [N]]", "list N cells, starting at A, or the cells around each warrior's next process", "l", repeats=True
 )
 def list_cells(session: Session, rest: str) -> Iterator[str]:
-    core, formatter, turn = session.history.core, session.formatter, session.turn
+    core, formatter, turn, width = session.history.core, session.formatter, session.turn, session.width()
     if rest:
         first, count = [*rest.split(None, 1), str(CELLS)][:2]
         length = session.number(count, "a number of cells")
-        yield from formatter.cells(turn, session.address(first), min(length, core))
+        yield from formatter.cells(turn, session.address(first), min(length, core), width)
         return
     for number in range(len(session.names)):
         queue = session.history.block(turn).queue(number, turn)
         if len(queue):
             yield f"{formatter.names[number]}:"
-            yield from formatter.cells(turn, int(queue[0]) - AROUND // 2, min(AROUND, core))
+            yield from formatter.cells(turn, int(queue[0]) - AROUND // 2, min(AROUND, core), width)
 
 
 @command("queue [W]", "list the addresses of the processes of warrior W, the next one first", "p")
@@ -351,9 +354,9 @@ CONDITIONS = """A CONDITION, for continue, reverse-continue and break:
   dies W          warrior W died
 An address A is a number, a label, `.` (the cell to execute next), or one of
 these with +N or -N. If B is below A, the range from A to B wraps around the end
-of the core.
-A warrior W is a number or a name. Commands can be abbreviated. An empty line
-repeats the last command that moves or lists."""
+of the core. In a LINE, labels are those of the warrior that was loaded there.
+A warrior W is a number, a name or its beginning, or a file. Commands can be
+abbreviated. An empty line repeats the last command that moves or lists."""
 
 
 @command("help [COMMAND]", "list all commands, or explain one", "h", "?")

@@ -7,6 +7,7 @@ import os
 import sys
 from collections.abc import Callable, Iterable
 from pathlib import Path
+from shutil import get_terminal_size
 from typing import TextIO
 
 from prompt_toolkit import PromptSession
@@ -127,6 +128,7 @@ def state_file() -> Path | None:
 def run_prompt(session: Session, coloured: bool) -> None:
     """Reads lines at a prompt until the user quits."""
     session.paint = paint if coloured else session.paint
+    session.width = lambda: get_terminal_size().columns
     file = state_file()
     prompt: PromptSession[str] = PromptSession(
         history=LineHistory(str(file)) if file else InMemoryHistory(),

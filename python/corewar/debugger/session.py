@@ -25,11 +25,14 @@ CONDITION = "expected a condition: at, changes or reads A[..B] [by W], or splits
 
 @dataclass
 class Session:
-    """A place in a history, the places where undo and redo lead, breakpoints, and all futures that edits made."""
+    """A place in a history, the places where undo and redo lead, breakpoints, and all futures that edits made. `width`
+    returns the columns of the terminal, or 0 without one.
+    """
 
     history: History
     sources: Sources
     paint: Callable[[int, str], str] = lambda _, text: text
+    width: Callable[[], int] = lambda: 0
     turn: int = 0
     past: list[tuple[History, int]] = field(default_factory=list)
     undone: list[tuple[History, int]] = field(default_factory=list)
@@ -140,7 +143,7 @@ class Session:
         """Returns the cell that a line of source makes at an address, as the debugger reads it. Labels refer to the
         core.
         """
-        addresses, words = self.sources.addresses, LABEL.findall(line)
+        addresses, words = self.sources.addresses_at(address), LABEL.findall(line)
 
         def distance(found: re.Match[str]) -> str:
             """`1.bomb` as its distance, because no name of a source has a point."""

@@ -30,7 +30,7 @@ export function readNumber(text, what) {
 }
 
 /**
- * Returns a warrior by its number or its name.
+ * Returns a warrior by its number or its name, or by how only its name begins.
  * @param {Session} session
  * @param {string} text
  */
@@ -39,6 +39,8 @@ export function readWarrior({ known: { names } }, text) {
   const exact = names.indexOf(text);
   const warrior = exact >= 0 ? exact : names.findIndex((name) => name.toLowerCase() === text.toLowerCase());
   if (warrior >= 0) return warrior;
+  const begins = (/** @type {string} */ name) => name.toLowerCase().startsWith(text.toLowerCase());
+  if (/\D/.test(text) && names.filter(begins).length === 1) return names.findIndex(begins);
   const listing = names.map((name, index) => `${index} ${name}`).join(", ");
   throw new CommandError(`no warrior \`${text}\`; the warriors are ${listing}`);
 }
@@ -125,21 +127,24 @@ export async function readCellEdit(session, line, address, last) {
 }
 
 /**
- * Returns the cell of a line of Redcode for an address. Throws an Error without a message if it is not one, or with
- * one about a label that several warriors have.
+ * Returns the cell of a line of Redcode for an address; labels of the warrior that was loaded there need no number.
+ * Throws an Error without a message if it is not one, or with one about a label that several warriors have.
  * @param {Session} session
  * @param {string} text
  * @param {number} address
  */
-export async function cellOf({ desk, known }, text, address) {
+export async function cellOf({ desk, known, opened }, text, address) {
+  const own = opened?.lines.find((one) => one.address === address)?.warrior;
+  const addressOf = (/** @type {string} */ name) => known.addresses.get(`${own}.${name}`) ?? known.addresses.get(name);
   const line = text.replace(LABEL, (name) => {
-    const at = known.addresses.get(name);
+    const at = addressOf(name);
     return at === undefined ? name : `(${at - address})`;
   });
   try {
     return await desk.cellOf(line);
   } catch {
-    const shared = (text.match(LABEL) ?? []).map((name) => sharedWords(name, known));
+    const names = (text.match(LABEL) ?? []).filter((name) => addressOf(name) === undefined);
+    const shared = names.map((name) => sharedWords(name, known));
     throw new Error(shared.find(Boolean));
   }
 }

@@ -77,11 +77,21 @@ async function search(session, rest, forward) {
   return [`${conditionWords(session, conditions[found.index])}:`, ...here(session)];
 }
 
+/**
+ * @param {Session} session
+ * @param {string} text
+ */
+function readTurn(session, text) {
+  if (text === "start") return 0;
+  if (text === "end") return session.end;
+  if (/^[+-]\d{1,9}$/.test(text)) return session.turn + Number(text);
+  return readNumber(text, "a turn, `start`, `end`, +N or -N");
+}
+
 /** @type {Act} */
 async function goto(session, rest) {
-  const { end } = session;
-  const turn = rest === "start" ? 0 : rest === "end" ? end : readNumber(rest, "a turn, `start` or `end`");
-  if (turn > end) throw new CommandError(`the battle has turns 0 to ${end}`);
+  const turn = readTurn(session, rest);
+  if (turn < 0 || turn > session.end) throw new CommandError(`the battle has turns 0 to ${session.end}`);
   await session.jump(turn);
   return here(session);
 }
@@ -302,7 +312,7 @@ const COMMANDS = [
   command("step [N|W]", "execute one turn, N turns, or up to W's next turn", (s, rest) => step(s, rest, 1), "s", "n"),
   command("reverse-step [N|W]", "step back in the same way", (s, rest) => step(s, rest, -1), "rs", "back"),
   command("run [N]", "execute N turns, or all that are left", (s, rest) => step(s, rest || String(s.end), 1), "r"),
-  command("goto T", "go to turn T, `start` or `end`", goto, "g"),
+  command("goto T", "go to turn T, `start` or `end`, or by +N or -N turns", goto, "g"),
   command("until C", "execute turns until C cycles are completed", until),
   command("continue [CONDITION]", "go to the next breakpoint or condition", (s, rest) => search(s, rest, true), "c"),
   command("reverse-continue [CONDITION]", "go back in the same way", (s, rest) => search(s, rest, false), "rc"),
