@@ -36,6 +36,10 @@ SOURCES = [
         "In line 1, `MVO` is read as a label; did you mean `MOV`?",
     ),
     ("go mov 0, 1\nJPM go\n", "line 2: 1 Text 7 Duplicate", "`JPM` is read as a label; did you mean `JMP`?"),
+    ("go jmp 0\nadd 1, 2\nJMPgo, 1\n", "line 3: 2 Operation", "`JMPgo` is read as a label; did you mean `JMP go`?"),
+    ("JMPstart\nstart\n", "line 0: 7 Empty", "In line 1, `JMPstart` is read as a label; did you mean `JMP start`?"),
+    ("go lda #1\n", "line 1: 2 Operation", "`lda` is read as a label, since it is not an opcode."),
+    ("sta go, 1\n", "line 1: 2 Operation", "`sta` is read as a label, since it is not an opcode."),
     ("ldp 0, 1\n", "line 1: 2 Operation", "P-space and other extensions are not supported."),
     ("mov.q 0, 1\n", "line 1: 2 Operation", "`.q` is not a modifier; the modifiers are A, B, AB, BA, F, X, I."),
     ("i FOR 3\nmov.i 0, i\nROF\n", "line 2: 2 Operation", "`i` is the counter of the loop in line 1"),
@@ -65,6 +69,12 @@ SOURCES = [
         "`go` is the counter of the FOR in line 1",
     ),
     # Missing parts, and text that is not Redcode.
+    (
+        "step equ ; 4\nadd #step, 1\n",
+        "line 2: 4 Expression 1 Syntax",
+        "`step` is the EQU of line 1, which has no text.",
+    ),
+    ("step equ\nmov step, 1\n", "line 2: 3 Operand", "`step` is the EQU of line 1, which has no text."),
     ("mov 0 1\n", "line 1: 4 Expression 1 Syntax", "A comma may be missing between `0` and `1`."),
     ("mov $1 #2\n", "line 1: 4 Expression 1 Syntax", "A comma may be missing between `1` and `#`."),
     ("mov (1, 2\n", "line 1: 4 Expression 1 Syntax", "Parentheses: 1 opened, 0 closed."),
@@ -656,6 +666,13 @@ def test_a_number_without_its_sign(run: Run, tmp_path: Path) -> None:
         "by EQU 1\nadd by, 1\nsub far, 1\ni FOR 2\nx&i EQU 50*i\nadd x&i, 1\nROF\nfar dat 0, 0\n"
     )
     assert run("explain", "x.red").stdout == "x.red: no error\n"
+
+
+def test_a_space_that_is_missing(run: Run, tmp_path: Path) -> None:
+    """An opcode and a label without a space are a label, which is valid unless it is used."""
+    (tmp_path / "x.red").write_text("go mov 0, 1\n    JMPgo\naddgo\n    dat addgo\n")
+    hint = "line 2: `JMPgo` is read as a label; did you mean `JMP go`?"
+    assert run("explain", "x.red").stdout == f"x.red: no error\n{hint}\n"
 
 
 def test_a_comma_that_is_missing(run: Run, tmp_path: Path) -> None:

@@ -101,6 +101,32 @@ def operation(source: Source, line: Line) -> Iterator[str]:
         yield cause_sentence("equate", word=line.operation, line=first)
     elif line.rest[:1] == ["."]:
         yield from modifier(source, line, "".join(line.rest[1:2]))
+    elif not line.operation and (opcode := opcode_of(line)):
+        yield cause_sentence("no opcode", word=opcode)
+
+
+def opcode_of(line: Line) -> str:
+    """Returns the word in the place of the opcode in a line without one: the label before the first operand, which may
+    be read as a label, too. It is "" if that isn't clear.
+    """
+    first, labels = "".join(line.rest[:1]), line.labels
+    if first == ",":
+        return "".join(labels[-2:-1])
+    return labels[-1] if len(labels) == 1 or labels and (first in OPENING or first.isdecimal()) else ""
+
+
+def empty(source: Source, _: Line) -> Iterator[str]:
+    """Looks in each line for an opcode that is not read as one."""
+    for line in source.read_lines():
+        if word := misspelt(source, line):
+            yield Misspelt(cause_sentence("earlier", line=line.number, inner=word), word.old, word.new, line.number)
+
+
+def operand(source: Source, line: Line) -> Iterator[str]:
+    """An operand is empty if it is the name of an EQU without a text."""
+    for token in line.operands:
+        if token in source.equates and not any(one.rest for one in source.equate(source.equates[token])):
+            yield cause_sentence("empty equ", word=token, line=source.equates[token].number)
 
 
 def modifier(source: Source, line: Line, named: str) -> Iterator[str]:
@@ -156,6 +182,7 @@ def syntax(source: Source, line: Line) -> Iterator[str]:
     if COMMENT.search(line.code):
         yield cause_sentence("comment")
         return
+    yield from operand(source, line)
     if line.word in OPCODES and tokens and tokens[0].upper() in OPCODES:
         yield cause_sentence("opcode label", word=line.operation)
         return
@@ -222,6 +249,8 @@ CAUSES: dict[str, Cause] = {
     "1 Text 5 BadCount": bad_count,
     "1 Text 7 Duplicate": duplicate,
     "2 Operation": operation,
+    "3 Operand": operand,
     "4 Expression 1 Syntax": syntax,
     "4 Expression 2 Unknown": unknown,
+    "7 Empty": empty,
 }

@@ -5,8 +5,11 @@ from collections.abc import Sequence
 
 from ..engine.warriors import Warrior
 from ..model.cells import MODES, signed
-from .source import NAME, OPCODES, PREDEFINED, Line, Source, read_source
+from .sentences import cause_sentence
+from .source import GLUED, NAME, OPCODES, PREDEFINED, Line, Source, glued, read_source
 
+# How many labels are looked at for an opcode without a space.
+MAX_LABELS = 100
 # Opcodes that compute with the number of their A-operand.
 COMPUTING = ("ADD", "SUB", "MUL", "DIV", "MOD", "SLT")
 
@@ -14,11 +17,14 @@ COMPUTING = ("ADD", "SUB", "MUL", "DIV", "MOD", "SLT")
 def hints_of(warrior: Warrior, lines: Sequence[tuple[int, list[str]]]) -> list[str]:
     """Returns a sentence for each instruction with a comparison in place of a second operand, or whose A-operand is the
     EQU name of a number without `#`, if the cell at this distance is none of the warrior: it is empty, and computing
-    with it changes nothing.
+    with it changes nothing; and for each label that is an opcode and a name without a space between them.
 
     - `lines`: the number of the line, and the labels of each instruction
     """
     source, found = read_source(warrior.source or b""), dict[int, str]()
+    for line in [one for one in source.read_lines() if one.is_label and GLUED.match(one.labels[0])][:MAX_LABELS]:
+        if new := glued(source, line.labels[0]):
+            found[line.number] = f"line {line.number}: " + cause_sentence("misspelt", word=line.labels[0], new=new)
     for line in (source.lines[number - 1] for number, _ in lines):
         compared = [word for word in line.operands[1:] if word in ("<", ">")]
         if line.word in OPCODES and compared and "," not in line.operands:

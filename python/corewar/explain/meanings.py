@@ -64,7 +64,8 @@ def explain_kind(kind: str, number: int, source: bytes) -> list[str]:
     causes: list[str] = []
     if kind in CAUSES:
         text = read_source(source)
-        if 0 < number <= len(text.lines):
+        # Only a source without instructions has an error in no line.
+        if (0 < number or kind == "7 Empty") and number <= len(text.lines):
             causes = [*islice(CAUSES[kind](text, text.lines[number - 1]), MAX_CAUSES)]
     return causes or [KINDS[kind]] if kind in KINDS else []
 

@@ -24,6 +24,8 @@ Load = Callable[[bytes], Warrior]
 TOKEN = re.compile(r"(?:\w|&(?=[A-Za-z_]))+|==|!=|<=|>=|&&|\|\||[^\0- ]", re.ASCII)
 NAME = re.compile(r"[A-Za-z_][\w&]*\Z", re.ASCII)
 ASSERT = re.compile(r"\s*;assert\b(.*)", re.I)
+# An opcode before a name without a space.
+GLUED = re.compile(rf"({'|'.join(OPCODES)})([A-Z_]\w*)\Z", re.I | re.ASCII)
 # How many names are compared with a word; a comparison takes 10 to 20 microseconds for each letter.
 MAX_CHOICES = 1000
 # The most loops around a line.
@@ -214,9 +216,21 @@ def most_similar(word: str, choices: Sequence[str]) -> str | None:
     """
     upper = {choice.upper(): choice for choice in choices[:MAX_CHOICES]}
     same = [choice for choice in upper if sorted(choice) == sorted(word.upper())]
-    close = same or get_close_matches(word.upper(), upper)
+    close = same or [choice for choice in get_close_matches(word.upper(), upper) if not is_other(word.upper(), choice)]
     best = [choice for choice in close if likeness(word, choice) == likeness(word, close[0])]
     return upper[max(best, key=lambda choice: choice[:1] == word[:1].upper())] if best else None
+
+
+def is_other(word: str, choice: str) -> bool:
+    """Returns whether two words of three letters differ in two places, as LDA and DAT do."""
+    return len(word) == len(choice) == 3 and sum(one != other for one, other in zip(word, choice)) > 1
+
+
+def glued(source: Source, word: str) -> str:
+    """Returns an opcode and a name of the source in place of a word that consists of both, as in `JMPstart`, or ""."""
+    found = GLUED.match(word)
+    is_name = found and (found[2] in source.labels() or found[2] in source.equates)
+    return f"{found[1]} {found[2]}" if found and is_name and not source.is_operand(word) else ""
 
 
 def likeness(word: str, choice: str) -> float:
@@ -226,7 +240,12 @@ def likeness(word: str, choice: str) -> float:
 
 
 def misspelt(source: Source, line: Line) -> Misspelt | None:
-    """Returns a sentence on a word in place of an operation that is similar to one, or is one of another dialect."""
+    """Returns a sentence on a word in place of an operation that is similar to one, lacks the space after it, or is one
+    of another dialect.
+    """
+    for word in [] if line.word in OPERATIONS else line.labels[:FIRST_WORDS]:
+        if pair := glued(source, word):
+            return Misspelt(cause_sentence("misspelt", word=word, new=pair), word, pair)
     # An EQU name in place of the operation may be the operand of a misspelt one.
     if line.operation.upper() in OPERATIONS or not (line.rest or line.operation or len(line.labels) > 1):
         return None

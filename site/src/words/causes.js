@@ -34,17 +34,35 @@ const OPENING = ["#", "$", "@", "{", "}", "("];
 /** How many words of a line are compared with the names of operations. */
 const FIRST_WORDS = 20;
 
+/** An opcode before a name without a space. */
+const GLUED = new RegExp(`^(${OPCODES.join("|")})([A-Z_]\\w*)$`, "i");
+
 /** @param {string} text */
 const isComment = (text) => /\/\/|\/\*|^\s*#|,.*\w\s+#\s/.test(codeOf(text));
 
 /**
- * Finds a word in place of an operation that is similar to one, or is one of another dialect.
+ * Returns an opcode and a name of the source in place of a word that consists of both, as in `JMPstart`, or "".
+ * @param {Source} source
+ * @param {string} word
+ */
+function glued(source, word) {
+  const [, opcode, name = ""] = GLUED.exec(word) ?? [];
+  const isName = labelsOf(source).has(name) || source.equates.has(name);
+  const isOperand = source.lines.some(({ rest }) => rest.includes(word));
+  return isName && !isOperand ? `${opcode} ${name}` : "";
+}
+
+/**
+ * Finds a word in place of an operation that is similar to one, lacks the space after it, or is one of another dialect.
  * @param {Source} source
  * @param {Line} line
  * @returns {Cause | null}
  */
-export function misspelt({ lines }, line) {
+export function misspelt(source, line) {
+  const { lines } = source;
   if (OPERATIONS.includes(wordOf(line))) return null;
+  const joint = line.labels.slice(0, FIRST_WORDS).find((word) => glued(source, word));
+  if (joint) return { cause: "misspelt", word: joint, new: glued(source, joint) };
   if (!line.rest.length && !line.operation && line.labels.length < 2) return null;
   // The name of an operand is not a misspelt opcode.
   const isOperand = (/** @type {string} */ name) => lines.some(({ rest }) => rest.includes(name));
@@ -116,7 +134,43 @@ function operation(source, line) {
   if (dashed) return [{ cause: "dashed", word: dashed, new: dashed.replaceAll("-", "_") }];
   if (word) return [word];
   if (equate) return [{ cause: "equate", word: line.operation, line: equate.number }];
-  return line.rest[0] === "." ? modifier(source, line, line.rest[1] ?? "") : [];
+  if (line.rest[0] === ".") return modifier(source, line, line.rest[1] ?? "");
+  const opcode = line.operation ? undefined : opcodeOf(line);
+  return opcode ? [{ cause: "no opcode", word: opcode }] : [];
+}
+
+/**
+ * Returns the word in the place of the opcode in a line without one: the label before the first operand, which may be
+ * read as a label, too. It is undefined if that isn't clear.
+ * @param {Line} line
+ */
+function opcodeOf({ rest: [first], labels }) {
+  if (first === ",") return labels.at(-2);
+  return labels.length === 1 || OPENING.includes(first) || /^\d+$/.test(first) ? labels.at(-1) : undefined;
+}
+
+/**
+ * Looks in each line for an opcode that is not read as one.
+ * @type {Find}
+ */
+function empty(source) {
+  return source.lines.flatMap((line) => {
+    const inner = line.unread || line.skipped ? null : misspelt(source, line);
+    return inner ? [{ cause: "earlier", line: line.number, inner }] : [];
+  });
+}
+
+/**
+ * An operand is empty if it is the name of an EQU without a text.
+ * @type {Find}
+ */
+function operand(source, line) {
+  const heads = operandsOf(line).flatMap((word) => {
+    const head = source.equates.get(word);
+    return head ? [{ word, head }] : [];
+  });
+  const found = heads.filter(({ head }) => linesOf(source, head).every(({ rest }) => !rest.length));
+  return found.map(({ word, head }) => ({ cause: "empty equ", word, line: head.number }));
 }
 
 /**
@@ -178,19 +232,20 @@ function taken(source, line, name, other) {
 }
 
 /** @type {Find} */
-function syntax(_, line) {
+function syntax(source, line) {
   const tokens = operandsOf(line);
   if (isComment(line.text)) return [{ cause: "comment" }];
   if (OPCODES.includes(wordOf(line)) && OPCODES.includes(tokens[0]?.toUpperCase())) {
     return [{ cause: "opcode label", word: line.operation }];
   }
   const isWord = (/** @type {string} */ token) => /^\w/.test(token);
-  /** @type {Cause[]} */
-  const found = tokens.slice(1).flatMap((after, index) => {
+  const found = operand(source, line);
+  const missing = tokens.slice(1).flatMap((after, index) => {
     const before = tokens[index];
     const isMissing = (before === ")" || isWord(before)) && (OPENING.includes(after) || isWord(after));
-    return isMissing ? { cause: "comma", word: after, before, after } : [];
+    return isMissing ? [{ cause: "comma", word: after, before, after }] : [];
   });
+  found.push(...missing);
   const labels = [line.operation, ...tokens].filter((name, index) => NAME.test(name) && tokens[index] === ":");
   found.push(...labels.map((name) => ({ cause: "colon", word: `${name}:`, new: name })));
   const [opened, closed] = ["(", ")"].map((one) => tokens.filter((token) => token === one).length);
@@ -267,6 +322,8 @@ export const CAUSES = {
   "1 Text 5 BadCount": badCount,
   "1 Text 7 Duplicate": duplicate,
   "2 Operation": operation,
+  "3 Operand": operand,
   "4 Expression 1 Syntax": syntax,
   "4 Expression 2 Unknown": unknown,
+  "7 Empty": empty,
 };

@@ -49,7 +49,9 @@ function sentence({ inner, ...cause }, meanings) {
  */
 export function explain(error, text, meanings) {
   const source = readSource(text);
-  const [name, line] = [error.what, source.lines[error.line - 1]];
+  const name = error.what;
+  // Only a source without instructions has an error in no line.
+  const line = source.lines[name === "7 Empty" ? 0 : error.line - 1];
   const causes = line ? (CAUSES[name]?.(source, line) ?? []).slice(0, MAX_CAUSES) : [];
   let number = error.line;
   if (causes[0]?.inner && causes[0].cause === "earlier") {

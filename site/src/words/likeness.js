@@ -43,6 +43,16 @@ const ratio = (one, other) => (2 * common(one, other)) / (one.length + other.len
 export const likeness = (word, choice) => (sorted(word) === sorted(choice) ? 1 : ratio(word.toUpperCase(), choice));
 
 /**
+ * Returns whether two words of three letters differ in two places, as LDA and DAT do.
+ * @param {string} word
+ * @param {string} choice
+ */
+function isOther(word, choice) {
+  const isShort = word.length === 3 && choice.length === 3;
+  return isShort && [...word].filter((letter, index) => letter !== choice[index]).length > 1;
+}
+
+/**
  * Returns at most three choices that are similar to a word, the most similar one first, as get_close_matches does.
  * @param {string} word
  * @param {string[]} choices
@@ -63,7 +73,8 @@ function closest(word, choices) {
 export function like(word, choices) {
   const upper = new Map(choices.slice(0, MAX_CHOICES).map((choice) => [choice.toUpperCase(), choice]));
   const same = [...upper.keys()].filter((choice) => sorted(choice) === sorted(word));
-  const close = same.length ? same : closest(word.toUpperCase(), [...upper.keys()]);
+  const near = () => closest(word.toUpperCase(), [...upper.keys()]).filter((one) => !isOther(word.toUpperCase(), one));
+  const close = same.length ? same : near();
   const best = close.filter((choice) => likeness(word, choice) === likeness(word, close[0]));
   return upper.get(best.find((choice) => choice[0] === word[0].toUpperCase()) ?? best[0]);
 }
