@@ -394,6 +394,7 @@ def test_the_debugger_has_a_line(page: Browser) -> None:
     assert ask("futures").startswith("> 3: after turn 200")
     assert "unknown command" in ask("nonsense") and "not an address" in ask("edit 8000 nop 0")
     # Numbers may have separators, as the page shows them.
+    assert ask("list 5201..5203").split()[0] == "5203"
     assert ask("list 5,203 1").split()[0] == "5203" and ask("goto 1,000") == "the battle has turns 0 to 202"
     assert ask("goto start").startswith("next: Dwarf") and ask("goto -1") == "the battle has turns 0 to 202"
     assert ask("goto +3").startswith("next: ") and page.value("corewar.session.turn") == 3 and ask("goto start")

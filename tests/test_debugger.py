@@ -113,6 +113,16 @@ def test_a_list_is_as_wide_as_its_names() -> None:
     ]
 
 
+def test_cells_are_a_range_or_a_number() -> None:
+    """As in conditions, a range of `list` may wrap around the end of the core."""
+    session = session_of("dwarf", "imp")
+    assert execute(session, "list loop..3") == execute(session, "list 0 4")
+    assert execute(session, "list 7999..1") == execute(session, "list 7999 3")
+    assert execute(session, "fill 10..12 nop 0") == ["10 to 12: NOP.F $0, $0"] == execute(session, "fill 10 12 nop 0")
+    assert refused(session, "list 5..8000").startswith("`8000` is not an address")
+    assert refused(session, "fill 12..10 nop 0").endswith("the first address is above the last")
+
+
 def test_a_list_fits_a_narrow_terminal() -> None:
     """Columns are as wide as they need, and sources are cut."""
     session = session_of("dwarf", "imp")

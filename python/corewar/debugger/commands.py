@@ -218,9 +218,9 @@ def edit(session: Session, rest: str) -> Iterator[str]:
     yield f"{session.formatter.where(address)}: {old} -> {session.formatter.cell(cell)}"
 
 
-@command("fill A B LINE", "set the cells from A to B to a line of source")
+@command("fill A B LINE", "set the cells from A to B, or A..B, to a line of source")
 def fill(session: Session, rest: str) -> Iterator[str]:
-    words = rest.split(None, 2)
+    words = re.sub(r"^(\S+?)\.\.", r"\1 ", rest).split(None, 2)
     if len(words) != 3:
         raise CorewarError("expected two addresses and a line of source")
     first, last = session.address(words[0]), session.address(words[1])
@@ -282,15 +282,15 @@ def futures(session: Session, rest: str) -> Iterator[str]:
         yield f"{'>' if history is session.history else ' '} {number}: {edits}; {history.end} turns"
 
 
-@command(
-    "list [A [N]]", "list N cells, starting at A, or the cells around each warrior's next process", "l", repeats=True
-)
+@command("list [A [N]]", "list N cells from A on, or A..B, or the cells around each next process", "l", repeats=True)
 def list_cells(session: Session, rest: str) -> Iterator[str]:
     core, formatter, turn, width = session.history.core, session.formatter, session.turn, session.width()
     if rest:
         first, count = [*rest.split(None, 1), str(CELLS)][:2]
-        length = session.number(count, "a number of cells")
-        yield from formatter.cells(turn, session.address(first), min(length, core), width)
+        start, _, end = first.partition("..")
+        length = (session.address(end) - session.address(start)) % core + 1 if end else 0
+        length = length or session.number(count, "a number of cells")
+        yield from formatter.cells(turn, session.address(start), min(length, core), width)
         return
     for number in range(len(session.names)):
         queue = session.history.block(turn).queue(number, turn)

@@ -148,7 +148,7 @@ async function edit(session, rest) {
 
 /** @type {Act} */
 async function fill(session, rest) {
-  const [from, to, ...line] = rest.split(/\s+/);
+  const [from, to, ...line] = rest.replace(/^(\S+?)\.\./, "$1 ").split(/\s+/);
   if (!line.length) throw new CommandError("expected two addresses and a line of source");
   const [address, last] = [readAddress(session, from), readAddress(session, to)];
   if (last < address) throw new CommandError(`cannot fill ${address} to ${last}: the first address is above the last`);
@@ -220,7 +220,10 @@ function list(session, rest) {
   if (!view) return [];
   const [where, count] = rest.split(/\s+/);
   if (where) {
-    return cellLines(session, readAddress(session, where), count ? readNumber(count, "a number of cells") : CELLS);
+    const [from, to] = where.split("..");
+    const address = readAddress(session, from);
+    if (to) return cellLines(session, address, ((readAddress(session, to) - address + known.core) % known.core) + 1);
+    return cellLines(session, address, count ? readNumber(count, "a number of cells") : CELLS);
   }
   return known.names.flatMap((name, warrior) => {
     const [next] = queueOf(view, warrior);
@@ -319,14 +322,14 @@ const COMMANDS = [
   command("break [CONDITION]", "set a breakpoint, or list all", setBreak, "b"),
   command("delete N", "delete breakpoint N, or `all`", deleteBreak, "d"),
   command("edit A LINE", "set a cell to a line of source, as in `edit 3 jmp bomb`", edit, "e"),
-  command("fill A B LINE", "set the cells from A to B to a line of source", fill),
+  command("fill A B LINE", "set the cells from A to B, or A..B, to a line of source", fill),
   command("move W I A", "move process I of warrior W to A; process 0 is the next one", move),
   command("kill W I", "remove process I of warrior W", kill),
   command("spawn W A", "add a process of warrior W at A", spawn),
   command("undo", "undo the last edit", (s) => s.undo().then(() => here(s)), "u"),
   command("redo", "redo the edit that was undone", (s) => s.redo().then(() => here(s))),
   command("futures [N]", "list the futures that edits have made, or switch to number N", futures),
-  command("list [A [N]]", "list N cells, starting at A, or the cells around each warrior's next process", list, "l"),
+  command("list [A [N]]", "list N cells from A on, or A..B, or the cells around each next process", list, "l"),
   command("queue [W [I]]", "list the processes of warrior W, starting at number I; 0 is the next one", queue, "p"),
   command("show", "show the turn, the cycle and the state of each warrior", show, "i"),
   command("why [W]", "explain why warrior W died, or what comes next", why),
