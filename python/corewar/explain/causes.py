@@ -9,6 +9,7 @@ from unicodedata import name as character_name
 from .sentences import cause_sentence
 from .source import (
     ELSEWHERE,
+    GLUED,
     MODIFIERS,
     NAME,
     OPCODES,
@@ -116,16 +117,22 @@ def opcode_of(line: Line) -> str:
 
 
 def empty(source: Source, _: Line) -> Iterator[str]:
-    """Looks in each line for an opcode that is not read as one."""
+    """Looks in each line for an opcode that is not read as one, also before a name that the source does not have."""
     for line in source.read_lines():
-        if word := misspelt(source, line):
+        word, found = misspelt(source, line), GLUED.match("".join(line.labels[:1]))
+        if not word and found:
+            new = f"{found[1]} {found[2]}"
+            word = Misspelt(cause_sentence("misspelt", word=found[0], new=new), found[0], new)
+        if word:
             yield Misspelt(cause_sentence("earlier", line=line.number, inner=word), word.old, word.new, line.number)
 
 
 def operand(source: Source, line: Line) -> Iterator[str]:
-    """An operand is empty if it is the name of an EQU without a text."""
+    """An operand is empty if it is the name of an EQU without a text; there are too many in two instructions."""
     for token in line.operands:
-        if token in source.equates and not any(one.rest for one in source.equate(source.equates[token])):
+        if token.upper() in OPCODES and token not in source.labels():
+            yield cause_sentence("opcode name", word=token)
+        elif token in source.equates and not any(one.rest for one in source.equate(source.equates[token])):
             yield cause_sentence("empty equ", word=token, line=source.equates[token].number)
 
 
@@ -182,10 +189,10 @@ def syntax(source: Source, line: Line) -> Iterator[str]:
     if COMMENT.search(line.code):
         yield cause_sentence("comment")
         return
-    yield from operand(source, line)
     if line.word in OPCODES and tokens and tokens[0].upper() in OPCODES:
         yield cause_sentence("opcode label", word=line.operation)
         return
+    yield from operand(source, line)
     for before, after in zip(tokens, tokens[1:]):
         if (before == ")" or re.match(r"\w", before)) and (after in OPENING or re.match(r"\w", after)):
             found = re.search(rf"{re.escape(before)}\s*{re.escape(after)}", line.code)

@@ -150,27 +150,30 @@ function opcodeOf({ rest: [first], labels }) {
 }
 
 /**
- * Looks in each line for an opcode that is not read as one.
+ * Looks in each line for an opcode that is not read as one, also before a name that the source does not have.
  * @type {Find}
  */
 function empty(source) {
   return source.lines.flatMap((line) => {
-    const inner = line.unread || line.skipped ? null : misspelt(source, line);
+    if (line.unread || line.skipped) return [];
+    const [word, opcode, name] = GLUED.exec(line.labels[0] ?? "") ?? [];
+    const inner = misspelt(source, line) ?? (word ? { cause: "misspelt", word, new: `${opcode} ${name}` } : null);
     return inner ? [{ cause: "earlier", line: line.number, inner }] : [];
   });
 }
 
 /**
- * An operand is empty if it is the name of an EQU without a text.
+ * An operand is empty if it is the name of an EQU without a text; there are too many in two instructions.
  * @type {Find}
  */
 function operand(source, line) {
-  const heads = operandsOf(line).flatMap((word) => {
+  const labels = labelsOf(source);
+  return operandsOf(line).flatMap((word) => {
+    if (OPCODES.includes(word.toUpperCase()) && !labels.has(word)) return [{ cause: "opcode name", word }];
     const head = source.equates.get(word);
-    return head ? [{ word, head }] : [];
+    const isEmpty = head && linesOf(source, head).every(({ rest }) => !rest.length);
+    return isEmpty ? [{ cause: "empty equ", word, line: head.number }] : [];
   });
-  const found = heads.filter(({ head }) => linesOf(source, head).every(({ rest }) => !rest.length));
-  return found.map(({ word, head }) => ({ cause: "empty equ", word, line: head.number }));
 }
 
 /**
