@@ -120,13 +120,17 @@ def test_wrong_arguments_and_files(run: Run, tmp_path: Path) -> None:
 
 
 def test_the_help_has_a_whole_sentence_for_each_command() -> None:
-    """At 80 columns, none is cut."""
+    """At 80 columns, each fits a line; at fewer, none is cut."""
     assert isinstance(commands, Commands)
     context = click.Context(commands)
     width = 80 - 2 - 6 - max(map(len, COMMANDS))
     for name in COMMANDS:
         command = commands.get_command(context, name)
         assert command and not command.get_short_help_str(width).endswith("..."), name
+    narrow, wide = (
+        begin("--help", env={**ENVIRONMENT, "COLUMNS": columns}).communicate()[0].split() for columns in ("60", "80")
+    )
+    assert narrow == wide
 
 
 def test_streams(run: Run) -> None:

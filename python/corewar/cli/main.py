@@ -17,6 +17,8 @@ from .layout import Command
 from .options import HELP
 from .reporting import report, report_error
 
+# The maximum length of the sentence on a command.
+MAX_SENTENCE = 100
 # The commands by groups, each with its module in this folder, which is imported only when the command is used.
 GROUPS = {
     "Play": {"new": "starting", "fight": "rounds", "watch": "watching", "debug": "debugging", "web": "web"},
@@ -78,12 +80,11 @@ class Commands(Command, click.Group):
         self.format_commands(context, formatter)
 
     def format_commands(self, context: click.Context, formatter: click.HelpFormatter) -> None:
-        width = formatter.width - 6 - max(map(len, COMMANDS))
         for group, names in GROUPS.items():
             found = [(name, self.get_command(context, name)) for name in names]
             formatter.write(f"{group}:\n")
             formatter.indent()
-            formatter.write_dl([(name, one.get_short_help_str(width).rstrip(".")) for name, one in found if one])
+            formatter.write_dl([(name, one.get_short_help_str(MAX_SENTENCE).rstrip(".")) for name, one in found if one])
             formatter.dedent()
 
 
