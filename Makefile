@@ -26,7 +26,7 @@ LIBRARY = build/libmars.so.2 build/libmars.a
 WASM = build/mars.wasm
 SITE = build/site/one.html
 # What the site is made of.
-PARTS := $(shell find site examples python/corewar/explain/*.json -type f -not -path "site/tests/*")
+PARTS := $(shell find site examples python/corewar/*/*.json -type f -not -path "site/tests/*")
 # The libraries of the toolchain that the crates use.
 LIBRARIES := $(shell sed -n 's/^\w* *\w*: *//p' crates.txt | tr ' ' '\n' | sort -u | grep -vxF "$$(sed -n 's/^\(\w*\).*:.*/\1/p' crates.txt)")
 COREWAR = PYTHONDONTWRITEBYTECODE=1 PYTHONPATH=python /usr/bin/python3 -P

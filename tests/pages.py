@@ -13,6 +13,7 @@ from conftest import COMMAND, ENVIRONMENT, EXAMPLES, TOP
 from costly import slow
 from counting import PROGRAM, skip
 
+from corewar.debugger.commands import COMMANDS
 from corewar.model.cells import MODES, MODIFIERS, OPCODES
 
 
@@ -92,6 +93,26 @@ def test_a_newcomer_is_welcome(page: Browser, site: str) -> None:
     page.open(f"{site}?third")
     page.until("window.corewar?.session.view")
     assert not page.value(shown)
+
+
+def test_commands_are_those_of_the_terminal(page: Browser) -> None:
+    answer(page, "help")
+    shown = page.value("[...document.querySelectorAll('#answers li')].map(one => one.textContent)")
+    commands = [one for one in COMMANDS.values() if one.name not in ("quit", "source", "log")]
+    assert [one.name for one in commands if not any(line.startswith(one.usage) for line in shown)] == []
+    assert [one.name for one in commands if "not a function" in answer(page, one.name)] == []
+    assert not any(line.startswith("quit") for line in shown) and "A warrior W is a number" in "".join(shown)
+    assert answer(page, "help rs") == "reverse-step [N|W]           step back in the same way (rs, back)"
+    assert answer(page, "queue") == answer(page, "p") and answer(page, "quit").startswith("unknown command")
+    # Only what moves or lists is repeated by an empty line.
+    go_to_turn(page, 100)
+    answer(page, "step 2")
+    answer(page, "")
+    assert page.value("corewar.session.turn") == 104
+    answer(page, "kill 0 0")
+    before = page.value("corewar.session.futures.all.length")
+    answer(page, "")
+    assert page.value("corewar.session.futures.all.length") == before
 
 
 def test_keys_move_in_time(page: Browser) -> None:

@@ -1,9 +1,11 @@
-"""The commands of the debugger: a table by name, each with its arguments, help, short names and function."""
+"""The commands of the debugger by name. The site has them, too: their usage and help are in commands.json."""
 from __future__ import annotations
 
+import json
 import re
 from collections.abc import Callable, Iterable, Iterator
 from dataclasses import dataclass
+from importlib.resources import files
 from typing import NoReturn
 
 import numpy as np
@@ -44,15 +46,16 @@ class Command:
         return self.usage.split()[0]
 
 
+TABLE = json.loads((files("corewar.debugger") / "commands.json").read_text("ascii"))
 COMMANDS: dict[str, Command] = {}
 
 
-def command(usage: str, summary: str, *short: str, repeats: bool = False) -> Callable[[Act], Act]:
-    """Enters a function into the table."""
+def command(name: str) -> Callable[[Act], Act]:
+    """Enters a function into the table, as the one of the command with this name."""
+    (row,) = [row for row in TABLE["commands"] if row["usage"].split()[0] == name]
 
     def register(act: Act) -> Act:
-        entry = Command(usage, summary, short, repeats, act)
-        COMMANDS[entry.name] = entry
+        COMMANDS[name] = Command(row["usage"], row["summary"], (*row["short"],), row.get("repeats", False), act)
         return act
 
     return register
@@ -98,22 +101,22 @@ def step_by(session: Session, rest: str, sign: int) -> Iterator[str]:
     yield from show_position(session)
 
 
-@command("step [N|W]", "execute one turn, N turns, or up to the next turn of warrior W", "s", "n", repeats=True)
+@command("step")
 def step(session: Session, rest: str) -> Iterator[str]:
     yield from step_by(session, rest, 1)
 
 
-@command("reverse-step [N|W]", "step back in the same way", "rs", "back", repeats=True)
+@command("reverse-step")
 def reverse_step(session: Session, rest: str) -> Iterator[str]:
     yield from step_by(session, rest, -1)
 
 
-@command("run [N]", "execute N turns, or all that are left", "r", repeats=True)
+@command("run")
 def run(session: Session, rest: str) -> Iterator[str]:
     yield from step_by(session, rest or str(session.history.end), 1)
 
 
-@command("goto T", "go to turn T, `start` or `end`, or by +N or -N turns", "g")
+@command("goto")
 def goto(session: Session, rest: str) -> Iterator[str]:
     end = session.history.end
     turn = {"start": 0, "end": end}.get(rest)
@@ -126,7 +129,7 @@ def goto(session: Session, rest: str) -> Iterator[str]:
     yield from show_position(session)
 
 
-@command("until C", "execute turns until C cycles are completed")
+@command("until")
 def until(session: Session, rest: str) -> Iterator[str]:
     cycle, history = session.number(rest, "a number of cycles"), session.history
     passed = history.block(session.turn).cycle(session.turn) >= cycle
@@ -143,17 +146,12 @@ def until(session: Session, rest: str) -> Iterator[str]:
     raise CorewarError(f"the battle ends before cycle {cycle} is completed")
 
 
-@command("continue [CONDITION]", "go to the next breakpoint, or to where the condition holds next", "c", repeats=True)
+@command("continue")
 def continue_forward(session: Session, rest: str) -> Iterator[str]:
     yield from search_from_here(session, rest, True)
 
 
-@command(
-    "reverse-continue [CONDITION]",
-    "go back to the previous breakpoint, or to where the condition last held",
-    "rc",
-    repeats=True,
-)
+@command("reverse-continue")
 def continue_back(session: Session, rest: str) -> Iterator[str]:
     yield from search_from_here(session, rest, False)
 
@@ -164,7 +162,7 @@ def search_from_here(session: Session, rest: str, forward: bool) -> Iterator[str
     yield from show_position(session)
 
 
-@command("break [CONDITION]", "set a breakpoint for continue, or list all breakpoints", "b")
+@command("break")
 def set_break(session: Session, rest: str) -> Iterator[str]:
     if rest:
         session.breakpoints[max(session.breakpoints, default=-1) + 1] = session.condition(rest.split())
@@ -174,7 +172,7 @@ def set_break(session: Session, rest: str) -> Iterator[str]:
         yield f"breakpoint {number}: {session.describe_condition(condition)}"
 
 
-@command("delete N", "delete breakpoint N, or `all` breakpoints", "d")
+@command("delete")
 def delete(session: Session, rest: str) -> Iterator[str]:
     if rest == "all":
         session.breakpoints.clear()
@@ -186,12 +184,12 @@ def delete(session: Session, rest: str) -> Iterator[str]:
     yield from set_break(session, "") if session.breakpoints else ["all breakpoints are deleted"]
 
 
-@command("undo", "undo the last move or edit", "u", repeats=True)
+@command("undo")
 def undo(session: Session, _: str) -> Iterator[str]:
     yield from undo_or_redo(session, session.undo)
 
 
-@command("redo", "redo the last move or edit that was undone", repeats=True)
+@command("redo")
 def redo(session: Session, _: str) -> Iterator[str]:
     yield from undo_or_redo(session, session.redo)
 
@@ -206,7 +204,7 @@ def undo_or_redo(session: Session, act: Callable[[], None]) -> Iterator[str]:
     yield from show_position(session)
 
 
-@command("edit A LINE", "set the cell at A to a line of source, as in `edit 3 jmp bomb`", "e")
+@command("edit")
 def edit(session: Session, rest: str) -> Iterator[str]:
     words = rest.split(None, 1)
     if len(words) != 2:
@@ -218,7 +216,7 @@ def edit(session: Session, rest: str) -> Iterator[str]:
     yield f"{session.formatter.where(address)}: {old} -> {session.formatter.cell(cell)}"
 
 
-@command("fill A B LINE", "set the cells from A to B, or A..B, to a line of source")
+@command("fill")
 def fill(session: Session, rest: str) -> Iterator[str]:
     words = re.sub(r"^(\S+?)\.\.", r"\1 ", rest).split(None, 2)
     if len(words) != 3:
@@ -233,7 +231,7 @@ def fill(session: Session, rest: str) -> Iterator[str]:
     yield f"{first} to {last}: {session.formatter.cell(cell)}"
 
 
-@command("move W I A", "move process I of warrior W to A; process 0 is the next one")
+@command("move")
 def move(session: Session, rest: str) -> Iterator[str]:
     words = rest.rsplit(None, 2)
     if len(words) != 3:
@@ -244,7 +242,7 @@ def move(session: Session, rest: str) -> Iterator[str]:
     yield session.formatter.queue(session.turn, warrior, process)
 
 
-@command("kill W I", "remove process I of warrior W")
+@command("kill")
 def kill(session: Session, rest: str) -> Iterator[str]:
     words = rest.rsplit(None, 1)
     if len(words) != 2:
@@ -255,7 +253,7 @@ def kill(session: Session, rest: str) -> Iterator[str]:
     yield session.formatter.queue(session.turn, warrior, process)
 
 
-@command("spawn W A", "add a process of warrior W at A")
+@command("spawn")
 def spawn(session: Session, rest: str) -> Iterator[str]:
     words = rest.rsplit(None, 1)
     if len(words) != 2:
@@ -269,7 +267,7 @@ def spawn(session: Session, rest: str) -> Iterator[str]:
     yield session.formatter.queue(session.turn, warrior, count)
 
 
-@command("futures [N]", "list the futures that edits have made, or switch to number N; none is lost")
+@command("futures")
 def futures(session: Session, rest: str) -> Iterator[str]:
     if rest:
         number = session.number(rest, "the number of a future")
@@ -282,7 +280,7 @@ def futures(session: Session, rest: str) -> Iterator[str]:
         yield f"{'>' if history is session.history else ' '} {number}: {edits}; {history.end} turns"
 
 
-@command("list [A [N]]", "list N cells from A on, or A..B, or the cells around each next process", "l", repeats=True)
+@command("list")
 def list_cells(session: Session, rest: str) -> Iterator[str]:
     core, formatter, turn, width = session.history.core, session.formatter, session.turn, session.width()
     if rest:
@@ -299,13 +297,13 @@ def list_cells(session: Session, rest: str) -> Iterator[str]:
             yield from formatter.cells(turn, int(queue[0]) - AROUND // 2, min(AROUND, core), width)
 
 
-@command("queue [W]", "list the addresses of the processes of warrior W, the next one first", "p")
+@command("queue")
 def queue(session: Session, rest: str) -> Iterator[str]:
     next_warrior = session.history.block(session.turn).next_warrior(session.turn)
     yield session.formatter.queue(session.turn, session.warrior(rest) if rest else next_warrior)
 
 
-@command("show", "show the turn, the cycle and the state of each warrior", "i")
+@command("show")
 def show(session: Session, _: str) -> Iterator[str]:
     end, turn = session.history.end, session.turn
     state = "over" if turn == end else f"of {end} turns"
@@ -313,7 +311,7 @@ def show(session: Session, _: str) -> Iterator[str]:
     yield from session.formatter.warrior_states(turn)
 
 
-@command("why [W]", "explain why warrior W died, or how the next cell to execute got its value")
+@command("why")
 def why(session: Session, rest: str) -> Iterator[str]:
     turn, formatter = session.turn, session.formatter
     died = [int(number) for number, when in session.history.deaths(turn).tolist() if when == turn]
@@ -326,12 +324,12 @@ def why(session: Session, rest: str) -> Iterator[str]:
         yield from describe_cause(formatter, address, turn)
 
 
-@command("changed A", "find the last turn so far that changed cell A")
+@command("changed")
 def changed(session: Session, rest: str) -> Iterator[str]:
     yield from describe_change(session.formatter, session.address(rest), session.turn)
 
 
-@command("explain [A]", "explain the instruction at A, or the next one to execute")
+@command("explain")
 def explain(session: Session, rest: str) -> Iterator[str]:
     address, core, labels = session.address(rest or "."), session.history.core, session.sources.labels
     cell = session.history.block(session.turn).cell(address, session.turn)
@@ -344,40 +342,23 @@ def explain(session: Session, rest: str) -> Iterator[str]:
     yield describe_instruction(session.formatter.cell(cell), (names[0], names[1]))
 
 
-CONDITIONS = """A CONDITION, for continue, reverse-continue and break:
-  at A[..B]       a cell from A to B is executed next
-  changes A[..B]  the turn changed a cell from A to B
-  reads A[..B]    the turn accessed a cell from A to B without writing it
-  .. by W         .. and it is a turn of warrior W
-  splits W        warrior W gained a process
-  ends W          warrior W lost a process
-  dies W          warrior W died
-An address A is a number, a label, `.` (the cell to execute next), or one of
-these with +N or -N. If B is below A, the range from A to B wraps around the end
-of the core. In a LINE, labels are those of the warrior that was loaded there.
-A warrior W is a number, a name or its beginning, or a file. Commands can be
-abbreviated. An empty line repeats the last command that moves or lists."""
-
-
-@command("help [COMMAND]", "list all commands, or explain one", "h", "?")
+@command("help")
 def show_help(session: Session, rest: str) -> Iterator[str]:
     for one in [find_command(rest)] if rest else COMMANDS.values():
         short = f" ({', '.join(one.short)})" if one.short else ""
         yield f"{one.usage:29}{one.summary}{short}"
     if not rest or "CONDITION" in find_command(rest).usage:
-        yield CONDITIONS
+        yield from TABLE["arguments"]
 
 
-@command("quit", "quit the debugger", "q", "exit")
+@command("quit")
 def quit_debugger(session: Session, _: str) -> NoReturn:
     raise QuitDebugger
 
 
 # The reader of lines executes these two.
-COMMANDS["source"] = Command("source FILE", "execute the lines of a file", (), False, lambda *_: [])
-COMMANDS["log"] = Command(
-    "log [FILE]", "log the following lines to a new file, or stop logging", (), False, lambda *_: []
-)
+for name in ("source", "log"):
+    command(name)(lambda *_: [])
 
 
 def execute(session: Session, line: str) -> list[str]:

@@ -1,6 +1,6 @@
 /** The debugger's line below the story: its answers, and the lines before. */
 import { clamp, element, make, typed, withCode } from "./dom.js";
-import { completions, execute } from "./commands.js";
+import { completions, execute, repeats } from "./commands.js";
 
 /** @typedef {import("./session.js").Session} Session */
 
@@ -66,7 +66,7 @@ export class Console {
 
   /**
    * Executes a line after those before it.
-   * @param {string} line an empty one repeats the last
+   * @param {string} line an empty one repeats the last, if that moves or lists
    */
   run(line) {
     this.#done = this.#done.then(() => this.#execute(line));
@@ -75,7 +75,8 @@ export class Console {
 
   /** @param {string} line */
   async #execute(line) {
-    const given = line.trim() || this.#past.at(-1);
+    const last = this.#past.at(-1) ?? "";
+    const given = line.trim() || (repeats(last) ? last : "");
     if (!given) return;
     if (given !== this.#past.at(-1)) this.#past.push(given);
     this.#at = this.#past.length;
