@@ -14,7 +14,7 @@ abbrev owned : ℕ → ℕ → List ℕ
 owned second others = 0 ∷ second ∷ replicate 7 0 ++ others ∷ replicate 6 0
 
 -- Two imps in turn, in steps of three turns: the second one's are 2, 4 and 6. It copies itself to a new cell in each; the first one runs
--- behind it and changes nothing.
+-- after it and changes nothing.
 pub moments_are_after_each_step : moments_after 2 3 (where_ Executes Warrior 1 1 ∷ []) two_imps all_loaded
     ≡ record { turns = 3; found = 1; cells = owned 1 7; processes = 1 ∷ 1 ∷ replicate 14 0 }
     ∷ record { turns = 6; found = 2; cells = owned 3 5; processes = 1 ∷ 1 ∷ replicate 14 0 } ∷ []
