@@ -14,8 +14,7 @@ try:
     from corewar import __version__
     from corewar.cli.layout import Command
     from corewar.cli.main import COMMANDS, Commands, commands
-    from corewar.debugger.commands import COMMANDS as debugger_commands
-    from corewar.debugger.commands import CONDITIONS
+    from corewar.debugger.commands import COMMANDS as debugger_commands, TABLE
 except ImportError as error:
     sys.exit(f"cannot make the man pages: {error}; run scripts/setup")
 
@@ -31,8 +30,9 @@ def debugger() -> str:
     for one in debugger_commands.values():
         short = f" ({', '.join(one.short)})" if one.short else ""
         entries += f".TP\n.B {escaped(one.usage)}\n{escaped(one.summary + short)}\n"
+    arguments = "\n".join(TABLE["arguments"])
     file = ".TP\n.I $XDG_STATE_HOME/corewar/debug\nThe lines that were typed, by default below\n.IR ~/.local/state .\n"
-    return f".SH COMMANDS\n{entries}.PP\n.EX\n{escaped(CONDITIONS)}\n.EE\n.SH FILES\n{file}"
+    return f".SH COMMANDS\n{entries}.PP\n.EX\n{escaped(arguments)}\n.EE\n.SH FILES\n{file}"
 
 
 def sections(command: Command) -> str:

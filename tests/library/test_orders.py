@@ -289,7 +289,7 @@ def debug(arguments: Battle, fault: Any) -> tuple[int, NDArray[Any]]:
 # A battle as it starts needs fewer words than its maximum length.
 BLOCK = [other("mark", 1, 11, 2), other("words", 2500, 10, 0)]
 FOLLOWING = [other("way", 4, 15, 0, 1), *BLOCK, other("pasts", 799, 2, 7)]
-ON_BATTLES = {
+ON_BATTLES: dict[str, tuple[Callable[[Battle, Any], tuple[int, NDArray[Any]]], list[Mistake]]] = {
     "mars_play": (play, BLOCK),
     "mars_follow": (follow, FOLLOWING),
     "mars_moments": (moments, FOLLOWING),

@@ -5,7 +5,7 @@ import { CommandError } from "./arguments.js";
 
 /** @typedef {import("./session.js").Session} Session */
 /**
- * A command of the table; `site` is its summary on the page, if it is another one, or null if the page does not have it.
+ * A command of the table; `site` is its summary on the page, if that is another one, or null if the page lacks it.
  * @typedef {{usage: string, short: string[], summary: string, repeats?: boolean, site?: string | null}} Command
  */
 
