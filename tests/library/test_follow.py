@@ -9,7 +9,7 @@ from battles import edit_of, edits, matches
 from hypothesis import given, strategies as st
 
 from corewar.battle import conditions, history as module, runs
-from corewar.battle.conditions import ADDRESS, CHANGES, EXECUTES, ORIGIN, READS, Row, find
+from corewar.battle.conditions import ADDRESS, CHANGES, EXECUTES, ORIGIN, QUEUED, READS, Row, find
 from corewar.battle.history import History
 from corewar.battle.runs import BY_HAND, NOBODY
 from corewar.engine.battles import Battle
@@ -135,7 +135,9 @@ def test_executed_cells(history: History, part: float) -> None:
     numbers = [one.numbers[one.uses[EXECUTES][0]] for one in facts[first:]]
     # The origins of edited cells are one here.
     found = [
-        (turn, address, owner, when, min(origin, history.core))
-        for turn, address, (owner, when, origin) in conditions.executed(history, first, history.end).tolist()
+        (turn, warrior, queued, address, owner, when, min(origin, history.core))
+        for turn, warrior, queued, address, (owner, when, origin) in conditions.executed(
+            history, first, history.end
+        ).tolist()
     ]
-    assert found == [(first + 1 + at, *row[ADDRESS - 1 : ORIGIN]) for at, row in enumerate(numbers)]
+    assert found == [(first + 1 + at, *row[:QUEUED], *row[ADDRESS - 1 : ORIGIN]) for at, row in enumerate(numbers)]
