@@ -55,7 +55,7 @@ function meanings() {
 }
 
 /** The calls of the library that the page does not make, and what mars.wasm needs of WebAssembly. */
-const UNCALLED = ["check", "debug", "edits", "follow", "league", "population", "read_load"];
+const UNCALLED = ["check", "debug", "edits", "league", "population", "read_load"];
 const FEATURES = ["bulk-memory", "sign-ext", "nontrapping-float-to-int", "multivalue", "mutable-globals"];
 
 /** Writes the machine with the calls that the page makes, and nothing else. */

@@ -10,6 +10,7 @@ import { after, test } from "node:test";
 
 import { Battle } from "../src/engine/battle.js";
 import { ASSEMBLY, BLOCK, EDIT, LOAD, OUT_OF_MEMORY, WARRIOR } from "../src/model/layout.js";
+import { EXECUTES, NUMBER_DIED } from "../src/model/layout.js";
 import { Mars, MarsError } from "../src/engine/mars.js";
 import { MODES, MODIFIERS, OPCODES, cellText } from "../src/model/cells.js";
 import { DEFAULTS, HILLS } from "../src/model/settings.js";
@@ -118,6 +119,27 @@ test("turns one by one are turns at once, with their records", () => {
   const rest = mars.play(whole, 0xffffffff);
   assert.deepEqual([whole.over, whole.turns, rest.records.length], [true, 7798, 0]);
   assert.deepEqual(whole.deaths, [{ warrior: 1, turns: 7798 }]);
+});
+
+test("turns are followed, found and counted", () => {
+  const battle = mars.start([mars.assemble(example("dwarf")), mars.assemble(example("imp"))]);
+  const followed = { battle, pasts: new Uint32Array(3 * battle.core).fill(255) };
+  const died = [[EXECUTES, NUMBER_DIED, 1, 1]];
+  const before = battle.copy();
+  assert.deepEqual([...mars.find(followed, 8000, died, 9)].slice(0, 6), [7798, 1, 0, 5203, 0, 7797]);
+  assert.deepEqual([mars.find(followed, 7797, died, 9).length, mars.find(followed, 100, [], 9).length], [0, 63]);
+  // Questions change nothing.
+  assert.deepEqual(battle.words, before.words);
+  const moments = mars.moments({ battle: before, pasts: followed.pasts.slice() }, 4000, 2, died);
+  for (const [row, turns, found, processes] of [[0, 4000, 0, [1, 1]], [34, 7798, 1, [1, 0]]]) {
+    mars.follow(followed, 4000);
+    const owned = (warrior) => followed.pasts.filter((who, at) => at % 3 === 0 && who === warrior).length;
+    const expected = [turns, found, owned(0), owned(1), ...Array(14).fill(0), ...processes, ...Array(14).fill(0)];
+    assert.deepEqual([...moments.subarray(row, row + 34)], expected);
+  }
+  assert.deepEqual([battle.turns, ...followed.pasts.subarray(3 * 5203, 3 * 5203 + 2)], [7798, 0, 7797]);
+  const [own, other] = [battle, before].map(({ words, length }) => words.subarray(0, length));
+  assert.deepEqual(own, other);
 });
 
 test("edits are made or refused by name, and wrong words are no battle", () => {

@@ -68,6 +68,21 @@ test("a death has a chain of turns", () => {
   ]);
 });
 
+test("a story is read part by part", () => {
+  const desk = new Desk(mars);
+  const { events, deaths, end } = desk.open(fightOf([example("dwarf"), example("imp")]));
+  const kinds = (all) => all.map(({ kind, turn, warrior, address }) => [kind, turn, warrior, address]);
+  const known = [["start", 0, -1, -1], ["death", 7798, 1, 5203], ["end", 7798, -1, -1]];
+  assert.deepEqual([kinds(events), kinds(deaths), end], [known, [["death", 7798, 1, 5203]], 7798]);
+  desk.open(fightOf([example("silk"), example("paper")]));
+  let [story, parts] = [null, 0];
+  for (; !story; parts++) story = desk.story(0);
+  assert.ok(parts > 5);
+  const first = [["split", 1, 0, 0], ["split", 2, 1, 1305], ["hit", 632, 1, 3630], ["hit", 711, 0, 3629]];
+  const rest = [["most", 30058, 1, -1], ["most", 74375, 0, -1], ["end", 160000, -1, -1]];
+  assert.deepEqual(kinds(story), [["start", 0, -1, -1], ...first, ...rest]);
+});
+
 test("hits are the places that searches find", () => {
   const desk = new Desk(mars);
   desk.open(fightOf([example("dwarf"), example("imp")]));

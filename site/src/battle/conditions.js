@@ -1,8 +1,8 @@
 /** Conditions on turns, and searches for them in a battle, forwards and backwards. */
-import { ADDRESS, DIED, QUEUED, RECORD_WORDS, TOUCHED_WORDS, WARRIOR, changesOf } from "./place.js";
+import { CHANGES, EXECUTES, NUMBER_ADDRESS, READS } from "../model/layout.js";
+import { EVENTS, by as byWarrior } from "./records.js";
 
 /** @typedef {import("./history.js").History} History */
-/** @typedef {import("./history.js").Turns} Turns */
 /**
  * A condition on a place, which is a number of executed turns.
  *
@@ -18,108 +18,87 @@ import { ADDRESS, DIED, QUEUED, RECORD_WORDS, TOUCHED_WORDS, WARRIOR, changesOf 
 /** @typedef {"at" | "changes" | "reads" | "splits" | "ends" | "dies" | "moves"} Word */
 
 /**
- * Returns the first place after a turn at which a condition holds, or the last one before it; null if there is none.
+ * How a turn uses the cells of a condition.
+ * @type {Partial<Record<Word, number>>}
+ */
+const WAYS = { at: EXECUTES, changes: CHANGES, reads: READS };
+
+/**
+ * Returns the conditions of the library that a turn meets: for `at` the turn after the place.
+ * @param {Condition} condition
+ * @returns {import("./records.js").Row[]}
+ */
+function rowsOf({ word, first, last = first, by }) {
+  const way = WAYS[word];
+  if (way) return [[way, NUMBER_ADDRESS, first, last], ...(by === undefined ? [] : [byWarrior(by, way)])];
+  return [...(word === "moves" ? [] : [EVENTS[word]]), ...(first < 0 ? [] : [byWarrior(first)])];
+}
+
+/**
+ * Yields the places from one to another at which a condition holds, some at once, in order or the latest first.
  * @param {History} history
  * @param {Condition} condition
- * @param {number} turn
- * @param {boolean} forward
+ * @param {{first: number, last: number, isForward: boolean}} span
+ * @returns {Generator<number[]>}
  */
-export function search(history, condition, turn, forward) {
-  if (condition.word === "dies") return death(history, condition, turn, forward);
-  const { word, first, last = first, by } = condition;
-  // The marks know the last change of each cell, but an edit is no turn.
-  const isPlain = first === last && by === undefined && history.edits.length === 0;
-  if (word === "changes" && isPlain) return change(history, first, turn, forward);
-  const isHit = holds(history.core, condition);
+function* placesOf(history, condition, { first, last, isForward }) {
   // `at` holds at the place before its turn.
-  const shift = word === "at" ? 1 : 0;
-  const needsTouched = word === "reads";
-  const parts = forward
-    ? history.turns(turn + shift, history.end, needsTouched)
-    : history.turnsBack(turn - 1 + shift, needsTouched);
-  for (const turns of parts) {
-    const row = firstRow(turns, isHit, forward);
-    if (row !== null) return turns.first + 1 + row - shift;
+  const shift = condition.word === "at" ? 1 : 0;
+  for (const turns of history.find(rowsOf(condition), first - 1 + shift, last + shift, isForward)) {
+    yield turns.map((turn) => turn - shift);
+  }
+}
+
+/**
+ * Returns the first place of a span at which a condition holds, or the last one; null if there is none.
+ * @param {History} history
+ * @param {Condition} condition
+ * @param {{first: number, last: number, isForward: boolean}} span
+ */
+function nearest(history, condition, span) {
+  for (const places of placesOf(history, condition, span)) {
+    if (places.length) return places[span.isForward ? 0 : places.length - 1];
   }
   return null;
 }
 
 /**
- * Returns the first row of some turns for which something holds, or the last one.
- * @param {Turns} turns
- * @param {(turns: Turns, row: number) => boolean} isHit
- * @param {boolean} forward
- */
-function firstRow(turns, isHit, forward) {
-  const [first, step] = forward ? [0, 1] : [turns.count - 1, -1];
-  for (let row = first; row >= 0 && row < turns.count; row += step) if (isHit(turns, row)) return row;
-  return null;
-}
-
-/**
+ * Returns the place after a turn where one of the conditions holds next, or the one before it where one held last, and
+ * which that is; null if there is none.
  * @param {History} history
- * @param {Condition} condition
+ * @param {Condition[]} conditions
  * @param {number} turn
- * @param {boolean} forward
+ * @param {boolean} isForward
  */
-function death(history, { first }, turn, forward) {
-  // A warrior that an edit kills dies in no turn.
-  const deaths = history.deaths.filter(({ warrior, address }) => address >= 0 && (first < 0 || warrior === first));
-  const turns = deaths.map((one) => one.turn);
-  return (forward ? turns.find((one) => one > turn) : turns.reverse().find((one) => one < turn)) ?? null;
-}
-
-/**
- * @param {History} history
- * @param {number} address
- * @param {number} turn
- * @param {boolean} forward
- */
-function change(history, address, turn, forward) {
-  if (forward) return history.nextChange(address, turn);
-  return turn > 1 ? history.place(turn - 1).written[address] || null : null;
-}
-
-/**
- * Returns a function that says whether a condition holds for a turn.
- * @param {number} core
- * @param {Condition} condition
- * @returns {(turns: Turns, row: number) => boolean}
- */
-export function holds(core, { word, first, last = first, by }) {
-  const isAmong = (/** @type {number} */ address) => (address - first + core) % core <= (last - first + core) % core;
-  const isBy = (/** @type {Turns} */ { records }, /** @type {number} */ row) =>
-    by === undefined || records[RECORD_WORDS * row + WARRIOR] === by;
-  const field = (/** @type {Turns} */ { records }, /** @type {number} */ row, /** @type {number} */ place) =>
-    records[RECORD_WORDS * row + place];
-  const isOf = (/** @type {Turns} */ turns, /** @type {number} */ row) =>
-    first < 0 || field(turns, row, WARRIOR) === first;
-  switch (word) {
-    case "at":
-      return (turns, row) => isAmong(field(turns, row, ADDRESS)) && isBy(turns, row);
-    case "changes":
-      return (turns, row) =>
-        isBy(turns, row) && changesOf(turns.records, RECORD_WORDS * row).some(({ address }) => isAmong(address));
-    case "reads":
-      return (turns, row) => isBy(turns, row) && readsOf(turns, row).some(isAmong);
-    case "splits":
-      return (turns, row) => field(turns, row, QUEUED) === 2 && isOf(turns, row);
-    case "ends":
-      return (turns, row) => field(turns, row, QUEUED) === 0 && isOf(turns, row);
-    case "dies":
-      return (turns, row) => field(turns, row, DIED) === 1 && isOf(turns, row);
-    default:
-      return (turns, row) => isOf(turns, row);
+export function search(history, conditions, turn, isForward) {
+  const span = isForward ? { first: turn + 1, last: history.end } : { first: 0, last: turn - 1 };
+  let found = null;
+  for (const [index, condition] of conditions.entries()) {
+    const place = nearest(history, condition, { ...span, isForward });
+    if (place === null) continue;
+    found = { turn: place, index };
+    // Only a nearer place counts.
+    if (isForward) span.last = place - 1;
+    else span.first = place + 1;
   }
+  return found;
 }
 
 /**
- * Returns the cells that a turn touched without writing them, some more than once.
- * @param {Turns} turns
- * @param {number} row
+ * Returns the places where one of the conditions holds, in order, at most `most`.
+ * @param {History} history
+ * @param {Condition[]} conditions
+ * @param {number} most
  */
-export function readsOf({ records, touched }, row) {
-  const [at, first] = [TOUCHED_WORDS * row, RECORD_WORDS * row];
-  const written = changesOf(records, first, true).map(({ address }) => address);
-  return [...touched.subarray(at + 1, at + 1 + touched[at])].filter((address) => !written.includes(address));
+export function hits(history, conditions, most) {
+  const found = conditions.map((condition) => {
+    /** @type {number[]} */
+    const own = [];
+    for (const places of placesOf(history, condition, { first: 0, last: history.end, isForward: true })) {
+      own.push(...places);
+      if (own.length >= most) break;
+    }
+    return own;
+  });
+  return [...new Set(found.flat())].sort((one, other) => one - other).slice(0, most);
 }

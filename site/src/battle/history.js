@@ -1,91 +1,30 @@
 /**
  * The history of a battle: its state after any turn, who changed a cell, and what edits lead to.
  *
- * A run of a battle is kept as marks at regular distances, and any other turn is played from the mark before it. The
- * records of turns are read when they are needed.
+ * A run of a battle is kept as marks at regular distances, and any other turn is played from the mark before it.
  */
-import { MAX_TURNS } from "../model/settings.js";
-import { CELL_WORDS, NOBODY, writeCell } from "../model/cells.js";
+import { CHANGES, NUMBER_ADDRESS } from "../model/layout.js";
+import { writeCell } from "../model/cells.js";
 import { describe } from "../engine/warrior.js";
-import { Origins, UNKNOWN } from "./origins.js";
-import { Chronicle, EVENT, Sampler } from "./overview.js";
-import { Place, RECORD_WORDS, changesOf } from "./place.js";
+import { Sampler } from "./overview.js";
+import { Place } from "./place.js";
+import { deedOf, isChanged, turnsOf } from "./records.js";
+import { MOMENTS, Run } from "./run.js";
+import { EVENT } from "./story.js";
 
 /** @typedef {import("../engine/mars.js").Mars} Mars */
 /** @typedef {import("../engine/warrior.js").Warrior} Warrior */
 /** @typedef {import("../model/fight.js").Edit} Edit */
 /** @typedef {import("../model/fight.js").Made} Made */
-/** @typedef {import("./overview.js").Event} Event */
 /** @typedef {import("./overview.js").Overview} Overview */
+/** @typedef {import("./story.js").Event} Event */
 /**
  * What is needed of a fight: `warriors` in the order of its sources.
  * @typedef {Omit<import("../model/fight.js").Fight, "warriors" | "edits"> & {warriors: Warrior[]}} Match
  */
-/**
- * Some turns: the words of their records and of the cells that they touched.
- * @typedef {{first: number, count: number, records: Uint32Array, touched: Uint32Array}} Turns
- */
 
-/** The distance of marks in turns, which doubles if a run has too many, and the bytes of all marks of a run. */
-const STRIDE = 4096;
-const MAX_MARK_BYTES = 76 << 20;
-/** The maximum number of moments of an overview. */
-const MOMENTS = 1200;
-const TOO_LONG = `The battle is too long: the site shows at most ${MAX_TURNS.toLocaleString("en")} turns.`;
-
-/** A battle from its start, or from an edit, to its end. */
-class Run {
-  stride = STRIDE;
-
-  /**
-   * Plays a battle to its end. Throws an error if it has too many turns.
-   * @param {Mars} mars
-   * @param {Origins} origins
-   * @param {Place} start
-   * @param {{edit: Edit | null, dead: number}} before the edit before the start, and the number of deaths before that
-   */
-  constructor(mars, origins, start, { edit, dead }) {
-    // A battle that is too long is rejected soon: playing it without records takes a small part of the time.
-    const trial = start.battle.copy();
-    mars.play(trial, MAX_TURNS - trial.turns);
-    if (!trial.over) throw new Error(TOO_LONG);
-    this.first = start.turn;
-    this.edit = edit;
-    this.start = start.copy();
-    this.marks = [this.start];
-    const chronicle = new Chronicle(start, MOMENTS);
-    // An even number, so that the battle is at the last mark after every other one is dropped.
-    const maxMarks = 2 * Math.max(1, Math.floor(MAX_MARK_BYTES / start.bytes / 2));
-    for (;;) {
-      start.play(mars, this.stride, origins, chronicle);
-      if (start.battle.over) break;
-      this.marks.push(start.copy());
-      if (this.marks.length > maxMarks) this.#thin();
-    }
-    this.ending = start;
-    this.overview = chronicle.finish();
-    this.events = chronicle.events;
-    this.peaks = chronicle.peaks;
-    this.deaths = start.battle.deaths.slice(dead).map(({ warrior, turns }) => {
-      // A warrior that an edit killed died on no cell.
-      const own = chronicle.deaths.find((death) => death.warrior === warrior);
-      return own ?? { ...EVENT, turn: turns, kind: /** @type {const} */ ("death"), warrior };
-    });
-  }
-
-  #thin() {
-    this.marks = this.marks.filter((_, place) => place % 2 === 0);
-    this.stride *= 2;
-  }
-
-  /**
-   * Returns the last mark up to a turn.
-   * @param {number} turn
-   */
-  mark(turn) {
-    return this.marks[Math.min(Math.floor((turn - this.first) / this.stride), this.marks.length - 1)];
-  }
-}
+/** The index of an origin that was not loaded. */
+const UNKNOWN = 0xffffffff;
 
 /**
  * The turns of a run that a history has, up to the next edit or to the end.
@@ -103,17 +42,15 @@ export class History {
   /**
    * @param {Mars} mars
    * @param {Match} match
-   * @param {Origins} origins
+   * @param {number[]} loaded the addresses of the loaded cells, warrior by warrior
    * @param {Segment[]} segments
    */
-  constructor(mars, match, origins, segments) {
+  constructor(mars, match, loaded, segments) {
     this.mars = mars;
     this.match = match;
-    this.origins = origins;
+    this.loaded = loaded;
     this.segments = segments;
-    const count = match.warriors.length;
-    /** Which source each warrior is, in the order of their turns. */
-    this.order = match.warriors.map((_, warrior) => (warrior + match.round) % count);
+    this.order = orderOf(match);
   }
 
   /**
@@ -122,29 +59,17 @@ export class History {
    * @param {Match} match
    */
   static fight(mars, match) {
-    const history = new History(mars, match, new Origins(), []);
-    const run = new Run(mars, history.origins, history.#loaded(), { edit: null, dead: 0 });
-    history.segments = [{ run, last: run.ending.turn }];
-    return history;
-  }
-
-  /** Returns where the battle starts, with the loaded cells. */
-  #loaded() {
-    const { warriors, settings, round, rounds, seed, position } = this.match;
-    const battle = this.mars.start(warriors, { settings, round, rounds, seed, position });
-    const { core } = battle;
-    const owner = new Uint8Array(core).fill(NOBODY);
-    const origin = new Uint16Array(core).fill(UNKNOWN);
-    this.order.forEach((source, warrior) => {
+    const { warriors, settings, round, rounds, seed, position } = match;
+    const place = Place.empty(mars.start(warriors, { settings, round, rounds, seed, position }));
+    const loaded = orderOf(match).flatMap((source, warrior) => {
       const { start, cells } = describe(warriors[source]);
-      const first = battle.queue(warrior)[0] - start + core;
-      cells.forEach((_, index) => {
-        const address = (first + index) % core;
-        owner[address] = warrior;
-        origin[address] = this.origins.add(battle.cells, address);
-      });
+      const first = place.battle.queue(warrior)[0] - start + settings.core;
+      const addresses = cells.map((_, index) => (first + index) % settings.core);
+      for (const address of addresses) place.load(address, warrior);
+      return addresses;
     });
-    return new Place(battle, owner, new Uint32Array(core), origin);
+    const run = new Run(mars, place);
+    return new History(mars, match, loaded, [{ run, last: run.ending.turn }]);
   }
 
   get core() {
@@ -188,8 +113,7 @@ export class History {
   }
 
   /**
-   * Returns the place of the battle after a turn and after the edits made there, without its origins. It is used again
-   * by the next call.
+   * Returns the place of the battle after a turn and after the edits made there. It is used again by the next call.
    * @param {number} turn
    */
   place(turn) {
@@ -201,18 +125,28 @@ export class History {
       cursor.run = run;
     }
     this.#cursor = cursor;
-    cursor.place.play(this.mars, turn - cursor.place.turn, null);
-    return cursor.place;
+    return cursor.place.playTo(this.mars, turn);
   }
 
   /**
-   * Returns the origin of each cell after a turn and after the edits made there.
+   * Returns for a cell after a turn, and after the edits made there, of which loaded cell it is a copy: its index among
+   * those of all warriors, or a number beyond them.
+   * @param {number} address
    * @param {number} turn
    */
-  originsAt(turn) {
-    const place = this.segment(turn).run.mark(turn).copy();
-    place.play(this.mars, turn - place.turn, this.origins);
-    return place.origin;
+  origin(address, turn) {
+    return this.loaded.indexOf(this.place(turn).origin(address)) >>> 0;
+  }
+
+  /**
+   * Returns the origin of each cell.
+   * @param {number} turn
+   */
+  origins(turn) {
+    const place = this.place(turn);
+    const indices = new Uint32Array(this.core + 1).fill(UNKNOWN);
+    this.loaded.forEach((address, index) => (indices[address] = index));
+    return new Uint32Array(this.core).map((_, address) => indices[place.origin(address)]);
   }
 
   /**
@@ -225,49 +159,29 @@ export class History {
   }
 
   /**
-   * Yields the turns after `first` up to `last`, some at once.
-   * @param {number} first
-   * @param {number} last
-   * @param {boolean} touched whether the cells that they touched are needed
-   * @returns {Generator<Turns>}
-   */
-  *turns(first, last, touched = false) {
-    for (let turn = first; turn < last; ) {
-      const { run, last: end } = this.segment(turn);
-      const battle = this.place(turn).battle.copy();
-      while (turn < Math.min(end, last)) {
-        const next = run.first + run.stride * (Math.floor((turn - run.first) / run.stride) + 1);
-        const count = Math.min(next, end, last) - turn;
-        const rows = { records: count, touched: touched ? count : 0 };
-        yield { first: turn, count, ...this.mars.play(battle, count, rows) };
-        turn += count;
-      }
-    }
-  }
-
-  /**
-   * Yields the turns up to `last`, some at once, the latest first.
-   * @param {number} last
-   * @param {boolean} touched
-   * @returns {Generator<Turns>}
-   */
-  *turnsBack(last, touched = false) {
-    for (let turn = last; turn > 0; ) {
-      const { run } = this.segment(turn - 1);
-      const first = run.mark(turn - 1).turn;
-      yield* this.turns(first, turn, touched);
-      turn = first;
-    }
-  }
-
-  /**
-   * Returns the record of a turn, from 1, and the cells that it touched.
+   * Returns what a turn did, from 1.
    * @param {number} turn
    */
-  record(turn) {
-    const found = this.turns(turn - 1, turn, true).next().value;
-    if (!found) throw new RangeError(`the battle has turns 1 to ${this.end}`);
-    return found;
+  deed(turn) {
+    const battle = this.place(turn - 1).battle.copy();
+    return deedOf(this.mars.play(battle, 1, { records: 1, touched: 1 }));
+  }
+
+  /**
+   * Yields the turns after `first`, up to `last`, that meet all conditions of the library, some at once, in order or
+   * the latest first.
+   * @param {import("./records.js").Row[]} conditions
+   * @param {number} first
+   * @param {number} last
+   * @param {boolean} isForward
+   * @returns {Generator<number[]>}
+   */
+  *find(conditions, first, last, isForward) {
+    const parts = this.segments.flatMap((segment) => segment.run.parts(first, Math.min(segment.last, last)));
+    for (const part of isForward ? parts : parts.reverse()) {
+      const turns = part.last - part.mark.turn;
+      yield turnsOf(this.mars.find(part.mark, turns, conditions, turns)).filter((turn) => turn > first);
+    }
   }
 
   /**
@@ -278,31 +192,18 @@ export class History {
    */
   nextChange(address, turn) {
     for (const { run, last } of this.segments) {
-      if (last <= turn && run.first <= turn) continue;
+      if (run.first > turn && run.start.written(address) === run.first) return run.first;
+      // The marks know between which of them it is.
       const places = [...run.marks, run.ending];
-      const index = places.findIndex((place) => place.written[address] > turn);
-      if (index < 0) continue;
-      const from = Math.max(turn, places[Math.max(0, index - 1)].turn);
-      const found = this.#changeWithin(address, from, Math.min(places[index].turn, last));
-      if (found !== null) return found;
-    }
-    return null;
-  }
-
-  /**
-   * @param {number} address
-   * @param {number} first
-   * @param {number} last
-   */
-  #changeWithin(address, first, last) {
-    for (const turns of this.turns(first, last)) {
-      for (let row = 0; row < turns.count; row++) {
-        const changes = changesOf(turns.records, RECORD_WORDS * row);
-        if (changes.some((change) => change.address === address)) return turns.first + 1 + row;
+      const index = places.findIndex((place) => place.written(address) > turn);
+      if (index < 1) continue;
+      const [from, to] = [places[index - 1], places[index]].map((place) => place.turn);
+      const condition = /** @type {const} */ ([CHANGES, NUMBER_ADDRESS, address, address]);
+      for (const [found] of this.find([condition], Math.max(turn, from), Math.min(to, last), true)) {
+        if (found) return found;
       }
     }
-    const { written } = this.place(last);
-    return written[address] > first ? written[address] : null;
+    return null;
   }
 
   /**
@@ -314,12 +215,9 @@ export class History {
   byHand(address, turn) {
     for (const [index, { run }] of [...this.segments.entries()].slice(1).reverse()) {
       if (run.first > turn) continue;
-      const place = this.segments[index - 1].run.mark(run.first).copy();
-      place.play(this.mars, run.first - place.turn, null);
-      const [before, after] = [place, run.start].map(({ battle }) =>
-        battle.cells.slice(CELL_WORDS * address, CELL_WORDS * (address + 1)),
-      );
-      if (before.some((word, at) => word !== after[at])) return { turn: run.first, before, after };
+      const earlier = this.segments[index - 1].run.mark(run.first).copy().playTo(this.mars, run.first);
+      const change = { address, before: earlier.cell(address), after: run.start.cell(address) };
+      if (isChanged(change)) return { turn: run.first, before: change.before, after: change.after };
     }
     return null;
   }
@@ -331,7 +229,6 @@ export class History {
    */
   edited(turn, edit) {
     const place = this.place(turn).copy();
-    place.origin.set(this.originsAt(turn));
     const before = place.battle.cells.slice();
     const dead = place.battle.deaths.length;
     if (edit.kind === "cell") {
@@ -339,11 +236,11 @@ export class History {
       this.mars.edit(place.battle, { kind: "cell", address, cell });
       for (let at = address + 1; at <= last; at++) writeCell(place.battle.cells, at, cell);
     } else this.mars.edit(place.battle, edit);
-    place.noteEdit(before, this.origins);
-    const run = new Run(this.mars, this.origins, place, { edit, dead });
+    place.noteEdit(before);
+    const run = new Run(this.mars, place, { edit, dead });
     const started = this.segments.filter((one) => one.run.first <= turn);
     const earlier = started.map((one) => ({ ...one, last: Math.min(one.last, turn) }));
-    return new History(this.mars, this.match, this.origins, [...earlier, { run, last: run.ending.turn }]);
+    return new History(this.mars, this.match, this.loaded, [...earlier, { run, last: run.ending.turn }]);
   }
 
   /**
@@ -354,16 +251,15 @@ export class History {
    */
   overview(first, last) {
     if (first === 0 && last === this.end) return this.#whole();
-    const place = this.place(first).copy();
-    const sampler = new Sampler(place, MOMENTS, Math.max(1, Math.ceil((2 * (last - first)) / MOMENTS)));
+    let place = this.place(first).copy();
+    const sampler = new Sampler(place, Math.max(1, Math.ceil((2 * (last - first)) / MOMENTS)));
     for (const { run, last: end } of this.segments) {
       if (end <= place.turn || run.first >= last) continue;
       // After an edit the battle is another one.
-      if (run.first > first) sampler.restart(run.start);
-      if (run.first > first) place.become(run.start);
-      place.play(this.mars, Math.min(end, last) - place.turn, null, sampler);
+      if (run.first > first) place = run.start.copy();
+      sampler.playTo(this.mars, place, Math.min(end, last));
     }
-    return sampler.finish();
+    return sampler.overview;
   }
 
   /** Returns the samples of all segments. */
@@ -385,14 +281,24 @@ export class History {
   }
 
   /**
-   * The story of the battle, in the order of turns.
+   * Reads a part of the story. Returns whether there is more of it.
+   * @returns {boolean}
+   */
+  readStory() {
+    const story = this.segments.map(({ run }) => run.story).find((one) => !one.isRead);
+    story?.read();
+    return story !== undefined;
+  }
+
+  /**
+   * The story of the battle, as far as it has been read, in the order of turns.
    * @returns {Event[]}
    */
   get events() {
     /** @type {Event[]} */
     const found = [];
     for (const { run, last } of this.segments) {
-      for (const event of run.events.filter(({ turn }) => turn <= last)) {
+      for (const event of run.story.events.filter(({ turn }) => turn <= last)) {
         const { kind, warrior, other } = event;
         const isNew = found.every((one) => one.kind !== kind || one.warrior !== warrior || one.other !== other);
         if (isNew) found.push(event);
@@ -414,11 +320,19 @@ export class History {
   #peaks() {
     return this.order.flatMap((_, warrior) => {
       const peaks = this.segments.map(({ run, last }) => {
-        const { count, turn } = run.peaks[warrior];
+        const { count, turn } = run.story.peaks[warrior];
         return { count, turn, isKept: turn <= last };
       });
       const { turn, count, isKept } = peaks.reduce((best, peak) => (peak.count > best.count ? peak : best));
       return isKept && count > 2 ? { ...EVENT, turn, kind: /** @type {const} */ ("most"), warrior, count } : [];
     });
   }
+}
+
+/**
+ * Returns which source each warrior is, in the order of their turns.
+ * @param {Match} match
+ */
+function orderOf({ warriors, round }) {
+  return warriors.map((_, warrior) => (warrior + round) % warriors.length);
 }

@@ -107,6 +107,35 @@ export class Call {
   }
 
   /**
+   * Copies a battle and the pasts of its cells into the memory; returns the arguments for turns of it.
+   * @param {import("./machine.js").Followed} followed
+   * @param {number} turns
+   * @returns {[bigint, bigint, number, bigint, bigint]}
+   */
+  followed({ battle, pasts }, turns) {
+    return [...this.block(battle), turns, this.wordsOf(pasts), BigInt(battle.core)];
+  }
+
+  /**
+   * Copies what a call has made of a battle and of its pasts out of the memory.
+   * @param {import("./machine.js").Followed} followed
+   * @param {[bigint, bigint, number, bigint, bigint]} given what `followed` returned
+   */
+  takeFollowed({ battle, pasts }, [block, , , cells]) {
+    battle.words.set(this.words(block, battle.words.length));
+    pasts.set(this.words(cells, pasts.length));
+  }
+
+  /**
+   * Copies conditions into the memory; returns the arguments for them.
+   * @param {import("./machine.js").Condition[]} conditions
+   * @returns {[bigint, bigint]}
+   */
+  conditions(conditions) {
+    return [this.wordsOf(Uint32Array.from(conditions.flat())), BigInt(conditions.length)];
+  }
+
+  /**
    * @param {import("../model/settings.js").Settings} settings
    * @param {{rounds?: number, seed?: number, position?: number}} terms
    */

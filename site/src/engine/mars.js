@@ -3,29 +3,15 @@
  *
  * Nothing outlives a call: what a call takes of the module's memory it gives back. A battle is a value of the caller's.
  */
-import {
-  ADD_PROCESS,
-  KILL_PROCESS,
-  MOVE_PROCESS,
-  SET_CELL,
-  VERSION,
-  MarsEdit,
-  MarsLineup,
-  MarsOutcome,
-  MarsProgram,
-  MarsRecord,
-  MarsRow,
-  MarsTouched,
-} from "../model/layout.js";
+import { VERSION, MarsLineup, MarsOutcome, MarsProgram, MarsRow } from "../model/layout.js";
 import { DEFAULTS, FORMULA } from "../model/settings.js";
-import { CELL_WORDS, writeCell } from "../model/cells.js";
+import { CELL_WORDS } from "../model/cells.js";
 import { Battle } from "./battle.js";
-import { Call } from "./call.js";
+import { Machine } from "./machine.js";
 
 export { MarsError } from "../model/errors.js";
 
 /** @typedef {import("../model/settings.js").Settings} Settings */
-/** @typedef {import("../model/cells.js").Cell} Cell */
 /**
  * A warrior, as a value: `cells` are three words for each cell, whose numbers are for the core size of the settings by
  * which it was assembled or read; `start` is the index of the cell at which it starts.
@@ -33,22 +19,13 @@ export { MarsError } from "../model/errors.js";
  */
 /** @typedef {{points: number, wins: number, ties: number, losses: number}} Row the result of a warrior */
 /** @typedef {{settings?: Settings, rounds?: number, seed?: number, position?: number}} Terms */
-/** @typedef {import("./call.js").Exports} Exports */
 
-const RECORD_WORDS = MarsRecord.size / 4;
-const TOUCHED_WORDS = MarsTouched.size / 4;
-const KINDS = { cell: SET_CELL, move: MOVE_PROCESS, kill: KILL_PROCESS, add: ADD_PROCESS };
 const encoder = new TextEncoder();
 
-export class Mars {
-  /** @type {Exports} */
-  #exports;
-  /** Whether a call has trapped: the module may then be in the middle of a change of its memory. */
-  #failed = false;
-
+export class Mars extends Machine {
   /** @param {WebAssembly.Instance} instance */
   constructor(instance) {
-    this.#exports = /** @type {Exports} */ (/** @type {unknown} */ (instance.exports));
+    super(instance);
     if (this.version !== VERSION) throw new Error(`mars.wasm has version ${this.version}, not ${VERSION}`);
   }
 
@@ -62,12 +39,7 @@ export class Mars {
   }
 
   get version() {
-    return this.#exports.mars_version();
-  }
-
-  /** The number of bytes of the module's memory. */
-  get memory() {
-    return this.#exports.memory.buffer.byteLength;
+    return this.exports.mars_version();
   }
 
   /**
@@ -76,7 +48,7 @@ export class Mars {
    * @param {{settings?: Settings, rounds?: number, warriors?: number}} terms what ROUNDS and WARRIORS stand for
    */
   assemble(source, { settings = DEFAULTS, rounds = 1, warriors = 2 } = {}) {
-    return this.#within((call) => {
+    return this.within((call) => {
       const given = [call.settings(settings, { rounds }), warriors, ...call.bytes(source)];
       return call.program("mars_assemble", given);
     });
@@ -88,7 +60,7 @@ export class Mars {
    * @param {{settings?: Settings}} terms
    */
   readLoad(load, { settings = DEFAULTS } = {}) {
-    return this.#within((call) => call.program("mars_read_load", [call.settings(settings, {}), ...call.bytes(load)]));
+    return this.within((call) => call.program("mars_read_load", [call.settings(settings, {}), ...call.bytes(load)]));
   }
 
   /**
@@ -97,7 +69,7 @@ export class Mars {
    * @param {{settings?: Settings}} terms
    */
   writeLoad({ name, author, start, cells }, { settings = DEFAULTS } = {}) {
-    return this.#within((call) => {
+    return this.within((call) => {
       const program = call.allocate(MarsProgram.size);
       const bytes = call.bytesAt(program, MarsProgram.size).fill(0);
       // The library refuses a name of more than 60 bytes.
@@ -116,7 +88,7 @@ export class Mars {
    * @param {{settings?: Settings, rounds?: number, warriors?: number}} terms
    */
   lines(source, { settings = DEFAULTS, rounds = 1, warriors = 2 } = {}) {
-    return this.#within((call) => {
+    return this.within((call) => {
       const given = [call.settings(settings, { rounds }), warriors, ...call.bytes(source)];
       const text = call.text("mars_lines", given, 4096).trimEnd();
       return text.split("\n").map((row) => {
@@ -160,7 +132,7 @@ export class Mars {
    * @param {number} survivors
    */
   score(warriors, survivors, formula = FORMULA) {
-    return this.#within((call) => {
+    return this.within((call) => {
       const points = call.allocate(8);
       call.make("mars_score", [...call.bytes(formula), warriors, survivors, points]);
       return Number(call.view(points).getBigInt64(0, true));
@@ -173,7 +145,7 @@ export class Mars {
    * @param {Terms} terms
    */
   survivors(warriors, { settings = DEFAULTS, rounds = 1, seed = 1, position = 0 } = {}) {
-    return this.#within((call) => {
+    return this.within((call) => {
       const [lineup, count] = [call.allocate(MarsLineup.size), rounds * warriors.length];
       // The seed is that of the settings, and nothing is counted.
       const numbers = [0, warriors.length, ...warriors.keys()];
@@ -193,96 +165,13 @@ export class Mars {
    * @param {Terms & {round?: number}} terms
    */
   start(warriors, { settings = DEFAULTS, round = 0, rounds = round + 1, seed = 1, position = 0 } = {}) {
-    return this.#within((call) => {
+    return this.within((call) => {
       const given = call.settings(settings, { rounds, seed, position });
-      const words = Number(this.#exports.mars_words(given, warriors.length));
+      const words = Number(this.exports.mars_words(given, warriors.length));
       const block = call.allocate(4 * words);
       call.make("mars_start", [given, ...call.fighters(warriors), round, block, BigInt(words)]);
       return new Battle(call.words(block, words).slice());
     });
-  }
-
-  /**
-   * Makes turns of a battle in place: `turns` of them, or all that are left if these are fewer. Returns the words of
-   * the records and of the touched cells of the first turns, as MarsRecord and MarsTouched of include/mars.h.
-   * @param {Battle} battle
-   * @param {number} turns
-   * @param {{records?: number, touched?: number}} rows how many turns to report at most; a RangeError if below 0
-   */
-  play(battle, turns, { records = 0, touched = 0 } = {}) {
-    return this.#within((call) => {
-      const first = battle.turns;
-      const [block, words] = call.block(battle);
-      const recordRows = call.allocate(MarsRecord.size * records);
-      const touchedRows = call.allocate(MarsTouched.size * touched);
-      const given = [block, words, turns, recordRows, BigInt(records), touchedRows, BigInt(touched)];
-      call.make("mars_play", given);
-      battle.words.set(call.words(block, battle.words.length));
-      const played = battle.turns - first;
-      return {
-        records: call.words(recordRows, RECORD_WORDS * Math.min(played, records)).slice(),
-        touched: call.words(touchedRows, TOUCHED_WORDS * Math.min(played, touched)).slice(),
-      };
-    });
-  }
-
-  /**
-   * Makes an edit of a battle in place. Throws a MarsError if it is refused; then the battle is unchanged.
-   * @param {Battle} battle
-   * @param {{kind: "cell" | "move" | "kill" | "add", warrior?: number, place?: number, address?: number,
-   *   cell?: Cell}} edit
-   */
-  edit(battle, { kind, warrior = 0, place = 0, address = 0, cell }) {
-    this.#within((call) => {
-      const [block, words] = call.block(battle);
-      const edit = call.allocate(MarsEdit.size);
-      const fields = call.words(edit, MarsEdit.size / 4);
-      fields.fill(0);
-      fields.set([KINDS[kind], warrior, place, address]);
-      if (cell) writeCell(fields.subarray(MarsEdit.cell / 4), 0, cell);
-      call.make("mars_edit", [block, words, edit]);
-      battle.words.set(call.words(block, battle.words.length));
-    });
-  }
-
-  /**
-   * Checks that the words are a battle. Throws a MarsError if they are not.
-   * @param {Battle} battle
-   */
-  check(battle) {
-    this.#within((call) => call.make("mars_check", call.block(battle)));
-  }
-
-  /**
-   * Returns what the debugger answers to its lines, over a battle, which stays as it is.
-   * @param {Battle} battle
-   * @param {string} lines
-   * @param {{history?: number}} size the number of places that can be walked back to
-   */
-  debug(battle, lines, { history = 200_000 } = {}) {
-    return this.#within((call) => {
-      const given = [...call.block(battle), history, ...call.bytes(lines)];
-      return call.text("mars_debug", given, 65_536);
-    });
-  }
-
-  /**
-   * Returns what `act` returns, and gives back the memory that it took. After a trap all calls are refused.
-   * @template T
-   * @param {(call: Call) => T} act
-   * @returns {T}
-   */
-  #within(act) {
-    if (this.#failed) throw new Error("the machine has failed in an earlier call; load it again");
-    const call = new Call(this.#exports);
-    try {
-      return act(call);
-    } catch (error) {
-      this.#failed = error instanceof WebAssembly.RuntimeError;
-      throw error;
-    } finally {
-      if (!this.#failed) call.end();
-    }
   }
 
   /**
@@ -294,7 +183,7 @@ export class Mars {
    * @returns {Row[]}
    */
   #rows(name, warriors, count, { settings = DEFAULTS, rounds = 1, seed = 1, position = 0, formula = FORMULA }) {
-    return this.#within((call) => {
+    return this.within((call) => {
       const rows = call.allocate(MarsRow.size * count);
       const given = [call.settings(settings, { rounds, seed, position }), ...call.bytes(formula)];
       call.make(name, [...given, ...call.fighters(warriors), rows, BigInt(count)]);

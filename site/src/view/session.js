@@ -1,6 +1,6 @@
 /** The battle that is shown: its turns, its futures, and the cell that is kept in view. */
 import { addressesOf, distinct } from "../words/battle.js";
-import { clamp } from "./dom.js";
+import { clamp, debounce } from "./dom.js";
 import { FASTEST, Turns } from "./turns.js";
 
 /** @typedef {import("../model/fight.js").Edit} Edit */
@@ -28,6 +28,8 @@ export class Session extends Turns {
   pending = 0;
   /** @type {Promise<unknown>} */
   #done = Promise.resolve();
+  /** Reads the story. The turn that is shown first comes before it. */
+  #tell = debounce(() => this.#readStory().catch(() => {}), 90);
 
   /**
    * Calls a function after those before it: they lead to another battle, future or turn.
@@ -117,6 +119,18 @@ export class Session extends Turns {
     const named = new Map([...addresses].reverse().map(([name, address]) => [address, name]));
     this.known = { names: distinct(names), core, end, deaths, addresses, labels: named };
     this.notify("battle");
+    this.#tell();
+  }
+
+  /** Reads the story of the battle part by part, so that turns which are wanted meanwhile come between them. */
+  async #readStory() {
+    const { opened } = this;
+    for (let events = null; opened && opened === this.opened && !events; ) {
+      events = await this.ofThisBattle(this.desk.story(opened.future));
+      if (!events) continue;
+      opened.events = events;
+      this.notify("story");
+    }
   }
 
   /**

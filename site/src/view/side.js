@@ -6,7 +6,7 @@ import { instructionWords } from "../words/instruction.js";
 import { element, make, onClick, refill } from "./dom.js";
 import { swatch } from "./palette.js";
 
-/** @typedef {import("../battle/overview.js").Event} Event */
+/** @typedef {import("../battle/story.js").Event} Event */
 /** @typedef {import("../worker/desk.js").View} View */
 /** @typedef {import("./session.js").Session} Session */
 /** @typedef {(name: string, line: number) => void} ShowLine shows a line of a source */
@@ -35,6 +35,7 @@ export class Side {
     onClick("alone", () => session.compare(null));
     session.listen((change) => {
       if (change === "battle") this.#open();
+      if (change === "story") this.#tell("");
       this.#draw();
     });
   }
@@ -49,8 +50,19 @@ export class Side {
     this.#rows = names.map((_, who) => this.#row(who));
     element("legend").className = names.length > MAX_LARGE_ROWS ? "many" : "";
     refill(element("legend"), ...this.#rows.map(({ row }) => row));
-    refill(element("story"), ...opened.events.map((event) => this.#event(event)));
+    // Until it has been read, what is below stays in its place.
+    this.#tell(`max(12em, ${element("story").offsetHeight}px)`);
     this.#openFutures();
+  }
+
+  /**
+   * Shows what is known of the story.
+   * @param {string} height which it has at least
+   */
+  #tell(height) {
+    const events = this.session.opened?.events ?? [];
+    element("story").style.minHeight = height;
+    refill(element("story"), ...events.map((event) => this.#event(event)));
   }
 
   /**

@@ -59,6 +59,7 @@ export class Theatre {
       const isThere = session.turn === session.wanted;
       if (session.halted && isThere) this.#notice = `Breakpoint: ${haltWords(session.halted, session.known)}.`;
       if (change === "battle") this.#open();
+      if (change === "story") this.track.showPeaks(session.opened?.events ?? []);
       if (change === "look") this.#recolour();
       if (change === "look" || change === "battle") this.#findHits();
       if (change === "play") this.#showPlay();

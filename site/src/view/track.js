@@ -79,10 +79,10 @@ export class Track {
 
   /** @param {import("../worker/desk.js").Opened} opened */
   open(opened) {
-    const { overview, end, deaths, edits, order, events } = opened;
+    const { overview, end, deaths, edits, order } = opened;
     this.opened = opened;
     this.#hits = [];
-    this.#peaks = events.filter(({ kind }) => kind === "most");
+    this.#peaks = [];
     this.#overview = overview;
     this.#end = this.last = end;
     this.#deaths = deaths;
@@ -93,6 +93,15 @@ export class Track {
     this.picture.clear();
     // The turn that is shown first comes before it.
     this.#paint();
+  }
+
+  /**
+   * Shows the most processes of each warrior.
+   * @param {import("../battle/story.js").Event[]} events
+   */
+  showPeaks(events) {
+    this.#peaks = events.filter(({ kind }) => kind === "most");
+    this.#drawn = [];
   }
 
   /**

@@ -6,8 +6,8 @@ import { Futures } from "./futures.js";
 /** @typedef {import("../battle/conditions.js").Condition} Condition */
 /** @typedef {import("../worker/desk.js").View} View */
 /**
- * What has changed: the battle, the turn, how it plays, what is looked at, whether a battle is being opened.
- * @typedef {"battle" | "turn" | "play" | "look" | "wait"} Change
+ * What has changed: the battle, its story, the turn, how it plays, what is looked at, whether a battle is being opened.
+ * @typedef {"battle" | "story" | "turn" | "play" | "look" | "wait"} Change
  */
 
 /** Speeds, in turns a second. */
@@ -26,7 +26,7 @@ export class Turns {
   move = null;
   /**
    * The origin of each cell, an index of `opened.lines`, once it is known.
-   * @type {Uint16Array | null}
+   * @type {Uint32Array | null}
    */
   origins = null;
   futures = new Futures();
@@ -46,7 +46,7 @@ export class Turns {
   halted = null;
   /**
    * A death that is explained, with the turns that led to it.
-   * @type {{death: import("../battle/overview.js").Event, links: import("../words/why.js").Link[]} | null}
+   * @type {{death: import("../battle/story.js").Event, links: import("../words/why.js").Link[]} | null}
    */
   chain = null;
   /** The turn that is wanted, which is shown as soon as the desk answers. */

@@ -1,7 +1,7 @@
 /** Turns, events and outcomes in plain English. */
 import { BY_HAND, NOBODY, cellText, readCell } from "../model/cells.js";
 
-/** @typedef {import("../battle/overview.js").Event} Event */
+/** @typedef {import("../battle/story.js").Event} Event */
 /**
  * What a battle is called by: names in the order of turns, addresses of labels, and labels of addresses.
  * @typedef {{names: string[], core: number, end: number, deaths: Event[], addresses: Map<string, number>,

@@ -1,19 +1,19 @@
 /** The battle that the page shows, with all its futures, and the answers to the page's questions about it. */
-import { holds, readsOf, search } from "../battle/conditions.js";
+import { hits, search } from "../battle/conditions.js";
 import { History } from "../battle/history.js";
-import { ADDRESS, DIED, PROCESS, QUEUED, WARRIOR, changesOf } from "../battle/place.js";
 import { Histories } from "./histories.js";
 import { Painter } from "./picture.js";
 import { chainOf } from "./why.js";
 import { assembleAll, describe } from "../engine/warrior.js";
-import { BY_HAND, CELL_WORDS } from "../model/cells.js";
+import { BY_HAND } from "../model/cells.js";
 
 /** @typedef {import("../battle/conditions.js").Condition} Condition */
-/** @typedef {import("../battle/overview.js").Event} Event */
+/** @typedef {import("../battle/story.js").Event} Event */
 /** @typedef {import("../model/fight.js").Fight} Fight */
 /**
  * A future as it is opened. Warriors are in the order of their turns; `order` says which source each is. `lines` has
- * the warrior and the line of each origin, and the address where it was loaded.
+ * the warrior and the line of each origin, and the address where it was loaded. `events` are those that are known before
+ * the story is read.
  * @typedef {object} Opened
  * @property {number} future
  * @property {number} core
@@ -149,7 +149,8 @@ export class Desk {
   turn(future, turn) {
     const history = this.#history(future);
     const at = Math.max(0, Math.min(history.end, turn));
-    const { battle, owner, written, owned } = history.place(at);
+    const place = history.place(at);
+    const { battle } = place;
     const queues = history.order.map((_, warrior) => battle.queue(warrior));
     const all = new Uint32Array(queues.reduce((sum, queue) => sum + queue.length, 0));
     queues.reduce((first, queue) => {
@@ -162,11 +163,9 @@ export class Desk {
       next: battle.next,
       head: at === history.end ? null : queues[battle.next][0],
       cells: battle.cells.slice(),
-      owner: owner.slice(),
-      written: written.slice(),
+      ...place.columns,
       queues: all,
-      processes: queues.map((queue) => queue.length),
-      owned: [...owned],
+      processes: place.processes,
     };
   }
 
@@ -176,7 +175,7 @@ export class Desk {
    * @param {number} turn
    */
   origins(future, turn) {
-    return this.#history(future).originsAt(turn);
+    return this.#history(future).origins(turn);
   }
 
   /**
@@ -187,22 +186,14 @@ export class Desk {
    */
   move(future, turn) {
     const history = this.#history(future);
-    const { records, ...rest } = history.record(turn);
-    const [warrior, address, queued] = [records[WARRIOR], records[ADDRESS], records[QUEUED]];
-    const next = [...records.subarray(PROCESS, PROCESS + queued)];
-    const { battle, owner } = history.place(turn - 1);
-    const left = battle.queue(warrior).length - 1 + queued;
-    const cell = (/** @type {number} */ at) => records.slice(at, at + CELL_WORDS);
-    const writes = changesOf(records, 0, true).map((change) => ({
-      address: change.address,
-      before: cell(change.before),
-      after: cell(change.after),
-      owner: owner[change.address],
-    }));
-    const reads = readsOf({ records, ...rest }, 0).filter((one) => one !== address && !next.includes(one));
-    const executed = battle.cells.slice(CELL_WORDS * address, CELL_WORDS * (address + 1));
-    const died = records[DIED] === 1;
-    return { turn, warrior, address, executed, writes, reads: [...new Set(reads)], queued: next, died, left };
+    const { changes, touched, ...deed } = history.deed(turn);
+    const { warrior, address, queued } = deed;
+    const place = history.place(turn - 1);
+    const left = place.processes[warrior] - 1 + queued.length;
+    const writes = changes.map((change) => ({ ...change, owner: place.owner(change.address) }));
+    const known = new Set([address, ...queued, ...changes.map((change) => change.address)]);
+    const reads = [...new Set(touched.filter((one) => !known.has(one)))];
+    return { ...deed, turn, executed: place.cell(address), writes, reads, left };
   }
 
   /**
@@ -212,6 +203,16 @@ export class Desk {
    */
   overview(future, first, last) {
     return this.#history(future).overview(first, last);
+  }
+
+  /**
+   * Reads a part of the story of a future, which plays its turns again. Returns all of it once there is no more to read,
+   * until then null.
+   * @param {number} future
+   */
+  story(future) {
+    const history = this.#history(future);
+    return history.readStory() ? null : history.events;
   }
 
   /**
@@ -234,14 +235,7 @@ export class Desk {
    * @param {boolean} forward
    */
   search(future, conditions, turn, forward) {
-    const history = this.#history(future);
-    let found = null;
-    for (const [index, condition] of conditions.entries()) {
-      const place = search(history, condition, turn, forward);
-      if (place === null) continue;
-      if (!found || (forward ? place < found.turn : place > found.turn)) found = { turn: place, index };
-    }
-    return found;
+    return search(this.#history(future), conditions, turn, forward);
   }
 
   /**
@@ -251,23 +245,7 @@ export class Desk {
    * @param {number} most
    */
   hits(future, conditions, most) {
-    const history = this.#history(future);
-    // `at` holds at the place before its turn, so it is tested first.
-    const sorted = [...conditions].sort((one, other) => Number(other.word === "at") - Number(one.word === "at"));
-    const tests = sorted.map((one) => ({ test: holds(history.core, one), shift: one.word === "at" ? 0 : 1 }));
-    const needsTouched = conditions.some(({ word }) => word === "reads");
-    /** @type {number[]} */
-    const found = [];
-    for (const turns of history.turns(0, history.end, needsTouched)) {
-      for (let row = 0; row < turns.count && found.length < most; row++) {
-        for (const { test, shift } of tests) {
-          const place = turns.first + row + shift;
-          if (test(turns, row) && found.at(-1) !== place) found.push(place);
-        }
-      }
-      if (found.length >= most) break;
-    }
-    return found.slice(0, most);
+    return hits(this.#history(future), conditions, most);
   }
 
   /**
@@ -307,16 +285,15 @@ export class Desk {
    */
   cell(future, address, turn) {
     const history = this.#history(future);
-    const isEdited = (/** @type {number} */ at) => history.place(at).owner[address] === BY_HAND;
+    const isEdited = (/** @type {number} */ at) => history.place(at).owner(address) === BY_HAND;
     /** @type {CellChange[]} */
     const changes = [];
     for (let at = turn; changes.length < MAX_CHANGES && !isEdited(at); at--) {
-      at = history.place(at).written[address];
+      at = history.place(at).written(address);
       if (at === 0) break;
-      const { records } = history.record(at);
-      const [change] = changesOf(records, 0).filter((one) => one.address === address);
-      const cell = (/** @type {number} */ first) => records.slice(first, first + CELL_WORDS);
-      changes.push({ turn: at, warrior: records[WARRIOR], before: cell(change.before), after: cell(change.after) });
+      const { warrior, changes: all } = history.deed(at);
+      const { before, after } = all.filter((change) => change.address === address)[0];
+      changes.push({ turn: at, warrior, before, after });
     }
     const edited = isEdited(turn) ? history.byHand(address, turn) : null;
     return { changes, next: history.nextChange(address, turn), edited };

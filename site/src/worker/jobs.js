@@ -1,6 +1,5 @@
 /** What workers do beside the battle that is shown: they assemble sources, fight matches, and look at rounds. */
 import { History } from "../battle/history.js";
-import { ADDRESS } from "../battle/place.js";
 import { assembleAll, describe } from "../engine/warrior.js";
 import { MarsError } from "../model/errors.js";
 import { ASSEMBLY, FORMULA } from "../model/layout.js";
@@ -181,12 +180,12 @@ export class Jobs {
       this.mars.lines(warriors[source].text, terms).map(({ line }) => ({ who, line })),
     );
     const originAt = (/** @type {number} */ address, /** @type {number} */ turn) =>
-      lines[history.originsAt(turn)[address]];
+      lines[history.origin(address, turn)];
     return history.deaths.map(({ warrior, turn, address, other, count: written }) => {
       // Where the warrior was hit: what the cell was before it was written, or at the start.
       const turns = [written && other !== warrior ? written - 1 : turn - 1, 0];
       const hit = turns.map((one) => originAt(address, one)).find((one) => one?.who === warrior);
-      const writer = written ? originAt(history.record(written).records[ADDRESS], written - 1) : undefined;
+      const writer = written ? originAt(history.deed(written).address, written - 1) : undefined;
       const by = writer?.who === other ? writer.line : 0;
       return { warrior: order[warrior], turn, line: hit?.line ?? 0, killer: order[other] ?? -1, by };
     });

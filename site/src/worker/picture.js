@@ -72,8 +72,7 @@ export class Painter {
     const { run } = this.history.segment(turn);
     if (this.#cursor?.run !== run) this.#cursor = { run, place: run.mark(turn).copy() };
     const { place } = this.#cursor;
-    place.play(this.history.mars, turn - place.turn, null);
-    return place;
+    return place.playTo(this.history.mars, turn);
   }
 
   /**
@@ -111,16 +110,17 @@ export class Painter {
    * @param {Place} place
    * @param {number} fading the turns after which a third of the brightness is left
    */
-  #weigh({ owner, written, turn }, fading) {
+  #weigh(place, fading) {
+    const { turn } = place;
     const { old, fresh, squares, placeOf, owners } = this;
     const oldest = Math.max(0, turn - 4 * fading);
     for (const sums of [old, fresh, squares]) sums.fill(0);
-    for (let address = 0; address < owner.length; address++) {
-      const who = owner[address];
+    for (let address = 0; address < placeOf.length; address++) {
+      const who = place.owner(address);
       if (who === NOBODY) continue;
       const at = placeOf[address] + (who === BY_HAND ? owners - 1 : who);
       old[at]++;
-      const when = written[address];
+      const when = place.written(address);
       if (when <= oldest) continue;
       const bright = FADING[Math.floor(((turn - when) * 16) / fading)];
       fresh[at] += bright;

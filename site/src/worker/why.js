@@ -1,9 +1,10 @@
 /** Why a warrior died: the turns that led to its death. */
-import { ADDRESS, PROCESS, QUEUED, RECORD_WORDS, WARRIOR } from "../battle/place.js";
-import { CELL_WORDS, MODES, readCell } from "../model/cells.js";
+import { by } from "../battle/records.js";
+import { BY_HAND, MODES, readCell } from "../model/cells.js";
+import { EXECUTES, NUMBER_QUEUED } from "../model/layout.js";
 
 /** @typedef {import("../battle/history.js").History} History */
-/** @typedef {import("../battle/overview.js").Event} Event */
+/** @typedef {import("../battle/story.js").Event} Event */
 /** @typedef {import("../words/why.js").Link} Link */
 
 /** Modes by which the number of a cell leads to another one. */
@@ -39,22 +40,22 @@ export function chainOf(history, death) {
  * @param {number} before
  */
 function writesOf(history, address, before) {
-  const turn = history.place(before - 1).written[address];
-  if (turn === 0 || !turnHas(history, turn, address)) return [];
+  const turn = writtenBy(history, address, before);
+  if (turn === 0) return [];
   const write = linkOf(history, "write", turn, address);
   const aim = aimOf(history, write);
   return aim ? [aim, write] : [write];
 }
 
 /**
- * Returns whether a turn touched a cell: what an edit wrote has the number of a turn, too.
+ * Returns the turn that changed a cell last before another turn; 0 if it was loaded or edited.
  * @param {History} history
- * @param {number} turn
  * @param {number} address
+ * @param {number} before
  */
-function turnHas(history, turn, address) {
-  const { touched } = history.record(turn);
-  return touched.subarray(1, 1 + touched[0]).includes(address);
+function writtenBy(history, address, before) {
+  const place = history.place(before - 1);
+  return place.owner(address) === BY_HAND ? 0 : place.written(address);
 }
 
 /**
@@ -65,12 +66,10 @@ function turnHas(history, turn, address) {
  * @returns {Link}
  */
 function linkOf(history, kind, turn, target) {
-  const { records } = history.record(turn);
-  const [warrior, address] = [records[WARRIOR], records[ADDRESS]];
-  const cellAt = (/** @type {number} */ when, /** @type {number} */ at) =>
-    history.place(when).battle.cells.slice(CELL_WORDS * at, CELL_WORDS * (at + 1));
-  const [executed, after] = [cellAt(turn - 1, address), cellAt(turn, target)];
-  return { kind, turn, warrior, address, target, executed, after, origin: history.originsAt(turn - 1)[address] };
+  const { warrior, address } = history.deed(turn);
+  const executed = history.place(turn - 1).cell(address);
+  const origin = history.origin(address, turn - 1);
+  return { kind, turn, warrior, address, target, executed, after: history.place(turn).cell(target), origin };
 }
 
 /**
@@ -82,9 +81,10 @@ function aimOf(history, { turn, address, target, executed }) {
   const { bMode, b } = readCell(executed, 0);
   const pointer = (address + b) % history.core;
   // A read limit folds addresses: then the pointer is another cell.
-  if (!INDIRECT.includes(MODES[bMode]) || pointer === target || !turnHas(history, turn, pointer)) return null;
-  const set = history.place(turn - 1).written[pointer];
-  return set > 0 && turnHas(history, set, pointer) ? linkOf(history, "aim", set, pointer) : null;
+  const isPointer = INDIRECT.includes(MODES[bMode]) && pointer !== target;
+  if (!isPointer || !history.deed(turn).touched.includes(pointer)) return null;
+  const set = writtenBy(history, pointer, turn);
+  return set > 0 ? linkOf(history, "aim", set, pointer) : null;
 }
 
 /**
@@ -94,13 +94,11 @@ function aimOf(history, { turn, address, target, executed }) {
  * @param {Event} death
  */
 function arrivalOf(history, { turn, warrior, address }) {
-  for (const { first, count, records } of history.turnsBack(turn - 1)) {
-    for (let row = count - 1; row >= 0; row--) {
-      const at = RECORD_WORDS * row;
-      if (records[at + WARRIOR] !== warrior) continue;
-      const queued = records.subarray(at + PROCESS, at + PROCESS + records[at + QUEUED]);
-      if (queued.includes(address)) return linkOf(history, "arrival", first + 1 + row, address);
-    }
+  const queues = /** @type {const} */ ([EXECUTES, NUMBER_QUEUED, 1, 2]);
+  for (const turns of history.find([queues, by(warrior)], 0, turn - 1, false)) {
+    const last = turns[turns.length - 1];
+    // An edit may have moved the process.
+    if (last) return history.deed(last).queued.includes(address) ? linkOf(history, "arrival", last, address) : null;
   }
   return null;
 }

@@ -1,0 +1,91 @@
+/** What the library says of turns: their records, and those that meet conditions. */
+import { EXECUTES, MarsFound, MarsRecord, NUMBER_DIED, NUMBER_QUEUED, NUMBER_WARRIOR } from "../model/layout.js";
+import { CELL_WORDS } from "../model/cells.js";
+
+/** @typedef {import("../engine/machine.js").Condition} Row */
+/** @typedef {{address: number, before: Uint32Array, after: Uint32Array}} Change a write of a cell, with its words */
+/**
+ * What a turn did: `queued` has the addresses of the processes that it queued, `touched` the cells that it touched,
+ * `changes` those that it wrote, also if they are as before.
+ * @typedef {{warrior: number, address: number, died: boolean, queued: number[], touched: number[],
+ *   changes: Change[]}} Deed
+ */
+/**
+ * A turn that was found. `owner` and `written` are those of the cell that it executed, before it.
+ * @typedef {{turn: number, warrior: number, queued: number, address: number, owner: number, written: number}} Found
+ */
+
+const CHANGE_WORDS = 1 + 2 * CELL_WORDS;
+const FOUND_WORDS = MarsFound.size / 4;
+
+/**
+ * Conditions of the library: a warrior gains a process, loses one, or dies.
+ * @type {Record<string, Row>}
+ */
+export const EVENTS = {
+  splits: [EXECUTES, NUMBER_QUEUED, 2, 2],
+  ends: [EXECUTES, NUMBER_QUEUED, 0, 0],
+  dies: [EXECUTES, NUMBER_DIED, 1, 1],
+};
+
+/**
+ * Returns the condition that a turn is one of a warrior.
+ * @param {number} warrior
+ * @param {number} way how the turn uses the cell of the other conditions
+ * @returns {Row}
+ */
+export const by = (warrior, way = EXECUTES) => [way, NUMBER_WARRIOR, warrior, warrior];
+
+/**
+ * Returns the numbers of turns that were found.
+ * @param {Uint32Array} rows
+ */
+export const turnsOf = (rows) =>
+  Array.from({ length: rows.length / FOUND_WORDS }, (_, index) => rows[FOUND_WORDS * index]);
+
+/**
+ * Yields turns that were found.
+ * @param {Uint32Array} rows
+ * @returns {Generator<Found>}
+ */
+export function* foundIn(rows) {
+  for (let at = 0; at < rows.length; at += FOUND_WORDS) {
+    const [turn, warrior, queued, address, owner, written] = rows.subarray(at, at + FOUND_WORDS);
+    yield { turn, warrior, queued, address, owner, written };
+  }
+}
+
+/**
+ * Reads the record of a turn. Several writes of a cell are one change, from the cell before the first of them to the
+ * cell after the last one.
+ * @param {{records: Uint32Array, touched: Uint32Array}} rows
+ * @returns {Deed}
+ */
+export function deedOf({ records, touched }) {
+  const field = (/** @type {number} */ offset) => records[offset / 4];
+  const cell = (/** @type {number} */ at) => records.slice(at, at + CELL_WORDS);
+  /** @type {Change[]} */
+  const changes = [];
+  for (let index = 0; index < field(MarsRecord.changes); index++) {
+    const at = MarsRecord.change / 4 + CHANGE_WORDS * index;
+    const [address, before, after] = [records[at], cell(at + 1), cell(at + 1 + CELL_WORDS)];
+    const earlier = changes.find((change) => change.address === address);
+    if (earlier) earlier.after = after;
+    else changes.push({ address, before, after });
+  }
+  const first = MarsRecord.process / 4;
+  return {
+    warrior: field(MarsRecord.warrior),
+    address: field(MarsRecord.address),
+    died: field(MarsRecord.died) === 1,
+    queued: [...records.subarray(first, first + field(MarsRecord.queued))],
+    touched: [...touched.subarray(1, 1 + touched[0])],
+    changes,
+  };
+}
+
+/**
+ * Returns whether a write changes its cell.
+ * @param {Change} change
+ */
+export const isChanged = ({ before, after }) => before.some((word, index) => word !== after[index]);

@@ -1,0 +1,92 @@
+/** A run of a battle: marks at regular distances, from which the battle after any turn is played. */
+import { MAX_TURNS } from "../model/settings.js";
+import { Sampler } from "./overview.js";
+import { EVENTS, by, foundIn } from "./records.js";
+import { EVENT, Story } from "./story.js";
+
+/** @typedef {import("../engine/mars.js").Mars} Mars */
+/** @typedef {import("../model/fight.js").Edit} Edit */
+/** @typedef {import("./place.js").Place} Place */
+/** @typedef {import("./story.js").Event} Event */
+
+/** The distance of marks in turns, at least, and the bytes of all marks of a run. */
+const STRIDE = 16_384;
+const MAX_MARK_BYTES = 76 << 20;
+/** The maximum number of moments of an overview. */
+export const MOMENTS = 1200;
+const TOO_LONG = `The battle is too long: the site shows at most ${MAX_TURNS.toLocaleString("en")} turns.`;
+
+/** Returns the least power of two, from `least` on, by which so many turns have at most `most` steps. */
+function stepOf(/** @type {number} */ turns, /** @type {number} */ most, least = 1) {
+  let step = least;
+  while (Math.ceil(turns / step) > most) step *= 2;
+  return step;
+}
+
+/** A battle from its start, or from an edit, to its end. */
+export class Run {
+  /**
+   * Plays a battle to its end. Throws an error if it has too many turns.
+   * @param {Mars} mars
+   * @param {Place} place its start, which is moved to the end
+   * @param {{edit: Edit | null, dead: number}} before the edit before the start, and the number of deaths before that
+   */
+  constructor(mars, place, { edit, dead } = { edit: null, dead: 0 }) {
+    // A battle that is too long is rejected soon: playing it without pasts takes a small part of the time.
+    const trial = place.battle.copy();
+    mars.play(trial, MAX_TURNS - trial.turns);
+    if (!trial.over) throw new Error(TOO_LONG);
+    this.mars = mars;
+    this.first = place.turn;
+    this.edit = edit;
+    const turns = trial.turns - place.turn;
+    const sampler = new Sampler(place, stepOf(turns, MOMENTS - 1));
+    this.stride = stepOf(turns, Math.max(1, Math.floor(MAX_MARK_BYTES / place.bytes)), Math.max(STRIDE, sampler.step));
+    /** @type {Place[]} */
+    this.marks = [];
+    do {
+      this.marks.push(place.copy());
+      sampler.playTo(mars, place, Math.min(place.turn + this.stride, trial.turns));
+    } while (!place.battle.over);
+    this.ending = place;
+    this.overview = sampler.overview;
+    this.deaths = place.battle.deaths.slice(dead).map((death) => this.#death(death));
+    this.story = new Story(this);
+  }
+
+  get start() {
+    return this.marks[0];
+  }
+
+  /**
+   * Returns the last mark up to a turn.
+   * @param {number} turn
+   */
+  mark(turn) {
+    return this.marks[Math.min(Math.floor((turn - this.first) / this.stride), this.marks.length - 1)];
+  }
+
+  /**
+   * Returns the marks from which the turns after `first` up to `last` are played, each with the last turn to play.
+   * @param {number} first
+   * @param {number} last
+   */
+  parts(first, last) {
+    const ends = [...this.marks.slice(1), this.ending].map(({ turn }) => Math.min(turn, last));
+    const parts = this.marks.map((mark, index) => ({ mark, last: ends[index] }));
+    return parts.filter((part) => part.last > first && part.last > part.mark.turn);
+  }
+
+  /**
+   * @param {{warrior: number, turns: number}} death
+   * @returns {Event}
+   */
+  #death({ warrior, turns: turn }) {
+    const event = { ...EVENT, turn, kind: /** @type {const} */ ("death"), warrior };
+    // A warrior that an edit killed died on no cell.
+    if (this.start.battle.deaths.some((one) => one.warrior === warrior)) return event;
+    const mark = this.mark(turn - 1);
+    const [found] = foundIn(this.mars.find(mark, turn - mark.turn, [EVENTS.dies, by(warrior)], 1));
+    return { ...event, other: found.owner, address: found.address, count: found.written };
+  }
+}
