@@ -467,6 +467,8 @@ def test_a_terminal_breaks_lines_at_spaces(run: Run, tmp_path: Path) -> None:
         assert " ".join(lines).split() == whole.split()
     assert broken("help  list all commands", 16) == "help  list all\n      commands"
     assert broken("  a sentence of words", 16) == "  a sentence of\n      words"
+    # In a column further right it would be three lines.
+    assert broken("1  two  a name of seven letters", 18) == "1  two  a name of\n    seven letters"
 
 
 def test_colours(run: Run) -> None:

@@ -26,9 +26,13 @@ def lines_for(stream: TextIO, lines: Iterable[str]) -> str:
 
 def broken(line: str, width: int) -> str:
     """Returns a line with ends of lines in place of spaces, such that its parts have the width if words allow it. They
-    begin in a column of the line, or further right than its start.
+    begin in a column of the line, or further right than its start: in the last one for which they are fewest.
     """
-    start = min(len(line) - len(line.lstrip(" ")) + INDENT, width // 2)
-    start = max([start, *(found.end() for found in COLUMN.finditer(line) if found.end() <= width // 2)])
-    parts = wrap(line, width, subsequent_indent=" " * start, break_long_words=False, break_on_hyphens=False)
-    return "\n".join(parts)
+    least = min(len(line) - len(line.lstrip(" ")) + INDENT, width // 2)
+    starts = {least, *(found.end() for found in COLUMN.finditer(line) if least < found.end() <= width // 2)}
+    made = [
+        wrap(line, width, subsequent_indent=" " * start, break_long_words=False, break_on_hyphens=False)
+        for start in sorted(starts, reverse=True)
+    ]
+    fewest = min(made, key=len)
+    return "\n".join(fewest)
