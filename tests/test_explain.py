@@ -671,7 +671,7 @@ def test_a_number_without_its_sign(run: Run, tmp_path: Path) -> None:
 
 def test_a_space_that_is_missing(run: Run, tmp_path: Path) -> None:
     """An opcode and a label without a space are a label, which is valid unless it is used."""
-    (tmp_path / "x.red").write_text("go mov 0, 1\n    JMPgo\naddgo\n    dat addgo\n")
+    (tmp_path / "x.red").write_text("go mov 0, 1\nlast JMPgo\naddgo\n    dat addgo\n")
     hint = "line 2: `JMPgo` is read as a label; did you mean `JMP go`?"
     assert run("explain", "x.red").stdout == f"x.red: no error\n{hint}\n"
 

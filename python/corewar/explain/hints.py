@@ -22,9 +22,10 @@ def hints_of(warrior: Warrior, lines: Sequence[tuple[int, list[str]]]) -> list[s
     - `lines`: the number of the line, and the labels of each instruction
     """
     source, found = read_source(warrior.source or b""), dict[int, str]()
-    for line in [one for one in source.read_lines() if one.is_label and GLUED.match(one.labels[0])][:MAX_LABELS]:
-        if new := glued(source, line.labels[0]):
-            found[line.number] = f"line {line.number}: " + cause_sentence("misspelt", word=line.labels[0], new=new)
+    labels = [(one, name) for one in source.read_lines() if one.is_label for name in one.labels if GLUED.match(name)]
+    for line, name in labels[:MAX_LABELS]:
+        if new := glued(source, name):
+            found[line.number] = f"line {line.number}: " + cause_sentence("misspelt", word=name, new=new)
     for line in (source.lines[number - 1] for number, _ in lines):
         compared = [word for word in line.operands[1:] if word in ("<", ">")]
         if line.word in OPCODES and compared and "," not in line.operands:
