@@ -411,6 +411,7 @@ CALLS = [
     "corewar.league(two * 2, rounds=100000)",
     "corewar.population(two, two, rounds=100000)",
     "corewar.outcomes(two, rounds=100000)",
+    f"corewar.outcomes([corewar.read('{EXAMPLES / 'silk.red'}')] * 2, rounds=100000, counts=True)",
     "corewar.outcomes(two, [[0, 1]] * 9, rounds=10000, jobs=2)",
     "corewar.Battle(corewar.Match(two * 8, settings=corewar.Settings(cycles=10**7))).play()",
     "corewar.Battle(corewar.Match(two * 8, settings=corewar.Settings(cycles=10**6))).play(records=10**7)",

@@ -27,6 +27,10 @@ COUNTS = ("own_turns", "spawned", "executed", "written", "touched")
 COUNTED = np.dtype([*OUTCOME.descr, *((name, "u4") for name in COUNTS)])
 # The number of parts for each thread, so that all end at about the same time, and the maximum rows of one.
 PARTS, MAX_ROWS = 4, 1 << 19
+# The maximum number of matches that are listed at a time.
+BLOCK = 1 << 18
+# How many times as long a turn takes at most if it is counted.
+COUNTING = 8
 
 Array = NDArray[Any]
 
@@ -129,6 +133,11 @@ class Run:
     width: int = 2
 
 
+def turns_of(run: Run, table: Array) -> int:
+    """Returns the most turns of a round, of which one that is counted stands for several."""
+    return run.settings.cycles * run.width * (COUNTING if table["counting"].any() else 1)
+
+
 def run_lineups(
     warriors: Sequence[Warrior],
     table: Array,
@@ -142,7 +151,7 @@ def run_lineups(
     and CorewarError.
     """
     is_here = executor is None or isinstance(executor, ThreadPoolExecutor)
-    turns = max(1, run.rounds * run.settings.cycles * run.width)
+    turns = max(1, run.rounds * turns_of(run, table))
     size = max(1, min((TURNS if is_here else DISTANT_TURNS) // turns, MAX_ROWS // max(1, run.rounds * run.width)))
     if executor is None and jobs > 1:
         size = min(size, max(1, -(-len(table) // (jobs * PARTS))))
@@ -183,7 +192,7 @@ def play(
     """Runs the matches of a table, and returns them finished. A single match may take long: it is run in portions."""
     # The library refuses 0 by the same name as any number out of the range, and 0 rounds need no memory.
     rounds = run.rounds if 0 < run.rounds <= NUMBERS["rounds"].maximum else 0
-    fixed, size = warrior_arrays(warriors, run.settings.core), TURNS // max(1, run.settings.cycles * run.width)
+    fixed, size = warrior_arrays(warriors, run.settings.core), TURNS // max(1, turns_of(run, table))
     given, parts = [(rounds, 0, run.position)], []
     if len(table) == 1 and rounds > size and table["count"][0] and table["seed"][0] <= NUMBERS["seed"].maximum:
         given = [*portions((rounds, int(table["seed"][0]), run.position), int(table["count"][0]), size)]
