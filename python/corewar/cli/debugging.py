@@ -7,16 +7,16 @@ import click
 
 from ..battle.history import History
 from ..battle.labels import Sources
-from .layout import Command, Number, checked_turn
+from .layout import TURN, checked_turn, command
 from .options import BattleOptions, battle_options
 from .reporting import is_coloured
 
 EXAMPLES = ["corewar debug dwarf.red imp.red", "printf 'continue dies imp\\nwhy\\n' | corewar debug dwarf.red imp.red"]
 
 
-@click.command(cls=Command, examples=EXAMPLES)
+@command(*EXAMPLES)
 @battle_options(one_round=True)
-@click.option("--turn", type=Number(0), default=0, show_default=True, help="Turn to start at, 0 or more")
+@TURN
 def debug(options: BattleOptions, turn: int) -> int:
     """Step through a battle, forwards and backwards.
 

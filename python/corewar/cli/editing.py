@@ -7,14 +7,12 @@ import click
 
 from .. import __version__
 from ..model.settings import Settings
-from .layout import Command
+from .layout import command
 from .options import core_options
 
 
-@click.command(
-    cls=Command,
-    examples=["corewar lsp", "corewar lsp --hill tiny"],
-    statuses="0 shut down by the editor, 1 ended without that, 2 usage error",
+@command(
+    "corewar lsp", "corewar lsp --hill tiny", statuses="0 shut down by the editor, 1 ended without that, 2 usage error"
 )
 @core_options
 def lsp(settings: Settings) -> int:

@@ -17,16 +17,17 @@ from ..engine.calls import encode_source, source_lines
 from ..engine.deadline import deadline
 from ..engine.sources import Assembler, Overrun, read_file, read_warrior, read_warriors
 from ..engine.warriors import Warrior
-from ..explain import CHECKED_ROWS, Problem, errors_of, excerpt, explain_error, explain_kind, fix, pmars_differences
-from ..explain import problem_of, read_faults
-from ..explain.errors import kind_of
+from ..explain.errors import Problem, errors_of, kind_of, problem_of
+from ..explain.fixes import fix
 from ..explain.hints import hints_of
 from ..explain.instructions import describe_line, find_instruction
-from ..explain.source import Line, parse_line
+from ..explain.meanings import explain_error, explain_kind, read_faults
+from ..explain.pmars import CHECKED_ROWS, pmars_differences
+from ..explain.source import Line, excerpt, parse_line
 from ..explain.words import DIRECTIVES, OPCODES
 from ..model.errors import ASSEMBLY, CorewarError, FileError, MarsError
 from ..model.printing import printable
-from .layout import STATUSES, Command
+from .layout import STATUSES, Command, command
 from .options import BattleOptions, battle_options, format_option
 from .reporting import report, report_error, report_sentences, show
 
@@ -59,7 +60,7 @@ class Explain(Command):
         return [] if context.params.get("files", ())[:1] == ("mars",) else super().shell_complete(context, incomplete)
 
 
-@click.command(cls=Explain, examples=EXAMPLES, statuses=f"{STATUSES}, {LEFT} `--fix` left what pMARS reads differently")
+@command(*EXAMPLES, statuses=f"{STATUSES}, {LEFT} `--fix` left what pMARS reads differently", kind=Explain)
 @battle_options(needs_files=False)
 @click.option("--pmars", is_flag=True, help="Report what pMARS reads differently")
 @click.option("--fix", "is_fixed", is_flag=True, help="Print the source as pMARS reads it, and report what is left")

@@ -2,7 +2,7 @@
 from __future__ import annotations
 
 import re
-from collections.abc import Sequence
+from collections.abc import Callable, Sequence
 from typing import Any
 
 import click
@@ -11,6 +11,7 @@ import click
 OWN, EXECUTION, MATCH, CORE = "Options", "Execution options", "Match options", "Core options (defaults from --hill)"
 GROUPS = [OWN, EXECUTION, MATCH, CORE]
 STATUSES = "0 success, 1 error in input or files, 2 usage error, 130 stopped by Ctrl-C"
+Decorator = Callable[[Callable[..., Any]], Callable[..., Any]]
 
 
 class Option(click.Option):
@@ -19,6 +20,10 @@ class Option(click.Option):
     def __init__(self, *given: Any, group: str = OWN, **how: Any) -> None:
         super().__init__(*given, **how)
         self.group = group
+
+
+def option(*words: str, group: str = OWN, **how: Any) -> Decorator:
+    return click.option(*words, cls=Option, group=group, **how)
 
 
 class Number(click.ParamType):
@@ -43,6 +48,9 @@ def checked_turn(turn: int, end: int, option: str) -> int:
     if turn > end:
         raise click.BadParameter(f"the battle has turns 1 to {end}", param_hint=option)
     return turn
+
+
+TURN = click.option("--turn", type=Number(0), default=0, help="Turn to start at, 0 or more")
 
 
 class Command(click.Command):
@@ -76,3 +84,10 @@ class Command(click.Command):
                 formatter.write("".join(f"  {example}\n" for example in self.examples))
         formatter.write_paragraph()
         formatter.write_text(f"Exit status: {self.statuses}.")
+
+
+def command(
+    *examples: str, statuses: str = STATUSES, kind: type[Command] = Command, **how: Any
+) -> Callable[[Callable[..., Any]], Command]:
+    """Makes a command of a function."""
+    return click.command(cls=kind, examples=examples, statuses=statuses, **how)

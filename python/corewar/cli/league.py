@@ -21,8 +21,8 @@ from ..engine.sources import Assembler, read_warrior
 from ..engine.warriors import Warrior
 from ..model.errors import FileError
 from ..model.printing import printable
-from .layout import EXECUTION, STATUSES, Command, Number, Option
-from .options import EVERY_POSITION, INPUT, BattleOptions, Decorator, Output, Picture
+from .layout import EXECUTION, STATUSES, Decorator, Number, command, option
+from .options import EVERY_POSITION, INPUT, BattleOptions, Output, Picture
 from .options import battle_options, format_option, match_option, with_options
 from .reporting import report, report_error, show
 from .waiting import PROCESSORS, Waiting
@@ -41,27 +41,19 @@ def check_address(context: click.Context, param: click.Parameter, given: str | N
 FILE = Output(dir_okay=False, writable=True)
 # Each job is a thread, of which a process cannot have any number.
 MAX_JOBS = 1000
-JOBS = click.option(
-    "--jobs",
-    cls=Option,
-    group=EXECUTION,
-    type=Number(1, MAX_JOBS),
-    default=PROCESSORS,
-    help=f"Number of parallel matches, 1 to {MAX_JOBS}  [default: number of CPUs]",
-)
 # Where matches are run, and where their results are stored.
 EXECUTION_OPTIONS = [
-    click.option(
-        "--results",
-        cls=Option,
+    option("--results", group=EXECUTION, type=FILE, help="Store results in this file; skip matches already in it"),
+    option(
+        "--jobs",
         group=EXECUTION,
-        type=FILE,
-        help="Store results in this file; skip matches already in it",
+        type=Number(1, MAX_JOBS),
+        default=PROCESSORS,
+        show_default=False,
+        help=f"Number of parallel matches, 1 to {MAX_JOBS}  [default: number of CPUs]",
     ),
-    JOBS,
-    click.option(
+    option(
         "--scheduler",
-        cls=Option,
         group=EXECUTION,
         callback=check_address,
         metavar="HOST:PORT",
@@ -152,12 +144,9 @@ def write_results(result: Any, form: str, output: str | None = None, only_sum: b
         show(text.split("\n"))
 
 
-@click.command(
-    cls=Command,
-    examples=[
-        "corewar league -r 100 *.red",
-        "corewar league -r 100 --results league.sqlite --pages league *.red",
-    ],
+@command(
+    "corewar league -r 100 *.red",
+    "corewar league -r 100 --results league.sqlite --pages league *.red",
     statuses=LEFT_OUT,
 )
 @contest_options(rounds=1)
@@ -165,7 +154,6 @@ def write_results(result: Any, form: str, output: str | None = None, only_sum: b
     "--order",
     type=click.Choice(["points", "files"]),
     default="points",
-    show_default=True,
     help="Order of the rows: most points first, or as the files are given",
 )
 @format_option(("table", "csv", "json", "matrix"))
@@ -206,13 +194,10 @@ def league(options: BattleOptions, runner: MatchRunner, order: str, form: str, *
     return 1 if faults else 0
 
 
-@click.command(
-    cls=Command,
-    examples=[
-        "corewar challenge mine.red hill/*.red",
-        "corewar challenge --sum --positions all mine.red hill/*.red",
-        "corewar challenge --old before.red -r 500 mine.red hill/*.red",
-    ],
+@command(
+    "corewar challenge mine.red hill/*.red",
+    "corewar challenge --sum --positions all mine.red hill/*.red",
+    "corewar challenge --old before.red -r 500 mine.red hill/*.red",
     statuses=LEFT_OUT,
 )
 @contest_options(rounds=100)

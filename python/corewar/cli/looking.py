@@ -13,7 +13,7 @@ from ..engine.sources import Limit, read_warriors
 from ..model.errors import CorewarError
 from ..model.printing import printable
 from ..model.settings import Settings, whole
-from .layout import Command, Number, checked_turn
+from .layout import Number, checked_turn, command
 from .options import INPUT, LIMIT, BattleOptions, CellName, WarriorName, battle_options, core_options, format_option
 from .options import is_given
 from .reporting import is_coloured, report, show, show_value
@@ -32,13 +32,10 @@ def warrior_of(history: History, named: str) -> int:
         raise click.BadParameter(str(fault), param_hint="--of") from None
 
 
-@click.command(
-    cls=Command,
-    examples=[
-        "corewar why dwarf.red imp.red",
-        "corewar why -r 100 dwarf.red imp.red",
-        "corewar why --of imp -r 10 --round 3 dwarf.red imp.red",
-    ],
+@command(
+    "corewar why dwarf.red imp.red",
+    "corewar why -r 100 dwarf.red imp.red",
+    "corewar why --of imp -r 10 --round 3 dwarf.red imp.red",
 )
 @battle_options(one_round=True)
 @click.option(
@@ -48,7 +45,6 @@ def warrior_of(history: History, named: str) -> int:
     "--turns",
     type=Number(1),
     default=4,
-    show_default=True,
     help="Number of turns to print before its last one, 1 or more",
 )
 @format_option(("text", "json"), "explanations")
@@ -114,14 +110,12 @@ def print_losses(options: BattleOptions, named: str | None, form: str) -> int:
     return status
 
 
-@click.command(
-    cls=Command, examples=["corewar trace dwarf.red imp.red", "corewar trace --from 1 --turns 10 dwarf.red imp.red"]
-)
+@command("corewar trace dwarf.red imp.red", "corewar trace --from 1 --turns 10 dwarf.red imp.red")
 @battle_options(one_round=True)
 @click.option(
     "--from", "first", type=Number(1), help="First turn to print, 1 or more; by default the last turns are printed"
 )
-@click.option("--turns", type=Number(1), default=20, show_default=True, help="Number of turns to print, 1 or more")
+@click.option("--turns", type=Number(1), default=20, help="Number of turns to print, 1 or more")
 @format_option(("text", "json"), "turns")
 def trace(options: BattleOptions, first: int | None, turns: int, form: str) -> None:
     """Print each turn: the instruction, its reads and its writes."""
@@ -136,13 +130,7 @@ def trace(options: BattleOptions, first: int | None, turns: int, form: str) -> N
             show(formatter.lines(turn))
 
 
-@click.command(
-    cls=Command,
-    examples=[
-        "corewar changed --cell bomb dwarf.red imp.red",
-        "corewar changed --cell 5203 --before 7797 dwarf.red imp.red",
-    ],
-)
+@command("corewar changed --cell bomb dwarf.red imp.red", "corewar changed --cell 5203 --before 7797 dwarf.red imp.red")
 @battle_options(one_round=True)
 @click.option("--cell", "named", type=CellName(), required=True, help="Address or label of the cell")
 @click.option("--before", type=Number(1), help="Search only the turns before this one, 1 or more")
@@ -162,7 +150,7 @@ def changed(options: BattleOptions, named: str, before: int | None) -> None:
     show(describe_change(formatter, address, turn))
 
 
-@click.command(cls=Command, examples=["corewar study dwarf.red"])
+@command("corewar study dwarf.red")
 @core_options
 @LIMIT
 @format_option(("text", "json"), "report")

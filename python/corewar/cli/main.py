@@ -13,7 +13,7 @@ from .. import __version__
 from ..__main__ import missing_module
 from ..model.errors import FORMULA, PARAMETERS, SETTINGS, CorewarError, MarsError
 from ..model.printing import printable
-from .layout import Command
+from .layout import Command, command
 from .options import HELP
 from .reporting import report, report_error
 
@@ -91,12 +91,11 @@ class Commands(Command, click.Group):
 EXAMPLES = ["corewar fight -r 100 dwarf.red imp.red", "corewar why dwarf.red imp.red", "corewar help why"]
 
 
-@click.command(cls=Commands, context_settings=HELP, examples=EXAMPLES)
+@command(*EXAMPLES, kind=Commands, context_settings=HELP)
 @click.option(
     "--color",
     type=click.Choice(["auto", "always", "never"]),
     default="auto",
-    show_default=True,
     help="Colour the names of warriors: on a terminal unless NO_COLOR is set, always or never",
 )
 @click.version_option(__version__, prog_name="corewar", help="Print the version")

@@ -7,28 +7,23 @@ from typing import Any
 import click
 
 from ..model.settings import MAX_WARRIORS
-from .layout import Command, Number
+from .layout import Number, command
 from .league import EXECUTION_OPTIONS, LEFT_OUT, MatchRunner, entrants_of, write_results
 from .options import BattleOptions, battle_options, format_option, with_options
 from .reporting import report
 
 
-@click.command(
-    cls=Command,
-    examples=["corewar melee --lineups 1000 hill/*.red", "corewar melee --size 8 --lineups 500 -r 10 hill"],
-    statuses=LEFT_OUT,
+@command(
+    "corewar melee --lineups 1000 hill/*.red", "corewar melee --size 8 --lineups 500 -r 10 hill", statuses=LEFT_OUT
 )
 @battle_options()
 @click.option(
     "--size",
     type=Number(2, MAX_WARRIORS),
     default=4,
-    show_default=True,
     help=f"Number of warriors in a match, 2 to {MAX_WARRIORS}",
 )
-@click.option(
-    "--lineups", type=Number(1, 1_000_000), default=100, show_default=True, help="Number of matches, 1 to 1000000"
-)
+@click.option("--lineups", type=Number(1, 1_000_000), default=100, help="Number of matches, 1 to 1000000")
 @format_option(("table", "csv", "json"))
 @with_options(*EXECUTION_OPTIONS)
 def melee(options: BattleOptions, size: int, lineups: int, form: str, **where: Any) -> int:

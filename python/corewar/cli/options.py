@@ -21,12 +21,11 @@ from ..engine.warriors import Warrior
 from ..model.errors import CorewarError, FileError
 from ..model.settings import FORMULA, HILLS, MAX_WARRIORS, NUMBERS, Settings, whole
 from ..model.types import Positions
-from .layout import CORE, MATCH, Number, Option
+from .layout import CORE, MATCH, Decorator, Number, option
 from .reporting import report
 
 PICTURES = (".png", ".svg", ".pdf")
-Decorator = Callable[[Callable[..., Any]], Callable[..., Any]]
-HELP = {"help_option_names": ["-h", "--help"], "max_content_width": 120}
+HELP = {"help_option_names": ["-h", "--help"], "max_content_width": 120, "show_default": True}
 
 
 @dataclass(frozen=True)
@@ -194,8 +193,8 @@ def with_options(*options: Decorator) -> Decorator:
     """Adds options to a command, in this order."""
 
     def decorate(command: Callable[..., Any]) -> Callable[..., Any]:
-        for option in reversed(options):
-            command = option(command)
+        for one in reversed(options):
+            command = one(command)
         return command
 
     return decorate
@@ -207,22 +206,12 @@ def number_option(name: str, group: str, **how: Any) -> Decorator:
     words = {number.word, f"--{name.replace('_', '-')}"}
     text = f"{number.meaning[0].upper()}{number.meaning[1:]}, {number.range}"
     kind = Number(number.minimum, number.maximum)
-    return click.option(*sorted(words), name, cls=Option, group=group, type=kind, help=text, **how)
-
-
-def match_option(*words: str, **how: Any) -> Decorator:
-    return click.option(*words, cls=Option, group=MATCH, **how)
+    return option(*sorted(words), name, group=group, type=kind, help=text, **how)
 
 
 def format_option(formats: Sequence[str], what: str = "results") -> Decorator:
-    return click.option(
-        "--format",
-        "form",
-        type=click.Choice(formats),
-        default=formats[0],
-        show_default=True,
-        help=f"Format of the {what}",
-    )
+    kind = click.Choice(formats)
+    return click.option("--format", "form", type=kind, default=formats[0], help=f"Format of the {what}")
 
 
 EVERY_POSITION = click.option(
@@ -230,14 +219,12 @@ EVERY_POSITION = click.option(
     "is_exact",
     type=click.Choice(["drawn", "all"]),
     default="drawn",
-    show_default=True,
     callback=lambda context, param, given: given == "all",
     help="Starting positions: drawn ones, or each one in both orders, without chance",
 )
+match_option = functools.partial(option, group=MATCH)
 SETTINGS = [number_option(name, CORE) for name in vars(Settings())]
-HILL = match_option(
-    "--hill", type=click.Choice(list(HILLS)), default="94nop", show_default=True, help="Settings of a known hill"
-)
+HILL = match_option("--hill", type=click.Choice(list(HILLS)), default="94nop", help="Settings of a known hill")
 # The greatest position that pMARS accepts, and its other series by name.
 MAX_PMARS_POSITION, FIXED = 2**30, "pmars -f"
 LIMIT = match_option(
@@ -245,10 +232,11 @@ LIMIT = match_option(
     "limit",
     type=LimitType(),
     default=Limit(),
+    show_default=False,
     help="Limits for assembling a source: CPU seconds and megabytes  [default: 10,1000]",
 )
 CONTEST = [
-    number_option("seed", MATCH, default=1, show_default=True),
+    number_option("seed", MATCH, default=1),
     number_option("position", MATCH),
     match_option(
         "--pmars-position",
@@ -261,7 +249,6 @@ CONTEST = [
         "formula",
         metavar="FORMULA",
         default=FORMULA,
-        show_default=True,
         help="Score of each survivor, with W warriors and S survivors",
     ),
     LIMIT,
@@ -272,7 +259,6 @@ ROUND = match_option(
     "round_",
     type=Number(0, LAST_ROUND),
     default=0,
-    show_default=True,
     help=f"Round of the match to show, 0 to {LAST_ROUND}",
 )
 
@@ -342,7 +328,7 @@ def battle_options(*, one_round: bool = False, needs_files: bool = True, rounds:
         files = click.argument(
             "files", nargs=-1, required=needs_files, type=INPUT, metavar="FILE..." if needs_files else "[FILE]..."
         )
-        count = number_option("rounds", MATCH, default=rounds, show_default=True)
+        count = number_option("rounds", MATCH, default=rounds)
         match = [HILL, count, *CONTEST, *([ROUND] if one_round else [])]
         return with_options(*match, *SETTINGS, files)(with_settings(wrapper))
 

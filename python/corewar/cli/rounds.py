@@ -9,14 +9,14 @@ from shutil import get_terminal_size
 import click
 import numpy as np
 
-from ..analysis.captions import command
+from ..analysis import captions
 from ..analysis.formatting import pluralize
 from ..battle.rounds import count_outcomes, rounds as rounds_of
 from ..contests.exact import distances
 from ..engine.calls import Match, Row, fits, match, portions
 from ..engine.parts import TURNS, in_order, run_parts
 from ..model.printing import printable
-from .layout import Command
+from .layout import command
 from .options import EVERY_POSITION, BattleOptions, Output, battle_options, format_option
 from .reporting import report
 from .waiting import PROCESSORS, Waiting, progress
@@ -52,9 +52,7 @@ def rows_in(part: Match, formula: str, _: object) -> list[Row]:
     return match(formula=formula, **vars(part))
 
 
-@click.command(
-    cls=Command, examples=["corewar fight dwarf.red imp.red", "corewar fight -r 100 --hill 94x one.red two.red"]
-)
+@command("corewar fight dwarf.red imp.red", "corewar fight -r 100 --hill 94x one.red two.red")
 @battle_options()
 @EVERY_POSITION
 def fight(options: BattleOptions, is_exact: bool) -> int:
@@ -97,10 +95,7 @@ def print_rows(fought: Match, rows: Sequence[Row]) -> None:
         click.echo(f"{row.points:8} {row.wins:6} {row.ties:6} {row.losses:6}  {printable(warrior.title)}")
 
 
-@click.command(
-    cls=Command,
-    examples=["corewar rounds -r 10 dwarf.red imp.red", "corewar rounds -r 10 --pages match dwarf.red imp.red"],
-)
+@command("corewar rounds -r 10 dwarf.red imp.red", "corewar rounds -r 10 --pages match dwarf.red imp.red")
 @battle_options()
 @click.option(
     "--pages",
@@ -130,7 +125,9 @@ def rounds(options: BattleOptions, pages: str | None, form: str) -> None:
         written = Pages(pages, fought, options.formula)
     outcomes = []
     for one in rounds_of(fought):
-        outcome, words = "".join(f"{what:5}" for what in one.outcomes), printable(command(one.history, "debug"))
+        outcome, words = "".join(f"{what:5}" for what in one.outcomes), printable(
+            captions.command(one.history, "debug")
+        )
         # The first warrior is at address 0.
         position = " ".join(map(str, one.starts[1:]))
         click.echo(f"{one.history.round:5} {position:{places}} {outcome:{max(width, 7)}} {one.history.end:7}  {words}")

@@ -8,7 +8,7 @@ import click
 
 from ..model.errors import FileError
 from ..model.printing import printable
-from .layout import Command
+from .layout import command
 from .options import Output
 from .web import EXAMPLES
 
@@ -26,7 +26,7 @@ bomb    DAT     #0, #0
 """
 
 
-@click.command(cls=Command, examples=["corewar new warriors"])
+@command("corewar new warriors")
 @click.argument("folder", type=Output(file_okay=False))
 def new(folder: str) -> None:
     """Write a first warrior and the examples into a new folder.

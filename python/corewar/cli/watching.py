@@ -18,7 +18,7 @@ from ..battle.history import History
 from ..battle.labels import Sources
 from ..engine.calls import Match
 from ..pictures.terminal import Fragments, canvas_of, draw, styles_of
-from .layout import Command, Number, checked_turn
+from .layout import TURN, checked_turn, command
 from .options import BattleOptions, battle_options
 from .reporting import is_coloured
 
@@ -150,11 +150,9 @@ def keys_of(show: Show) -> KeyBindings:
     return bindings
 
 
-@click.command(
-    cls=Command, examples=["corewar watch dwarf.red imp.red", "corewar watch -r 10 --round 3 dwarf.red imp.red"]
-)
+@command("corewar watch dwarf.red imp.red", "corewar watch -r 10 --round 3 dwarf.red imp.red")
 @battle_options(one_round=True)
-@click.option("--turn", type=Number(0), default=0, show_default=True, help="Turn to start at, 0 or more")
+@TURN
 def watch(options: BattleOptions, turn: int) -> None:
     """Watch a battle in the terminal, forwards and backwards.
 

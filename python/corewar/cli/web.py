@@ -9,7 +9,7 @@ import click
 from ..engine.sources import advice_on
 from ..model.header import CHECKOUT, INSTALLED
 from ..model.errors import FileError
-from .layout import Command, Number
+from .layout import Number, command
 from .options import INPUT, Output
 
 # The folders of examples: that of the checkout, and those that may be installed.
@@ -18,18 +18,18 @@ EXAMPLES = [CHECKOUT / "examples", *(folder / "share" / "doc" / "mars" / "exampl
 PORT = 8094
 
 
-@click.command(
-    cls=Command,
-    examples=["corewar web", "corewar web --port 8080 --no-browser warriors/"],
+@command(
+    "corewar web",
+    "corewar web --port 8080 --no-browser warriors/",
     statuses="1 error in input or files, 2 usage error, 130 stopped with Ctrl-C or by SIGTERM",
 )
 @click.option(
     "--port",
     type=Number(0, 65535),
     default=PORT,
-    help=f"Port to serve on, 0 to 65535; if that cannot be used, a free one  [default: {PORT}]",
+    help="Port to serve on, 0 to 65535; if that cannot be used, a free one",
 )
-@click.option("--browser/--no-browser", default=True, show_default=True, help="Open the browser, or only serve")
+@click.option("--browser/--no-browser", default=True, help="Open the browser, or only serve")
 @click.option(
     "--results", type=Output(dir_okay=False), help="Store results of leagues in this file; skip matches already in it"
 )
