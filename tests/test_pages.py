@@ -82,11 +82,12 @@ def test_a_page_is_written(run: Run, tmp_path: Path) -> None:
     "edit, why",
     [
         ("edit 3 jmp 0", "expected a turn and an edit"),
-        ("1 edit 3", "expected a turn and an edit"),
+        ("1 edit 3", "`1 edit 3` is impossible: expected an address and a line of source"),
         ("1 walk 3 4", "expected a turn and an edit"),
-        ("1 edit 8000 jmp 0", "is outside the core"),
-        ("1 fill 6 5 jmp 0", "is outside the core"),
-        ("1 edit 3 jmq 0", "is not an instruction: line 1: 2 Operation"),
+        ("1 quit", "expected a turn and an edit"),
+        ("1 edit 8000 jmp 0", "`8000` is not an address"),
+        ("1 fill 6 5 jmp 0", "the first address is above the last"),
+        ("1 edit 3 jmq 0", "`jmq 0` is not an instruction: 2 Operation"),
     ],
 )
 def test_wrong_edits(run: Run, tmp_path: Path, edit: str, why: str) -> None:
@@ -97,10 +98,10 @@ def test_wrong_edits(run: Run, tmp_path: Path, edit: str, why: str) -> None:
 @pytest.mark.parametrize(
     "edits, why",
     [
-        (["1 kill 9 0"], "`1 kill 9 0` is impossible: refused 4 NoSuchWarrior"),
+        (["1 kill 9 0"], "`1 kill 9 0` is impossible: no warrior `9`"),
         (["5 kill 0 0", "3 kill 0 0"], "`5 kill 0 0` is impossible: the battle has turns 0 to 3"),
         (["160001 edit 3 jmp 0"], "is impossible: the battle has turns 0 to 160000"),
-        (["1 edit 3 jmp \udcff"], "is not an instruction: line 1: 1 Text 1 NotAscii"),
+        (["1 edit 3 jmp \udcff"], "is not an instruction: 1 Text 1 NotAscii"),
     ],
 )
 def test_impossible_edits(run: Run, tmp_path: Path, edits: list[str], why: str) -> None:

@@ -2,7 +2,6 @@
 from __future__ import annotations
 
 import os
-import re
 from collections.abc import Sequence
 from operator import itemgetter
 from pathlib import Path
@@ -11,24 +10,17 @@ import click
 
 from ..battle.frames import part_ends
 from ..battle.history import History
-from ..engine.calls import assemble
-from ..model.types import Cell
-from ..model.edits import Edit
-from ..model.errors import CorewarError, FileError, MarsError
+from ..battle.labels import Sources
+from ..debugger.commands import execute
+from ..debugger.session import Session
+from ..model.errors import CorewarError, FileError
 from ..model.settings import whole
 from ..model.printing import printable
-from .layout import Command, Number, checked_turn
-from .options import BattleOptions, Decorator, Output, Picture, battle_options, with_options
+from .layout import Decorator, Number, checked_turn, command
+from .options import BattleOptions, Output, Picture, battle_options, with_options
 
-# What follows the word of an edit: numbers, and a line of source.
-NUMBER, LINE, NOTHING = r"(\d{1,7})", r"(?P<line>\S*\D.*)", r"(?!)"
-FORMS = {
-    "edit": f"{NUMBER} {LINE}",
-    "fill": f"{NUMBER} {NUMBER} {LINE}",
-    "move": f"{NUMBER} {NUMBER} {NUMBER}",
-    "kill": f"{NUMBER} {NUMBER}",
-    "spawn": f"{NUMBER} {NUMBER}",
-}
+# The commands of the debugger that edit a battle.
+EDITS = ("edit", "fill", "move", "kill", "spawn")
 
 
 def output_options(kind: Output, usual: str) -> tuple[Decorator, Decorator]:
@@ -53,22 +45,18 @@ def output_file(output: str | None, usual: str, force: bool) -> str:
     return output or usual
 
 
-@click.command(
-    cls=Command,
-    examples=[
-        "corewar picture dwarf.red imp.red",
-        "corewar picture --cells 0-999 --turns 5000 -o start.svg dwarf.red imp.red",
-    ],
+@command(
+    "corewar picture dwarf.red imp.red", "corewar picture --cells 0-999 --turns 5000 -o start.svg dwarf.red imp.red"
 )
 @battle_options(one_round=True)
 @with_options(
-    click.option("--from", "first", type=Number(1), default=1, show_default=True, help="First turn to show, 1 or more"),
+    click.option("--from", "first", type=Number(1), default=1, help="First turn to show, 1 or more"),
     click.option("--turns", type=Number(1), help="Number of turns to show, 1 or more  [default: all that follow]"),
     *output_options(Picture(dir_okay=False), "battle.png"),
 )
 @click.option("--cells", metavar="A-B", help="Cells to show, from address A to address B  [default: the whole core]")
-@click.option("--columns", type=Number(1), default=400, show_default=True, help="Maximum number of columns, 1 or more")
-@click.option("--rows", type=Number(1), default=300, show_default=True, help="Maximum number of rows, 1 or more")
+@click.option("--columns", type=Number(1), default=400, help="Maximum number of columns, 1 or more")
+@click.option("--rows", type=Number(1), default=300, help="Maximum number of rows, 1 or more")
 def picture(
     options: BattleOptions,
     first: int,
@@ -105,22 +93,19 @@ def cells_of(text: str | None, core: int) -> range:
     return range(low, high + 1)
 
 
-@click.command(
-    cls=Command,
-    examples=[
-        "corewar page dwarf.red imp.red",
-        "corewar page --turn 7797 --edit '7797 edit 5203 mov 0, 1' -o saved.html dwarf.red imp.red",
-    ],
+@command(
+    "corewar page dwarf.red imp.red",
+    "corewar page --turn 7797 --edit '7797 edit 5203 mov 0, 1' -o saved.html dwarf.red imp.red",
 )
 @battle_options(one_round=True)
 @with_options(
-    click.option("--turn", type=Number(0), default=0, show_default=True, help="Turn to open the page at, 0 or more"),
+    click.option("--turn", type=Number(0), default=0, help="Turn to open the page at, 0 or more"),
     click.option(
         "--edit",
         "edits",
         metavar="'T COMMAND'",
         multiple=True,
-        help="Edit the battle after turn T, by a command of `mars -e`; can be repeated",
+        help="Edit the battle after turn T, by a command of `corewar debug`; can be repeated",
     ),
     *output_options(Output(dir_okay=False), "battle.html"),
 )
@@ -136,46 +121,29 @@ def page(options: BattleOptions, turn: int, edits: tuple[str, ...], output: str 
     output = output_file(output, "battle.html", force)
     site_folder()
     fight = options.fight()
-    history = edited(History(fight, options.round), edits, options)
+    history = edited(History(fight, options.round), edits)
     check_length(history.end)
     write_page(Path(output), page_of(fight, options.formula, options.round, turn, history.edits))
     click.echo(printable(f"{output}: {' against '.join(warrior.called for warrior in fight.warriors)}"))
 
 
-def edited(history: History, texts: Sequence[str], options: BattleOptions) -> History:
+def edited(history: History, texts: Sequence[str]) -> History:
     """Makes the edits in the order of their turns. Each has to be possible after the ones before it."""
-    given = [(*edit_of(text, options), text) for text in texts]
-    for turn, edit, text in sorted(given, key=itemgetter(0)):
+    session = Session(history, Sources(history))
+    for turn, line in sorted(map(split_edit, texts), key=itemgetter(0)):
+        session.go(turn)
         try:
-            history = history.edited(turn, edit)
+            execute(session, line)
         except CorewarError as fault:
-            raise click.BadParameter(f"`{text}` is impossible: {fault}", param_hint="--edit") from None
-    return history
+            raise click.BadParameter(f"`{turn} {line}` is impossible: {fault}", param_hint="--edit") from None
+    return session.history
 
 
-def edit_of(text: str, options: BattleOptions) -> tuple[int, Edit]:
-    """The turn and the edit of `T COMMAND`, in the words of `mars -e`; a cell is a line of source."""
-    turn, word, rest = [*text.split(None, 2), "", "", ""][:3]
-    found, core = re.fullmatch(FORMS.get(word, NOTHING), rest), options.settings.core
-    after = whole(turn)
-    if after is None or found is None:
+def split_edit(text: str) -> tuple[int, str]:
+    """Returns the turn and the command of an edit."""
+    words = text.split(None, 2)
+    turn = whole(words[0]) if words[1:2] and words[1] in EDITS else None
+    if turn is None:
         why = f"expected a turn and an edit, as in `100 edit 3 jmp 0`, not `{text}`"
         raise click.BadParameter(why, param_hint="--edit")
-    numbers = [int(one) for one in found.groups() if one.isdecimal()]
-    if word != "kill" and numbers[-1] >= core or word == "fill" and numbers[0] > numbers[1]:
-        raise click.BadParameter(f"`{text}` is outside the core, cells 0 to {core - 1}", param_hint="--edit")
-    if word in ("edit", "fill"):
-        return after, Edit.fill(numbers[0], numbers[-1], cell_of_line(found["line"], options))
-    if word == "move":
-        return after, Edit.move(*numbers)
-    return after, Edit.kill(*numbers) if word == "kill" else Edit.add(*numbers)
-
-
-def cell_of_line(line: str, options: BattleOptions) -> Cell:
-    """The cell that a line of source makes."""
-    try:
-        warrior = assemble(f"{line}\n", settings=options.settings, rounds=options.rounds, warriors=len(options.files))
-    except MarsError as fault:
-        raise click.BadParameter(f"`{line}` is not an instruction: {fault}", param_hint="--edit") from None
-    cell: Cell = warrior.cells[-1].tolist()
-    return cell
+    return turn, text.split(None, 1)[1]

@@ -9,8 +9,8 @@ from ..analysis.formatting import BattleFormatter
 from ..battle.conditions import CELL_CONDITIONS, WARRIOR_CONDITIONS, Condition, search
 from ..battle.history import History
 from ..battle.labels import Sources
-from ..engine.calls import assemble
-from ..explain import explain_error
+from ..engine.calls import assemble, encode_source
+from ..explain.meanings import explain_error
 from ..model.types import Cell
 from ..model.edits import Edit
 from ..model.errors import CorewarError, MarsError
@@ -158,7 +158,7 @@ class Session:
             for word in words:
                 if word not in addresses:
                     self.sources.check(word)
-            kind, cause = str(fault).partition(": ")[2], explain_error(fault, source.encode())[0]
+            kind, cause = str(fault).partition(": ")[2], explain_error(fault, encode_source(source))[0]
             raise CorewarError(f"`{line}` is not an instruction: {kind}: {cause}") from None
         cell: Cell = warrior.cells[-1].tolist()
         return cell
