@@ -16,9 +16,11 @@ from costly import slow
 
 import corewar
 from corewar.engine.calls import assemble
-from corewar.explain import CHECKED_ROWS, errors_of, explain_error, explain_kind, fix, pmars_differences, read_faults
+from corewar.explain.errors import errors_of
+from corewar.explain.fixes import fix
 from corewar.explain.instructions import describe_instruction
-from corewar.explain.meanings import EXPRESSION, KINDS
+from corewar.explain.meanings import EXPRESSION, KINDS, explain_error, explain_kind, read_faults
+from corewar.explain.pmars import CHECKED_ROWS, pmars_differences
 from corewar.explain.source import MODIFIERS, OPERATIONS, PREDEFINED
 from corewar.model.errors import ASSEMBLY, FORMULA, LINEUP, WARRIOR, MarsError
 from corewar.model.header import names

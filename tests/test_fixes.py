@@ -11,7 +11,9 @@ from peer import DEBIAN, listed_by, own_cells
 
 from corewar.engine.calls import assemble
 from corewar.engine.sources import read
-from corewar.explain import errors_of, fix, pmars_differences
+from corewar.explain.errors import errors_of
+from corewar.explain.fixes import fix
+from corewar.explain.pmars import pmars_differences
 
 # Sources in an older style, which this kit reads after `corewar explain --fix`.
 OLD = {

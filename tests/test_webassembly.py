@@ -22,7 +22,7 @@ from corewar.battle.history import History
 from corewar.battle.labels import Sources
 from corewar.battle.runs import BY_HAND
 from corewar.engine.calls import Match, assemble
-from corewar.explain import errors_of
+from corewar.explain.errors import errors_of
 from corewar.explain.instructions import describe_instruction
 from corewar.explain.meanings import GREATER
 from corewar.model.cells import MODES, MODIFIERS, OPCODES

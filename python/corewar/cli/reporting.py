@@ -10,7 +10,7 @@ from typing import Any
 
 import click
 
-from ..explain import explain_error
+from ..explain.meanings import explain_error
 from ..model.errors import CorewarError, FileError, MarsError
 from ..model.printing import lines_for, printable
 

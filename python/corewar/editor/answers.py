@@ -8,7 +8,8 @@ import re
 from collections.abc import Callable
 from typing import Any
 
-from ..explain import fix, words
+from ..explain import words
+from ..explain.fixes import fix
 from ..explain.instructions import describe_instruction
 from ..explain.source import ELSEWHERE, NAME, OPERATIONS, parse_line
 from ..model.errors import CorewarError

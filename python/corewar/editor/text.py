@@ -9,8 +9,7 @@ from functools import cached_property
 from itertools import zip_longest
 
 from ..engine.calls import source_lines
-from ..explain import errors_of
-from ..explain.errors import kind_of
+from ..explain.errors import errors_of, kind_of
 from ..explain.source import Advice, Source, read_source
 from ..model.cells import cell_text
 from ..model.errors import CorewarError
