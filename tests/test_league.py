@@ -30,7 +30,7 @@ from corewar.contests.matches import Matches, all_pairs, digests_of
 from corewar.contests.results import Results
 from corewar.model.errors import CorewarError
 from corewar.model.settings import Settings
-from corewar.pictures.shades import LOST, NO_MATCH, TIED, WON, mix_colours
+from corewar.pictures.colours import LOST, NO_MATCH, TIED, WON, mix_colours
 
 PROGRAM = TOP / "crates" / "mars" / "out" / "mars"
 NAMES = sorted(path.name for path in EXAMPLES.glob("*.red"))

@@ -69,17 +69,12 @@ def executed_by(formatter: BattleFormatter, warrior: int) -> tuple[list[Executed
     history, written = formatter.history, dict[str, list[list[int]]]()
     for turn, _, (_, _, origin) in reversed(last_executed(history, warrior).tolist()):
         line = formatter.sources.lines.get(origin)
-        text = formatter.cell(history.executed(turn)) if line is None else describe_line(formatter, warrior, line)
+        text = f"{line.owner(formatter.names, warrior)} {line}".lstrip() if line else ""
+        text = text or formatter.cell(history.executed(turn))
         written.setdefault(text, []).append(written_by(history, turn))
     rows = [Executed(len(turns), len({*chain(*turns)}), line) for line, turns in written.items()]
     cells = {*chain.from_iterable(chain.from_iterable(written.values()))}
     return sorted(rows, key=lambda row: -row.turns), cells
-
-
-def describe_line(formatter: BattleFormatter, warrior: int, line: Line) -> str:
-    """Returns a source line that a warrior executed, with the name of its warrior if that is another one."""
-    owner = "" if line.warrior == warrior else f"{formatter.names[line.warrior]} "
-    return f"{owner}{line.number}: {line.text}"
 
 
 def describe_hits(formatter: BattleFormatter, warrior: int, cells: set[int]) -> Iterator[str]:

@@ -5,6 +5,7 @@ from __future__ import annotations
 
 from collections.abc import Iterator
 from dataclasses import dataclass, replace
+from typing import Any
 
 import numpy as np
 from numpy.typing import NDArray
@@ -16,7 +17,6 @@ from ..battle.labels import Sources
 from ..battle.runs import NOBODY
 from ..engine.calls import Match
 from ..engine.warriors import Warrior
-from ..model.types import Numbers
 from ..model.cells import OPCODES
 from ..model.settings import Settings, settings_of
 from .formatting import BattleFormatter, pluralize
@@ -30,21 +30,10 @@ MAX_ROWS, MAX_STRIDES, MIN_SHARE = 8, 2, 0.2
 WARRIORS = 2
 # No turn touches more cells.
 MAX_TOUCHED_CELLS = 8
-
-
-@dataclass(frozen=True, eq=False)
-class Accesses:
-    """Cells that turns accessed: the turns, the addresses of their instructions, the loaded cells from which these were
-    copied, and the addresses of the accessed cells.
-    """
-
-    turns: Numbers
-    places: Numbers
-    origins: Numbers
-    addresses: Numbers
-
-    def only(self, wanted: NDArray[np.bool_]) -> Accesses:
-        return Accesses(self.turns[wanted], self.places[wanted], self.origins[wanted], self.addresses[wanted])
+# Cells that turns accessed: the turn, the address of its instruction, the loaded cell from which that was copied, and
+# the address of the accessed cell.
+ACCESS = np.dtype([(name, np.int64) for name in ("turn", "place", "origin", "address")])
+Accesses = NDArray[Any]
 
 
 @dataclass(frozen=True)
@@ -171,22 +160,25 @@ class Observation:
             self.is_written[block.written] = True
             writes.append(self._accesses(block, block.last_writes))
             scans.append(self._scanned(block))
-        self.writes, self.scans = joined(writes), joined(scans)
+        self.writes, self.scans = np.concatenate(writes), np.concatenate(scans)
         # What a warrior compares in its own code is no scan.
         own = self.is_loaded | (self.executed <= history.end)
-        self.scans = self.scans.only(~own[self.scans.addresses])
+        self.scans = self.scans[~own[self.scans["address"]]]
 
     def _accesses(self, block: Block, touches: Touches) -> Accesses:
-        rows = touches.turns - block.first - 1
-        places, origins = block.records["address"][rows].astype(np.int64), self.origins[touches.turns - 1]
-        return Accesses(touches.turns, places, origins, touches.addresses.astype(np.int64))
+        found = np.empty(len(touches.turns), ACCESS)
+        found["turn"], found["address"] = touches.turns, touches.addresses
+        found["place"] = block.records["address"][touches.turns - block.first - 1]
+        found["origin"] = self.origins[touches.turns - 1]
+        return found
 
     def _scanned(self, block: Block) -> Accesses:
         """Returns what comparing instructions read, each cell once in a turn, except for their own cells."""
         found = self._accesses(block, block.reads)
-        again = (np.diff(found.turns, prepend=-1) == 0) & (np.diff(found.addresses, prepend=-1) == 0)
-        is_other = found.addresses != found.places
-        return found.only(np.isin(self.opcodes[found.origins], COMPARING) & is_other & ~again)
+        again = (np.diff(found["turn"], prepend=-1) == 0) & (np.diff(found["address"], prepend=-1) == 0)
+        is_other = found["address"] != found["place"]
+        wanted: Accesses = found[np.isin(self.opcodes[found["origin"]], COMPARING) & is_other & ~again]
+        return wanted
 
     def _first_hit(self, block: Block) -> tuple[int, int] | None:
         """Returns the first turn that changed the opcode of a cell that was loaded or executed before, and the cell."""
@@ -208,7 +200,7 @@ class Observation:
             self._hit(),
             history.core,
             int(np.count_nonzero(self.is_written)),
-            len(np.unique(self.scans.addresses)),
+            len(np.unique(self.scans["address"])),
             tuple(self._rows(self.writes)),
             tuple(self._rows(self.scans)),
         )
@@ -227,23 +219,17 @@ class Observation:
     def _name(self, origin: int) -> str:
         """Returns the line of a loaded cell or, without a source, its address and text."""
         line = self.sources.lines.get(origin)
-        if line is not None:
-            return f"{line.number}: {line.text}"
-        return f"cell {origin}: {self.formatter.cell(self.history.block(0).start.cells[origin])}"
+        return str(line or f"cell {origin}: {self.formatter.cell(self.history.block(0).start.cells[origin])}")
 
     def _rows(self, found: Accesses) -> list[Access]:
         """Returns accesses by the lines of their instructions, those that reach the most cells first."""
-        names, rows = {origin: self._name(origin) for origin in np.unique(found.origins).tolist()}, []
+        names, rows = {origin: self._name(origin) for origin in np.unique(found["origin"]).tolist()}, []
         for name in dict.fromkeys(names.values()):
-            own = found.only(np.isin(found.origins, [origin for origin, one in names.items() if one == name]))
-            _, first = np.unique(own.addresses, return_index=True)
-            given = len(own.turns), len(first), int(own.turns[first].max())
+            own = found[np.isin(found["origin"], [origin for origin, one in names.items() if one == name])]
+            _, first = np.unique(own["address"], return_index=True)
+            given = len(own), len(first), int(own["turn"][first].max())
             rows.append(Access(*given, strides(own, self.history.core), name))
         return sorted(rows, key=lambda row: (row.cells, row.times), reverse=True)
-
-
-def joined(parts: list[Accesses]) -> Accesses:
-    return Accesses(*(np.concatenate([getattr(part, name) for part in parts]) for name in vars(parts[0])))
 
 
 def strides(found: Accesses, core: int) -> tuple[tuple[int | None, float], ...]:
@@ -251,11 +237,11 @@ def strides(found: Accesses, core: int) -> tuple[tuple[int | None, float], ...]:
     each with its share.
     """
     # The number of earlier accesses in the same turn, which distinguishes the operands of an instruction.
-    firsts = np.flatnonzero(np.diff(found.turns, prepend=-1))
-    before = np.arange(len(found.turns)) - np.repeat(firsts, np.diff(firsts, append=len(found.turns)))
-    operands = found.places * MAX_TOUCHED_CELLS + before
+    firsts = np.flatnonzero(np.diff(found["turn"], prepend=-1))
+    before = np.arange(len(found)) - np.repeat(firsts, np.diff(firsts, append=len(found)))
+    operands = found["place"] * MAX_TOUCHED_CELLS + before
     order = np.argsort(operands, kind="stable")
-    apart = np.diff(found.addresses[order])[np.diff(operands[order]) == 0] % core
+    apart = np.diff(found["address"][order])[np.diff(operands[order]) == 0] % core
     distances, counts = np.unique(np.where(apart > core // 2, apart - core, apart), return_counts=True)
     best = np.argsort(-counts, kind="stable")[:MAX_STRIDES]
     shares = [

@@ -3,6 +3,7 @@ from __future__ import annotations
 
 import re
 from collections import Counter
+from collections.abc import Sequence
 from dataclasses import dataclass
 from functools import cached_property
 
@@ -22,6 +23,13 @@ class Line:
     warrior: int
     number: int
     text: str
+
+    def __str__(self) -> str:
+        return f"{self.number}: {self.text}"
+
+    def owner(self, names: Sequence[str], known: int | None) -> str:
+        """Returns the name of its warrior, or "" for the one that is known."""
+        return "" if self.warrior == known else names[self.warrior]
 
 
 class Sources:
@@ -56,8 +64,7 @@ class Sources:
         if line is None:
             return ""
         known = warrior if warrior is not None else loaded.warrior if loaded else None
-        name = "" if line.warrior == known else f"{history.names[line.warrior]} "
-        return f"; {name}{line.number}: {line.text}"
+        return f"; {f'{line.owner(history.names, known)} {line}'.lstrip()}"
 
     @cached_property
     def addresses(self) -> dict[str, int]:

@@ -5,7 +5,7 @@ from typing import Any
 
 import numpy as np
 
-from ..engine.battles import Battle, battle_of_mark
+from ..engine.battles import Battle, battle_of_words
 from ..model.types import Pasts
 from ..model.edits import Edit
 
@@ -51,7 +51,7 @@ class Run:
 
     def at(self, turn: int) -> Battle:
         """Returns a copy of the battle after a turn."""
-        battle = battle_of_mark(self.marks[self._mark(turn)])
+        battle = battle_of_words(self.marks[self._mark(turn)])
         battle.play(turn - battle.turns)
         return battle
 
@@ -68,7 +68,7 @@ class Run:
         """Takes the pasts at the start, or those before the edit; the cells that it changed are changed manually."""
         start = pasts.copy()
         if self.before:
-            changed = np.flatnonzero(self.before.cells != battle_of_mark(self.marks[0]).cells)
+            changed = np.flatnonzero(self.before.cells != battle_of_words(self.marks[0]).cells)
             start["owner"][changed], start["turn"][changed] = BY_HAND, self.first
             # No other cell has these origins.
             start["origin"][changed] = max(len(pasts), int(pasts["origin"].max()) + 1) + np.arange(len(changed))
@@ -82,7 +82,7 @@ class Run:
         if latest and self.first + known * self.stride <= latest[0].turns <= turn:
             battle, pasts = latest[0].copy(), latest[1].copy()
         else:
-            battle, pasts = battle_of_mark(self.marks[known]), self._pasts[known].copy()
+            battle, pasts = battle_of_words(self.marks[known]), self._pasts[known].copy()
         for index in range(known + 1, mark + 1):
             battle.follow(pasts, self.first + index * self.stride - battle.turns)
             self._pasts[index] = pasts.copy()

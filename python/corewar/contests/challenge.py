@@ -7,11 +7,11 @@ from typing import Any
 import numpy as np
 
 from ..engine.warriors import Warrior
-from ..model.types import Numbers, Rates
+from ..model.types import Indices, Numbers, Rates
 from ..model.printing import printable
 from .exact import strip_of
 from .matches import Matches
-from .standings import HEAD, NAMES, RATES, Standings, Sums, head_of, names_of, rates_of
+from .standings import HEAD, NAMES, RATES, Standings, Sums, best_of, head_of, row_of
 
 # The width of a strip in a table, whose head fits into 80 columns.
 STRIP = 24
@@ -39,6 +39,11 @@ class Challenge(Standings):
     COLUMNS = (*NAMES, *HEAD, "theirs", *RATES, "number")
 
     @property
+    def order(self) -> Indices:
+        """The indices of the opponents, that of the match with the most points first."""
+        return best_of(self.points)
+
+    @property
     def sums(self) -> list[int]:
         """The sums of all matches: points, wins, ties and losses of the warrior, and the points of its opponents."""
         return [sum(column) for column in np.column_stack([self.counts, self.theirs]).T.tolist()]
@@ -47,17 +52,18 @@ class Challenge(Standings):
         """Returns a row for each match, that with the most points first: the names of the opponent, its points as
         `theirs` and its index as `number`, the other columns of `Standings` for the warrior, and the `seed`.
         """
-        return [self.record(one) for one in np.argsort(-self.points, kind="stable").tolist()]
+        return [self.record(one) for one in self.order.tolist()]
 
     def record(self, number: int) -> dict[str, Any]:
         """Returns the row of a match."""
-        counts = *self.counts[number].tolist(), int(self.theirs[number])
-        row = row_of(self.warriors[number], counts, self.errors[number])
+        counts, theirs = self.counts[number].tolist(), int(self.theirs[number])
+        row = row_of(self.warriors[number], counts, self.errors[number], theirs=theirs)
         return {**row, "number": number, "seed": int(self.seeds[number])}
 
     def total(self) -> dict[str, Any]:
         """Returns the row of the warrior, with the sums."""
-        return row_of(self.challenger, tuple(self.sums), self.total_error)
+        *counts, theirs = self.sums
+        return row_of(self.challenger, counts, self.total_error, theirs=theirs)
 
     def to_dict(self) -> dict[str, Any]:
         """Returns the options, the seed, the warrior with the sums, and each match, as plain values."""
@@ -67,7 +73,7 @@ class Challenge(Standings):
         width = max((len(one.file) for one in self.warriors), default=0)
         head = "" if self.by_distance is None else f"{'by distance':{min(STRIP, self.by_distance.shape[1])}}  "
         lines = [f"  points   wins   ties losses   theirs  {head}opponent"]
-        for number in np.argsort(-self.points, kind="stable").tolist():
+        for number in self.order.tolist():
             one, counts = self.warriors[number], [*self.counts[number], self.theirs[number]]
             strip = f"{self.strip(number)}  " if head else ""
             lines.append(f"{text_of(counts)}  {strip}{printable(one.file):{width}}  {one.title}")
@@ -81,10 +87,6 @@ class Challenge(Standings):
     def summary(self) -> str:
         """The line with the sums."""
         return f"{text_of(self.sums)}  sum of {len(self.warriors)}"
-
-
-def row_of(warrior: Warrior, counts: tuple[int, ...], error: float) -> dict[str, Any]:
-    return {**names_of(warrior), **dict(zip((*HEAD, "theirs"), counts)), **rates_of(counts, error)}
 
 
 def text_of(counts: list[int]) -> str:

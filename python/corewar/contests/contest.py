@@ -13,6 +13,7 @@ import numpy as np
 from numpy.typing import ArrayLike, NDArray
 
 from ..engine.outcomes import check_jobs, run_lineups, table_of
+from ..engine.sums import pairs_of
 from ..engine.warriors import Warrior
 from ..model.types import Indices
 from ..model.errors import CorewarError
@@ -124,7 +125,7 @@ class Contest(Terms):
         """Runs a match of a warrior with each of its opponents; the warrior is the first. The rest is as for `league`,
         with which it may share a file of results.
         """
-        pairs = np.column_stack([np.zeros(len(opponents), np.intp), np.arange(1, len(opponents) + 1)])
+        pairs = pairs_of([0], range(1, len(opponents) + 1))
         matches, how = Matches(self, [warrior, *opponents], pairs), Execution(jobs, executor, results, progress)
         if self.positions != "all":
             return challenge_of(run_all(matches, how))
@@ -151,7 +152,7 @@ class Contest(Terms):
         if not opponents:
             raise CorewarError("expected 1 or more opponents")
         warriors = [old, new, *opponents]
-        pairs = np.stack(np.meshgrid([0, 1], np.arange(2, len(warriors)), indexing="ij"), axis=-1).reshape(-1, 2)
+        pairs = pairs_of([0, 1], range(2, len(warriors)))
         finish, how = partial(scores_of, formula=self.formula), Execution(jobs, executor, None, progress)
         if self.positions == "all":
             scores = finish(self._everywhere(warriors, pairs, how))

@@ -11,7 +11,7 @@ from ..engine.calls import fits
 from ..model.types import Indices, Numbers, Rates
 from ..model.errors import SCORE, MarsError
 from .matches import Matches
-from .standings import HEAD, Standings, Sums, rounded
+from .standings import HEAD, Standings, Sums, best_of, rounded
 
 LEADS = ("lead", "lead_error")
 
@@ -93,11 +93,6 @@ class League(Standings):
         return "\n".join(
             " ".join(cell.rjust(width) for cell in line) + f"  {title}" for line, title in zip(lines, titles)
         )
-
-
-def best_of(points: Numbers) -> Indices:
-    """Returns the indices of warriors by their points, the most first; equal ones are in their order."""
-    return np.argsort(-points, kind="stable")
 
 
 def matrix_of(count: int, pairs: Indices, results: Numbers) -> Numbers:

@@ -11,7 +11,7 @@ import numpy as np
 from numpy.typing import NDArray
 
 from ..engine.calls import fits
-from ..engine.outcomes import play, run_lineups, table_of
+from ..engine.outcomes import BLOCK, play, run_lineups, table_of
 from ..engine.rewards import survivals, values_of
 from ..engine.warriors import Warrior
 from ..model.types import Indices, Numbers
@@ -21,9 +21,6 @@ from .results import Table
 if TYPE_CHECKING:
     # Its methods run matches.
     from .contest import Contest
-
-# The maximum number of matches that are listed for the library at a time.
-BLOCK = 1 << 18
 
 
 def counts_of(rows: NDArray[Any], formula: str) -> Numbers:
@@ -123,7 +120,7 @@ class Schedule:
 
 
 class Matches(Schedule):
-    """The matches of pairs, sorted by the first and then the second warrior, with their counts."""
+    """The matches of pairs, with their counts."""
 
     TABLE = Table("fought", ("first", "second"), ("points", "wins", "ties", "losses", "theirs"), "INTEGER")
 
@@ -151,12 +148,9 @@ class Matches(Schedule):
 
     def rows_of(self, pairs: Indices) -> Indices:
         """Returns the row of each of these pairs, or -1 for a pair without a match."""
-        if not len(self):
-            return np.full(len(pairs), -1)
-        # A pair as one number.
-        wanted, sought = (numbers[:, 0] * len(self.warriors) + numbers[:, 1] for numbers in (self.lineups, pairs))
-        rows = np.searchsorted(wanted, sought).clip(max=len(self) - 1)
-        return np.where(wanted[rows] == sought, rows, -1)
+        rows = np.full((len(self.warriors), len(self.warriors)), -1)
+        rows[tuple(self.lineups.T)] = np.arange(len(self))
+        return np.asarray(rows[tuple(pairs.T)])
 
     def take_stored(self, stored: Iterator[tuple[Any, ...]]) -> int:
         numbers: dict[bytes, set[int]] = {}

@@ -13,11 +13,12 @@ import numpy as np
 from numpy.typing import NDArray
 
 from ..engine.calls import fits
+from ..engine.outcomes import BLOCK
 from ..engine.rewards import scores_of, survivals
 from ..engine.warriors import Warrior
 from ..model.types import Indices, Numbers, Rates
 from ..model.errors import SCORE, CorewarError, MarsError
-from .matches import BLOCK, Schedule, digests_of
+from .matches import Schedule, digests_of
 from .results import Table
 from .standings import Standings, head_of
 

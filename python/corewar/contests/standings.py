@@ -72,7 +72,7 @@ class Standings:
     @property
     def order(self) -> Indices:
         """The indices of the warriors, the best score first."""
-        return np.argsort(-self.scores, kind="stable")
+        return best_of(self.scores)
 
     @property
     def ranks(self) -> Numbers:
@@ -89,9 +89,7 @@ class Standings:
 
     def record(self, number: int) -> dict[str, Any]:
         """Returns the row of a warrior, without its rank."""
-        counts = self.counts[number].tolist()
-        names, rates = names_of(self.warriors[number]), rates_of(counts, self.errors[number])
-        return {**names, **dict(zip(HEAD, counts)), **rates, "number": number}
+        return {**row_of(self.warriors[number], self.counts[number].tolist(), self.errors[number]), "number": number}
 
     def to_dict(self) -> dict[str, Any]:
         """Returns the options, the seed and the rows, as plain values."""
@@ -115,13 +113,19 @@ def names_of(warrior: Warrior) -> dict[str, Any]:
     return {name: getattr(warrior, name) for name in NAMES}
 
 
-def rates_of(counts: Sequence[int], error: float) -> dict[str, Any]:
-    """Returns the columns RATES of points, wins, ties and losses: the number of rounds, the percents of wins, ties and
-    losses, and the points for 100 rounds with their standard error.
+def row_of(warrior: Warrior, counts: Sequence[int], error: float, **more: int) -> dict[str, Any]:
+    """Returns the columns NAMES, HEAD and RATES: the points, wins, ties and losses of a warrior, more columns, and the
+    number of rounds, the percents of wins, ties and losses, and the points for 100 rounds with their standard error.
     """
-    rounds = sum(counts[1:4])
-    score, *percents = (rounded(100 * count / rounds) if rounds else 0.0 for count in counts[:4])
-    return dict(zip(RATES, (rounds, *percents, score, rounded(error))))
+    rounds = sum(counts[1:])
+    score, *percents = (rounded(100 * count / rounds) if rounds else 0.0 for count in counts)
+    rates = dict(zip(RATES, (rounds, *percents, score, rounded(error))))
+    return {**names_of(warrior), **dict(zip(HEAD, counts)), **more, **rates}
+
+
+def best_of(points: Numbers | Rates) -> Indices:
+    """Returns indices by points or scores, the most first; equal ones are in their order."""
+    return np.argsort(-points, kind="stable")
 
 
 def rounded(number: float) -> float | None:

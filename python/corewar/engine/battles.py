@@ -205,13 +205,9 @@ class Battle:
         return read_text(65536, lambda *room: call("mars_debug", *given, *room)).decode("latin-1")
 
 
-def battle_of_mark(data: bytes) -> Battle:
-    """Returns the battle of bytes that are known to be one."""
-    return battle_of_words(np.frombuffer(data, np.uint32))
-
-
-def battle_of_words(words: Words) -> Battle:
+def battle_of_words(data: Words | bytes) -> Battle:
     """Returns the battle of words that are known to be one, with the capacity that it needs."""
+    words = np.frombuffer(data, np.uint32)
     head = words[:HEADER].view(dtype_of("MarsBattle"))[0]
     core, warriors, processes, length = (int(head[name]) for name in ("core", "warriors", "processes", "words"))
     battle = Battle.__new__(Battle)

@@ -5,18 +5,15 @@ from collections.abc import Iterable, Sequence
 from typing import Any
 
 import numpy as np
-from numpy.typing import NDArray
+from numpy.typing import ArrayLike, NDArray
 
 from ..model.errors import SCORE, MarsError
 from ..model.settings import FORMULA, Settings, settings_of
 from .calls import Row, check_numbers, fits, rows
-from .outcomes import Run, run_lineups, table_of
+from .outcomes import BLOCK, Run, run_lineups, table_of
 from .parts import TURNS
 from .rewards import score_of, scores_of, survivals
 from .warriors import Warrior
-
-# The maximum number of matches that are listed at a time.
-BLOCK = 1 << 18
 
 
 def league(
@@ -60,11 +57,13 @@ def population(
     if is_short(run, count * len(others)):
         return rows("mars_population", run.settings, (rounds, seed, position), formula, fighters, count)
     step = max(1, BLOCK // len(others))
-    blocks = (
-        np.stack(np.meshgrid(np.arange(at, min(at + step, count)), others, indexing="ij"), axis=-1).reshape(-1, 2)
-        for at in range(0, count, step)
-    )
+    blocks = (pairs_of(range(at, min(at + step, count)), others) for at in range(0, count, step))
     return sums(fighters, blocks, run, seed, formula)[:count]
+
+
+def pairs_of(first: ArrayLike, second: ArrayLike) -> NDArray[np.intp]:
+    """Returns each pair of one of the first numbers and one of the second ones."""
+    return np.array(np.meshgrid(first, second, indexing="ij"), np.intp).reshape(2, -1).T
 
 
 def is_short(run: Run, matches: int) -> bool:

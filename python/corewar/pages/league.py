@@ -11,7 +11,7 @@ from ..analysis.formatting import pluralize
 from ..engine.calls import Match
 from ..contests.league import League
 from ..model.settings import label
-from ..pictures.shades import mix_colours
+from ..pictures.colours import mix_colours
 from .render import render, write_page
 from .site import page_of, site_folder
 

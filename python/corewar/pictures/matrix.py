@@ -7,7 +7,7 @@ from matplotlib.patches import Patch
 
 from ..contests.league import League
 from .saving import save
-from .shades import LOST, TIED, WON, mix_colours
+from .colours import LOST, TIED, WON, mix_colours
 
 # The size of a cell, and the maximum size of the matrix, in inches; smaller letters, in points, are left out.
 CELL, SIDE, LETTER = 0.25, 20.0, 4.0

@@ -13,16 +13,16 @@ from ..model.errors import CorewarError, MarsError
 from ..model.machine import processors
 from ..model.settings import Settings
 from ..engine.warriors import Warrior
+from ..pages.site import NAMES
 
 JOBS = processors()
-# The names of settings in the messages of the page, in which 0 is the core size for a limit, and no position.
-NAMES = {"readLimit": "read_limit", "writeLimit": "write_limit"}
 
 
 def settings_of(given: dict[str, int]) -> Settings:
     """Returns the settings of a message, in which a limit of 0 is the core size."""
-    numbers: dict[str, Any] = {NAMES.get(name, name): int(value) for name, value in given.items()}
-    return Settings(**{**numbers, **{name: numbers.get(name) or None for name in NAMES.values()}})
+    ours = {theirs: name for name, theirs in NAMES.items()}
+    numbers: dict[str, Any] = {ours.get(name, name): int(value) for name, value in given.items()}
+    return Settings(**{**numbers, **{name: numbers.get(name) or None for name in NAMES}})
 
 
 def contest_of(given: dict[str, Any]) -> Contest:
