@@ -55,7 +55,8 @@ def fates(
     - `warriors`: the numbers of the warriors to look at, or None for all
     - `executor`: an executor of `concurrent.futures` that looks at the rounds, as for `outcomes`
 
-    Raises `MarsError` if the match is invalid, and `CorewarError` for errors of the executor.
+    In the `History` of round K, warrior N of the match has the number (N - K) modulo the number of warriors. Raises
+    `MarsError` if the match is invalid, and `CorewarError` for errors of the executor.
     """
     numbers = range(len(fight.warriors)) if warriors is None else warriors
     yield from chain.from_iterable(fates_of_rounds(fight, lost_rounds(fight, numbers), numbers, executor))
@@ -102,7 +103,7 @@ def cause_of_death(history: History, sources: Sources, names: Sequence[str], war
     line = sources.line(history, address, before)
     if line is not None:
         owner = "its line" if line.warrior == warrior else f"{names[line.warrior]}'s line"
-        cell = f"{owner} {line.number}: {line.text}"
+        cell = f"{owner} {line}"
     else:
         cell = "empty core" if history.owners(before)[address] == NOBODY else "an unknown line"
     if hit is None:
@@ -113,7 +114,7 @@ def cause_of_death(history: History, sources: Sources, names: Sequence[str], war
     if line is None:
         return cell, f"{name}, by an unknown line"
     owner = "" if line.warrior == killer else f"{names[line.warrior]}'s "
-    return cell, f"{name}, by {owner}line {line.number}: {line.text}"
+    return cell, f"{name}, by {owner}line {line}"
 
 
 def describe_losses(name: str, rounds: int, deaths: Sequence[Death]) -> Iterator[str]:
