@@ -1,5 +1,5 @@
 """Compiles the library as C for several machines, and compares what 2,000 random calls leave there with what the proved
-library leaves.
+library leaves; and what a program prints there with what it prints over the proved library.
 
 All are compiled from the archive of `make portable`, by its own makefile, two at a time: each takes a minute.
 """
@@ -14,13 +14,14 @@ from pathlib import Path
 
 import corewar
 import pytest
-from conftest import TOP
+from conftest import EXAMPLES, TOP
 from counting import skip
 from test_install import make_well
 
 NAME = f"libmars-{corewar.__version__}"
 # The stack that its README promises.
 STACK = 256 * 1024
+CONTEST = Path(__file__).with_name("contest.c")
 Done = subprocess.CompletedProcess[str]
 
 
@@ -42,6 +43,15 @@ class Machine:
         words = ["nice", "-n", "19", "make", "check", f"CC={self.compiler}", "CFLAGS=-O1", f"RUN={self.run}"]
         return subprocess.run(words, cwd=folder, capture_output=True, text=True, timeout=1200)
 
+    def contest(self, library: Path) -> str:
+        """Returns what the program prints over a library, whose header is beside it or in the checkout."""
+        program = library.parent / "contest"
+        words = [*self.compiler.split(), f"-I{library.parent}", f"-I{TOP / 'include'}", str(CONTEST), str(library)]
+        subprocess.run([*words, "-o", str(program)], check=True)
+        sources = [str(EXAMPLES / f"{name}.red") for name in ("dwarf", "imp", "silk", "paper", "scanner")]
+        done = subprocess.run([*self.run.split(), str(program), *sources], capture_output=True, text=True, check=True)
+        return done.stdout
+
 
 MACHINES = {
     "gcc": Machine("gcc", f"prlimit --stack={STACK}", "gcc util-linux"),
@@ -51,10 +61,14 @@ MACHINES = {
 
 
 @pytest.fixture(scope="module")
-def checks(tmp_path_factory: pytest.TempPathFactory) -> Iterator[dict[str, Future[Done]]]:
+def folder(tmp_path_factory: pytest.TempPathFactory) -> Path:
+    return tmp_path_factory.mktemp("machines")
+
+
+@pytest.fixture(scope="module")
+def checks(folder: Path) -> Iterator[dict[str, Future[Done]]]:
     """What the checks of the machines print, which are compiled two at a time."""
     make_well("portable")
-    folder = tmp_path_factory.mktemp("machines")
     shutil.unpack_archive(TOP / "build" / f"{NAME}.tar.gz", folder)
     with ThreadPoolExecutor(2) as pool:
         yield {
@@ -64,10 +78,24 @@ def checks(tmp_path_factory: pytest.TempPathFactory) -> Iterator[dict[str, Futur
         }
 
 
-@pytest.mark.parametrize("name", MACHINES)
-def test_calls_agree(name: str, checks: dict[str, Future[Done]]) -> None:
+def skip_missing(name: str) -> None:
     missing = MACHINES[name].missing()
     if missing:
         skip(f"the library as C on {name}", "a compiler or an emulator is missing", missing)
+
+
+@pytest.mark.parametrize("name", MACHINES)
+def test_calls_agree(name: str, checks: dict[str, Future[Done]]) -> None:
+    skip_missing(name)
     done = checks[name].result()
     assert (done.returncode, done.stdout.split("\n")[-2:]) == (0, ["2000 calls agree", ""]), done.stderr
+
+
+@pytest.mark.parametrize("name", MACHINES)
+def test_a_program_prints_the_same(name: str, checks: dict[str, Future[Done]], folder: Path, tmp_path: Path) -> None:
+    """A match, a session of the debugger and a league."""
+    skip_missing(name)
+    checks[name].result()
+    proved = MACHINES["gcc"].contest(Path(shutil.copy(TOP / "build" / "libmars.a", tmp_path)))
+    assert MACHINES[name].contest(folder / name / "libmars.a") == proved
+    assert "refused 2 Address" in proved and proved.count("points") == 7
