@@ -67,7 +67,8 @@ def executed_by(formatter: BattleFormatter, warrior: int) -> tuple[list[Executed
     turns wrote.
     """
     history, written = formatter.history, dict[str, list[list[int]]]()
-    for turn, _, (_, _, origin) in reversed(last_executed(history, warrior).tolist()):
+    last = last_executed(history, warrior)[::-1]
+    for turn, origin in zip(last["turn"].tolist(), last["past"]["origin"].tolist()):
         line = formatter.sources.lines.get(origin)
         text = f"{line.owner(formatter.names, warrior)} {line}".lstrip() if line else ""
         text = text or formatter.cell(history.executed(turn))
@@ -108,7 +109,7 @@ def what_executed(sources: Sources, warrior: int, turns: Records) -> Iterator[in
     """Yields for each of these turns of a warrior the line of the cell that it executed, or the number of the warrior
     that wrote this cell.
     """
-    for _, address, (writer, changed, origin) in turns.tolist():
+    for address, (writer, changed, origin) in zip(turns["address"].tolist(), turns["past"].tolist()):
         # A warrior that changes numbers of its own code still executes the same line.
         if not changed or (writer == warrior and origin == address):
             yield sources.lines.get(address)
