@@ -353,8 +353,8 @@ def test_lines_at_the_end_are_those_of_the_turns(names: tuple[str, ...]) -> None
             ties[(one + number) % len(names)] += 1
             traced = {
                 (line.warrior, line.number)
-                for turn, address, _ in last_executed(history, one).tolist()
-                if (line := sources.line(history, address, turn - 1))
+                for found in last_executed(history, one)
+                if (line := sources.line(history, int(found["address"]), int(found["turn"]) - 1))
             }
             summary = summarize_last_turns(history, sources, history.names, one)
             for owner, numbers in re.findall(r"(?:(\w+)'s )?lines? ((?:[\d-]+(?:, (?=\d))?)+)", summary):
