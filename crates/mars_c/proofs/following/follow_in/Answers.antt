@@ -5,5 +5,6 @@ use Rattle.mars_c.proofs.following.follow_in.Goals as goal
 
 pub put-requires : goal.put-requires
 put-requires c =
-    let room = ap capacity_of c.follow-count.ensures.battle ∙ capacity_played c.args.turns c.in-Ok-take.battle in
-    omega (arith, room, c.in-Ok-take.ensures.battle.capacity)
+    let playable = c.in-Ok.ensures.done.0 in
+    let room = ap capacity_of c.follow-count.ensures.battle ∙ capacity_played c.args.turns c.in-Ok.followed.battle in
+    omega (arith, room, playable.capacity)
