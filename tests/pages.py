@@ -104,6 +104,11 @@ def test_commands_are_those_of_the_terminal(page: Browser) -> None:
     assert not any(line.startswith("quit") for line in shown) and "A warrior W is a number" in "".join(shown)
     assert answer(page, "help rs") == "reverse-step [N|W]           step back in the same way (rs, back)"
     assert answer(page, "queue") == answer(page, "p") and answer(page, "quit").startswith("unknown command")
+    assert answer(page, "find dies imp") == "dies Imp: 1 time, after turn 7,798"
+    assert answer(page, "find splits dwar") == "splits Dwarf: never"
+    assert re.fullmatch(
+        r"changes 3 \(bomb\): [\d,]+ times, after turn (1, .*) and [\d,]+ more", answer(page, "f changes 3")
+    )
     # Only what moves or lists is repeated by an empty line.
     go_to_turn(page, 100)
     answer(page, "step 2")

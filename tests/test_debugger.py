@@ -3,6 +3,7 @@ from __future__ import annotations
 
 import itertools
 import os
+import re
 import signal
 import time
 from pathlib import Path
@@ -218,6 +219,20 @@ def test_reports() -> None:
     assert execute(session, "changed 4") == ["Cell 4 has not changed since the start."]
     assert execute(session, "queue imp") == ["Imp:"]
     assert [line.split()[0] for line in execute(session, "list 7999 3")] == ["7999", "0", "1"]
+
+
+def test_find_counts_places() -> None:
+    session = session_of("dwarf", "imp")
+    assert execute(session, "find dies imp") == ["dies Imp: 1 time, after turn 7798"]
+    assert execute(session, "f splits dwarf") == ["splits Dwarf: never"]
+    (line,) = execute(session, "find changes 3")
+    count, first = re.findall(r"changes 3 \(bomb\): (\d+) times, after turn ([\d, ]+) and", line)[0]
+    execute(session, "goto 0")
+    found = [session.turn for _ in range(3) if execute(session, "continue changes 3")]
+    assert [*map(int, first.split(", "))][:3] == found and int(count) > 20
+    # A cell is executed next after the turn before its own.
+    assert execute(session, "find at 1305") == ["at 1305: 1 time, after turn 1"]
+    assert refused(session, "find") == refused(session, "break at")
 
 
 def test_help_describes_each_command() -> None:

@@ -77,6 +77,13 @@ def find(
         yield battle.follow(pasts, end - start, rows)["turn"]
 
 
+def places(history: History, condition: Condition) -> NDArray[np.int64]:
+    """Returns all places at which a condition holds, in order."""
+    parts = [turns.astype(np.int64) for turns in find(history, condition.rows)]
+    # `at` holds at the place before its turn.
+    return np.concatenate(parts) - (condition.word == "at")
+
+
 def search(
     history: History, conditions: Sequence[Condition], turn: int, forward: bool = True
 ) -> tuple[int, Condition] | None:

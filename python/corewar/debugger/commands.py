@@ -12,7 +12,7 @@ import numpy as np
 
 from ..analysis.causes import describe_cause, describe_change, describe_death
 from ..analysis.formatting import pluralize
-from ..battle.conditions import Condition, search
+from ..battle.conditions import Condition, places, search
 from ..explain.instructions import describe_instruction
 from ..model.cells import MODES
 from ..model.edits import Edit
@@ -23,6 +23,8 @@ from .session import MAX_FILLED_CELLS, Session
 Act = Callable[[Session, str], Iterable[str]]
 # How many cells `list` shows, also around each warrior's next process, and how many turns before a death `why` shows.
 CELLS, AROUND, TURNS = 11, 7, 4
+# How many turns `find` lists.
+LISTED = 20
 
 
 class QuitDebugger(Exception):
@@ -160,6 +162,15 @@ def search_from_here(session: Session, rest: str, forward: bool) -> Iterator[str
     conditions = [session.condition(rest.split())] if rest else [*session.breakpoints.values()]
     yield f"{session.describe_condition(session.search(conditions, forward))}:"
     yield from show_position(session)
+
+
+@command("find")
+def find_places(session: Session, rest: str) -> Iterator[str]:
+    condition = session.condition(rest.split())
+    found = places(session.history, condition)
+    first, more = ", ".join(map(str, found[:LISTED])), f" and {len(found) - LISTED} more" * (len(found) > LISTED)
+    times = f"{pluralize(len(found), 'time')}, after turn {first}{more}" if len(found) else "never"
+    yield f"{session.describe_condition(condition)}: {times}"
 
 
 @command("break")

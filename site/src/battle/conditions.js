@@ -85,6 +85,21 @@ export function search(history, conditions, turn, isForward) {
 }
 
 /**
+ * Returns how often a condition holds, and the first places where it does, at most `most`.
+ * @param {History} history
+ * @param {Condition} condition
+ * @param {number} most
+ */
+export function count(history, condition, most) {
+  const found = { count: 0, first: /** @type {number[]} */ ([]) };
+  for (const places of placesOf(history, condition, { first: 0, last: history.end, isForward: true })) {
+    found.count += places.length;
+    if (found.first.length < most) found.first.push(...places.slice(0, most - found.first.length));
+  }
+  return found;
+}
+
+/**
  * Returns the places where one of the conditions holds, in order, at most `most`.
  * @param {History} history
  * @param {Condition[]} conditions

@@ -21,7 +21,7 @@ import {
 
 /** The number of cells that `list` shows, and around each warrior's next process. */
 const [CELLS, AROUND] = [11, 7];
-/** The number of processes that `queue` lists at most. */
+/** How many processes `queue` lists at most, and how many turns `find`. */
 const LISTED = 20;
 
 /**
@@ -84,6 +84,15 @@ function readTurn(session, text) {
   if (text === "end") return session.end;
   if (/^[+-]\d{1,9}$/.test(text)) return session.turn + Number(text);
   return readNumber(text, "a turn, `start`, `end`, +N or -N");
+}
+
+/** @type {Act} */
+async function find(session, rest) {
+  const condition = readCondition(session, rest);
+  const { count, first } = await session.desk.count(session.future, condition, LISTED);
+  const more = count > first.length ? ` and ${number(count - first.length)} more` : "";
+  const times = `${number(count)} ${count === 1 ? "time" : "times"}, after turn ${first.map(number).join(", ")}${more}`;
+  return [`${conditionWords(session, condition)}: ${count ? times : "never"}`];
 }
 
 /** @type {Act} */
@@ -303,6 +312,7 @@ export const ACTS = {
   until,
   continue: (session, rest) => search(session, rest, true),
   "reverse-continue": (session, rest) => search(session, rest, false),
+  find,
   break: setBreak,
   delete: deleteBreak,
   undo: (session) => session.undo().then(() => here(session)),

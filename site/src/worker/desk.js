@@ -1,5 +1,5 @@
 /** The battle that the page shows, with all its futures, and the answers to the page's questions about it. */
-import { hits, search } from "../battle/conditions.js";
+import { count, hits, search } from "../battle/conditions.js";
 import { History } from "../battle/history.js";
 import { Histories } from "./histories.js";
 import { Painter } from "./picture.js";
@@ -236,6 +236,16 @@ export class Desk {
    */
   search(future, conditions, turn, forward) {
     return search(this.#history(future), conditions, turn, forward);
+  }
+
+  /**
+   * Returns how often a condition holds, and the first places where it does, at most `most`.
+   * @param {number} future
+   * @param {Condition} condition
+   * @param {number} most
+   */
+  count(future, condition, most) {
+    return count(this.#history(future), condition, most);
   }
 
   /**

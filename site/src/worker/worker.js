@@ -7,7 +7,8 @@ import { Jobs } from "./jobs.js";
 /** @typedef {{id: number, call: string, given: unknown[]}} CallMessage */
 /** @typedef {Record<string, (...given: unknown[]) => unknown>} Calls */
 
-const DESK_CALLS = "open show edit turn origins move overview story paint search hits why until cell cellOf memory";
+const DESK_CALLS =
+  "open show edit turn origins move overview story paint search count hits why until cell cellOf memory";
 const JOB_CALLS = "assemble warriors match scores round sweep positions checkFormula".split(" ");
 
 /**
