@@ -91,7 +91,7 @@ def test_calls_agree(name: str, checks: dict[str, Future[Done]]) -> None:
     assert (done.returncode, done.stdout.split("\n")[-2:]) == (0, ["2000 calls agree", ""]), done.stderr
 
 
-@pytest.mark.parametrize("name", MACHINES)
+@pytest.mark.parametrize("name", ["gcc", "arm64"])
 def test_a_program_prints_the_same(name: str, checks: dict[str, Future[Done]], folder: Path, tmp_path: Path) -> None:
     """A match, a session of the debugger and a league."""
     skip_missing(name)
