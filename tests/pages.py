@@ -272,7 +272,8 @@ def test_the_strip_is_a_picture_or_curves(page: Browser, site: str) -> None:
     page.mouse(1, 1)
     assert float(page.value("getComputedStyle(document.getElementById('curves')).opacity")) > 0.8
     page.run("document.getElementById('curves').click()")
-    # Samples have fewer.
+    # Samples have fewer. The story is read after the battle is drawn.
+    page.until("corewar.session.opened.events.some(({kind}) => kind === 'most')")
     most = page.value("Math.max(...corewar.session.opened.events.map(({count, kind}) => kind === 'most' ? count : 0))")
     assert most > page.value("Math.max(...corewar.session.opened.overview.processes)")
     page.until(f"texts.includes('processes, up to {most:,}')")
