@@ -33,13 +33,13 @@ export class Sampler {
   }
 
   /**
-   * Plays up to a turn.
+   * Plays up to a turn, or to the end.
    * @param {import("../engine/mars.js").Mars} mars
    * @param {Place} place
    * @param {number} turn
    */
   playTo(mars, place, turn) {
-    while (place.turn < turn) {
+    while (place.turn < turn && !place.battle.over) {
       const [late, left] = [(place.turn - this.first) % this.step, turn - place.turn];
       const isWhole = late === 0 && left >= this.step;
       const [step, count] = isWhole ? [this.step, Math.floor(left / this.step)] : [Math.min(this.step - late, left), 1];
@@ -58,7 +58,10 @@ export class Sampler {
     for (let at = 0, count = before; at < rows.length; at += WORDS) {
       const own = (/** @type {number} */ offset) => rows.subarray(at + offset / 4, at + offset / 4 + warriors);
       const [split, now] = [rows[at + MarsMoment.found / 4], sum(own(MarsMoment.processes))];
-      turns.push(rows[at + MarsMoment.turns / 4]);
+      const turn = rows[at + MarsMoment.turns / 4];
+      // After the end all rows are the same.
+      if (turn === turns[turns.length - 1]) break;
+      turns.push(turn);
       cells.push(...own(MarsMoment.cells));
       processes.push(...own(MarsMoment.processes));
       splits.push(split);

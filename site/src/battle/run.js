@@ -1,4 +1,5 @@
 /** A run of a battle: marks at regular distances, from which the battle after any turn is played. */
+import { MarsBattle } from "../model/layout.js";
 import { MAX_TURNS } from "../model/settings.js";
 import { Sampler } from "./overview.js";
 import { EVENTS, by, foundIn } from "./records.js";
@@ -16,11 +17,48 @@ const MAX_MARK_BYTES = 76 << 20;
 export const MOMENTS = 1200;
 const TOO_LONG = `The battle is too long: the site shows at most ${MAX_TURNS.toLocaleString("en")} turns.`;
 
-/** Returns the least power of two, from `least` on, by which so many turns have at most `most` steps. */
+/** Returns the least power of two, from `least` on, by which a number of turns has at most `most` steps. */
 function stepOf(/** @type {number} */ turns, /** @type {number} */ most, least = 1) {
   let step = least;
   while (Math.ceil(turns / step) > most) step *= 2;
   return step;
+}
+
+/**
+ * Returns at least as many turns as a battle has left, not many more if no warrior dies. Throws an error if it has too
+ * many.
+ * @param {Mars} mars
+ * @param {Place} place
+ */
+function mostTurns(mars, { battle }) {
+  const living = battle.warriors - battle.deaths.length;
+  const most = living * (battle.field(MarsBattle.cycles) - battle.cycle);
+  if (battle.turns + most <= MAX_TURNS) return most;
+  // A battle that is too long is rejected soon: playing it without pasts takes a small part of the time.
+  const trial = battle.copy();
+  mars.play(trial, MAX_TURNS - trial.turns);
+  if (!trial.over) throw new Error(TOO_LONG);
+  return trial.turns - battle.turns;
+}
+
+/**
+ * Plays a battle to its end, with samples and marks for a number of turns.
+ * @param {Mars} mars
+ * @param {Place} place which is moved to the end
+ * @param {number} turns
+ */
+function play(mars, place, turns) {
+  const maxMarks = Math.max(1, Math.floor(MAX_MARK_BYTES / place.bytes));
+  const step = stepOf(turns, MOMENTS - 1);
+  const stride = stepOf(turns, maxMarks, Math.max(STRIDE, step));
+  const sampler = new Sampler(place, step);
+  /** @type {Place[]} */
+  const marks = [];
+  do {
+    marks.push(place.copy());
+    sampler.playTo(mars, place, place.turn + stride);
+  } while (!place.battle.over);
+  return { step, stride, marks, ending: place, overview: sampler.overview };
 }
 
 /** A battle from its start, or from an edit, to its end. */
@@ -32,25 +70,19 @@ export class Run {
    * @param {{edit: Edit | null, dead: number}} before the edit before the start, and the number of deaths before that
    */
   constructor(mars, place, { edit, dead } = { edit: null, dead: 0 }) {
-    // A battle that is too long is rejected soon: playing it without pasts takes a small part of the time.
-    const trial = place.battle.copy();
-    mars.play(trial, MAX_TURNS - trial.turns);
-    if (!trial.over) throw new Error(TOO_LONG);
     this.mars = mars;
     this.first = place.turn;
     this.edit = edit;
-    const turns = trial.turns - place.turn;
-    const sampler = new Sampler(place, stepOf(turns, MOMENTS - 1));
-    this.stride = stepOf(turns, Math.max(1, Math.floor(MAX_MARK_BYTES / place.bytes)), Math.max(STRIDE, sampler.step));
-    /** @type {Place[]} */
-    this.marks = [];
-    do {
-      this.marks.push(place.copy());
-      sampler.playTo(mars, place, Math.min(place.turn + this.stride, trial.turns));
-    } while (!place.battle.over);
-    this.ending = place;
-    this.overview = sampler.overview;
-    this.deaths = place.battle.deaths.slice(dead).map((death) => this.#death(death));
+    let played = play(mars, place, mostTurns(mars, place));
+    const turns = played.ending.turn - this.first;
+    // If it ends early, its samples are closer.
+    if (stepOf(turns, MOMENTS - 1) < played.step) played = play(mars, played.marks[0].copy(), turns);
+    const { marks, stride, ending, overview } = played;
+    this.marks = marks;
+    this.stride = stride;
+    this.ending = ending;
+    this.overview = overview;
+    this.deaths = ending.battle.deaths.slice(dead).map((death) => this.#death(death));
     this.story = new Story(this);
   }
 

@@ -12,8 +12,8 @@ import { BY_HAND } from "../model/cells.js";
 /** @typedef {import("../model/fight.js").Fight} Fight */
 /**
  * A future as it is opened. Warriors are in the order of their turns; `order` says which source each is. `lines` has
- * the warrior and the line of each origin, and the address where it was loaded. `events` are those that are known before
- * the story is read.
+ * the warrior and the line of each origin, and the address where it was loaded. `events` are those that are known
+ * before the story is read.
  * @typedef {object} Opened
  * @property {number} future
  * @property {number} core
@@ -206,8 +206,8 @@ export class Desk {
   }
 
   /**
-   * Reads a part of the story of a future, which plays its turns again. Returns all of it once there is no more to read,
-   * until then null.
+   * Reads a part of the story of a future, which plays its turns again. Returns all of it once there is no more to
+   * read, until then null.
    * @param {number} future
    */
   story(future) {
