@@ -32,13 +32,15 @@ export class Core {
   #inner = 1;
   #gap = 0;
   #margin = 0;
+  /** Whether cells are large enough for their texts. */
+  #isReadable = false;
   /** Where columns and rows begin and end. */
   #xs = new Uint32Array(2);
   #ys = new Uint32Array(2);
   #image = new ImageData(1, 1);
   #pixels = new Uint32Array(1);
   #processOwners = new Uint8Array(1);
-  /** What cells add to those around them: a pixel for each cell, which is drawn large and smooth. */
+  /** What cells add to those around them: a pixel for each cell, which the browser shows large and smooth. */
   #glow = document.createElement("canvas");
   #glowImage = new ImageData(1, 1);
   #glows = new Uint32Array(1);
@@ -47,6 +49,8 @@ export class Core {
   constructor(canvas) {
     this.canvas = canvas;
     this.context = /** @type {CanvasRenderingContext2D} */ (canvas.getContext("2d"));
+    this.#glow.className = "glow";
+    canvas.after(this.#glow);
   }
 
   /**
@@ -68,6 +72,7 @@ export class Core {
     this.cell = Math.max(1, Math.floor(unit));
     this.#gap = unit >= 12 * ratio ? 2 : unit >= 4 ? 1 : 0;
     this.#inner = this.cell - this.#gap;
+    this.#isReadable = this.cell >= READABLE * ratio;
     this.#margin = margin;
     this.#xs = ends(columns, x);
     this.#ys = ends(rows, y);
@@ -76,13 +81,21 @@ export class Core {
     this.canvas.height = tall + 2 * margin;
     // A cell has at least one pixel of the canvas. If there are more cells than pixels of the screen, it is shrunk.
     const scale = ratio * Math.max(1, 1 / unit);
-    this.canvas.style.width = `${this.canvas.width / scale}px`;
-    this.canvas.style.height = `${this.canvas.height / scale}px`;
+    for (const [shown, width, height] of /** @type {const} */ ([
+      [this.canvas, this.canvas.width, this.canvas.height],
+      [this.#glow, wide, tall],
+    ])) {
+      shown.style.width = `${width / scale}px`;
+      shown.style.height = `${height / scale}px`;
+    }
     this.#image = this.context.createImageData(wide, tall);
     this.#pixels = new Uint32Array(this.#image.data.buffer);
     this.#processOwners = new Uint8Array(size);
     this.#glow.width = columns;
     this.#glow.height = rows;
+    this.#glow.hidden = this.#isReadable;
+    // Small cells are bright enough beside each other.
+    this.#glow.style.opacity = String(Math.min(1, this.cell / (8 * ratio)));
     this.#glowImage = new ImageData(columns, rows);
     this.#glows = new Uint32Array(this.#glowImage.data.buffer);
   }
@@ -101,24 +114,8 @@ export class Core {
     context.clearRect(0, 0, canvas.width, canvas.height);
     context.putImageData(this.#image, this.#margin, this.#margin);
     if (this.#isReadable) this.#drawTexts(view);
-    else this.#drawGlow();
+    else this.#glow.getContext("2d")?.putImageData(this.#glowImage, 0, 0);
     this.#drawMarks(palette, marks, this.cell < LARGE * devicePixelRatio ? few : []);
-  }
-
-  #drawGlow() {
-    const { context } = this;
-    this.#glow.getContext("2d")?.putImageData(this.#glowImage, 0, 0);
-    context.globalCompositeOperation = "lighter";
-    // Small cells are bright enough beside each other.
-    context.globalAlpha = Math.min(1, this.cell / (8 * devicePixelRatio));
-    context.imageSmoothingEnabled = true;
-    context.drawImage(this.#glow, this.#margin, this.#margin, this.#xs[this.columns], this.#ys[this.rows]);
-    context.globalCompositeOperation = "source-over";
-    context.globalAlpha = 1;
-  }
-
-  get #isReadable() {
-    return this.cell >= READABLE * devicePixelRatio;
   }
 
   /**
@@ -128,7 +125,7 @@ export class Core {
    * @param {number} grain
    */
   #drawCells({ owner, written, turn }, { shades, glows, back }, grain) {
-    const [pixels, xs, ys] = [this.#pixels, this.#xs, this.#ys];
+    const [pixels, xs, ys, own, gap] = [this.#pixels, this.#xs, this.#ys, this.#glows, this.#gap];
     const { width } = this.#image;
     pixels.fill(back);
     for (let row = 0; row < this.rows; row++) {
@@ -140,11 +137,11 @@ export class Core {
         const age = when === 0 ? SHADES : Math.min(SHADES, Math.floor((turn - when) / grain));
         const index = owner[address] * (SHADES + 1) + age;
         const shade = shades[index];
-        this.#glows[address] = glows[index];
-        const to = start + xs[column + 1] - this.#gap;
+        own[address] = glows[index];
+        const to = start + xs[column + 1] - gap;
         for (let x = start + xs[column]; x < to; x++) pixels[x] = shade;
       }
-      for (let line = ys[row] + 1; line < ys[row + 1] - this.#gap; line++) {
+      for (let line = ys[row] + 1; line < ys[row + 1] - gap; line++) {
         pixels.copyWithin(line * width, start, start + width);
       }
     }
@@ -188,10 +185,11 @@ export class Core {
       return;
     }
     const edge = this.cell >= 5 ? Math.max(1, Math.floor(this.cell / 6)) : 0;
-    const [wide, tall] = [xs[column + 1] - xs[column] - this.#gap, ys[row + 1] - ys[row] - this.#gap];
+    const last = xs[column + 1] - xs[column] - this.#gap - edge;
+    const tall = ys[row + 1] - ys[row] - this.#gap;
     for (let line = isSecond ? Math.floor(tall / 2) : edge; line < tall - edge; line++) {
       const at = start + line * width;
-      pixels.fill(colour, at + edge, at + wide - edge);
+      for (let x = edge; x < last; x++) pixels[at + x] = colour;
     }
   }
 

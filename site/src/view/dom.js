@@ -85,6 +85,9 @@ export function debounce(act, wait) {
   };
 }
 
+/** Milliseconds between two numbers while a battle plays: more of them cannot be read, and each costs a layout. */
+export const READING = 100;
+
 /**
  * Returns a function that calls another one some milliseconds later, however often it is called until then.
  * @param {() => void} act

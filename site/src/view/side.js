@@ -3,7 +3,7 @@ import { cellText, readCell } from "../model/cells.js";
 import { editText } from "../model/fight.js";
 import { eventWords, fateWords, joinNames, moveWords, number, outcome, place, pluralize } from "../words/battle.js";
 import { instructionWords } from "../words/instruction.js";
-import { element, make, onClick, refill } from "./dom.js";
+import { READING, element, make, onClick, refill, throttle } from "./dom.js";
 import { swatch } from "./palette.js";
 
 /** @typedef {import("../battle/story.js").Event} Event */
@@ -33,7 +33,12 @@ export class Side {
     onClick("undo", () => session.undo());
     onClick("redo", () => session.redo());
     onClick("alone", () => session.compare(null));
+    const follow = throttle(() => this.#draw(), READING);
     session.listen((change) => {
+      if (change === "turn" && session.way) {
+        follow();
+        return;
+      }
       if (change === "battle") this.#open();
       if (change === "story") this.#tell("");
       this.#draw();

@@ -4,7 +4,7 @@ import { captionWords, haltWords, number, place, standingWords, writtenWords } f
 import { instructionWords } from "../words/instruction.js";
 import { linkWords } from "../words/why.js";
 import { Core } from "./core.js";
-import { buttons, element, isNarrow, make, onClick, placeTip, refill, typed } from "./dom.js";
+import { READING, buttons, element, isNarrow, make, onClick, placeTip, refill, throttle, typed } from "./dom.js";
 import { marksOf } from "./marks.js";
 import { Palette } from "./palette.js";
 import { standingNames, standingOn } from "./standing.js";
@@ -41,6 +41,7 @@ export class Theatre {
   #wait;
   #caption = "";
   #saidAt = 0;
+  #follow = throttle(() => this.#drawNow(), READING);
   /** What is said below the core in place of the caption, until another turn is shown. */
   #notice = "";
 
@@ -223,7 +224,8 @@ export class Theatre {
     this.#showEnding(view.turn === opened.end && way === 0);
     if (way) this.track.follow(view.turn);
     this.track.draw(palette, view.turn);
-    this.#drawNow(view);
+    if (way) this.#follow();
+    else this.#drawNow();
     this.#drawCaption(view);
     this.#drawTip(view);
   }
@@ -273,10 +275,11 @@ export class Theatre {
     this.ask();
   }
 
-  /** @param {View} view */
-  #drawNow(view) {
+  #drawNow() {
+    const { known, end, view } = this.session;
+    if (!view) return;
     const { turn, cycle } = view;
-    const { known, end } = this.session;
+    this.track.moveSlider(turn);
     element("whole").hidden = this.track.isWhole;
     const rest = make("span", { className: "cycle" }, ` · cycle ${number(cycle)}`);
     refill(element("now"), make("b", {}, `Turn ${number(turn)}`), make("span", {}, ` of ${number(end)}`), rest);

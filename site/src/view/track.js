@@ -193,6 +193,10 @@ export class Track {
     context.drawImage(this.#film, 0, 0, width, height);
     context.fillStyle = "#fff";
     context.fillRect(now - 1, 0, 2, height - FOOT + 4);
+  }
+
+  /** @param {number} turn */
+  moveSlider(turn) {
     this.slider.min = String(this.first);
     this.slider.max = String(this.last);
     this.slider.value = String(turn);
