@@ -157,6 +157,13 @@ test("a cell that is edited at the start is not loaded", () => {
   assert.equal(writtenWords(0, 7, known(["Lace"])), "Written by Lace in turn 7");
 });
 
+test("the next change of a cell may be an edit", () => {
+  const desk = new Desk(mars);
+  desk.open(fightOf(["JMP 0\n"]));
+  const { future } = desk.edit(0, 7, { kind: "cell", address: 5, last: 5, cell: desk.cellOf("NOP 0") });
+  assert.deepEqual([0, 6, 7].map((turn) => desk.cell(future, 5, turn).next), [7, 7, null]);
+});
+
 test("the winner is found by who lives, whatever it is called", () => {
   const names = ["A tie", "Imp"];
   assert.equal(fateWords({ ...known(names), deaths: [{ warrior: 1 }] }), "wins");
