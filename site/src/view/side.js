@@ -17,6 +17,8 @@ import { swatch } from "./palette.js";
 
 /** With more warriors than that, rows are small. */
 const MAX_LARGE_ROWS = 4;
+/** The least height of the story: that of a short one. */
+const STORY = "9em";
 const PAUSE = "Pause, or step with the arrow keys, to read each turn in words.";
 
 export class Side {
@@ -40,7 +42,7 @@ export class Side {
         return;
       }
       if (change === "battle") this.#open();
-      if (change === "story") this.#tell("");
+      if (change === "story") this.#tell(STORY);
       this.#draw();
     });
   }
@@ -56,7 +58,7 @@ export class Side {
     element("legend").className = names.length > MAX_LARGE_ROWS ? "many" : "";
     refill(element("legend"), ...this.#rows.map(({ row }) => row));
     // Until it has been read, what is below stays in its place.
-    this.#tell(`max(12em, ${element("story").offsetHeight}px)`);
+    this.#tell(`max(${STORY}, ${element("story").offsetHeight}px)`);
     this.#openFutures();
   }
 
