@@ -275,7 +275,8 @@ def test_the_strip_is_a_picture_or_curves(page: Browser, site: str) -> None:
     # Samples have fewer. The story is read after the battle is drawn.
     page.until("corewar.session.opened.events.some(({kind}) => kind === 'most')")
     most = page.value("Math.max(...corewar.session.opened.events.map(({count, kind}) => kind === 'most' ? count : 0))")
-    assert most > page.value("Math.max(...corewar.session.opened.overview.processes)")
+    sampled = "(await corewar.session.desk.overview(corewar.session.future, 0, corewar.session.end)).processes"
+    assert most > page.run(f"return Math.max(...{sampled})")
     page.until(f"texts.includes('processes, up to {most:,}')")
     page.open(f"{site}?curves")
     page.until("window.corewar?.session.view")

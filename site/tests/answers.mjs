@@ -25,7 +25,7 @@ function opened(desk, { edits, ...fight }) {
 
 function answer({ turns, questions, ...fight }) {
   const desk = new Desk(mars);
-  const { future, end, deaths, lines, overview } = opened(desk, fight);
+  const { future, end, deaths, lines } = opened(desk, fight);
   const states = turns.map((given) => {
     const turn = Math.min(given, end);
     const { owner, written, head, cycle, queues } = desk.turn(future, turn);
@@ -37,7 +37,7 @@ function answer({ turns, questions, ...fight }) {
     desk.search(future, [condition], Math.min(turn, end), forward),
   );
   const dead = deaths.map(({ turn, warrior }) => [warrior, turn]);
-  const { turns: moments, cells, processes } = overview;
+  const { turns: moments, cells, processes } = desk.overview(future, 0, end);
   return { end, states, found: found.map((one) => one?.turn ?? null), dead, moments, cells, processes };
 }
 

@@ -9,7 +9,7 @@ import { describe } from "../engine/warrior.js";
 import { Sampler } from "./overview.js";
 import { Place } from "./place.js";
 import { deedOf, isChanged, turnsOf } from "./records.js";
-import { MOMENTS, Run } from "./run.js";
+import { Run } from "./run.js";
 import { EVENT } from "./story.js";
 
 /** @typedef {import("../engine/mars.js").Mars} Mars */
@@ -23,6 +23,8 @@ import { EVENT } from "./story.js";
  * @typedef {Omit<import("../model/fight.js").Fight, "warriors" | "edits"> & {warriors: Warrior[]}} Match
  */
 
+/** The maximum number of moments of an overview. */
+const MOMENTS = 1200;
 /** The index of an origin that was not loaded. */
 const UNKNOWN = 0xffffffff;
 
@@ -250,7 +252,6 @@ export class History {
    * @returns {Overview}
    */
   overview(first, last) {
-    if (first === 0 && last === this.end) return this.#whole();
     let place = this.place(first).copy();
     const sampler = new Sampler(place, Math.max(1, Math.ceil((2 * (last - first)) / MOMENTS)));
     for (const { run, last: end } of this.segments) {
@@ -260,24 +261,6 @@ export class History {
       sampler.playTo(this.mars, place, Math.min(end, last));
     }
     return sampler.overview;
-  }
-
-  /** Returns the samples of all segments. */
-  #whole() {
-    const count = this.order.length;
-    /** @type {Overview} */
-    const all = { turns: [], cells: [], processes: [], splits: [], ends: [] };
-    for (const { run, last } of this.segments) {
-      const { turns, cells, processes, splits, ends } = run.overview;
-      const found = turns.findIndex((turn) => turn > last);
-      const used = found < 0 ? turns.length : found;
-      all.turns.push(...turns.slice(0, used));
-      all.splits.push(...splits.slice(0, used));
-      all.ends.push(...ends.slice(0, used));
-      all.cells.push(...cells.slice(0, used * count));
-      all.processes.push(...processes.slice(0, used * count));
-    }
-    return all;
   }
 
   /**

@@ -1,7 +1,6 @@
 /** A run of a battle: marks at regular distances, from which the battle after any turn is played. */
 import { MarsBattle } from "../model/layout.js";
 import { MAX_TURNS } from "../model/settings.js";
-import { Sampler } from "./overview.js";
 import { EVENTS, by, foundIn } from "./records.js";
 import { EVENT, Story } from "./story.js";
 
@@ -13,16 +12,7 @@ import { EVENT, Story } from "./story.js";
 /** The distance of marks in turns, at least, and the bytes of all marks of a run. */
 const STRIDE = 16_384;
 const MAX_MARK_BYTES = 76 << 20;
-/** The maximum number of moments of an overview. */
-export const MOMENTS = 1200;
 const TOO_LONG = `The battle is too long: the site shows at most ${MAX_TURNS.toLocaleString("en")} turns.`;
-
-/** Returns the least power of two, from `least` on, by which a number of turns has at most `most` steps. */
-function stepOf(/** @type {number} */ turns, /** @type {number} */ most, least = 1) {
-  let step = least;
-  while (Math.ceil(turns / step) > most) step *= 2;
-  return step;
-}
 
 /**
  * Returns at least as many turns as a battle has left, not many more if no warrior dies. Throws an error if it has too
@@ -42,23 +32,15 @@ function mostTurns(mars, { battle }) {
 }
 
 /**
- * Plays a battle to its end, with samples and marks for a number of turns.
- * @param {Mars} mars
- * @param {Place} place which is moved to the end
+ * Returns the distance of marks in a run of a number of turns: a power of two by which they do not take too many bytes.
+ * @param {Place} place
  * @param {number} turns
  */
-function play(mars, place, turns) {
-  const maxMarks = Math.max(1, Math.floor(MAX_MARK_BYTES / place.bytes));
-  const step = stepOf(turns, MOMENTS - 1);
-  const stride = stepOf(turns, maxMarks, Math.max(STRIDE, step));
-  const sampler = new Sampler(place, step);
-  /** @type {Place[]} */
-  const marks = [];
-  do {
-    marks.push(place.copy());
-    sampler.playTo(mars, place, place.turn + stride);
-  } while (!place.battle.over);
-  return { step, stride, marks, ending: place, overview: sampler.overview };
+function strideOf(place, turns) {
+  const most = Math.max(1, Math.floor(MAX_MARK_BYTES / place.bytes));
+  let stride = STRIDE;
+  while (Math.ceil(turns / stride) > most) stride *= 2;
+  return stride;
 }
 
 /** A battle from its start, or from an edit, to its end. */
@@ -73,16 +55,15 @@ export class Run {
     this.mars = mars;
     this.first = place.turn;
     this.edit = edit;
-    let played = play(mars, place, mostTurns(mars, place));
-    const turns = played.ending.turn - this.first;
-    // If it ends early, its samples are closer.
-    if (stepOf(turns, MOMENTS - 1) < played.step) played = play(mars, played.marks[0].copy(), turns);
-    const { marks, stride, ending, overview } = played;
-    this.marks = marks;
-    this.stride = stride;
-    this.ending = ending;
-    this.overview = overview;
-    this.deaths = ending.battle.deaths.slice(dead).map((death) => this.#death(death));
+    this.stride = strideOf(place, mostTurns(mars, place));
+    /** @type {Place[]} */
+    this.marks = [];
+    do {
+      this.marks.push(place.copy());
+      place.playTo(mars, place.turn + this.stride);
+    } while (!place.battle.over);
+    this.ending = place;
+    this.deaths = place.battle.deaths.slice(dead).map((death) => this.#death(death));
     this.story = new Story(this);
   }
 

@@ -7,13 +7,13 @@ import { clamp } from "./dom.js";
  * @typedef {object} Drawing
  * @property {CanvasRenderingContext2D} context
  * @property {import("./palette.js").Palette} palette
- * @property {import("../battle/overview.js").Overview} overview
  * @property {number} warriors
  * @property {number} width
  * @property {number} middle
  * @property {number} bottom
  * @property {(turn: number) => number} x
  */
+/** @typedef {Drawing & {overview: import("../battle/overview.js").Overview}} Film */
 
 export const FONT = "11px system-ui, sans-serif";
 const GROUND = "#0e1217";
@@ -46,7 +46,7 @@ function roundStep(minimum) {
 }
 
 /**
- * @param {Drawing} drawing
+ * @param {Film} drawing
  * @param {{count: number}[]} peaks the most processes of each warrior: samples may miss that
  */
 export function drawCurves(drawing, peaks) {
@@ -58,7 +58,7 @@ export function drawCurves(drawing, peaks) {
 
 /**
  * Draws the cells of the warriors, stacked. Returns the largest sum.
- * @param {Drawing} drawing
+ * @param {Film} drawing
  */
 function drawCells({ context, palette, overview: { turns, cells }, warriors, middle, x }) {
   const below = new Float64Array(turns.length);
@@ -83,7 +83,7 @@ function drawCells({ context, palette, overview: { turns, cells }, warriors, mid
 
 /**
  * Draws the processes of the warriors. Returns the largest number.
- * @param {Drawing} drawing
+ * @param {Film} drawing
  */
 function drawProcesses({ context, palette, overview: { turns, processes }, warriors, middle, bottom, x }) {
   const maximum = processes.reduce((one, other) => Math.max(one, other), 1);
@@ -105,7 +105,7 @@ function drawProcesses({ context, palette, overview: { turns, processes }, warri
 
 /**
  * Draws splits and ends of processes, bright if there were many.
- * @param {Drawing} drawing
+ * @param {Film} drawing
  */
 function drawTicks({ context, overview: { turns, splits, ends }, middle, x }) {
   const maximum = [...splits, ...ends].reduce((one, other) => Math.max(one, other), 1);
@@ -120,7 +120,7 @@ function drawTicks({ context, overview: { turns, splits, ends }, middle, x }) {
 }
 
 /**
- * @param {Drawing} drawing
+ * @param {Film} drawing
  * @param {number} maxCells
  * @param {number} maxProcesses
  */

@@ -65,6 +65,7 @@ export class Track {
     this.#drawn = [];
     this.paint();
     this.changed();
+    this.#sample();
   }
 
   /** Paints what is shown, a point of the screen for each of the picture. */
@@ -79,20 +80,20 @@ export class Track {
 
   /** @param {import("../worker/desk.js").Opened} opened */
   open(opened) {
-    const { overview, end, deaths, edits, order } = opened;
+    const { end, deaths, edits, order } = opened;
     this.opened = opened;
     this.#hits = [];
     this.#peaks = [];
-    this.#overview = overview;
+    this.#overview = null;
     this.#end = this.last = end;
     this.#deaths = deaths;
     this.#edits = edits.map(({ turn }) => turn);
     this.#warriors = order.length;
     this.first = 0;
-    this.#request++;
     this.picture.clear();
     // The turn that is shown first comes before it.
     this.#paint();
+    this.#sample();
   }
 
   /**
@@ -125,10 +126,15 @@ export class Track {
     const length = clamp(last - first, Math.min(MIN_LENGTH, this.#end), this.#end);
     this.first = Math.round(clamp(first, 0, this.#end - length));
     this.last = Math.round(this.first + length);
-    const request = ++this.#request;
     this.changed();
     this.#paint();
-    if (!this.hasCurves) return;
+    await this.#sample();
+  }
+
+  /** Reads the samples of what is shown, if curves are. Those before stay until then. */
+  async #sample() {
+    const request = ++this.#request;
+    if (!this.hasCurves || !this.opened) return;
     const overview = await this.ask(this.first, this.last);
     if (!overview || request !== this.#request) return;
     this.#overview = overview;
@@ -177,12 +183,12 @@ export class Track {
     const { canvas } = this;
     const { clientWidth: width, clientHeight: height } = canvas;
     const context = canvas.getContext("2d");
-    if (!context || !this.#overview || !width) return;
+    if (!context || !this.opened || !width) return;
     const what = [palette, this.#overview, this.#hits, this.first, this.last, width, height, devicePixelRatio];
     if (what.some((value, index) => value !== this.#drawn[index])) {
       if (width !== this.#drawn[5] || height !== this.#drawn[6]) this.#paint();
       this.#drawn = what;
-      this.#drawFilm(palette, this.#overview, width, height);
+      this.#drawFilm(palette, width, height);
     }
     context.setTransform(devicePixelRatio, 0, 0, devicePixelRatio, 0, 0);
     context.clearRect(0, 0, width, height);
@@ -229,11 +235,10 @@ export class Track {
 
   /**
    * @param {Palette} palette
-   * @param {Overview} overview
    * @param {number} width
    * @param {number} height
    */
-  #drawFilm(palette, overview, width, height) {
+  #drawFilm(palette, width, height) {
     for (const one of [this.canvas, this.#film]) {
       one.width = width * devicePixelRatio;
       one.height = height * devicePixelRatio;
@@ -243,8 +248,9 @@ export class Track {
     const bottom = height - FOOT;
     const x = (/** @type {number} */ turn) => this.#across(turn, width);
     const middle = Math.round(bottom * 0.56);
-    const drawing = { context, palette, overview, warriors: this.#warriors, width, middle, bottom, x };
-    if (this.hasCurves) drawCurves(drawing, this.#peaks.filter(({ turn }) => this.#isShown(turn)));
+    const drawing = { context, palette, warriors: this.#warriors, width, middle, bottom, x };
+    const overview = this.hasCurves && this.#overview;
+    if (overview) drawCurves({ ...drawing, overview }, this.#peaks.filter(({ turn }) => this.#isShown(turn)));
     context.fillStyle = "#8793a2";
     drawScale(context, { first: this.first, last: this.last, width, bottom, x });
     this.#drawMoments(drawing);

@@ -23,7 +23,6 @@ import { BY_HAND } from "../model/cells.js";
  * @property {string[]} authors
  * @property {Event[]} deaths
  * @property {Event[]} events
- * @property {import("../battle/overview.js").Overview} overview
  * @property {import("../words/battle.js").Label[]} labels
  * @property {{warrior: number, line: number, address: number}[]} lines
  * @property {import("../model/fight.js").Made[]} edits
@@ -110,9 +109,8 @@ export class Desk {
     const { core, end, order, deaths, events, edits } = history;
     const found = order.map((source) => describe(warriors[source], fight.warriors[source].text));
     const names = found.map(({ name }, who) => name || fight.warriors[order[who]].name.replace(/\.\w+$/, ""));
-    const overview = history.overview(0, end);
     return {
-      ...{ future, core, end, order, deaths, events, edits, overview, names },
+      ...{ future, core, end, order, deaths, events, edits, names },
       authors: found.map(({ author }) => author),
       ...this.#lines(history),
     };
