@@ -125,9 +125,8 @@ def rounds(options: BattleOptions, pages: str | None, form: str) -> None:
         written = Pages(pages, fought, options.formula)
     outcomes = []
     for one in rounds_of(fought):
-        outcome, words = "".join(f"{what:5}" for what in one.outcomes), printable(
-            captions.command(one.history, "debug")
-        )
+        outcome = "".join(f"{what:5}" for what in one.outcomes)
+        words = printable(captions.command(one.history, "debug"))
         # The first warrior is at address 0.
         position = " ".join(map(str, one.starts[1:]))
         click.echo(f"{one.history.round:5} {position:{places}} {outcome:{max(width, 7)}} {one.history.end:7}  {words}")
