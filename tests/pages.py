@@ -1639,6 +1639,7 @@ def test_a_screen_reader_follows(page: Browser) -> None:
 
 
 def test_the_keyboard_leaves_the_editor(page: Browser) -> None:
+    page.until("document.body.classList.contains('running')")
     page.press("e")
     page.until("document.activeElement.closest('#editor')")
     page.press("Tab", "Escape", "Tab")
