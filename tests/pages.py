@@ -1163,8 +1163,10 @@ def test_versions_on_the_bench(page: Browser, tmp_path: Path) -> None:
 def test_a_number_is_tuned(page: Browser, tmp_path: Path) -> None:
     """The bench fights with many values of a number, exactly; a click takes one, and what fails leaves a gap."""
     page.run("corewar.views.showDesk(true); corewar.shelf.show(corewar.shelf.find('dwarf.red'))")
-    page.run("const {mirror} = corewar.shelf.editor; mirror.focus(); mirror.setCursor(5, 17)")
-    page.until("document.getElementById('tune-here').textContent === 'Tune 4'")
+    # The first click in the editor offers it, too.
+    page.click("#editor .cm-number")
+    page.until("document.getElementById('tune-here').checkVisibility()")
+    assert page.text("tune-here") == "Tune 4"
     # The name of an EQU is as good as its number.
     page.run("corewar.shelf.editor.mirror.setCursor(11, 3)")
     assert page.value("document.getElementById('tune-here').hidden")
@@ -1477,6 +1479,10 @@ def test_a_narrow_page_has_tabs(narrow: Browser) -> None:
     assert narrow.value(shown) == ["battle"]
     narrow.click("#tabs [data-tab=code]")
     assert narrow.value(shown) == ["desk"]
+    # The bar of the editor, whose lines are long, is not above the tabs.
+    above = "document.elementFromPoint(given[0], innerHeight - given[1]).closest('#tabs, #editor')?.id"
+    narrow.until("document.querySelector('.CodeMirror-hscrollbar').offsetHeight")
+    assert {narrow.run(f"return {above}", x, y) for x in (60, 300) for y in range(2, 44, 3)} == {"tabs"}
     assert narrow.value("!document.querySelector('#tabs [data-tab=lesson]').checkVisibility()")
     narrow.run("await corewar.lessons.begin(corewar.lessons.lessons[4])")
     assert narrow.value(shown) == ["lesson-box"]

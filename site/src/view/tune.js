@@ -42,6 +42,8 @@ export class Tune {
     this.show = show;
     const { mirror } = host.shelf.editor;
     mirror.on("cursorActivity", () => this.#offer());
+    // A tap moves the caret before it gives the focus.
+    mirror.on("focus", () => setTimeout(() => this.#offer()));
     mirror.on("scroll", () => (element("tune-here").hidden = true));
     mirror.on("blur", () => (element("tune-here").hidden = true));
     // The editor keeps the focus, and so its place, until the button is released.
