@@ -1177,6 +1177,8 @@ def test_a_number_is_tuned(page: Browser, tmp_path: Path) -> None:
     page.run("rounds.value = '20'; rounds.dispatchEvent(new Event('change'))")
     page.click("#tune-here")
     page.until("location.hash === '#bench' && corewar.bench.tune.results.length === 400")
+    # Then the pool has all of its jobs.
+    page.until("document.getElementById('tune-note').textContent.includes(' of ')")
     for name, value in (("from", -3), ("to", 8), ("step", 1)):
         page.run(f"document.getElementById('tune-{name}').value = {value}")
     page.run(
@@ -1213,6 +1215,9 @@ def test_a_number_is_tuned(page: Browser, tmp_path: Path) -> None:
     # A sweep can be cancelled.
     page.run("document.getElementById('tune-to').value = 19000; window.swept = corewar.bench.tune.sweep()")
     page.until("!document.getElementById('tune-stop').hidden")
+    # It is the longest job: a league does not wait for it.
+    page.run("document.getElementById('league-of').value = 'marked'; await corewar.league.hold()")
+    assert page.value("corewar.league.done === corewar.league.total && !document.getElementById('tune-stop').hidden")
     page.click("#tune-stop")
     page.run("await swept")
     assert page.value("document.getElementById('tune-stop').hidden")

@@ -16,6 +16,8 @@ const MAX_VALUES = 20_000;
 /** The number of values of a job: those of the first ones are few, so that values appear soon. */
 const BATCH = 8;
 const FIRST_BATCHES = [1, 1, 2, 4];
+/** The urgency of the jobs: all others take less time, and come first. */
+const LAST = -1;
 /** The mark of the number in its document. */
 const MARK = { className: "tuned", inclusiveRight: true, clearWhenEmpty: false };
 /** A number, with its sign unless that is a minus between two operands. */
@@ -165,7 +167,7 @@ export class Tune {
     let done = 0;
     const fight = async (/** @type {Result[]} */ batch, /** @type {Warrior} */ warrior) => {
       const values = batch.map(({ value }) => value);
-      const { rows, best } = await pool.ask("sweep", [source, values, warrior, terms], "tune", 1);
+      const { rows, best } = await pool.ask("sweep", [source, values, warrior, terms], "tune", LAST);
       if (run !== this.#run) return;
       this.#best = best;
       batch.forEach((result, index) => add(result, rows[index]));
