@@ -30,7 +30,8 @@ def site() -> Iterator[str]:
 def page(browser: Browser, site: str) -> Iterator[Browser]:
     """The page as a newcomer opens it."""
     browser.open(site)
-    browser.run("localStorage.clear()")
+    # A page that is left may still store its settings.
+    browser.run("localStorage.clear(); Storage.prototype.setItem = () => {}")
     browser.open(f"{site}?{id(browser)}")
     browser.until("window.corewar?.session.view")
     yield browser
@@ -1650,7 +1651,6 @@ def test_a_screen_reader_follows(page: Browser) -> None:
 
 
 def test_the_keyboard_leaves_the_editor(page: Browser) -> None:
-    page.until("document.body.classList.contains('running')")
     page.press("e")
     page.until("document.activeElement.closest('#editor')")
     page.press("Tab", "Escape", "Tab")
