@@ -400,23 +400,23 @@ typedef struct {
 
 /* ---- Programs ---- */
 
-/* Assembles a source. Its cells are written to the front of `cells`, and the number of cells, the start and the names to *program, also if
- * the call returns MARS_ROOM because there are fewer than program->warrior.length cells. `warriors` is the value of WARRIORS, and
- * settings->rounds that of ROUNDS. Seed and position are ignored. */
+/* Assembles a source. Its cells are written to the front of `cells`, and the number of cells, the start and the names to *program.
+ * `warriors` is the value of WARRIORS, and settings->rounds that of ROUNDS. Seed and position are ignored.
+ *
+ * `lines` begins with a line of text for each cell, in order: the decimal number of its line in the source, from 1, then each of its labels
+ * after a space, then LF. A line in a loop occurs once per iteration, with joins and counters replaced. An instruction from an EQU name has
+ * the line that uses the name as its operation. A label on a line without an instruction belongs to the next instruction, if there is one.
+ * *length is the length of this text. If `lines_length` is 0, the text is not written.
+ *
+ * Returns MARS_ROOM if there are fewer cells than program->warrior.length, or if `lines_length` is less than *length but not 0; *program and
+ * *length are then written all the same. */
 uint32_t mars_assemble(const MarsSettings *settings, uint32_t warriors,
                        const uint8_t *source, size_t source_length,
-                       MarsCell *cells, size_t cell_count, MarsProgram *program, MarsFault *fault);
+                       MarsCell *cells, size_t cell_count, MarsProgram *program,
+                       uint8_t *lines, size_t lines_length, size_t *length, MarsFault *fault);
 
-/* Maps the cells of a warrior to the lines of its source. The buffer begins with a line of text for each cell, in order: the decimal
- * number of the line in the source, from 1, then each of its labels after a space, then LF. A line in a loop occurs once per iteration,
- * with joins and counters replaced. An instruction from an EQU name has the line that uses the name as its operation. A label on a
- * line without an instruction belongs to the next instruction, if there is one. *length is the length of the text, also if the call
- * returns MARS_ROOM. The other arguments and the errors are those of mars_assemble. */
-uint32_t mars_lines(const MarsSettings *settings, uint32_t warriors,
-                    const uint8_t *source, size_t source_length,
-                    uint8_t *buffer, size_t buffer_length, size_t *length, MarsFault *fault);
-
-/* Reads a load file of version 1 or 2, like mars_assemble. Only the parameters of the core are used of the settings. */
+/* Reads the cells and the program of a load file of version 1 or 2, like mars_assemble. Only the parameters of the core are used of the
+ * settings. */
 uint32_t mars_read_load(const MarsSettings *settings, const uint8_t *load, size_t load_length,
                         MarsCell *cells, size_t cell_count, MarsProgram *program, MarsFault *fault);
 
@@ -516,7 +516,9 @@ uint32_t mars_edit(uint32_t *battle, size_t words, const MarsEdit *edit, MarsFau
  * then those of the battle, then those of the edits in turn. */
 uint32_t mars_edits(uint32_t *battle, size_t words, const MarsEdit *edits, size_t edit_count, MarsFault *fault);
 
-/* Checks that the first words are a battle. Returns MARS_BLOCK if not. */
+/* Checks that the first words are a battle. Returns MARS_BLOCK if not, as each call on a battle, with the first of these that applies:
+ * MARS_BLOCK_SHORT (of the header), MARK, PARAMETERS, WARRIORS, SHORT (of all words), DEATHS (more than 16), CELL, QUEUE, DEATHS, CLOCK,
+ * HEAD. */
 uint32_t mars_check(const uint32_t *battle, size_t words, MarsFault *fault);
 
 /* Debugs a battle, which stays as it is: `lines` has the debugger's commands, and the buffer gets its replies. `history` is the size of

@@ -5,6 +5,7 @@ use Rattle.std.specs.Prelude.{◌≡◌, ◌≢◌, ◌≤◌, ◌<◌, ◌⊎�
 use Rattle.std.specs.List.{AllZip, FoldsTo}
 use Rattle.mars_core.specs.State.{State}
 use Rattle.mars_core.specs.Block.{Spells, block_of, head_words}
+use Rattle.mars_core.specs.BlockFaults.{IsWrong}
 use Rattle.mars_core.specs.Edit.{edited, edit_fault}
 use Rattle.mars_core.specs.declared.battle.block.BlockFault.TheVariants as block
 use Rattle.mars_core.specs.declared.battle.edit.Edit.{Edit}
@@ -79,10 +80,10 @@ abbrev pub RefusesStart : MarsSettings → List MarsCell → List MarsWarrior �
 RefusesStart settings cells entrants round refusal =
     IsOutOfRange Warriors (AreWarriors (length entrants)) refusal ⊎ RefusesRound settings cells entrants round refusal
 
--- `refusal` is a reason for which the words do not begin with the block of a battle.
+-- `refusal` is a reason for which the words do not begin with the block of a battle, and says what is wrong with them.
 abbrev pub RefusesWords : List ℕ → BlockRefusal → Type 0
 RefusesWords words OutOfMemory = ⊤
-RefusesWords words (Block fault) = (fault ≢ block.OutOfMemory) × ((s : State) → Spells s words → ⊥)
+RefusesWords words (Block fault) = (fault ≢ block.OutOfMemory) × IsWrong words fault × ((s : State) → Spells s words → ⊥)
 RefusesWords words Capacity = ⊥
 RefusesWords words (NoSuchEdit index) = ⊥
 RefusesWords words (OfEdit index fault) = ⊥

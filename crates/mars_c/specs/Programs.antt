@@ -1,5 +1,5 @@
 -- Programs of sources and load files as numbers, and texts in buffers.
-use Rattle.std.specs.Prelude.{◌≡◌, ◌≤◌, ◌<◌, ℕ, List, ◌++◌, drop, length, map, Ok}
+use Rattle.std.specs.Prelude.{◌≡◌, ◌≢◌, ◌≤◌, ◌<◌, ◌⊎◌, ℕ, List, [], ◌++◌, drop, length, map, Ok}
 use Rattle.mars_cell.specs.Load.{load}
 use Rattle.mars_cell.specs.Parameters.{Parameters}
 use Rattle.mars_cell.specs.ParameterFaults.{checked_parameters}
@@ -55,3 +55,14 @@ IsLoadFile s cells program text = (p : Parameters) × (w : WarriorValue) × (che
 -- `text` maps the cells of the warrior to the lines of its source.
 abbrev pub AreLines : MarsSettings → ℕ → List ℕ → List ℕ → Type 0
 AreLines s warriors source text = (p : Parameters) × (checked_parameters (parameters_in s) ≡ Ok p) × (source_lines p s.rounds warriors source ≡ Ok text)
+
+-- The buffer `after` begins with a text for which `Is` holds, unless the buffer is empty. `count` is the length of that text.
+abbrev pub HoldsLines : (List ℕ → Type 0) → ℕ → List ℕ → List ℕ → Type 0
+HoldsLines Is count before after = (text : List ℕ) × Is text × (count ≡ length text) × (before ≢ [] → BeginsWith text count before after)
+
+-- The warrior of the source, whose numbers and names are those of `program`, has more cells than there are places, or the text that maps
+-- them to lines, which has the length `count`, is longer than a buffer that is not empty.
+abbrev pub OverflowsAssembled : MarsSettings → ℕ → List ℕ → MarsProgram → List MarsCell → ℕ → List ℕ → Type 0
+OverflowsAssembled s warriors source program places count buffer = (w : WarriorValue) × (text : List ℕ)
+    × IsAssembled s warriors source w × AreLines s warriors source text × (program ≡ plain_program w) × (count ≡ length text)
+    × ((length places < length w.cells) ⊎ ((buffer ≢ []) × (length buffer < count)))

@@ -10,7 +10,7 @@ use crate::ranges::SettingsFault;
 use crate::settings::{MarsSettings, parameters};
 use crate::warriors::{EntrantFault, Made, MarsProgram, name_in, warrior_of};
 use mars_cell::{LoadFault, Params, Warrior, read_load, write_load};
-use redcode_asm::{assemble, source_lines};
+use redcode_asm::{Assembled, assemble_with_lines};
 use std::alloc::Global;
 
 /// Returns a warrior with its program.
@@ -24,7 +24,14 @@ fn made_of(warrior: Warrior) -> Result<Made, CallRefusal>
     }
 }
 
-/// Returns the program that a source is assembled to.
+/// A program, and the text that maps its cells to the lines of its source.
+#[derive(Drop)]
+pub struct Mapped {
+    pub made: Made,
+    pub lines: Vec<u8>,
+}
+
+/// Returns the program that a source is assembled to, with the lines of its cells.
 ///
 /// `warriors` is the value of WARRIORS.
 pub fn assembled(
@@ -32,38 +39,24 @@ pub fn assembled(
     settings: &MarsSettings,
     warriors: u32,
     source: &[u8],
-) -> Result<Made, CallRefusal>
-    ensures made { IfOk result (λ made. IsAssembled settings.now warriors source.now made.warrior × (made.program ≡ plain_program made.warrior)) }
+) -> Result<Mapped, CallRefusal>
+    ensures made { IfOk result (λ mapped. IsAssembled settings.now warriors source.now mapped.made.warrior
+        × (mapped.made.program ≡ plain_program mapped.made.warrior)) }
+    ensures lines { IfOk result (λ mapped. AreLines settings.now warriors source.now mapped.lines.items) }
     ensures refused { IfErr result (RefusesSource settings.now warriors source.now) }
 {
     let params = match parameters(settings) {
         Ok(params) => params,
         Err(fault) => return Err(CallRefusal::Parameters(fault)),
     };
-    match assemble(alloc, source, &params, settings.rounds, warriors) {
-        Ok(warrior) => made_of(warrior),
-        Err(fault) => Err(refused_source(fault)),
-    }
-}
-
-/// Returns the text that maps the cells of a program to the lines of its source.
-///
-/// `warriors` is the value of WARRIORS.
-pub fn lines(
-    alloc: Global,
-    settings: &MarsSettings,
-    warriors: u32,
-    source: &[u8],
-) -> Result<Vec<u8>, CallRefusal>
-    ensures made { IfOk result (λ text. AreLines settings.now warriors source.now text.items) }
-    ensures refused { IfErr result (RefusesSource settings.now warriors source.now) }
-{
-    let params = match parameters(settings) {
-        Ok(params) => params,
-        Err(fault) => return Err(CallRefusal::Parameters(fault)),
-    };
-    match source_lines(alloc, source, &params, settings.rounds, warriors) {
-        Ok(text) => Ok(text),
+    match assemble_with_lines(alloc, source, &params, settings.rounds, warriors) {
+        Ok(Assembled { warrior, lines }) => match made_of(warrior) {
+            Ok(made) => Ok(Mapped { made, lines }),
+            Err(refusal) => {
+                drop(lines);
+                Err(refusal)
+            }
+        },
         Err(fault) => Err(refused_source(fault)),
     }
 }

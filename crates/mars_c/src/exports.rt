@@ -1,17 +1,17 @@
 //! The functions that C calls. `include/mars.h` documents them.
 //!
 //! A function that writes a result returns 0 if it succeeds; otherwise it stores the error in `fault` and returns its code.
-ghost use Rattle.std.specs.Prelude.{◌≡◌, ◌≢◌, ◌≤◌, ◌<◌, ◌++◌, drop, false, length, map, true};
+ghost use Rattle.std.specs.Prelude.{◌≡◌, ◌≢◌, ◌≤◌, ◌<◌, ◌⊎◌, ◌++◌, [], drop, false, length, map, true};
 ghost use Rattle.mars_c.specs.Cells.{plain_cell};
 ghost use Rattle.mars_c.specs.Codes.{numbered};
 ghost use Rattle.mars_c.specs.Contests.{HoldsLeague, HoldsMatch, HoldsSums, IsScore};
 ghost use Rattle.mars_c.specs.Outcomes.{HoldsOutcomes, RefusesOutcomes};
-ghost use Rattle.mars_c.specs.Programs.{AreLines, BeginsWith, HoldsProgram, HoldsText, IsAssembled, IsLoadFile, IsLoaded, Overflows, OverflowsProgram, OverflowsText};
+ghost use Rattle.mars_c.specs.Programs.{AreLines, BeginsWith, HoldsLines, HoldsProgram, HoldsText, IsAssembled, IsLoadFile, IsLoaded, Overflows, OverflowsAssembled, OverflowsProgram, OverflowsText};
 ghost use Rattle.mars_c.specs.Refusals.{HasCause, RefusesLeague, RefusesLoad, RefusesMatch, RefusesPopulation, RefusesScore, RefusesSource, RefusesWriting};
 
 mod blocks;
 
-use crate::assembling::{assembled, lines, loaded, written};
+use crate::assembling::{Mapped, assembled, loaded, written};
 use crate::cells::{MarsCell, put_cells};
 use crate::contests::{league_into, match_into};
 use crate::entrants::Entrants;
@@ -55,6 +55,40 @@ fn give_program(made: &Made, places: &mut [MarsCell], program: &mut MarsProgram)
     true
 }
 
+/// Writes the program and the length of the text of lines. If both fit, it also writes the cells to the front of `places` and the text to
+/// the front of `lines`, and returns whether they fit. No text is written to an empty `lines`.
+fn give_mapped(
+    mapped: &Mapped,
+    places: &mut [MarsCell],
+    program: &mut MarsProgram,
+    lines: &mut [u8],
+    text_length: &mut usize,
+) -> bool
+    ensures program { program.new ≡ mapped.now.made.program }
+    ensures length { text_length.new ≡ length mapped.now.lines.items }
+    ensures fits { result ≡ true → length mapped.now.made.warrior.cells ≤ length places.old }
+    ensures cells { result ≡ true → places.new
+        ≡ map plain_cell mapped.now.made.warrior.cells ++ drop (length mapped.now.made.warrior.cells) places.old }
+    ensures lines { result ≡ true → lines.old ≢ [] → BeginsWith mapped.now.lines.items text_length.new lines.old lines.new }
+    ensures short { result ≡ false → (length places.old < length mapped.now.made.warrior.cells)
+        ⊎ ((lines.old ≢ []) × (length lines.old < length mapped.now.lines.items)) }
+    ensures kept { result ≡ false → (places.new ≡ places.old) × (lines.new ≡ lines.old) }
+{
+    let text = mapped.lines.as_slice();
+    *text_length = text.len();
+    if !lines.is_empty() && lines.len() < text.len() {
+        *program = mapped.made.program;
+        return false;
+    }
+    if !give_program(&mapped.made, places, program) {
+        return false;
+    }
+    if !lines.is_empty() {
+        lines[..text.len()].copy_from_slice(text);
+    }
+    true
+}
+
 /// Stores an error for the caller and returns its code.
 fn answer(place: &mut MarsFault, fault: MarsFault) -> u32
     ensures fault { place.new ≡ fault }
@@ -75,7 +109,7 @@ pub extern "C" fn mars_version() -> u32
     VERSION
 }
 
-/// Assembles a source to the cells of its warrior.
+/// Assembles a source to the cells of its warrior, and maps them to the lines of the source.
 #[unsafe(no_mangle)]
 pub extern "C" fn mars_assemble(
     alloc: Global,
@@ -84,45 +118,25 @@ pub extern "C" fn mars_assemble(
     source: &[u8],
     cells: &mut [MarsCell],
     program: &mut MarsProgram,
-    fault: &mut MarsFault,
-) -> u32
-    ensures code { result ≡ fault.new.code }
-    ensures cleared { result ≡ 0 → fault.new ≡ numbered 0 0 }
-    ensures short { result ≡ 10 → fault.new ≡ numbered 10 0 }
-    ensures done { result ≡ 0 → HoldsProgram (IsAssembled settings.now warriors source.now) program.new cells.old cells.new }
-    ensures refused { result ≢ 0 → result ≢ 10 → HasCause (RefusesSource settings.now warriors source.now) fault.new }
-    ensures room { result ≡ 10 → OverflowsProgram (IsAssembled settings.now warriors source.now) program.new cells.old }
-    ensures kept { result ≢ 0 → cells.new ≡ cells.old }
-    ensures unread { result ≢ 0 → result ≢ 10 → program.new ≡ program.old }
-{
-    match assembled(alloc, settings, warriors, source) {
-        Ok(made) => answer(fault, given(give_program(&made, cells, program))),
-        Err(refusal) => answer(fault, to_c_fault(refusal)),
-    }
-}
-
-/// Maps the cells of a source's warrior to the lines of the source.
-#[unsafe(no_mangle)]
-pub extern "C" fn mars_lines(
-    alloc: Global,
-    settings: &MarsSettings,
-    warriors: u32,
-    source: &[u8],
-    buffer: &mut [u8],
+    lines: &mut [u8],
     length: &mut usize,
     fault: &mut MarsFault,
 ) -> u32
     ensures code { result ≡ fault.new.code }
     ensures cleared { result ≡ 0 → fault.new ≡ numbered 0 0 }
     ensures short { result ≡ 10 → fault.new ≡ numbered 10 0 }
-    ensures unwritten { result ≢ 0 → result ≢ 10 → length.new ≡ length.old }
-    ensures done { result ≡ 0 → HoldsText (AreLines settings.now warriors source.now) length.new buffer.old buffer.new }
+    ensures done { result ≡ 0 → HoldsProgram (IsAssembled settings.now warriors source.now) program.new cells.old cells.new }
+    ensures mapped { result ≡ 0 → HoldsLines (AreLines settings.now warriors source.now) length.new lines.old lines.new }
     ensures refused { result ≢ 0 → result ≢ 10 → HasCause (RefusesSource settings.now warriors source.now) fault.new }
-    ensures room { result ≡ 10 → OverflowsText (AreLines settings.now warriors source.now) length.new buffer.old }
-    ensures kept { result ≢ 0 → buffer.new ≡ buffer.old }
+    ensures room { result ≡ 10 → OverflowsAssembled settings.now warriors source.now program.new cells.old length.new lines.old }
+    ensures kept { result ≢ 0 → (cells.new ≡ cells.old) × (lines.new ≡ lines.old) }
+    ensures unread { result ≢ 0 → result ≢ 10 → (program.new ≡ program.old) × (length.new ≡ length.old) }
 {
-    match lines(alloc, settings, warriors, source) {
-        Ok(text) => answer(fault, given(copy_to_buffer(&text, buffer, length))),
+    match assembled(alloc, settings, warriors, source) {
+        Ok(mapped) => answer(
+            fault,
+            given(give_mapped(&mapped, cells, program, lines, length)),
+        ),
         Err(refusal) => answer(fault, to_c_fault(refusal)),
     }
 }

@@ -10,3 +10,4 @@ pub mod Words
 pub mod Frequent
 pub mod Searches
 pub mod Lanes
+pub mod Blocks

@@ -8,6 +8,7 @@ pub mod Searches
 pub mod Moments
 pub mod Ends
 pub mod Validity
+pub mod BlockFaults
 pub mod Starts
 pub mod Turns
 pub mod ReferenceCode

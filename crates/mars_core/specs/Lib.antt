@@ -11,6 +11,7 @@ pub mod Edit
 pub mod Validity
 pub mod Start
 pub mod Block
+pub mod BlockFaults
 pub mod Shape
 pub mod Leads
 pub mod Record

@@ -3,8 +3,8 @@
 //! The crates above this one may use:
 //! - `assemble` returns the warrior of a source, with all numbers below the core size, or its first error, with its line,
 //!   as `specs/Assembly` defines them. If memory runs out, the line is 0.
-//! - `assemble_load` returns the load file of that warrior, and `source_lines` the line and the labels of each of its
-//!   instructions (`specs/SourceLines`). Both have the same errors as `assemble`.
+//! - `assemble_with_lines` returns that warrior with the line and the labels of each of its instructions
+//!   (`specs/SourceLines`), and `assemble_load` its load file. Both have the same errors as `assemble`.
 //! - `Formula::new` returns the formula of a text, or its first error, and `Formula::score` its value for given numbers of
 //!   warriors and survivors, as `specs/Formula` defines them. `score` doesn't allocate, and its errors depend only on the
 //!   values (`laws`).
@@ -28,5 +28,5 @@ mod warriors;
 pub use assembler::assemble;
 pub use fault::{AsmFault, AsmProblem, FormulaFault};
 pub use formula::Formula;
-pub use lines::source_lines;
+pub use lines::{Assembled, assemble_with_lines};
 pub use load::assemble_load;

@@ -1,7 +1,9 @@
 //! The line of each instruction in the source.
-ghost use Rattle.std.specs.Prelude.{◌≡◌, ◌++◌, IfOk, OnOk, decimal, map};
+ghost use Rattle.std.specs.Prelude.{◌≡◌, ◌++◌, All, IfOk, OnOk, decimal, map};
+ghost use Rattle.mars_cell.specs.Cells.{FitsCore};
 ghost use Rattle.mars_cell.specs.Written.{with_newline};
 ghost use Rattle.redcode_text.specs.Views.{line_of, predefined_of};
+ghost use Rattle.redcode_asm.specs.Assembly.{assembly, warrior_of};
 ghost use Rattle.redcode_asm.specs.Code.Lines.{remaining_lines};
 ghost use Rattle.redcode_asm.specs.Outcomes.{IsResult};
 ghost use Rattle.redcode_asm.specs.SourceLines.{assembled_lines, labels_text, program_lines, source_lines};
@@ -9,7 +11,7 @@ ghost use Rattle.redcode_asm.specs.SourceLines.{assembled_lines, labels_text, pr
 use crate::assembler::{predefined_names, read_program};
 use crate::fault::AsmFault;
 use crate::warriors::program_warrior;
-use mars_cell::{Line as NumberLine, Params, push_number};
+use mars_cell::{Line as NumberLine, Params, Warrior, push_number};
 use redcode_text::{Line, NameTable, PredefinedNames, Program, is_instruction};
 use std::alloc::{AllocError, Global};
 
@@ -67,21 +69,36 @@ fn lines_of(alloc: Global, program: &Program) -> Result<Vec<u8>, AllocError>
     Ok(text)
 }
 
-/// Returns the text with a line for each instruction of a program, or the first error of the program.
-fn assembled_lines(
+/// A warrior, and the lines of its instructions.
+#[derive(Drop)]
+pub struct Assembled {
+    pub warrior: Warrior,
+    /// A text with a line for each cell, as [`assemble_with_lines`] describes it.
+    pub lines: Vec<u8>,
+}
+
+/// Returns the warrior of a program and the lines of its instructions, or the first error of the program.
+fn program_with_lines(
     alloc: Global,
     program: &Program,
     predefined: &PredefinedNames,
     params: &Params,
-) -> Result<Vec<u8>, AsmFault>
-    ensures { IsResult (λ text. text.items) result (assembled_lines (predefined_of predefined.now) params.now program.now) }
+) -> Result<Assembled, AsmFault>
+    ensures warrior { IsResult (λ made. made.warrior) result (warrior_of (predefined_of predefined.now) params.now program.now) }
+    ensures lines { IsResult (λ made. made.lines.items) result (assembled_lines (predefined_of predefined.now) params.now program.now) }
+    ensures fits { IfOk result (λ made. All (FitsCore params.now.core_size) made.warrior.cells) }
 {
     let warrior = program_warrior(alloc, program, predefined, params)?;
-    drop(warrior);
-    Ok(lines_of(alloc, program)?)
+    match lines_of(alloc, program) {
+        Ok(lines) => Ok(Assembled { warrior, lines }),
+        Err(error) => {
+            drop(warrior);
+            Err(AsmFault::from(error))
+        }
+    }
 }
 
-/// Returns a text with a line for each instruction of a source's warrior, in order.
+/// Assembles a source as `assemble`, and returns its warrior with a text that has a line for each cell, in order.
 ///
 /// A line has the number of the instruction's line in the source, from 1, in decimal, then the instruction's labels, each
 /// after one space, then LF. `&` joins and loop counters in labels are expanded. A line in a FOR loop is listed once per
@@ -91,19 +108,22 @@ fn assembled_lines(
 /// # Errors
 ///
 /// Returns the errors of `assemble`, which takes the same arguments.
-pub fn source_lines(
+#[tactic(auto, unfolding(crate::specs::Assembly::assembly))]
+pub fn assemble_with_lines(
     alloc: Global,
     source: &[u8],
     params: &Params,
     rounds: u32,
     warriors: u32,
-) -> Result<Vec<u8>, AsmFault>
-    ensures { IsResult (λ text. text.items) result (source_lines params.now rounds warriors source.now) }
+) -> Result<Assembled, AsmFault>
+    ensures warrior { IsResult (λ made. made.warrior) result (assembly params.now rounds warriors source.now) }
+    ensures lines { IsResult (λ made. made.lines.items) result (source_lines params.now rounds warriors source.now) }
+    ensures fits { IfOk result (λ made. All (FitsCore params.now.core_size) made.warrior.cells) }
 {
     let predefined = predefined_names(params, rounds, warriors);
     let program = read_program(alloc, source, &predefined)?;
-    let text = assembled_lines(alloc, &program, &predefined, params);
+    let made = program_with_lines(alloc, &program, &predefined, params);
     // Dropped by a call, because dropping each of its fields in this body is expensive to prove.
     drop(program);
-    text
+    made
 }

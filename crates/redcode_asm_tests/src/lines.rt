@@ -1,7 +1,7 @@
 //! The line of each instruction in a source.
 
 use mars_cell::Params;
-use redcode_asm::{AsmFault, AsmProblem, source_lines};
+use redcode_asm::{AsmFault, AsmProblem, assemble_with_lines};
 use std::alloc::Global;
 use std::test::Fail;
 
@@ -34,8 +34,8 @@ const SOURCES: [(&[u8], &[u8]); 5] = [
 
 /// Whether a source has these lines.
 fn has_lines(alloc: Global, source: &[u8], params: &Params, lines: &[u8]) -> Result<bool, Fail> {
-    let found = source_lines(alloc, source, params, 1, 2)?;
-    let is_it = found.as_slice() == lines;
+    let found = assemble_with_lines(alloc, source, params, 1, 2)?;
+    let is_it = found.lines.as_slice() == lines;
     drop(found);
     Ok(is_it)
 }
@@ -68,7 +68,7 @@ fn faults_of_sources(rt: HostRuntime) -> Result<(), Fail> {
         ),
     ];
     for (source, line, problem) in rows {
-        let found = source_lines(rt.alloc(), source, &params, 1, 2).err();
+        let found = assemble_with_lines(rt.alloc(), source, &params, 1, 2).err();
         assert_eq!(rt; found, Some(AsmFault { line, problem }));
     }
     Ok(())
@@ -80,17 +80,17 @@ fn faults_of_sources(rt: HostRuntime) -> Result<(), Fail> {
 fn lines_are_made(rt: HostRuntime) -> Result<(), Fail> {
     let params = params()?;
     let source = b"i FOR 2\nx&i NOP\nROF";
-    let lines = match source_lines(rt.alloc(), source, &params, 1, 1) {
+    let made = match assemble_with_lines(rt.alloc(), source, &params, 1, 1) {
         Err(fault) => {
             let of_memory = AsmFault {
                 line: 0,
                 problem: AsmProblem::OutOfMemory,
             };
             assert_eq!(rt; fault, of_memory);
-            source_lines(rt.alloc(), source, &params, 1, 1)?
+            assemble_with_lines(rt.alloc(), source, &params, 1, 1)?
         }
-        Ok(lines) => lines,
+        Ok(made) => made,
     };
-    assert!(rt; lines.as_slice() == b"2 x01\n2 x02\n".as_slice());
+    assert!(rt; made.lines.as_slice() == b"2 x01\n2 x02\n".as_slice());
     Ok(())
 }

@@ -34,7 +34,7 @@ use Rattle.mars_c.specs.Entrants.{AreEntrants, plain_program}
 use Rattle.mars_c.specs.Examples.{nano}
 use Rattle.mars_c.specs.Examples.Wrong.{no_mark, no_round_3}
 use Rattle.mars_c.specs.Outcomes.{AreChosen, FailsLineup, IsLineup, IsNoLineup, IsWrongLineup, RefusesLineup, indices_of}
-use Rattle.mars_c.specs.Programs.{AreLines, BeginsWith, HoldsProgram, HoldsText, IsAssembled, IsLoadFile, IsLoaded, OverflowsProgram, OverflowsText}
+use Rattle.mars_c.specs.Programs.{AreLines, BeginsWith, HoldsLines, HoldsProgram, HoldsText, IsAssembled, IsLoadFile, IsLoaded, OverflowsAssembled, OverflowsProgram, OverflowsText}
 use Rattle.mars_c.specs.Refusals.{AreWarriors, Fails, HasCause, IsOutOfRange, RefusesLoad, RefusesSource, RefusesWriting, fight_refusal}
 use Rattle.mars_c.specs.Settings.{parameters_in}
 use Rattle.mars_c.specs.declared.cells.MarsCell.{MarsCell}
@@ -147,6 +147,19 @@ a_text_in_a_buffer text count before after (other, is, begins) = subst (λ text.
 pub too_short_a_buffer : (text : List ℕ) (count : ℕ) (buffer : List ℕ) → OverflowsText (λ other. other ≡ text) count buffer → (count ≡ length text) × (length buffer < count)
 too_short_a_buffer text count buffer (other, is, over) = (over.0 ∙ ap (λ (text : List ℕ). length text) is, over.1)
 
+-- The length of the text of lines is reported, and the text is in a buffer that is not empty.
+pub lines_in_a_buffer : (text : List ℕ) (count : ℕ) (before after : List ℕ) → HoldsLines (λ other. other ≡ text) count before after
+    → (count ≡ length text) × (before ≢ [] → BeginsWith text count before after)
+lines_in_a_buffer text count before after (other, is, counted, begins) =
+    subst (λ (text : List ℕ). (count ≡ length text) × (before ≢ [] → BeginsWith text count before after)) is (counted, begins)
+
+-- Without a buffer only the places can be too few.
+pub too_few_places_for_lines : (s : MarsSettings) (warriors : ℕ) (source : List ℕ) (program : MarsProgram) (places : List MarsCell) (count : ℕ)
+    → OverflowsAssembled s warriors source program places count []
+    → (w : WarriorValue) × IsAssembled s warriors source w × (program ≡ plain_program w) × (length places < length w.cells)
+too_few_places_for_lines s warriors source program places count (w, text, is, are, numbers, counted, inl few) = (w, is, numbers, few)
+too_few_places_for_lines s warriors source program places count (w, text, is, are, numbers, counted, inr (some, short)) = absurd (some refl)
+
 -- ---- Edits
 
 -- The numbers of an edit of this kind: of warrior 1, its process 2, and the address 3.
@@ -187,7 +200,7 @@ no_battle words after text n history = (
 -- Words that spell a battle are not refused.
 pub a_block : (s : State) (words : List ℕ) (refusal : BlockRefusal) → Spells s words → RefusesWords words refusal → refusal ≡ refused.OutOfMemory
 a_block s words refused.OutOfMemory spells refuses = refl
-a_block s words (refused.Block fault) spells refuses = absurd (refuses.1 s spells)
+a_block s words (refused.Block fault) spells refuses = absurd (refuses.2 s spells)
 a_block s words other spells refuses = absurd refuses
 
 pub out_of_memory_is_told_as_such : (words : List ℕ) → RefusesWords words (refused.Block block.OutOfMemory) → ⊥

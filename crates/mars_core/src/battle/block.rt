@@ -1,13 +1,15 @@
 //! A battle as a block of 32-bit words that the caller owns and can store, copy or send. The block holds the whole
 //! state of the battle and nothing else (`specs/Block`).
-ghost use Rattle.std.specs.Prelude.{◌≡◌, ◌≢◌, ◌++◌, ◌+◌, ◌*◌, ◌≤◌, All, IfErr, IfOk, drop, if◌then◌else◌, length, sum, true};
+ghost use Rattle.std.specs.Prelude.{◌≡◌, ◌≢◌, ◌++◌, ◌+◌, ◌*◌, ◌≤◌, ℕ, All, IfErr, IfOk, List, drop, if◌then◌else◌, length, sum, true};
 ghost use Rattle.std.specs.List.{concat};
 ghost use Rattle.mars_cell.specs.Parameters.{AreInRange};
 ghost use Rattle.mars_core.specs.Limits.{max_warriors};
 ghost use Rattle.mars_core.specs.State.{State, is_over_of, state_of};
 ghost use Rattle.mars_core.specs.Validity.{IsCore, IsQueue, IsValid};
 ghost use Rattle.mars_core.specs.Queue.{Queue, addresses_of};
-ghost use Rattle.mars_core.specs.Block.{AreParts, Spells, block_of, core_words, field_words, head_of, head_words, padded, params_in};
+ghost use Rattle.mars_core.specs.Block.{AreParts, Spells, block_of, core_words, field_words, head_of, head_words, lengths_of, padded, params_in};
+ghost use Rattle.mars_core.specs.BlockFaults.{IsWrong, cells_in, counts_in, head_in, processes_in};
+ghost use Rattle.mars_core.specs.Code.Blocks.{IsStateFault};
 
 pub mod cells;
 mod deaths;
@@ -173,13 +175,14 @@ impl Battle {
     ///
     /// # Errors
     ///
-    /// These are checked in order: `Short` (the header), `Mark`, `Parameters`, `Warriors`, `Short` (the rest), `Deaths`
-    /// (more than 16), `Cell`, `Queue`, `Deaths`, `Clock` and `Head`. `OutOfMemory` replaces any error that would have
-    /// been found after the allocation.
+    /// What each says is wrong with the words (`specs/BlockFaults`). They are checked in this order: `Short` (the header),
+    /// `Mark`, `Parameters`, `Warriors`, `Short` (the rest), `Deaths` (more than 16), `Cell`, `Queue`, `Deaths`, `Clock` and
+    /// `Head`. `OutOfMemory` replaces any error that would have been found after the allocation.
     pub fn read_block(alloc: Global, words: &[u32]) -> Result<Battle, BlockFault>
         ensures battle { IfOk result (λ battle. Spells battle words.now) }
         ensures only { IfOk result (λ battle. (s : State) → Spells s words.now → battle ≡ s) }
         ensures none { IfErr result (λ fault. fault ≢ BlockFault.OutOfMemory → (s : State) → Spells s words.now → ⊥) }
+        ensures wrong { IfErr result (IsWrong words.now) }
     {
         let parts = parts_of(words)?;
         let battle = battle_of(alloc, &parts)?;
@@ -222,6 +225,9 @@ fn battle_of(alloc: Global, parts: &Parts<'_>) -> Result<Battle, BlockFault>
         → AreParts s parts.now.head.now parts.now.counts.now parts.now.cells.now parts.now.processes.now → battle ≡ s) }
     ensures none { IfErr result (λ fault. fault ≢ BlockFault.OutOfMemory → (s : State) → IsValid s
         → AreParts s parts.now.head.now parts.now.counts.now parts.now.cells.now parts.now.processes.now → ⊥) }
+    ensures counts { IfOk result (λ battle. lengths_of battle.queues ≡ parts.now.counts.now) }
+    ensures wrong { IfErr result (λ fault. (words : List ℕ) → parts.now.head.now ≡ head_in words → parts.now.counts.now ≡ counts_in words
+        → parts.now.cells.now ≡ cells_in words → parts.now.processes.now ≡ processes_in words → IsWrong words fault) }
 {
     let head = parts.head;
     let params = match params_of(head) {
@@ -266,6 +272,7 @@ fn resumed(
     requires queues { All (IsQueue params.core_size params.processes) (addresses_of queues.items) }
     ensures state { IfOk result (λ battle. battle ≡ state_of params core.items queues.items clock.next clock.cycle turns deaths.items) }
     ensures none { IfErr result (λ fault. IsValid (state_of params core.items queues.items clock.next clock.cycle turns deaths.items) → ⊥) }
+    ensures wrong { IfErr result (IsStateFault params.cycles (addresses_of queues.items) clock turns deaths.items) }
 {
     if !are_deaths(&queues, deaths.as_slice()) {
         return Err(BlockFault::Deaths);

@@ -4,6 +4,7 @@ ghost use Rattle.mars_cell.specs.Cells.{FitsCore, mode_index, modifier_index, op
 ghost use Rattle.mars_cell.specs.declared.instruction.Cell.{Cell as CellValue};
 ghost use Rattle.mars_cell.specs.Limits.{max_core_size};
 ghost use Rattle.mars_core.specs.Block.{cell_words, core_words, tags_word};
+ghost use Rattle.mars_core.specs.Code.Blocks.{IsCellFault};
 ghost use Rattle.mars_core.specs.Validity.{IsCore};
 
 use crate::battle::block::BlockFault;
@@ -142,6 +143,7 @@ pub fn read_cells(
     ensures core { IfOk result (λ cells. IsCore core_size cells.items) }
     ensures none { IfErr result (λ fault. fault ≢ BlockFault.OutOfMemory
         → (cells : List CellValue) → IsCore core_size cells → core_words cells ≢ words.now) }
+    ensures wrong { IfErr result (IsCellFault core_size words.now) }
 {
     let Ok(mut cells) = Vec::with_capacity(alloc, core_size as usize) else {
         return Err(BlockFault::OutOfMemory);

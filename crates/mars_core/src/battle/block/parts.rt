@@ -1,9 +1,10 @@
 //! The positions of the parts of a block in its words.
-ghost use Rattle.std.specs.Prelude.{◌≡◌, ◌++◌, ◌*◌, ◌≤◌, IfErr, IfOk, length, sum, take};
+ghost use Rattle.std.specs.Prelude.{◌≡◌, ◌++◌, ◌*◌, ◌≤◌, ℕ, IfErr, IfOk, List, length, sum, take};
 ghost use Rattle.mars_cell.specs.Parameters.{AreInRange};
 ghost use Rattle.mars_core.specs.Limits.{max_warriors};
 ghost use Rattle.mars_core.specs.State.{State};
 ghost use Rattle.mars_core.specs.Block.{AreParts, Spells, head_words, params_in};
+ghost use Rattle.mars_core.specs.BlockFaults.{IsWrong, cells_in, counts_in, head_in, processes_in};
 
 use crate::battle::block::{BLOCK_MARK, BlockFault, HEAD_WORDS};
 use crate::deaths::MAX_WARRIORS;
@@ -33,7 +34,10 @@ pub fn parts_of(words: &[u32]) -> Result<Parts<'_>, BlockFault>
         ≡ parts.head.now ++ parts.cells.now ++ parts.processes.now) }
     ensures parts { IfOk result (λ parts. (s : State) → Spells s words.now
         → AreParts s parts.head.now parts.counts.now parts.cells.now parts.processes.now) }
+    ensures split { IfOk result (λ parts. (parts.head.now ≡ head_in words.now) × (parts.counts.now ≡ counts_in words.now)
+        × (parts.cells.now ≡ cells_in words.now) × (parts.processes.now ≡ processes_in words.now)) }
     ensures none { IfErr result (λ fault. (s : State) → Spells s words.now → ⊥) }
+    ensures wrong { IfErr result (IsWrong words.now) }
 {
     if words.len() < HEAD_WORDS {
         return Err(BlockFault::Short);
@@ -69,6 +73,7 @@ pub fn params_of(head: &[u32]) -> Result<Params, BlockFault>
     requires { length head.now ≡ head_words }
     ensures params { IfOk result (λ params. params ≡ params_in head.now) }
     ensures none { IfErr result (λ fault. AreInRange (params_in head.now) → ⊥) }
+    ensures wrong { IfErr result (λ fault. (words : List ℕ) → head.now ≡ head_in words → IsWrong words fault) }
 {
     match Params::new(
         head[2], head[3], head[4], head[5], head[6], head[7], head[8],

@@ -6,6 +6,7 @@ ghost use Rattle.mars_core.specs.Queue.{Queue as Contents, addresses_of};
 ghost use Rattle.mars_core.specs.Validity.{IsQueue};
 ghost use Rattle.mars_cell.specs.Limits.{max_processes};
 ghost use Rattle.mars_core.specs.Block.{lengths_of};
+ghost use Rattle.mars_core.specs.Code.Blocks.{IsQueueFault};
 
 use crate::battle::block::BlockFault;
 use crate::deaths::MAX_WARRIORS;
@@ -68,6 +69,7 @@ pub fn read_queues(
     ensures queues { IfOk result (λ queues. All (IsQueue params.now.core_size params.now.processes) (addresses_of queues.items)) }
     ensures none { IfErr result (λ fault. fault ≢ BlockFault.OutOfMemory → (queues : List (List ℕ))
         → All (IsQueue params.now.core_size params.now.processes) queues → lengths_of queues ≡ counts.now → concat queues ≢ words.now) }
+    ensures wrong { IfErr result (IsQueueFault params.now counts.now words.now) }
 {
     let Ok(mut queues) = Vec::with_capacity(alloc, counts.len()) else {
         return Err(BlockFault::OutOfMemory);

@@ -5,6 +5,7 @@ use Rattle.mars_core.specs.Validity.{IsCore, IsQueue, IsValid}
 use Rattle.mars_core.specs.Block.{params_in, lengths_of}
 use Rattle.std.proofs.lemmas.List.{length-map, take_rest}
 use Rattle.mars_core.proofs.BlockParts.{few_deaths, head_params, head_deaths_count}
+use Rattle.mars_core.proofs.BlockFaults.{state_wrong}
 use Rattle.mars_core.proofs.BlockReadBack.{state_read}
 use Rattle.mars_core.proofs.battle.block.battle_of.Goals as goal
 
@@ -41,3 +42,12 @@ pub returns-in-Err-resumed-clause-none : goal.returns-in-Err-resumed-clause-none
 returns-in-Err-resumed-clause-none c = λ _ s v p.
     let same = state_read s _ _ _ _ _ _ _ _ v p c.in-Ok.ensures.params c.in-Ok-read_cells.ensures.words c.in-Ok-read_queues.ensures.counts c.in-Ok-read_queues.ensures.words (c.in-Some.ensures.words ∙ ap (λ (l : List ℕ). take (2 * get_or c.args.parts.now.head.now 14 0) l) (take_rest c.args.parts.now.head.now 32)) in
     c.in-Err-resumed.ensures.none (subst IsValid (sym same) v)
+
+pub returns-in-Err-clause-wrong : goal.returns-in-Err-clause-wrong
+returns-in-Err-clause-wrong c = λ words head counts cells processes. c.in-Err.ensures.wrong words head
+
+pub returns-in-Err-resumed-clause-wrong : goal.returns-in-Err-resumed-clause-wrong
+returns-in-Err-resumed-clause-wrong c = λ words head counts cells processes.
+    state_wrong words c.args.parts.now.head.now c.in-Ok.params (addresses_of c.in-Ok-read_queues.queues.items) c.in-Some.deaths.items c.in-Err-resumed.fault head c.in-Ok.ensures.params
+    (c.in-Ok-read_queues.ensures.counts ∙ counts) (c.in-Ok-read_queues.ensures.words ∙ processes)
+    (c.in-Some.ensures.words ∙ ap (λ (l : List ℕ). take (2 * get_or c.args.parts.now.head.now 14 0) l) (take_rest c.args.parts.now.head.now 32)) c.in-Err-resumed.ensures.wrong

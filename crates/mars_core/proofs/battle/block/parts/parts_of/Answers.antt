@@ -65,3 +65,6 @@ returns-clause-parts c = λ s sp.
       cells = c.split_at-2.ensures.front ∙ ap (take (3 * c.core_size.result)) c.split_at.ensures.back ∙ spelled_cells s c.args.words.now (3 * c.core_size.result) sp size;
       processes = ap (take c.total-process_words.result) (c.split_at-2.ensures.back ∙ ap (drop (3 * c.core_size.result)) c.split_at.ensures.back) ∙ spelled_processes s c.args.words.now (3 * c.core_size.result) c.total-process_words.result sp size sums;
     }
+
+pub returns-in-Err-clause-wrong : goal.returns-in-Err-clause-wrong
+returns-in-Err-clause-wrong c = c.in-Err.ensures.wrong c.args.words.now c.split_at.ensures.front
