@@ -10,9 +10,9 @@ int main(void)
     const char *source = "loop ADD #4, bomb\nMOV bomb, @bomb\nJMP loop\nbomb DAT #0, #0";
     MarsCell loaded[5];
     MarsProgram program;
-    size_t words = mars_words(&nano, 1);
+    size_t words = mars_words(&nano, 1), unread;
     MarsFault fault;
-    if (mars_assemble(&nano, 1, (const uint8_t *)source, strlen(source), loaded, 5, &program, &fault))
+    if (mars_assemble(&nano, 1, (const uint8_t *)source, strlen(source), loaded, 5, &program, NULL, 0, &unread, &fault))
         return 1;
     uint32_t *block = malloc(4 * words), *snapshot = malloc(4 * words);
     MarsBattle *battle = (MarsBattle *)block;

@@ -14,7 +14,8 @@ try:
     from corewar import __version__
     from corewar.cli.layout import Command
     from corewar.cli.main import COMMANDS, Commands, commands
-    from corewar.debugger.commands import COMMANDS as debugger_commands, TABLE
+    from corewar.debugger.commands import COMMANDS as debugger_commands
+    from corewar.debugger.table import TABLE
 except ImportError as error:
     sys.exit(f"cannot make the man pages: {error}; run scripts/setup")
 

@@ -86,16 +86,9 @@ static void clear(void)
 
 static uint32_t assemble(void)
 {
-    size_t size = source(), cells_given = chance(4) ? below(8) : OUT_CELLS;
-    uint32_t result = mars_assemble(&s, 1 + below(4), text, size, out_cells, cells_given, &program, &fault);
+    size_t size = source(), cells_given = chance(4) ? below(8) : OUT_CELLS, most = chance(4) ? below(40) : sizeof out;
+    uint32_t result = mars_assemble(&s, 1 + below(4), text, size, out_cells, cells_given, &program, out, most, &length, &fault);
     add_program();
-    return result;
-}
-
-static uint32_t lines(void)
-{
-    size_t size = source(), most = chance(4) ? below(40) : sizeof out;
-    uint32_t result = mars_lines(&s, 1 + below(4), text, size, out, most, &length, &fault);
     add_text();
     return result;
 }
@@ -326,7 +319,7 @@ static const struct {
     uint32_t (*make)(void);
     int is_small; /* whether the core is mostly small */
 } CALLS[] = {
-    {"assemble", assemble, 0}, {"assemble", assemble, 0}, {"lines", lines, 0}, {"write_load", write_load, 0},
+    {"assemble", assemble, 0}, {"assemble", assemble, 0}, {"write_load", write_load, 0},
     {"read_load", read_load, 0}, {"match", match, 0}, {"match", match, 0}, {"league", league, 0}, {"population", population, 1},
     {"score", score, 0}, {"outcomes", outcomes, 1}, {"sizes", sizes, 0}, {"fight", fight, 1}, {"fight", fight, 1}, {"fight", fight, 0},
 };

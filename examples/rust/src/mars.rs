@@ -124,6 +124,9 @@ extern "C" {
         cells: *mut Cell,
         cell_count: usize,
         program: *mut Program,
+        lines: *mut u8,
+        lines_length: usize,
+        length: *mut usize,
         fault: *mut Fault,
     ) -> u32;
 
@@ -153,8 +156,9 @@ extern "C" {
 
 /// Returns the warrior of a source; `warriors` is the value of WARRIORS.
 pub fn assemble(source: &[u8], settings: &Settings, warriors: u32) -> Result<Warrior, Fault> {
-    // The pointers are valid for the given lengths, and the output overlaps nothing.
+    // The pointers are valid for the given lengths, and the output overlaps nothing. The lines of the cells aren't requested.
     warrior_of(|cells, program, fault| unsafe {
+        let mut length = 0;
         mars_assemble(
             settings,
             warriors,
@@ -163,6 +167,9 @@ pub fn assemble(source: &[u8], settings: &Settings, warriors: u32) -> Result<War
             cells.as_mut_ptr(),
             cells.len(),
             program,
+            std::ptr::null_mut(),
+            0,
+            &mut length,
             fault,
         )
     })
