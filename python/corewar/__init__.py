@@ -13,7 +13,8 @@ from .analysis.causes import Why
 from .analysis.endings import Executed
 from .analysis.losses import Death, Tie, fates
 from .analysis.study import Access, Hit, Study, study
-from .analysis.turns import Place, Turn, Write
+from .analysis.turns import Location, Turn, Write
+from .battle.conditions import Condition
 from .battle.history import History
 from .battle.rounds import Round, rounds
 from .contests.challenge import Challenge
@@ -47,10 +48,10 @@ FileFault = FileError
 
 __all__ = [
     "CELL", "HILLS", "MAX_SEED", "MAX_WARRIORS", "MODES", "MODIFIERS", "OPCODES", "Access", "Assembler", "Battle",
-    "Cell", "Cells", "Challenge", "Comparison", "Contest", "CorewarError", "Death", "Edit", "Executed", "FileError",
-    "History", "Hit", "Indices", "League", "Limit", "MarsError", "Match", "Melee", "Numbers", "Overrun", "Owners",
-    "Pasts", "Place", "Player", "Positions", "Problem", "Progress", "Rates", "Records", "Round", "Row", "Settings",
-    "Standings", "Study", "Tie", "Turn", "Warrior", "Why", "Write", "assemble", "cell_limits",
-    "cell_of", "cell_text", "columns", "fates", "league", "match", "outcomes", "points", "population", "problems",
-    "read", "rounds", "shares", "study",
+    "Cell", "Cells", "Challenge", "Comparison", "Condition", "Contest", "CorewarError", "Death", "Edit", "Executed",
+    "FileError", "History", "Hit", "Indices", "League", "Limit", "Location", "MarsError", "Match", "Melee", "Numbers",
+    "Overrun", "Owners", "Pasts", "Player", "Positions", "Problem", "Progress", "Rates", "Records", "Round", "Row",
+    "Settings", "Standings", "Study", "Tie", "Turn", "Warrior", "Why", "Write", "assemble", "cell_limits", "cell_of",
+    "cell_text", "columns", "fates", "league", "match", "outcomes", "points", "population", "problems", "read",
+    "rounds", "shares", "study",
 ]  # fmt: skip

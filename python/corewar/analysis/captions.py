@@ -35,24 +35,24 @@ def fate(history: History, warrior: int) -> str:
 
 def describe_settings(history: History) -> list[str]:
     """The settings of the battle with their names, except for limits equal to the core size."""
-    fight = history.fight
-    numbers = {**vars(fight.settings), "seed": fight.seed, "position": fight.position, "round": history.round}
-    if fight.position:
+    match = history.match
+    numbers = {**vars(match.settings), "seed": match.seed, "position": match.position, "round": history.round}
+    if match.position:
         del numbers["seed"]
     return [f"{label(name)} {value:,}" for name, value in numbers.items() if value or name == "round"]
 
 
 def arguments(history: History) -> list[str]:
     """Returns the arguments of `corewar` that select this battle, with its files."""
-    fight, given = history.fight, Settings()
-    numbers = {**vars(fight.settings), "rounds": fight.rounds, "seed": fight.seed, "position": fight.position}
+    match, given = history.match, Settings()
+    numbers = {**vars(match.settings), "rounds": match.rounds, "seed": match.seed, "position": match.position}
     usual = {**vars(given), "rounds": 1, "seed": 1, "position": None}
     options = [
         text for name, value in numbers.items() if value != usual[name] for text in (NUMBERS[name].word, str(value))
     ]
     options += ["--round", str(history.round)] if history.round else []
     # The name of a file isn't taken for an option.
-    return [*options, *(f"./{one.file}" if one.file[:1] == "-" < one.file else one.file for one in fight.warriors)]
+    return [*options, *(f"./{one.file}" if one.file[:1] == "-" < one.file else one.file for one in match.warriors)]
 
 
 def command(history: History, subcommand: str) -> str:

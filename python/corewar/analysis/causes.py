@@ -116,7 +116,7 @@ def describe_death(formatter: BattleFormatter, warrior: int, count: int) -> Iter
         if earlier is not None:
             yield "Earlier it executed a cell that another warrior wrote:"
             yield from describe_turn(formatter, earlier, shown)
-    if search(history, [Condition("splits", warrior, warrior)], 0):
+    if search(history, [[Condition("splits", by=warrior)]], 0):
         yield from describe_hit(formatter, warrior)
 
 
@@ -133,7 +133,8 @@ def first_hit(history: History, warrior: int) -> int | None:
     first, length = history.loaded(warrior)
     last = (first + length - 1) % history.core
     others = [number for number in range(len(history.warriors)) if number != warrior]
-    found = search(history, [Condition("changes", first, last, other) for other in others], 0) if others else None
+    hits = [[Condition("changes", (first, last), by=other)] for other in others]
+    found = search(history, hits, 0) if hits else None
     return found and found[0]
 
 
@@ -176,7 +177,7 @@ def why_of(formatter: BattleFormatter, warrior: int, count: int) -> Why:
     last, causes, before = None, list[int](), list[int]()
     if death is not None and fate == "died":
         last = formatter.turn_of(death)
-        causes = causes_of(history, last.place.address, death - 1)
+        causes = causes_of(history, last.at.address, death - 1)
         before = [*islice(own_turns(history, warrior, death - 1), count)][::-1]
     hit = first_hit(history, warrior)
     return Why(

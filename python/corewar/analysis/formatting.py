@@ -11,9 +11,9 @@ from ..battle.labels import Sources
 from ..model.types import Cell
 from ..model.cells import cell_text
 from ..model.printing import COLOUR
-from .turns import Place, Turn, Write
+from .turns import Location, Turn, Write
 
-# How many of many texts are shown, and how many processes around one that was edited.
+# How many of many texts are shown, and how many processes.
 MAX_LISTED, MAX_PROCESSES = 8, 20
 
 # The widths of the first columns of a list of cells: the mark, the address, the label and the cell.
@@ -71,14 +71,14 @@ class BattleFormatter:
     def cell(self, cell: Cell | np.void) -> str:
         return cell_text(cell, self.history.core)
 
-    def place(self, address: int) -> Place:
-        return Place(int(address), self.sources.labels.get(int(address), ""))
+    def location(self, address: int) -> Location:
+        return Location(int(address), self.sources.labels.get(int(address), ""))
 
     def where(self, address: int) -> str:
         """Returns an address, with its label if it has one."""
-        return str(self.place(address))
+        return str(self.location(address))
 
-    def places(self, addresses: Iterable[int]) -> str:
+    def locations(self, addresses: Iterable[int]) -> str:
         return list_some([self.where(int(address)) for address in addresses])
 
     def head(self, turn: int) -> str:
@@ -86,7 +86,7 @@ class BattleFormatter:
         record = self.history.record(turn)
         name, where = self.names[record["warrior"]], self.where(int(record["address"]))
         text = f"turn {turn}: {name} at {where}: {self.cell(self.history.executed(turn))}"
-        reads = self.places(self.reads(turn))
+        reads = self.locations(self.reads(turn))
         return f"{text}; reads {reads}" if reads else text
 
     def reads(self, turn: int) -> list[int]:
@@ -106,12 +106,12 @@ class BattleFormatter:
         parts = block.changes.addresses, block.changes.before, block.changes.after
         changed = [*zip(*(part[block.changes.of(turn)] for part in parts))]
         same = [(at, block.cell(at, turn), block.cell(at, turn)) for at in block.rewritten(turn)]
-        return [Write(self.place(at), self.cell(old), self.cell(new)) for at, old, new in changed + same]
+        return [Write(self.location(at), self.cell(old), self.cell(new)) for at, old, new in changed + same]
 
     def changes(self, turn: int) -> list[str]:
         """Describes the writes of a turn, also those that changed nothing."""
         return [
-            f"{one.place}: {one.before}" + (f" -> {one.after}" if one.before != one.after else ", as before")
+            f"{one.at}: {one.before}" + (f" -> {one.after}" if one.before != one.after else ", as before")
             for one in self.writes(turn)
         ]
 
@@ -124,13 +124,13 @@ class BattleFormatter:
             turn,
             number,
             history.names[number],
-            self.place(address),
+            self.location(address),
             self.cell(history.executed(turn)),
             line.number if line else 0,
             line.text if line else "",
-            tuple(map(self.place, self.reads(turn))),
+            tuple(map(self.location, self.reads(turn))),
             tuple(self.writes(turn)),
-            tuple(map(self.place, record["process"][: record["queued"]])),
+            tuple(map(self.location, record["process"][: record["queued"]])),
             "\n".join(self.lines(turn)),
         )
 
@@ -176,15 +176,17 @@ class BattleFormatter:
             state = processes if death is None or death > turn else f"died in turn {death}"
             yield f"{name}: {state}; {pluralize(length, 'cell')} loaded at {start}"
 
-    def queue(self, turn: int, warrior: int, process: int | None = None) -> str:
-        """Describes the addresses of the processes of a warrior: all, or if there are many only those around one."""
-        found, rest = self.history.block(turn).queue(warrior, turn), ""
-        if process is not None and len(found) > MAX_PROCESSES:
-            others = len(found) - MAX_PROCESSES
-            first = min(max(0, process - MAX_PROCESSES // 2), others)
-            found = found[first : first + MAX_PROCESSES]
-            rest = f" (processes {first} to {first + MAX_PROCESSES - 1}; `queue` also lists the other {others})"
-        return f"{self.names[warrior]}: {' '.join(map(str, found))}".rstrip() + rest
+    def queue(self, turn: int, warrior: int, first: int = 0) -> str:
+        """Describes the addresses of processes of a warrior, at most MAX_PROCESSES from one on."""
+        found, end = self.history.block(turn).queue(warrior, turn), first + MAX_PROCESSES
+        start, left = f", from process {first} on" if first else "", len(found) - end
+        more = f" and {left} more: `queue {warrior} {end}`" if left > 0 else ""
+        return f"{self.names[warrior]}{start}: {' '.join(map(str, found[first:end]))}{more}".rstrip()
+
+    def queue_around(self, turn: int, warrior: int, process: int) -> str:
+        """Describes the addresses of processes of a warrior around one that was edited."""
+        others = len(self.history.block(turn).queue(warrior, turn)) - MAX_PROCESSES
+        return self.queue(turn, warrior, max(0, min(process - MAX_PROCESSES // 2, others)))
 
     def cells(self, turn: int, first: int, count: int, width: int = 0) -> Iterator[str]:
         """Describes cells from an address on: `>` before the next one to execute, labels, processes, and lines of

@@ -11,7 +11,8 @@ from itertools import chain
 import numpy as np
 
 from ..battle.conditions import last_change, last_opcode_change
-from ..battle.history import History, make_distinct
+from ..battle.history import History
+from ..model.printing import make_distinct
 from ..battle.labels import Sources
 from ..battle.runs import NOBODY
 from ..engine.calls import Match
@@ -48,7 +49,7 @@ class Tie:
 
 
 def fates(
-    fight: Match, *, warriors: Collection[int] | None = None, executor: Executor | None = None
+    match: Match, *, warriors: Collection[int] | None = None, executor: Executor | None = None
 ) -> Iterator[Death | Tie]:
     """Yields how each warrior of a match died in each round or, in a tie, what it executed last.
 
@@ -58,37 +59,37 @@ def fates(
     In the `History` of round K, warrior N of the match has the number (N - K) modulo the number of warriors. Raises
     `MarsError` if the match is invalid, and `CorewarError` for errors of the executor.
     """
-    numbers = range(len(fight.warriors)) if warriors is None else warriors
-    yield from chain.from_iterable(fates_of_rounds(fight, lost_rounds(fight, numbers), numbers, executor))
+    numbers = range(len(match.warriors)) if warriors is None else warriors
+    yield from chain.from_iterable(fates_of_rounds(match, lost_rounds(match, numbers), numbers, executor))
 
 
-def lost_rounds(fight: Match, warriors: Collection[int]) -> list[int]:
+def lost_rounds(match: Match, warriors: Collection[int]) -> list[int]:
     """Returns the rounds that one of some warriors did not win."""
-    given = {name: value for name, value in vars(fight).items() if name != "seed"}
-    survived = outcomes(**given, seeds=fight.seed)["survived"][0]
+    given = {name: value for name, value in vars(match).items() if name != "seed"}
+    survived = outcomes(**given, seeds=match.seed)["survived"][0]
     is_won = survived & (survived.sum(axis=1) == 1)[:, None]
     return [int(number) for number in np.flatnonzero(~is_won[:, [*warriors]].all(axis=1))]
 
 
 def fates_of_rounds(
-    fight: Match, rounds: Sequence[int], warriors: Collection[int], executor: Executor | None = None
+    match: Match, rounds: Sequence[int], warriors: Collection[int], executor: Executor | None = None
 ) -> Iterator[list[Death | Tie]]:
     """Yields the fates of some warriors in each of some rounds."""
-    return in_order(run_parts(fates_of, ((fight, number, warriors) for number in rounds), executor=executor))
+    return in_order(run_parts(fates_of, ((match, number, warriors) for number in rounds), executor=executor))
 
 
-def fates_of(fight: Match, number: int, warriors: Collection[int], _: object = None) -> list[Death | Tie]:
+def fates_of(match: Match, number: int, warriors: Collection[int], _: object = None) -> list[Death | Tie]:
     """Returns how some warriors died in a round or, in a tie, what they executed last."""
-    history, names = History(fight, number), make_distinct([warrior.called for warrior in fight.warriors])
+    history, names = History(match, number), make_distinct([warrior.called for warrior in match.warriors])
     # The warriors of a match take turns to begin.
-    order = [(place + number) % len(names) for place in range(len(names))]
+    order = [(turn + number) % len(names) for turn in range(len(names))]
     sources, in_turn = Sources(history), [names[one] for one in order]
     dead, found = history.ending.deaths["warrior"].tolist(), list[Death | Tie]()
-    for place in [place for place in dead if order[place] in warriors]:
-        found.append(Death(order[place], number, *cause_of_death(history, sources, in_turn, place)))
-    living = [place for place in range(len(names)) if place not in dead]
-    for place in [place for place in living if len(living) > 1 and order[place] in warriors]:
-        found.append(Tie(order[place], number, summarize_last_turns(history, sources, in_turn, place)))
+    for one in [one for one in dead if order[one] in warriors]:
+        found.append(Death(order[one], number, *cause_of_death(history, sources, in_turn, one)))
+    living = [one for one in range(len(names)) if one not in dead]
+    for one in [one for one in living if len(living) > 1 and order[one] in warriors]:
+        found.append(Tie(order[one], number, summarize_last_turns(history, sources, in_turn, one)))
     return found
 
 

@@ -26,13 +26,11 @@ COMPARING = [OPCODES.index(name) for name in ("SEQ", "SNE", "SLT", "JMZ", "JMN",
 MAX_TURNS = 1_000_000
 # The most lines of a table, the most strides of a line, and the least share of a stride that is shown.
 MAX_ROWS, MAX_STRIDES, MIN_SHARE = 8, 2, 0.2
-# The value of WARRIORS in the source, which is written for matches of two.
-WARRIORS = 2
 # No turn touches more cells.
 MAX_TOUCHED_CELLS = 8
 # Cells that turns accessed: the turn, the address of its instruction, the loaded cell from which that was copied, and
 # the address of the accessed cell.
-ACCESS = np.dtype([(name, np.int64) for name in ("turn", "place", "origin", "address")])
+ACCESS = np.dtype([(name, np.int64) for name in ("turn", "at", "origin", "address")])
 Accesses = NDArray[Any]
 
 
@@ -139,7 +137,7 @@ class Observation:
     """A battle of one warrior."""
 
     def __init__(self, history: History) -> None:
-        self.history, self.sources = history, Sources(history, WARRIORS)
+        self.history, self.sources = history, Sources(history)
         self.formatter = BattleFormatter(history, self.sources)
         self.origins = executed(history, 0, history.end)["past"]["origin"].astype(np.int64)
         start = history.state(0)
@@ -168,7 +166,7 @@ class Observation:
     def _accesses(self, block: Block, touches: Touches) -> Accesses:
         found = np.empty(len(touches.turns), ACCESS)
         found["turn"], found["address"] = touches.turns, touches.addresses
-        found["place"] = block.records["address"][touches.turns - block.first - 1]
+        found["at"] = block.records["address"][touches.turns - block.first - 1]
         found["origin"] = self.origins[touches.turns - 1]
         return found
 
@@ -176,7 +174,7 @@ class Observation:
         """Returns what comparing instructions read, each cell once in a turn, except for their own cells."""
         found = self._accesses(block, block.reads)
         again = (np.diff(found["turn"], prepend=-1) == 0) & (np.diff(found["address"], prepend=-1) == 0)
-        is_other = found["address"] != found["place"]
+        is_other = found["address"] != found["at"]
         wanted: Accesses = found[np.isin(self.opcodes[found["origin"]], COMPARING) & is_other & ~again]
         return wanted
 
@@ -239,7 +237,7 @@ def strides(found: Accesses, core: int) -> tuple[tuple[int | None, float], ...]:
     # The number of earlier accesses in the same turn, which distinguishes the operands of an instruction.
     firsts = np.flatnonzero(np.diff(found["turn"], prepend=-1))
     before = np.arange(len(found)) - np.repeat(firsts, np.diff(firsts, append=len(found)))
-    operands = found["place"] * MAX_TOUCHED_CELLS + before
+    operands = found["at"] * MAX_TOUCHED_CELLS + before
     order = np.argsort(operands, kind="stable")
     apart = np.diff(found["address"][order])[np.diff(operands[order]) == 0] % core
     distances, counts = np.unique(np.where(apart > core // 2, apart - core, apart), return_counts=True)

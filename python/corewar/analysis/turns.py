@@ -5,7 +5,7 @@ from dataclasses import dataclass
 
 
 @dataclass(frozen=True)
-class Place:
+class Location:
     """A cell of the core: its address, and its label or ""."""
 
     address: int
@@ -19,7 +19,7 @@ class Place:
 class Write:
     """A write of a turn: the cell before it and after it, which may be equal."""
 
-    place: Place
+    at: Location
     before: str
     after: str
 
@@ -30,7 +30,7 @@ class Turn:
 
     - `turn`: its number, from 1
     - `warrior`, `name`: the number and the name of the warrior
-    - `place`, `cell`: where it executed an instruction, and the instruction
+    - `at`, `cell`: where it executed an instruction, and the instruction
     - `line`, `source`: the number and the text of its line in the source of a warrior, also of a copy, or 0 and ""
     - `reads`: the cells that it read, except its own and those where its process went
     - `writes`: its writes
@@ -41,13 +41,13 @@ class Turn:
     turn: int
     warrior: int
     name: str
-    place: Place
+    at: Location
     cell: str
     line: int
     source: str
-    reads: tuple[Place, ...]
+    reads: tuple[Location, ...]
     writes: tuple[Write, ...]
-    processes: tuple[Place, ...]
+    processes: tuple[Location, ...]
     text: str
 
     def __str__(self) -> str:

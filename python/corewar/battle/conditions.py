@@ -9,6 +9,8 @@ import numpy as np
 from numpy.typing import NDArray
 
 from ..engine.binding import MAX_UINT32, array
+from ..model.cells import OPCODES
+from ..model.errors import CorewarError
 from ..model.header import enumeration
 from ..model.types import Records
 from .history import History, spans
@@ -28,31 +30,59 @@ Turns = NDArray[np.uint32]
 
 @dataclass(frozen=True)
 class Condition:
-    """A condition on a place, which is a number of executed turns.
+    """A condition on a turn, and on a cell that it uses.
 
-    - `at`: one of the cells is executed next
-    - `changes`, `reads`: the last turn changed or read one of the cells
-    - `splits`, `ends`, `dies`: the warrior gained a process, lost one or died in the last turn; `moves`: that was its
-      turn
+    - `word`: `at`, `changes` or `reads`: the turn executes, changed or read the cell; `splits`, `ends` or `dies`: its
+      warrior gained a process, lost one or died; `moves`: any turn. The last four are about the cell that it executed
+    - `cells`: the first and the last address of the cell, around the end of the core if the last one is smaller
+    - `of`: the warrior that changed the cell last, or that was loaded there
+    - `origin`: likewise where its instruction was loaded, or the first and last address
+    - `was`, `becomes`: its opcode before the turn, such as `DAT`, and the one that the turn gave it in place of another
+    - `by`: the warrior of the turn
 
-    The cells are those from `first` to `last`, around the end of the core if `last` is smaller. `by` is the warrior of
-    the turn, or None for any. In a condition on a warrior `first` is its number.
+    None stands for any. Warriors have their numbers in the order of turns. The constructor raises `CorewarError` for
+    another word, or an opcode that does not exist.
     """
 
     word: str
-    first: int
-    last: int
+    cells: tuple[int, int] | None = None
+    of: int | None = None
+    origin: tuple[int, int] | None = None
+    was: str | None = None
+    becomes: str | None = None
     by: int | None = None
 
-    @property
-    def rows(self) -> list[Row]:
-        """The conditions of the library that its turn meets: for `at` the next turn."""
-        if self.word not in CELL_CONDITIONS:
-            number, value = WARRIOR_CONDITIONS.get(self.word, (WARRIOR, self.first))
-            return [by_warrior(self.first), (EXECUTES, number, value, value)]
-        way = CELL_CONDITIONS[self.word]
-        by = [] if self.by is None else [(way, WARRIOR, self.by, self.by)]
-        return [(way, ADDRESS, self.first, self.last), *by]
+    def __post_init__(self) -> None:
+        words = (*CELL_CONDITIONS, *WARRIOR_CONDITIONS, "moves")
+        if self.word not in words:
+            raise CorewarError(f"no condition `{self.word}`; expected {', '.join(words)}")
+        for opcode in (self.was, self.becomes):
+            if opcode not in (None, *OPCODES):
+                raise CorewarError(f"no opcode `{opcode}`; the opcodes are {', '.join(OPCODES)}")
+
+    def rows(self, core: int) -> list[Row]:
+        """Returns the conditions of the library that its turn meets in a core of a size. Raises CorewarError if it has
+        no such cells.
+        """
+        for address in (*(self.cells or ()), *(self.origin or ())):
+            if not 0 <= address < core:
+                raise CorewarError(f"no cell {address}; the core has cells 0 to {core - 1}")
+        way, event = CELL_CONDITIONS.get(self.word, EXECUTES), WARRIOR_CONDITIONS.get(self.word)
+        values = {OWNER: self.of, OPCODE: None if self.was is None else OPCODES.index(self.was), WARRIOR: self.by}
+        rows = [(way, number, value, value) for number, value in values.items() if value is not None]
+        rows += [(way, ADDRESS, *self.cells)] if self.cells else [(way, ADDRESS, 0, MAX_UINT32)]
+        if self.becomes:
+            opcode = OPCODES.index(self.becomes)
+            # A range whose end is below its start goes around.
+            rows += [(way, NEW_OPCODE, opcode, opcode), (way, OPCODE, opcode + 1, (opcode - 1) & MAX_UINT32)]
+        if self.origin:
+            # A range around the end of the core has no cells that an edit set.
+            rows += [(way, ORIGIN, *self.origin), (way, ORIGIN, 0, core - 1)]
+        return rows + ([(way, event[0], event[1], event[1])] if event else [])
+
+
+# Conditions that one turn meets, those with the same word for the same cell.
+Joined = Sequence[Condition]
 
 
 def by_warrior(warrior: int) -> Row:
@@ -77,25 +107,31 @@ def find(
         yield battle.follow(pasts, end - start, rows)["turn"]
 
 
-def places(history: History, condition: Condition) -> NDArray[np.int64]:
-    """Returns all places at which a condition holds, in order."""
-    parts = [turns.astype(np.int64) for turns in find(history, condition.rows)]
-    # `at` holds at the place before its turn.
-    return np.concatenate(parts) - (condition.word == "at")
+def places_in(
+    history: History, joined: Joined, first: int = 0, last: int | None = None, forward: bool = True
+) -> Iterator[NDArray[np.int64]]:
+    """Yields the places at which conditions hold, as `find` yields turns: numbers of executed turns."""
+    # `at` is about the turn after the place.
+    shift = any(one.word == "at" for one in joined)
+    rows = [row for one in joined for row in one.rows(history.core)]
+    yield from (turns.astype(np.int64) - shift for turns in find(history, rows, first, last, forward))
+
+
+def places(history: History, joined: Joined) -> NDArray[np.int64]:
+    """Returns all places at which conditions hold, in order."""
+    return np.concatenate([*places_in(history, joined)])
 
 
 def search(
-    history: History, conditions: Sequence[Condition], turn: int, forward: bool = True
-) -> tuple[int, Condition] | None:
-    """Returns the first place after a turn at which one of the conditions holds, or the last one before it."""
+    history: History, conditions: Sequence[Joined], turn: int, forward: bool = True
+) -> tuple[int, Joined] | None:
+    """Returns the first place after a turn at which one of some conditions holds, or the last one before it."""
     span = (turn, history.end) if forward else (0, turn)
-    for parts in zip(*(find(history, condition.rows, *span, forward) for condition in conditions)):
+    for parts in zip(*(places_in(history, joined, *span, forward) for joined in conditions)):
         found = []
-        for condition, turns in zip(conditions, parts):
-            # `at` holds at the place before its turn.
-            places = turns.astype(np.int64) - (condition.word == "at")
-            near = places[places > turn][:1] if forward else places[places < turn][-1:]
-            found += [(int(place), condition) for place in near]
+        for joined, held in zip(conditions, parts):
+            near = held[held > turn][:1] if forward else held[held < turn][-1:]
+            found += [(int(place), joined) for place in near]
         if found:
             return (min if forward else max)(found, key=itemgetter(0))
     return None
@@ -109,10 +145,8 @@ def last_change(history: History, address: int, turn: int) -> int | None:
 
 def last_opcode_change(history: History, address: int, turn: int) -> int | None:
     """Returns the last turn, up to this one, that gave a cell the opcode that it has after it, instead of another."""
-    opcode = int(history.block(turn).cell(address, turn)["op"])
-    # A range whose end is below its start goes around.
-    others = (CHANGES, OPCODE, opcode + 1, (opcode - 1) & MAX_UINT32)
-    rows = [(CHANGES, ADDRESS, address, address), others, (CHANGES, NEW_OPCODE, opcode, opcode)]
+    opcode = OPCODES[history.block(turn).cell(address, turn)["op"]]
+    rows = Condition("changes", (address, address), becomes=opcode).rows(history.core)
     return next((int(turns[-1]) for turns in find(history, rows, 0, turn, False) if len(turns)), None)
 
 

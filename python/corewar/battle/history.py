@@ -10,7 +10,6 @@ from dataclasses import dataclass
 from functools import cached_property, lru_cache
 from html import escape
 from importlib import import_module
-from itertools import count
 from typing import TYPE_CHECKING, Any
 
 import numpy as np
@@ -22,6 +21,7 @@ from ..engine.calls import Match
 from ..model.types import Owners, Pasts, Records
 from ..model.edits import Edit
 from ..model.errors import CorewarError
+from ..model.printing import make_distinct
 from ..model.settings import whole
 from .blocks import Block
 from .runs import BY_HAND, NOBODY, Run
@@ -30,6 +30,7 @@ if TYPE_CHECKING:
     # These describe histories, and are loaded when they are called.
     from corewar.analysis.causes import Why
     from corewar.analysis.turns import Turn
+    from corewar.battle.conditions import Condition
     from corewar.pages.player import Player
 
 # The number of turns of a block, and of blocks in the cache, 5 to 13 MB each.
@@ -52,7 +53,7 @@ class Segment:
 class History:
     """The battle of a round from its start to its end, with the edits made in it.
 
-    - `fight`: the match
+    - `match`: the match
     - `round`: the round, from 0
 
     Turns are numbered from 1; "after turn 0" is the start. Warriors are numbered from 0 in the order of their turns, in
@@ -61,10 +62,10 @@ class History:
     is invalid, and `CorewarError` if it has more than 16 warriors.
     """
 
-    def __init__(self, fight: Match, round: int = 0) -> None:
-        self.fight, self.round, self.core = fight, round, fight.settings.core
-        self.segments = [whole_segment(Run(Battle(fight, round)))]
-        self.warriors = fight.warriors[round % len(fight.warriors) :] + fight.warriors[: round % len(fight.warriors)]
+    def __init__(self, match: Match, round: int = 0) -> None:
+        self.match, self.round, self.core = match, round, match.settings.core
+        self.segments = [whole_segment(Run(Battle(match, round)))]
+        self.warriors = match.warriors[round % len(match.warriors) :] + match.warriors[: round % len(match.warriors)]
         self.names = make_distinct([warrior.called for warrior in self.warriors])
         self._blocks = lru_cache(maxsize=CACHED_BLOCKS)(read_block)
 
@@ -116,6 +117,17 @@ class History:
         """
         last = self.end if last is None else last
         return [self._formatter.turn_of(turn) for turn in range(first, last + 1)]
+
+    def find(self, *conditions: Condition) -> NDArray[np.int64]:
+        """Returns the turns, from 1, that meet all conditions, in order; the turns before those if one of them is `at`.
+
+        Conditions with the same word are about the same cell. Raises `CorewarError` without a condition, or if the core
+        has no such cell.
+        """
+        if not conditions:
+            raise CorewarError("expected a condition")
+        found: NDArray[np.int64] = self._load("battle.conditions").places(self, conditions)
+        return found
 
     def _load(self, module: str) -> Any:
         """Returns a module of a higher folder, which itself imports this one."""
@@ -334,14 +346,3 @@ def read_block(run: Run, first: int, count: int) -> Block:
     return Block(
         first, start, start.copy().play(count, records=count)[0], lambda: start.copy().play(count, touched=count)[1]
     )
-
-
-def make_distinct(names: list[str]) -> list[str]:
-    """Returns distinct names: equal ones are followed by numbers, so that no two are the same."""
-    found: list[str] = []
-    for name in names:
-        new, numbers = name, count(1)
-        while names.count(name) > 1 and new in (*names, *found):
-            new = f"{name} {next(numbers)}"
-        found.append(new)
-    return found

@@ -7,9 +7,7 @@ from collections.abc import Sequence
 from dataclasses import dataclass
 from functools import cached_property
 
-from ..engine.calls import Match, source_lines
-from ..engine.warriors import Warrior
-from ..model.errors import CorewarError, MarsError
+from ..model.errors import CorewarError
 from ..model.printing import printable
 from .history import History
 
@@ -34,18 +32,16 @@ class Line:
 
 class Sources:
     """The lines and labels of the cells where the warriors were loaded, and the lines of all cells that were copied.
-    Load files have neither, and neither has a source that makes other cells here.
-
-    - `count`: the value of WARRIORS for which the sources were assembled; by default the number of warriors
+    Load files have neither.
     """
 
-    def __init__(self, history: History, count: int | None = None) -> None:
+    def __init__(self, history: History) -> None:
         self.lines: dict[int, Line] = {}
         self._labels: list[tuple[int, str, int]] = []
         for number, warrior in enumerate(history.warriors):
             first, _ = history.loaded(number)
             texts = (warrior.source or b"").decode("latin-1").split("\n")
-            for place, (line, labels) in enumerate(read_lines(warrior, history.fight, count)):
+            for place, (line, labels) in enumerate(warrior.lines):
                 address = (first + place) % history.core
                 # Control characters are whitespace of the language, but a terminal would obey them.
                 words = re.findall(r"[^\0- ]+", texts[line - 1].partition(";")[0])
@@ -89,14 +85,3 @@ class Sources:
     def labels(self) -> dict[int, str]:
         """The label of each address that has one, in its shortest form."""
         return {address: label for label, address in reversed(self.addresses.items())}
-
-
-def read_lines(warrior: Warrior, fight: Match, count: int | None) -> list[tuple[int, list[str]]]:
-    """Returns the number of the line and the labels of each cell of a warrior, or nothing if they are not known."""
-    if warrior.source is None:
-        return []
-    try:
-        found = source_lines(warrior.source, fight.settings, fight.rounds, count or len(fight.warriors))
-    except MarsError:
-        return []
-    return found if len(found) == len(warrior) else []

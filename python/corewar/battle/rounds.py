@@ -34,16 +34,16 @@ class Round:
         return {"round": history.round, "starts": self.starts, "outcomes": outcomes, "turns": history.end}
 
 
-def rounds(fight: Match) -> Iterator[Round]:
+def rounds(match: Match) -> Iterator[Round]:
     """Yields the rounds of a match, from round 0. Raises `MarsError` if the match is invalid, and `CorewarError` if it
     has more than 16 warriors.
     """
-    for number in range(fight.rounds):
-        history = History(fight, number)
+    for number in range(match.rounds):
+        history = History(match, number)
         dead = {int(warrior) for warrior in history.ending.deaths["warrior"]}
-        survived = "win" if len(dead) == len(fight.warriors) - 1 else "tie"
+        survived = "win" if len(dead) == len(match.warriors) - 1 else "tie"
         # Warrior 0 of a battle is the one that begins it.
-        places = [(place - number) % len(fight.warriors) for place in range(len(fight.warriors))]
+        places = [(place - number) % len(match.warriors) for place in range(len(match.warriors))]
         yield Round(history, tuple("loss" if place in dead else survived for place in places))
 
 

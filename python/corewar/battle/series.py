@@ -13,7 +13,6 @@ from ..engine.calls import Match, seed_after
 from ..engine.warriors import Warrior
 from ..model.cells import MODES, OPCODES
 from ..model.settings import Settings
-from .labels import read_lines
 
 # pMARS's numbers of opcodes and modes; those of modifiers are the same.
 PMARS_OPCODES = "MOV ADD SUB MUL DIV MOD JMZ JMN DJN CMP SLT SPL DAT JMP SEQ SNE NOP".split()
@@ -28,21 +27,21 @@ def seed_of_position(position: int, settings: Settings) -> int:
     return seed_after(position - settings.distance, -1)
 
 
-def seed_of_cells(fight: Match) -> int:
+def seed_of_cells(match: Match) -> int:
     """Returns the seed of the series of `pmars -f` for two warriors: a sum over the cells of both, each number combined
     with its index.
     """
-    numbers, core = list[int](), fight.settings.core
-    for warrior in fight.warriors:
+    numbers, core = list[int](), match.settings.core
+    for warrior in match.warriors:
         cells = np.frombuffer(warrior.cells_in(core), warrior.cells.dtype).tolist()
-        for (op, modifier, a_mode, b_mode, a, b), text in zip(cells, texts_of(warrior, fight)):
+        for (op, modifier, a_mode, b_mode, a, b), text in zip(cells, texts_of(warrior)):
             # pMARS has two opcodes for SEQ.
             opcode = PMARS_OPCODES.index("CMP" if CMP.search(text) else OPCODES[op])
             numbers += opcode << 3 | modifier, PMARS_MODES[MODES[a_mode]], PMARS_MODES[MODES[b_mode]], a, b
     return sum(number ^ index for index, number in enumerate(numbers))
 
 
-def texts_of(warrior: Warrior, fight: Match) -> list[str]:
+def texts_of(warrior: Warrior) -> list[str]:
     """Returns the text of the line of each cell without its comment, or "" if it is not known."""
     texts = (warrior.source or b"").decode("latin-1").split("\n")
-    return [texts[line - 1].partition(";")[0] for line, _ in read_lines(warrior, fight, None)] or [""] * len(warrior)
+    return [texts[line - 1].partition(";")[0] for line, _ in warrior.lines] or [""] * len(warrior)

@@ -26,7 +26,7 @@ def debug(options: BattleOptions, turn: int) -> int:
     from ..debugger.prompt import is_terminal, run_lines, run_prompt
     from ..debugger.session import Session
 
-    history = History(options.fight(), options.round)
+    history = History(options.match(), options.round)
     session = Session(history, Sources(history), turn=checked_turn(turn, history.end, "--turn"))
     if not is_terminal():
         return run_lines(session, sys.stdin)

@@ -13,7 +13,7 @@ from typing import Any
 import click
 from click.shell_completion import CompletionItem
 
-from ..engine.calls import encode_source, source_lines
+from ..engine.calls import encode_source
 from ..engine.deadline import deadline
 from ..engine.sources import Assembler, Overrun, read_file, read_warrior, read_warriors
 from ..engine.warriors import Warrior
@@ -56,8 +56,11 @@ class Explain(Command):
         return super().parse_args(context, words)
 
     def shell_complete(self, context: click.Context, incomplete: str) -> list[CompletionItem]:
-        # What follows are the arguments of another program.
-        return [] if context.params.get("files", ())[:1] == ("mars",) else super().shell_complete(context, incomplete)
+        if context.params.get("files", ())[:1] != ("mars",):
+            return super().shell_complete(context, incomplete)
+        from .mars_args import MARS
+
+        return MARS.shell_complete(click.Context(MARS), incomplete)
 
 
 @command(*EXAMPLES, statuses=f"{STATUSES}, {LEFT} `--fix` left what pMARS reads differently", kind=Explain)
@@ -173,7 +176,7 @@ def hints_in(options: BattleOptions, path: str) -> list[str]:
     if path.endswith(".load") or not os.path.isfile(path):
         return []
     warrior = read_warriors([path], options.settings, options.rounds, options.limit, 2)[0]
-    return hints_of(warrior, source_lines(warrior.source or b"", options.settings, options.rounds))
+    return hints_of(warrior, warrior.lines)
 
 
 def compare_file(options: BattleOptions, path: str) -> None:

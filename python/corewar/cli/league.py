@@ -4,15 +4,18 @@ from __future__ import annotations
 import json
 import os
 import re
+import sys
 from collections.abc import Callable
 from contextlib import nullcontext
 from dataclasses import dataclass, replace
 from functools import partial, wraps
 from pathlib import Path
+from shutil import get_terminal_size
 from typing import Any, TypeVar
 
 import click
 
+from ..contests.challenge import Challenge
 from ..contests.cluster import cluster
 from ..contests.contest import Contest
 from ..contests.standings import csv_text
@@ -133,7 +136,9 @@ def write_results(result: Any, form: str, output: str | None = None, only_sum: b
     elif form == "json":
         text = json.dumps({name: one for name, one in result.to_dict().items() if name != "matches" or not only_sum})
     else:
-        text = result.matrix_text() if form == "matrix" else result.summary if only_sum else str(result)
+        width = get_terminal_size().columns if sys.stdout.isatty() and not output else 0
+        table = partial(result.table, width) if isinstance(result, Challenge) else partial(str, result)
+        text = result.matrix_text() if form == "matrix" else result.summary if only_sum else table()
         text = "\n".join(map(printable, text.split("\n")))
     data = f"{text}\n".encode("utf-8", "surrogateescape")
     if output:

@@ -5,7 +5,7 @@ import click
 
 from ..analysis.causes import describe_change, describe_death
 from ..analysis.losses import Death, Tie, describe_losses, describe_ties, fates_of_rounds, lost_rounds
-from ..analysis.study import WARRIORS, study as study_of
+from ..analysis.study import study as study_of
 from ..analysis.formatting import BattleFormatter, paint
 from ..battle.history import History
 from ..battle.labels import Sources
@@ -21,7 +21,7 @@ from .waiting import processes, progress
 
 
 def formatter_of(options: BattleOptions) -> BattleFormatter:
-    history = History(options.fight(), options.round)
+    history = History(options.match(), options.round)
     return BattleFormatter(history, Sources(history), *([paint] if is_coloured() else []))
 
 
@@ -78,14 +78,14 @@ def print_losses(options: BattleOptions, named: str | None, form: str) -> int:
     """Prints how warriors died and tied in all rounds until Ctrl-C: the one selected by its name, or all that did.
     Returns the exit status.
     """
-    fight = options.fight()
-    first = History(fight)
+    match = options.match()
+    first = History(match)
     warriors = [*range(len(first.names))] if named is None else [warrior_of(first, named)]
-    fates, rounds, done = list[Death | Tie](), lost_rounds(fight, warriors), 0
+    fates, rounds, done = list[Death | Tie](), lost_rounds(match, warriors), 0
     count, status = options.rounds, 0
     try:
         with progress(len(rounds), "rounds") as advance, processes(len(rounds)) as executor:
-            for found in fates_of_rounds(fight, rounds, warriors, executor):
+            for found in fates_of_rounds(match, rounds, warriors, executor):
                 fates += found
                 done += 1
                 advance(1)
@@ -161,7 +161,8 @@ def study(file: str, settings: Settings, limit: Limit, form: str) -> None:
     For each line that writes or compares cells, prints how often it does so, how many cells it reaches and by which
     turn, and the stride from one to the next. Also finds the first turn in which the warrior hits its own code.
     """
-    (warrior,) = read_warriors([file], settings, limit=limit, warriors=WARRIORS)
+    # Sources are written for matches of two.
+    (warrior,) = read_warriors([file], settings, limit=limit, warriors=2)
     found = study_of(warrior, settings=settings)
     if form == "json":
         show_value(found)

@@ -15,7 +15,7 @@ from click.shell_completion import CompletionItem
 
 from ..battle.series import seed_of_cells, seed_of_position
 from ..contests.contest import Contest
-from ..engine.calls import Match, source_lines
+from ..engine.calls import Match
 from ..engine.sources import Limit, read_warriors
 from ..engine.warriors import Warrior
 from ..model.errors import CorewarError, FileError
@@ -62,18 +62,18 @@ class BattleOptions:
             raise click.UsageError(f"--positions all and {given[0]} exclude each other")
         return replace(self, positions="all")
 
-    def fight(self) -> Match:
+    def match(self) -> Match:
         """The match of the files. Each file is read once. Raises FileError."""
         self.check_pmars(len(self.files))
         if len(self.files) > MAX_WARRIORS:
             advice = "`corewar league` and `corewar melee` take more"
             raise click.UsageError(f"a match has at most {MAX_WARRIORS} warriors, not {len(self.files)}; {advice}")
         warriors = read_warriors(self.files, self.settings, self.rounds, self.limit)
-        fight = Match(warriors, settings=self.settings, rounds=self.rounds, seed=self.seed, position=self.position)
+        match = Match(warriors, settings=self.settings, rounds=self.rounds, seed=self.seed, position=self.position)
         if self.pmars == FIXED:
-            fight = replace(fight, seed=seed_of_cells(fight))
-            report(f"the starting positions of `{FIXED}` are those of `--seed {fight.seed}`")
-        return fight
+            match = replace(match, seed=seed_of_cells(match))
+            report(f"the starting positions of `{FIXED}` are those of `--seed {match.seed}`")
+        return match
 
     def check_pmars(self, count: int) -> None:
         """Raises an error of click if matches of a number of warriors have no series of pMARS."""
@@ -137,7 +137,7 @@ class CellName(click.ParamType):
         found = [
             (number, label, warrior.title)
             for number, warrior in enumerate(warriors_before(context))
-            for _, labels in source_lines(warrior.source or b"", HILLS[context.params.get("hill") or "94nop"])
+            for _, labels in warrior.lines
             for label in labels
         ]
         counts = Counter(label for _, label, _ in found)

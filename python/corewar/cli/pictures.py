@@ -76,7 +76,7 @@ def picture(
     from ..pictures.timeline import View, draw
 
     output = output_file(output, "battle.png", force)
-    history = History(options.fight(), options.round)
+    history = History(options.match(), options.round)
     shown = cells_of(cells, history.core)
     draw(history, View(frame_ends(history, first, turns, rows), shown, min(columns, len(shown))), output)
     click.echo(printable(f"{output}: {history.end} turns"))
@@ -120,11 +120,11 @@ def page(options: BattleOptions, turn: int, edits: tuple[str, ...], output: str 
 
     output = output_file(output, "battle.html", force)
     site_folder()
-    fight = options.fight()
-    history = edited(History(fight, options.round), edits)
+    match = options.match()
+    history = edited(History(match, options.round), edits)
     check_length(history.end)
-    write_page(Path(output), page_of(fight, options.formula, options.round, turn, history.edits))
-    click.echo(printable(f"{output}: {' against '.join(warrior.called for warrior in fight.warriors)}"))
+    write_page(Path(output), page_of(match, options.formula, options.round, turn, history.edits))
+    click.echo(printable(f"{output}: {' against '.join(warrior.called for warrior in match.warriors)}"))
 
 
 def edited(history: History, texts: Sequence[str]) -> History:

@@ -18,7 +18,7 @@ from ..engine.parts import TURNS, in_order, run_parts
 from ..model.printing import printable
 from .layout import command
 from .options import EVERY_POSITION, BattleOptions, Output, battle_options, format_option
-from .reporting import report
+from .reporting import report, show
 from .waiting import PROCESSORS, Waiting, progress
 
 # The greatest width of a strip.
@@ -65,7 +65,7 @@ def fight(options: BattleOptions, is_exact: bool) -> int:
     if is_exact:
         print_exactly(options.everywhere())
         return 0
-    fought = options.fight()
+    fought = options.match()
     rows, done = rows_of(fought, options.formula)
     print_rows(fought, rows)
     if done < fought.rounds:
@@ -78,15 +78,15 @@ def print_exactly(options: BattleOptions) -> None:
     """Prints the results of two warriors from every position."""
     if len(options.files) != 2:
         raise click.UsageError(f"--positions all is for matches of two warriors, not of {len(options.files)}")
-    fought = options.fight()
+    fought = options.match()
     first, second = fought.warriors
     with Waiting("battles") as waiting:
         result = options.contest.challenge(first, [second], jobs=PROCESSORS, progress=waiting)
     points, wins, ties, losses = result.counts[0].tolist()
     print_rows(fought, [Row(points, wins, ties, losses), Row(int(result.theirs[0]), losses, ties, wins)])
     room, names = distances(options.settings), [printable(warrior.called) for warrior in fought.warriors]
-    click.echo(f"Score of {names[0]} by the distance to {names[1]}, from {room[0]} to {room[-1]} cells:")
-    click.echo(result.strip(0, min(get_terminal_size().columns, MAX_STRIP)))
+    strip = result.strip(0, min(get_terminal_size().columns, MAX_STRIP))
+    show([f"Score of {names[0]} by the distance to {names[1]}, from {room[0]} to {room[-1]} cells:", strip])
 
 
 def print_rows(fought: Match, rows: Sequence[Row]) -> None:
@@ -109,7 +109,7 @@ def rounds(options: BattleOptions, pages: str | None, form: str) -> None:
 
     The positions, of all warriors but the first, and the outcomes are in the order of the files.
     """
-    fought = options.fight()
+    fought = options.match()
     if form == "json":
         click.echo(json.dumps([one.to_dict() for one in rounds_of(fought)]))
         return
@@ -117,8 +117,8 @@ def rounds(options: BattleOptions, pages: str | None, form: str) -> None:
     titles = [printable(warrior.title) for warrior in fought.warriors]
     for number, title in enumerate(titles):
         click.echo(f"warrior {number}: {title}, {pluralize(len(fought.warriors[number]), 'cell')}")
-    places = max(9, 6 * (len(titles) - 1))
-    click.echo(f"round {'position':{places}} {'outcome':{width}} {'turns':>7}  command to debug it")
+    wide = max(9, 6 * (len(titles) - 1))
+    click.echo(f"round {'position':{wide}} {'outcome':{width}} {'turns':>7}  command to debug it")
     if pages:
         from ..pages.match import Pages
 
@@ -129,7 +129,7 @@ def rounds(options: BattleOptions, pages: str | None, form: str) -> None:
         words = printable(captions.command(one.history, "debug"))
         # The first warrior is at address 0.
         position = " ".join(map(str, one.starts[1:]))
-        click.echo(f"{one.history.round:5} {position:{places}} {outcome:{max(width, 7)}} {one.history.end:7}  {words}")
+        click.echo(f"{one.history.round:5} {position:{wide}} {outcome:{max(width, 7)}} {one.history.end:7}  {words}")
         outcomes.append(one.outcomes)
         if pages:
             written.add(one)

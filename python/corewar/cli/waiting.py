@@ -27,8 +27,10 @@ def progress(total: int, what: str, done: int = 0) -> Iterator[Callable[[int], N
     from rich.console import Console
     from rich.progress import BarColumn, MofNCompleteColumn, Progress as Bar, TimeRemainingColumn
 
-    columns = (MofNCompleteColumn(), what, BarColumn(), TimeRemainingColumn())
-    with Bar(*columns, console=Console(stderr=True), transient=True) as bar:
+    columns, console = (MofNCompleteColumn(), what, BarColumn(), TimeRemainingColumn()), Console(stderr=True)
+    # Ctrl-C is echoed as `^C` at the end of the bar, which would be left there if it had no room.
+    console.width -= len("^C")
+    with Bar(*columns, console=console, transient=True) as bar:
         task = bar.add_task("", total=total, completed=done)
         yield lambda count: bar.advance(task, count)
 

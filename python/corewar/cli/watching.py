@@ -42,7 +42,7 @@ GAP, LINES = "   ", 3
 class Show:
     """A round that is watched: the turn that is shown, in which direction it moves, and how many turns in a second."""
 
-    fight: Match
+    match: Match
     history: History
     turn: int
     way: int = 0
@@ -51,28 +51,27 @@ class Show:
 
     def __post_init__(self) -> None:
         self.formatter = BattleFormatter(self.history, Sources(self.history))
-        self.place, self.rate = float(self.turn), self.rate or max(1, self.history.end / SECONDS)
+        self.moment, self.rate = float(self.turn), self.rate or max(1, self.history.end / SECONDS)
 
     def go(self, turn: float, way: int = 0) -> None:
-        self.place = min(max(0.0, turn), float(self.history.end))
-        self.turn, self.way = int(self.place), way
+        self.moment = min(max(0.0, turn), float(self.history.end))
+        self.turn, self.way = int(self.moment), way
 
     def advance(self) -> None:
         """Moves by the turns of the time since the last frame."""
         now, before = time.monotonic(), self.shown_at
         self.shown_at = now
         if self.way:
-            place = self.place + self.way * self.rate * (now - before)
-            self.go(place, self.way if 0 < place < self.history.end else 0)
+            moment = self.moment + self.way * self.rate * (now - before)
+            self.go(moment, self.way if 0 < moment < self.history.end else 0)
 
     def leap(self, word: str, forward: bool) -> None:
-        conditions = [Condition(word, number, number) for number in range(len(self.history.names))]
-        found = search(self.history, conditions, self.turn, forward)
+        found = search(self.history, [[Condition(word)]], self.turn, forward)
         self.go(found[0] if found else self.turn)
 
     def show_round(self, number: int) -> None:
-        if 0 <= number < self.fight.rounds:
-            self.history, self.rate = History(self.fight, number), 0
+        if 0 <= number < self.match.rounds:
+            self.history, self.rate = History(self.match, number), 0
             self.__post_init__()
             self.go(0)
 
@@ -162,9 +161,9 @@ def watch(options: BattleOptions, turn: int) -> None:
     stream = click.get_text_stream("stdout")
     if not stream.isatty() or not click.get_text_stream("stdin").isatty():
         raise click.UsageError("expected a terminal; `corewar picture` draws a battle into a file")
-    fight = options.fight()
-    history = History(fight, options.round)
-    show = Show(fight, history, checked_turn(turn, history.end, "--turn"), 0 if turn else 1)
+    match = options.match()
+    history = History(match, options.round)
+    show = Show(match, history, checked_turn(turn, history.end, "--turn"), 0 if turn else 1)
     control = FormattedTextControl(show.text, show_cursor=False)
     Application[None](
         Layout(Window(control, wrap_lines=False)),

@@ -8,13 +8,13 @@ import numpy as np
 
 from ..engine.warriors import Warrior
 from ..model.types import Indices, Numbers, Rates
-from ..model.printing import printable
+from ..model.printing import cut, printable
 from .exact import strip_of
 from .matches import Matches
 from .standings import HEAD, NAMES, RATES, Standings, Sums, best_of, head_of, row_of
 
-# The width of a strip in a table, whose head fits into 80 columns.
-STRIP = 24
+# The width of a strip in a table, whose head fits into 80 columns, and the least one in a narrow terminal.
+STRIP, NARROW_STRIP = 24, 8
 
 
 @dataclass(frozen=True, eq=False)
@@ -70,14 +70,31 @@ class Challenge(Standings):
         return {**head_of(self.contest), "warrior": self.total(), "matches": self.records()}
 
     def __str__(self) -> str:
-        width = max((len(one.file) for one in self.warriors), default=0)
-        head = "" if self.by_distance is None else f"{'by distance':{min(STRIP, self.by_distance.shape[1])}}  "
+        return self.table()
+
+    def table(self, width: int = 0) -> str:
+        """Returns the table. If its rows are longer than a width, unless that is 0, strips are narrower and titles cut,
+        unless even the files do not fit.
+        """
+        columns = self._files, [one.title for one in self.warriors]
+        files, titles = (max(map(len, column), default=0) for column in columns)
+        room = width - len(text_of([0] * 5)) - files - 4
+        size = 0 if self.by_distance is None else min(STRIP, self.by_distance.shape[1])
+        if width and size:
+            size = min(size, max(NARROW_STRIP, room - titles - 2))
+            room -= size + 2
+        head = f"{'by distance' if size >= len('by distance') else 'distance':{size}}  " if size else ""
         lines = [f"  points   wins   ties losses   theirs  {head}opponent"]
         for number in self.order.tolist():
-            one, counts = self.warriors[number], [*self.counts[number], self.theirs[number]]
-            strip = f"{self.strip(number)}  " if head else ""
-            lines.append(f"{text_of(counts)}  {strip}{printable(one.file):{width}}  {one.title}")
+            title = self.warriors[number].title
+            texts = [text_of([*self.counts[number], self.theirs[number]]), self.strip(number, size)]
+            texts += [f"{self._files[number]:{files}}", cut(title, room) if width and room > 2 else title]
+            lines.append("  ".join(filter(None, texts)))
         return "\n".join([*lines, self.summary])
+
+    @property
+    def _files(self) -> list[str]:
+        return [printable(one.file) for one in self.warriors]
 
     def strip(self, number: int, width: int = STRIP) -> str:
         """Returns the points by the distance to an opponent as bars, from a loss to a win; "" if they are not known."""

@@ -230,7 +230,7 @@ def run(matches: Schedule, how: Execution) -> Iterator[Indices]:
         done = len(rows)
         how.report(done, len(matches), turned)
         yield rows
-        for rows in matches.fight(how.jobs, how.executor):
+        for rows in matches.play(how.jobs, how.executor):
             if stored:
                 stored.keep(rows)
             done += len(rows)

@@ -28,7 +28,7 @@ def battles_of(pairs: NDArray[np.intp], settings: Settings) -> tuple[NDArray[np.
     """Returns a lineup of each pair for each battle, and the seeds that draw the positions."""
     room = len(distances(settings))
     # A draw is never 0.
-    seeds = np.array([seed_after(place or room, -1) for place in range(room)], np.int64)
+    seeds = np.array([seed_after(step or room, -1) for step in range(room)], np.int64)
     # If the second warrior begins, it is at address 0, and the first one where its distance leads to it.
     lineups = np.repeat(np.stack([pairs, pairs[:, ::-1]], axis=1), room, axis=1).reshape(-1, 2)
     return lineups, np.tile(np.concatenate([seeds, seeds[::-1]]), len(pairs))

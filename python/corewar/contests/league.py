@@ -48,7 +48,7 @@ class League(Standings):
         return best_of(self.points) if self.by_points else np.arange(len(self.warriors))
 
     @property
-    def places(self) -> Numbers:
+    def shown_ranks(self) -> Numbers:
         """The ranks as the table shows them: equal points are in the order of the warriors."""
         return 1 + np.argsort(best_of(self.points))
 
@@ -76,18 +76,18 @@ class League(Standings):
         return {**super().to_dict(), "matches": [dict(zip(names, row)) for row in table.tolist()]}
 
     def __str__(self) -> str:
-        lines, places = ["  rank   points   wins   ties losses  warrior"], self.places
+        lines, ranks = ["  rank   points   wins   ties losses  warrior"], self.shown_ranks
         for one, title in zip(self.order.tolist(), self.titles):
             points, wins, ties, losses = self.counts[one].tolist()
-            lines.append(f"{places[one]:6} {points:8} {wins:6} {ties:6} {losses:6}  {title}")
+            lines.append(f"{ranks[one]:6} {points:8} {wins:6} {ties:6} {losses:6}  {title}")
         return "\n".join(lines)
 
     def matrix_text(self) -> str:
         """Returns the wins of each against each; rows and columns have the ranks of the warriors."""
-        ranks = [str(rank) for rank in self.places[self.order]]
+        ranks = [str(rank) for rank in self.shown_ranks[self.order]]
         lines = [["", *ranks]]
         for line, (rank, wins) in enumerate(zip(ranks, self.balances[..., 0].tolist())):
-            lines.append([rank, *(str(count) if place != line else "." for place, count in enumerate(wins))])
+            lines.append([rank, *(str(count) if number != line else "." for number, count in enumerate(wins))])
         width = max(len(cell) for line in lines for cell in line)
         titles = ["warrior", *self.titles]
         return "\n".join(
@@ -114,8 +114,8 @@ def league_of(matches: Matches) -> League:
     given = matches.lineups.T.ravel(), np.tile(rows, 2), np.repeat([0, 1], len(rows))
     errors = Sums(count, *given, np.ones_like(given[0])).errors(matches) * scale
     # .. and to the lead of each over the next one, and with the opposite sign to the lead of the one before.
-    places = np.argsort(best)[given[0]]
-    sums = np.stack([np.r_[places, places - 1], *np.tile(given[1:], 2), np.repeat([1, -1], len(places))])
+    orders = np.argsort(best)[given[0]]
+    sums = np.stack([np.r_[orders, orders - 1], *np.tile(given[1:], 2), np.repeat([1, -1], len(orders))])
     sums = sums[:, (sums[0] >= 0) & (sums[0] < count - 1)]
     lead_errors = Sums(count, *sums).errors(matches) * scale
     leads = np.append(-np.diff(counts[best, 0]) * scale, [np.nan] * bool(count))

@@ -91,7 +91,7 @@ class Schedule:
     def __len__(self) -> int:
         return len(self.lineups)
 
-    def fight(self, jobs: int = 1, executor: Executor | None = None) -> Iterator[Indices]:
+    def play(self, jobs: int = 1, executor: Executor | None = None) -> Iterator[Indices]:
         """Runs the matches that are left. Yields the rows of some with their results filled in. Raises CorewarError."""
         left, run = np.flatnonzero(~self.is_fought), self.contest.run(self.lineups.shape[1])
         for block in (left[at : at + BLOCK] for at in range(0, len(left), BLOCK)):
@@ -158,17 +158,17 @@ class Matches(Schedule):
             for digest in digests:
                 numbers.setdefault(digest, set()).add(number)
         found = [
-            (place, one, other, *counts)
-            for place, (first, second, *counts) in enumerate(stored)
+            (index, one, other, *counts)
+            for index, (first, second, *counts) in enumerate(stored)
             for one in numbers.get(first, ())
             for other in numbers.get(second, ())
         ]
-        places, pairs = np.split(np.array([row[:3] for row in found], np.intp).reshape(-1, 3), [1], axis=1)
+        indices, pairs = np.split(np.array([row[:3] for row in found], np.intp).reshape(-1, 3), [1], axis=1)
         counts = check_counts([row[3:] for row in found] or np.empty((0, 5)), len(found), self.contest)
         rows, reversed_rows = self.rows_of(pairs), self.rows_of(pairs[:, ::-1])
         self.fill_in(rows[rows >= 0], counts[rows >= 0])
         # A warrior of which there are copies may be both before and after the same opponent.
-        is_own = np.isin(places[:, 0], places[rows >= 0])
+        is_own = np.isin(indices[:, 0], indices[rows >= 0])
         reversed_rows = np.unique(reversed_rows[(reversed_rows >= 0) & ~is_own])
         return int((~self.is_fought[reversed_rows]).sum())
 

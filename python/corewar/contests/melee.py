@@ -134,13 +134,13 @@ def melee_of(matches: Lineups) -> Melee:
     return Melee(contest, matches.warriors, counts, errors, matches.lineups, matches.seeds)
 
 
-def errors_of(places: Indices, points: Rates, count: int) -> Rates:
+def errors_of(indices: Indices, points: Rates, count: int) -> Rates:
     """Returns the standard error of 100 times the mean points of each warrior, or NaN for fewer than two matches.
 
-    `places` and `points` have the warrior and its points in each match.
+    `indices` and `points` have the warrior and its points in each match.
     """
-    matches, sums = np.bincount(places, minlength=count), np.bincount(places, points, count)
+    matches, sums = np.bincount(indices, minlength=count), np.bincount(indices, points, count)
     with np.errstate(divide="ignore", invalid="ignore"):
         # The matches of a warrior have other opponents, drawn as well as the rounds, so whole matches are compared.
-        spread = np.bincount(places, (points - (sums / matches)[places]) ** 2, count) / (matches - 1)
+        spread = np.bincount(indices, (points - (sums / matches)[indices]) ** 2, count) / (matches - 1)
         return np.where(matches > 1, 100 * np.sqrt(spread / matches), np.nan)

@@ -165,10 +165,10 @@ class Sums:
         if not matches.contest.is_drawn:
             return np.full(self.count, np.nan)
         # Matches of equal warriors have equal results, so they are one match several times.
-        keys, places = np.unique(
+        keys, indices = np.unique(
             self.numbers * len(sorts) + np.searchsorted(sorts, matches.same[self.rows]), return_inverse=True
         )
-        ours, theirs = (np.bincount(places, self.signs * (self.sides == side), len(keys)) for side in (0, 1))
+        ours, theirs = (np.bincount(indices, self.signs * (self.sides == side), len(keys)) for side in (0, 1))
         numbers, kinds = np.divmod(keys, max(1, len(sorts)))
         own, other, both = spreads(matches)[:, kinds]
         sums = np.bincount(numbers, ours**2 * own + theirs**2 * other + 2 * ours * theirs * both, self.count)

@@ -1,30 +1,29 @@
 """The commands of the debugger by name. The site has them, too: their usage and help are in commands.json."""
 from __future__ import annotations
 
-import json
 import re
 from collections.abc import Callable, Iterable, Iterator
 from dataclasses import dataclass
-from importlib.resources import files
 from typing import NoReturn
 
 import numpy as np
 
 from ..analysis.causes import describe_cause, describe_change, describe_death
 from ..analysis.formatting import pluralize
-from ..battle.conditions import Condition, places, search
+from ..battle.conditions import Condition, search
 from ..explain.instructions import describe_instruction
 from ..model.cells import MODES
 from ..model.edits import Edit
 from ..model.errors import CorewarError
 from ..model.settings import whole
+from .conditions import describe_conditions, read_conditions
+from .finding import find_turns
 from .session import MAX_FILLED_CELLS, Session
+from .table import TABLE
 
 Act = Callable[[Session, str], Iterable[str]]
 # How many cells `list` shows, also around each warrior's next process, and how many turns before a death `why` shows.
 CELLS, AROUND, TURNS = 11, 7, 4
-# How many turns `find` lists.
-LISTED = 20
 
 
 class QuitDebugger(Exception):
@@ -48,7 +47,6 @@ class Command:
         return self.usage.split()[0]
 
 
-TABLE = json.loads((files("corewar.debugger") / "commands.json").read_text("ascii"))
 COMMANDS: dict[str, Command] = {}
 
 
@@ -92,7 +90,7 @@ def step_by(session: Session, rest: str, sign: int) -> Iterator[str]:
     """Steps a number of turns forwards or back, or to the next or previous turn of a warrior."""
     if rest and not rest.isdecimal():
         warrior = session.warrior(rest)
-        found = search(session.history, [Condition("moves", warrior, warrior)], session.turn, sign > 0)
+        found = search(session.history, [[Condition("moves", by=warrior)]], session.turn, sign > 0)
         if found is None:
             where = "after" if sign > 0 else "before"
             raise CorewarError(f"{session.names[warrior]} has no turn {where} turn {session.turn}")
@@ -159,28 +157,22 @@ def continue_back(session: Session, rest: str) -> Iterator[str]:
 
 
 def search_from_here(session: Session, rest: str, forward: bool) -> Iterator[str]:
-    conditions = [session.condition(rest.split())] if rest else [*session.breakpoints.values()]
-    yield f"{session.describe_condition(session.search(conditions, forward))}:"
+    conditions = [read_conditions(session, rest)] if rest else [*session.breakpoints.values()]
+    yield f"{describe_conditions(session, session.search(conditions, forward))}:"
     yield from show_position(session)
 
 
-@command("find")
-def find_places(session: Session, rest: str) -> Iterator[str]:
-    condition = session.condition(rest.split())
-    found = places(session.history, condition)
-    first, more = ", ".join(map(str, found[:LISTED])), f" and {len(found) - LISTED} more" * (len(found) > LISTED)
-    times = f"{pluralize(len(found), 'time')}, after turn {first}{more}" if len(found) else "never"
-    yield f"{session.describe_condition(condition)}: {times}"
+command("find")(find_turns)
 
 
 @command("break")
 def set_break(session: Session, rest: str) -> Iterator[str]:
     if rest:
-        session.breakpoints[max(session.breakpoints, default=-1) + 1] = session.condition(rest.split())
+        session.breakpoints[max(session.breakpoints, default=-1) + 1] = read_conditions(session, rest)
     if not session.breakpoints:
         yield "no breakpoint is set"
     for number, condition in session.breakpoints.items():
-        yield f"breakpoint {number}: {session.describe_condition(condition)}"
+        yield f"breakpoint {number}: {describe_conditions(session, condition)}"
 
 
 @command("delete")
@@ -250,7 +242,7 @@ def move(session: Session, rest: str) -> Iterator[str]:
     warrior = session.warrior(words[0])
     process = session.process(warrior, words[1])
     session.edit(Edit.move(warrior, process, session.address(words[2])))
-    yield session.formatter.queue(session.turn, warrior, process)
+    yield session.formatter.queue_around(session.turn, warrior, process)
 
 
 @command("kill")
@@ -261,7 +253,7 @@ def kill(session: Session, rest: str) -> Iterator[str]:
     warrior = session.warrior(words[0])
     process = session.process(warrior, words[1])
     session.edit(Edit.kill(warrior, process))
-    yield session.formatter.queue(session.turn, warrior, process)
+    yield session.formatter.queue_around(session.turn, warrior, process)
 
 
 @command("spawn")
@@ -271,11 +263,11 @@ def spawn(session: Session, rest: str) -> Iterator[str]:
         raise CorewarError("expected a warrior and an address")
     warrior, address = session.warrior(words[0]), session.address(words[1])
     count = len(session.history.block(session.turn).queue(warrior, session.turn))
-    if not 0 < count < session.history.fight.settings.processes:
+    if not 0 < count < session.history.match.settings.processes:
         why = f"has {pluralize(count, 'process')}, the maximum" if count else "is dead"
         raise CorewarError(f"cannot add a process: {session.names[warrior]} {why}")
     session.edit(Edit.add(warrior, address))
-    yield session.formatter.queue(session.turn, warrior, count)
+    yield session.formatter.queue_around(session.turn, warrior, count)
 
 
 @command("futures")
@@ -310,8 +302,12 @@ def list_cells(session: Session, rest: str) -> Iterator[str]:
 
 @command("queue")
 def queue(session: Session, rest: str) -> Iterator[str]:
+    # The name of a warrior may end in a number.
+    is_name = rest.lower() in map(str.lower, session.names)
+    named, _, index = rest.rpartition(" ") if not is_name and re.fullmatch(r".+ \d+", rest) else (rest, "", "")
     next_warrior = session.history.block(session.turn).next_warrior(session.turn)
-    yield session.formatter.queue(session.turn, session.warrior(rest) if rest else next_warrior)
+    warrior = session.warrior(named.strip()) if named else next_warrior
+    yield session.formatter.queue(session.turn, warrior, session.process(warrior, index) if index else 0)
 
 
 @command("show")

@@ -7,10 +7,10 @@ from collections.abc import Iterator
 from prompt_toolkit.completion import CompleteEvent, Completer, Completion, PathCompleter
 from prompt_toolkit.document import Document
 
-from ..battle.conditions import CELL_CONDITIONS, WARRIOR_CONDITIONS
 from ..explain.words import OPCODES
 from ..model.errors import CorewarError
 from .commands import COMMANDS, Command, find_command
+from .conditions import FOLLOWING, WORDS
 from .session import Session
 
 # What an argument can be, each with its meaning; None stands for the names of files.
@@ -61,16 +61,23 @@ class CommandCompleter(Completer):
 
     def condition(self, rest: str) -> tuple[str, Choices]:
         """Returns the last argument of a condition, and what it can be."""
-        word, where, by, name = re.match(r"(\S*)\s*(\S*)\s*(\S*)\s*(.*)", rest).groups()  # type: ignore[union-attr]
-        if rest == word:
-            return word, dict.fromkeys((*CELL_CONDITIONS, *WARRIOR_CONDITIONS), "")
-        if word in WARRIOR_CONDITIONS:
-            return rest[len(word) :].lstrip(), self.warriors()
-        if word in CELL_CONDITIONS and rest.endswith(where) and not by:
-            return where.rpartition("..")[2], self.addresses()
-        if word in CELL_CONDITIONS and rest.endswith(by) and not name:
-            return by, {"by": "only in turns of a warrior"}
-        return name, self.warriors() if by == "by" else {}
+        *before, begun = rest.split(" ")
+        places = [
+            place for place, word in enumerate(before) if word in (*FOLLOWING, *WORDS["cells"], *WORDS["warriors"])
+        ]
+        last, following = before[places[-1]] if places else "and", dict.fromkeys(FOLLOWING, "")
+        after = " ".join([*before[places[-1] + 1 :], begun]) if places else ""
+        if last == "and":
+            first = dict.fromkeys((*WORDS["cells"], *WORDS["warriors"]), "")
+            return begun, first | (following if places else {})
+        if last in ("by", "of", *WORDS["warriors"]):
+            names = self.warriors()
+            return (begun, following) if any(after.startswith(f"{name} ") for name in names) else (after, names)
+        if before[-1] != last:
+            return begun, following
+        if last in ("was", "becomes"):
+            return begun, {name.lower(): meaning for name, meaning in OPCODES.items()}
+        return begun.rpartition("..")[2], self.addresses() | (following if last in WORDS["cells"] else {})
 
     def choices(self, kind: str, command: Command) -> Choices:
         """Returns what an argument can be that is written so in the usage of its command."""

@@ -6,7 +6,7 @@ from collections.abc import Callable, Sequence
 from dataclasses import dataclass, field
 
 from ..analysis.formatting import BattleFormatter
-from ..battle.conditions import CELL_CONDITIONS, WARRIOR_CONDITIONS, Condition, search
+from ..battle.conditions import Joined, search
 from ..battle.history import History
 from ..battle.labels import Sources
 from ..engine.calls import assemble, encode_source
@@ -20,7 +20,11 @@ from ..model.settings import whole
 MAX_FILLED_CELLS = 1_000_000
 # A label in a line of source, as `bomb` or as `1.bomb`.
 LABEL = re.compile(r"(?<![\w.])(?:\d+\.)?[A-Za-z_]\w*")
-CONDITION = "expected a condition: at, changes or reads A[..B] [by W], or splits, ends or dies W"
+
+
+def without_separators(text: str) -> str:
+    """Returns a text in which numbers such as `1,404`, as the site shows them, have no separators."""
+    return re.sub(r"\b\d{1,3}(,\d{3})+\b", lambda found: found[0].replace(",", ""), text)
 
 
 @dataclass
@@ -36,7 +40,7 @@ class Session:
     turn: int = 0
     past: list[tuple[History, int]] = field(default_factory=list)
     undone: list[tuple[History, int]] = field(default_factory=list)
-    breakpoints: dict[int, Condition] = field(default_factory=dict)
+    breakpoints: dict[int, Joined] = field(default_factory=dict)
     futures: list[History] = field(default_factory=list)
 
     def __post_init__(self) -> None:
@@ -83,7 +87,7 @@ class Session:
         """Returns the edits of a future as text."""
         return [f"after turn {turn}: {edit.text(history.core)}" for turn, edit in history.edits]
 
-    def search(self, conditions: Sequence[Condition], forward: bool) -> Condition:
+    def search(self, conditions: Sequence[Joined], forward: bool) -> Joined:
         """Goes to the next place where one of the conditions holds, or to the one before."""
         if not conditions:
             raise CorewarError("no breakpoint is set; use `break CONDITION` or add a condition to this command")
@@ -94,14 +98,14 @@ class Session:
         return found[1]
 
     def number(self, text: str, what: str) -> int:
-        found = whole(text)
+        found = whole(without_separators(text))
         if found is None:
             raise CorewarError(f"expected {what}, not `{text}`")
         return found
 
     def address(self, text: str) -> int:
         """Returns the address of a number, a label, or `.`, the cell to execute next; each with or without +N or -N."""
-        found = re.fullmatch(r"(\.|[\w.]+?)((?:[+-]\d{1,9})*)", text)
+        found = re.fullmatch(r"(\.|[\w.]+?)((?:[+-]\d{1,9})*)", without_separators(text))
         base = found[1] if found else ""
         at = self.history.head(self.turn) if base == "." else self.sources.addresses.get(base, whole(base))
         if base == "." and at is None:
@@ -119,26 +123,6 @@ class Session:
         """A warrior by its number, its name or its file."""
         return self.history.warrior(text)
 
-    def condition(self, words: Sequence[str]) -> Condition:
-        """Returns the condition of some words. Raises CorewarError."""
-        word, rest = (words[0], list(words[1:])) if words else ("", [])
-        by = self.warrior(" ".join(rest[2:])) if len(rest) > 2 and rest[1] == "by" else None
-        if word in CELL_CONDITIONS and rest and (len(rest) == 1 or by is not None):
-            first, _, last = rest[0].partition("..")
-            return Condition(word, self.address(first), self.address(last or first), by)
-        if word in WARRIOR_CONDITIONS and rest:
-            number = self.warrior(" ".join(rest))
-            return Condition(word, number, number)
-        raise CorewarError(CONDITION)
-
-    def describe_condition(self, condition: Condition) -> str:
-        """Returns a condition as text."""
-        if condition.word in WARRIOR_CONDITIONS:
-            return f"{condition.word} {self.names[condition.first]}"
-        where = self.formatter.where(condition.first)
-        until = "" if condition.last == condition.first else f"..{self.formatter.where(condition.last)}"
-        return f"{condition.word} {where}{until}" + ("" if condition.by is None else f" by {self.names[condition.by]}")
-
     def cell(self, address: int, line: str) -> Cell:
         """Returns the cell that a line of source makes at an address, as the debugger reads it. Labels refer to the
         core.
@@ -151,15 +135,17 @@ class Session:
             return f"({addresses[found[0]] - address})" if is_label else found[0]
 
         given = [f"{name} EQU ({at - address})" for name, at in addresses.items() if "." not in name and name in words]
-        fight, source = self.history.fight, "\n".join([*given, LABEL.sub(distance, line), ""])
+        match, source = self.history.match, "\n".join([*given, LABEL.sub(distance, line), ""])
         try:
-            warrior = assemble(source, settings=fight.settings, rounds=fight.rounds, warriors=len(self.names))
+            warrior = assemble(source, settings=match.settings, rounds=match.rounds, warriors=len(self.names))
         except MarsError as fault:
             for word in words:
                 if word not in addresses:
                     self.sources.check(word)
-            kind, cause = str(fault).partition(": ")[2], explain_error(fault, encode_source(source))[0]
-            raise CorewarError(f"`{line}` is not an instruction: {kind}: {cause}") from None
+            # The user has typed a single line.
+            causes = [re.sub(r"^In line \d+, ", "", cause) for cause in explain_error(fault, encode_source(source))]
+            kind = str(fault).partition(": ")[2]
+            raise CorewarError(f"`{line}` is not an instruction: {kind}: {' '.join(causes)}") from None
         cell: Cell = warrior.cells[-1].tolist()
         return cell
 

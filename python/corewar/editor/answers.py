@@ -51,7 +51,7 @@ def answers(method: str) -> Callable[[Answer], Answer]:
 
 
 def token_at(text: Text, params: Params) -> Token | None:
-    return text.names.at(*text.place(params["position"]))
+    return text.names.at(*text.line_and_column(params["position"]))
 
 
 def diagnostic(text: Text, error: Error) -> Params:
@@ -133,17 +133,17 @@ def describe_word(token: Token) -> list[str]:
 
 @answers("definition")
 def definition(text: Text, params: Params) -> Any:
-    return places(text, params, lambda one: one.is_definition)
+    return locations(text, params, lambda one: one.is_definition)
 
 
 @answers("references")
 def references(text: Text, params: Params) -> Any:
     is_declared = params.get("context", {}).get("includeDeclaration", True)
-    return places(text, params, lambda one: is_declared or not one.is_definition)
+    return locations(text, params, lambda one: is_declared or not one.is_definition)
 
 
-def places(text: Text, params: Params, is_wanted: Callable[[Token], bool]) -> list[Params]:
-    """Returns the places of the tokens that are the same name as the one at a position, if `is_wanted` accepts them."""
+def locations(text: Text, params: Params, is_wanted: Callable[[Token], bool]) -> list[Params]:
+    """Returns the locations of the tokens with the same name as the one at a position, if `is_wanted` accepts them."""
     token, uri = token_at(text, params), params["textDocument"]["uri"]
     found = text.names.same(token) if token else []
     return [{"uri": uri, "range": text.range_of(one)} for one in found if is_wanted(one)]
@@ -200,7 +200,7 @@ def check_name(text: Text, new: str) -> None:
 @answers("completion")
 def completion(text: Text, params: Params) -> Any:
     """Returns the words that can be at a position: modifiers, names, or opcodes and the names of EQUs."""
-    number, column = text.place(params["position"])
+    number, column = text.line_and_column(params["position"])
     before = re.sub(r"\w*$", "", text.line(number)[:column], flags=re.ASCII)
     is_assert = ASSERT.match(before) is not None
     if ";" in before and not is_assert:

@@ -1,4 +1,4 @@
-"""The tokens of a source with their places, and which names are the same, by the look of its lines."""
+"""The tokens of a source with their positions, and which names are the same, by the look of its lines."""
 from __future__ import annotations
 
 import re
@@ -22,7 +22,7 @@ class Token:
     - `whole`: all characters of the token
     - `kind`: comment, operation, modifier, number, sign; equate, counter, label, predefined; stem for a name that is
       joined to a counter; name for one that is not defined
-    - `key`: what it has in common with all places of the same name
+    - `key`: what it has in common with all tokens of the same name
     - `is_definition`: whether it defines this name
     """
 
@@ -65,7 +65,7 @@ class Names:
         return here[-1] if here else None
 
     def same(self, token: Token) -> list[Token]:
-        """Returns all places of the name that a token is."""
+        """Returns all tokens of the name that a token is."""
         return [one for one in self.tokens if one.key and (one.kind, one.key) == (token.kind, token.key)]
 
     def _tokens(self, line: Line) -> Iterator[Token]:
@@ -73,11 +73,11 @@ class Names:
         begin = found.end() if found else 0
         end = begin + len(line.text[begin:].partition(";")[0])
         parts = [*TOKEN.finditer(line.text, begin, end)]
-        # The place of the operation; tokens before it are labels.
+        # The index of the operation; tokens before it are labels.
         first = 0 if found else len(parts) - len(line.rest) - bool(line.operation)
         before = ""
-        for place, part in enumerate(parts, -first):
-            role = "label" if place < 0 else "modifier" if before == "." else "name"
+        for index, part in enumerate(parts, -first):
+            role = "label" if index < 0 else "modifier" if before == "." else "name"
             if role == "name" and part[0].upper() in OPERATIONS:
                 role = "operation"
             yield from self._parts(line.number, part, role)
@@ -89,21 +89,21 @@ class Names:
         if not NAME.match(whole):
             yield Token(number, first, whole, whole, "number" if whole[0].isdecimal() else "sign")
             return
-        for place, part in enumerate(whole.split("&")):
-            kind, key = self._kind(whole, part, place)
+        for index, part in enumerate(whole.split("&")):
+            kind, key = self._kind(whole, part, index)
             # Counters and EQU names are replaced also in place of an operation or a modifier.
             if role in ("operation", "modifier") and kind not in ("counter", "equate"):
                 kind, key = role, ""
             name = key if kind == "stem" else part
-            yield Token(number, first, name, whole, kind, key, bool(key) and role == "label" and place == 0)
+            yield Token(number, first, name, whole, kind, key, bool(key) and role == "label" and index == 0)
             first += len(part) + 1
 
-    def _kind(self, whole: str, part: str, place: int) -> tuple[str, str]:
+    def _kind(self, whole: str, part: str, index: int) -> tuple[str, str]:
         """Returns the kind and the key of a name, or of a part of a joined one."""
-        if part in self._counters and (place or whole == part):
+        if part in self._counters and (index or whole == part):
             return "counter", self._counters[part]
         if "&" in whole:
-            return ("name", "") if place else ("stem", part)
+            return ("name", "") if index else ("stem", part)
         if part in self._kinds:
             return self._kinds[part], part
         # The label of an iteration, such as `x01`.

@@ -64,7 +64,7 @@ class Server:
                 self.handle(message)
 
     def handle(self, message: Message) -> None:
-        """Takes a message, and answers a request. No error of an answer ends the server."""
+        """Takes a message, and answers a request."""
         method, params = message.get("method"), message.get("params") or {}
         if method is None:
             return
@@ -76,6 +76,7 @@ class Server:
         except CorewarError as refused:
             answer = {"error": {"code": FAILED, "message": str(refused)}}
         except Exception as error:
+            # The editor would lose its server by a mistake in one answer.
             traceback.print_exc()
             answer = {"error": {"code": INTERNAL, "message": f"internal error: {error!r}"}}
         if "id" in message:
@@ -121,6 +122,7 @@ class Server:
             except Overrun as overrun:
                 found = [diagnostic(self.text(""), Error(str(overrun), []))]
             except Exception:
+                # Nor by one in the errors of one source.
                 traceback.print_exc()
                 continue
             params = {"uri": uri, "diagnostics": found}

@@ -8,7 +8,6 @@ from dataclasses import dataclass
 from functools import cached_property
 from itertools import zip_longest
 
-from ..engine.calls import source_lines
 from ..explain.errors import errors_of, kind_of
 from ..explain.source import Advice, Source, read_source
 from ..model.cells import cell_text
@@ -70,7 +69,7 @@ class Text:
         """Returns the text of a line, or "" if there is no such line."""
         return self.source.lines[number - 1].text if 0 < number <= len(self.source.lines) else ""
 
-    def place(self, position: dict[str, int]) -> tuple[int, int]:
+    def line_and_column(self, position: dict[str, int]) -> tuple[int, int]:
         """Returns the line and the column of a position."""
         number = position["line"] + 1
         before = self.line(number).encode("utf-16-le")[: 2 * position["character"]]
@@ -100,11 +99,11 @@ class Text:
     def cells_of(self, data: bytes) -> Cells:
         """Returns the cells of a source with the settings of this one, or nothing if it has an error."""
         try:
-            cells, lines = self.load(data).cells, source_lines(data, self.settings)
+            warrior = self.load(data)
         except CorewarError:
             return {}
         found: Cells = {}
-        for index, ((number, _), cell) in enumerate(zip(lines, cells)):
+        for index, ((number, _), cell) in enumerate(zip(warrior.lines, warrior.cells)):
             found.setdefault(number, []).append((index, cell_text(cell, self.settings.core)))
         return found
 

@@ -32,7 +32,7 @@ ADDRESS = numbers()["EDIT_ADDRESS"]
 class Battle:
     """A battle as a value. Warriors are numbered from 0 in the order of their turns.
 
-    - `fight`: the match
+    - `match`: the match
     - `round`: the round, from 0
 
     The battle is at the start of the round, and `play` and `edit` change it in place. Its core, queues and deaths are
@@ -41,11 +41,11 @@ class Battle:
     bytes. Raises `MarsError` if the match is invalid, and `CorewarError` if it has more than 16 warriors.
     """
 
-    def __init__(self, fight: Match, round: int = 0) -> None:
-        check_count(len(fight.warriors))
-        settings = settings_struct(fight.settings, round + 1, fight.seed, fight.position)
-        self._words: Words = array("uint32_t", library()[1].mars_words(settings, len(fight.warriors)))
-        call("mars_start", settings, *warrior_arrays(fight.warriors, fight.settings.core), clamp(round), *self._slice())
+    def __init__(self, match: Match, round: int = 0) -> None:
+        check_count(len(match.warriors))
+        settings = settings_struct(match.settings, round + 1, match.seed, match.position)
+        self._words: Words = array("uint32_t", library()[1].mars_words(settings, len(match.warriors)))
+        call("mars_start", settings, *warrior_arrays(match.warriors, match.settings.core), clamp(round), *self._slice())
 
     @staticmethod
     def of_bytes(data: bytes) -> Battle:
@@ -184,8 +184,8 @@ class Battle:
         is_fill = edit.what == SET and edit.last != edit.address
         if is_fill and not edit.address <= edit.last < self._head["core"]:
             raise MarsError(EDIT, ADDRESS)
-        places = [clamp(edit.what), clamp(edit.warrior), clamp(edit.place), clamp(edit.address)]
-        call("mars_edit", *self._slice(), library()[0].new("MarsEdit *", [*places, clamp_fields(edit.cell)]))
+        numbers = [clamp(edit.what), clamp(edit.warrior), clamp(edit.index), clamp(edit.address)]
+        call("mars_edit", *self._slice(), library()[0].new("MarsEdit *", [*numbers, clamp_fields(edit.cell)]))
         if is_fill:
             # The library has checked the new cell.
             self.cells[edit.address : edit.last + 1] = self.cells[edit.address]

@@ -10,7 +10,7 @@ import numpy as np
 
 from ..model.errors import CorewarError, MarsError
 from ..model.settings import FORMULA, MAX_WARRIORS, Settings, settings_of
-from .binding import array, call, check_size, clamp, read_text, settings_struct, slice_of
+from .binding import array, call, check_size, clamp, settings_struct, slice_of
 from .parts import TURNS
 from .warriors import Warrior, program
 
@@ -102,15 +102,6 @@ def encode_source(source: str | bytes) -> bytes:
     return source.encode(errors="surrogateescape") if isinstance(source, str) else bytes(memoryview(source))
 
 
-def source_lines(
-    source: bytes, settings: Settings = Settings(), rounds: int = 1, warriors: int = 2
-) -> list[tuple[int, list[str]]]:
-    """Returns the number of the line, from 1, and the labels of each instruction of a source. Raises `MarsError`."""
-    given = [settings_struct(settings, check_size(rounds)), check_size(warriors), *slice_of("uint8_t", source)]
-    result = read_text(4096, lambda *room: call("mars_lines", *given, *room)).decode("latin-1")
-    return [(int(words[0]), words[1:]) for words in map(str.split, result.splitlines())]
-
-
 def match(
     warriors: Sequence[Warrior],
     *,
@@ -183,7 +174,7 @@ def check_count(warriors: int) -> None:
 
 def warrior_arrays(warriors: Sequence[Warrior], core: int) -> tuple[Any, ...]:
     """Returns the cells of warriors one after another, and the length and start of each, for a core of a size."""
-    cells, places = list[bytes](), list[int]()
+    cells, numbers = list[bytes](), list[int]()
     for index, warrior in enumerate(warriors):
         if not isinstance(warrior, Warrior):
             raise TypeError(f"expected a warrior, as assemble and read return it, not {warrior!r}")
@@ -191,8 +182,8 @@ def warrior_arrays(warriors: Sequence[Warrior], core: int) -> tuple[Any, ...]:
             cells.append(warrior.cells_in(core))
         except MarsError as fault:
             raise MarsError(fault.code, fault.number, line=fault.line, warrior=index) from None
-        places += len(warrior), clamp(warrior.start)
-    return *slice_of("MarsCell", b"".join(cells)), *slice_of("MarsWarrior", np.array(places, np.uint32))
+        numbers += len(warrior), clamp(warrior.start)
+    return *slice_of("MarsCell", b"".join(cells)), *slice_of("MarsWarrior", np.array(numbers, np.uint32))
 
 
 def rows(

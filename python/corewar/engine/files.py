@@ -47,5 +47,6 @@ def replace(path: Path, data: bytes) -> None:
             os.chmod(part, stat.S_IMODE(path.stat().st_mode))
         os.replace(part, path)
     except BaseException:
+        # Also Ctrl-C leaves no part of a file.
         part.unlink(missing_ok=True)
         raise

@@ -80,7 +80,7 @@ def outcomes(
     - `touched`: the number of cells that it executed, read or wrote; operands count as read even if the opcode
       does not use them
 
-    In a lineup that is shorter than others the last places have no warrior: all their fields are 0, also `turns`, which
+    In a lineup that is shorter than others the last rows have no warrior: all their fields are 0, also `turns`, which
     is 1 or more for a warrior. The sums over the rounds are the rows of `match`. Raises ValueError for more or fewer
     seeds than lineups, and for numbers that are not whole; `CorewarError` for more than 16 warriors in a match, for no
     thread and for errors of an executor; and `MarsError` if a number, a lineup or a warrior is invalid, if the core is
@@ -125,7 +125,7 @@ def found_of(rows: Array, counts: bool, cycles: int, reduce: Callable[[Array], A
 
 @dataclass(frozen=True)
 class Run:
-    """What all matches have in common: also the number of places of each row, which is that of the longest lineup."""
+    """What all matches have in common: also the number of warriors of each row, which is that of the longest lineup."""
 
     settings: Settings
     rounds: int
@@ -160,8 +160,8 @@ def run_lineups(
             yield slice(0, len(table)), play(warriors, table, run, finish)
         return
     # A part has only its own warriors, so a wrong lineup is looked for first, and then a wrong warrior.
-    places = np.arange(MAX_WARRIORS) < table["count"][:, None]
-    wrong = (table["count"] < 1) | (np.where(places, table["warrior"], 0).max(axis=1) >= len(warriors))
+    is_used = np.arange(MAX_WARRIORS) < table["count"][:, None]
+    wrong = (table["count"] < 1) | (np.where(is_used, table["warrior"], 0).max(axis=1) >= len(warriors))
     first = np.flatnonzero(wrong)[:1]
     try:
         play(warriors, table[first], run, np.asarray)
@@ -177,12 +177,12 @@ def run_lineups(
 def part_of(warriors: Sequence[Warrior], table: Array, width: int, is_here: bool) -> tuple[list[Warrior], Array]:
     """Returns the warriors of some lineups, without their sources if they are sent, and the lineups of these."""
     indices = table["warrior"][:, :width]
-    # A place without a warrior has the index 0.
+    # An entry without a warrior has the index 0.
     used = np.flatnonzero(np.bincount(indices.ravel(), minlength=len(warriors)))
-    places = np.zeros(len(warriors), np.uint32)
-    places[used] = np.arange(len(used))
+    new = np.zeros(len(warriors), np.uint32)
+    new[used] = np.arange(len(used))
     part, table = [warriors[number] for number in used.tolist()], table.copy()
-    table["warrior"][:, :width] = places[indices]
+    table["warrior"][:, :width] = new[indices]
     return part if is_here else [replace(one, source=None) for one in part], table
 
 
@@ -206,11 +206,11 @@ def play(
         settings = settings_struct(run.settings, count, int(table["seed"].min(initial=1)), position)
         rows = array("MarsOutcome", count * int(table["count"].sum()))
         call("mars_outcomes", settings, *fixed, *slice_of("MarsLineup", table), *slice_of("MarsOutcome", rows))
-        parts.append(placed(rows, table["count"], (len(table), count, run.width)))
+        parts.append(shaped(rows, table["count"], (len(table), count, run.width)))
     return finish(parts[0] if len(parts) == 1 else np.concatenate(parts, axis=1))
 
 
-def placed(rows: Array, counts: NDArray[np.uint32], shape: tuple[int, int, int]) -> Array:
+def shaped(rows: Array, counts: NDArray[np.uint32], shape: tuple[int, int, int]) -> Array:
     """Returns the rows of the library as an array of the shape (lineups, rounds, warriors), with 0 for no warrior."""
     if len(rows) == math.prod(shape):
         return rows.reshape(shape)

@@ -3,9 +3,11 @@ or of MPI. Parts are short, so that Ctrl-C is raised at once and memory is only 
 """
 from __future__ import annotations
 
-from collections.abc import Callable, Iterable, Iterator
-from concurrent.futures import FIRST_COMPLETED, CancelledError, Executor, Future, ThreadPoolExecutor, wait
+from collections.abc import Callable, Generator, Iterable, Iterator
+from concurrent.futures import CancelledError, Executor, Future, ThreadPoolExecutor
+from contextlib import closing
 from itertools import islice
+from queue import SimpleQueue
 from threading import Event
 from typing import Any, TypeVar
 
@@ -18,6 +20,8 @@ TURNS, DISTANT_TURNS = 12_000_000, 50_000_000
 PARTS_PER_JOB, SUBMITTED_PARTS = 2, 500
 
 Result = TypeVar("Result")
+# The numbers of parts with their results; closing it ends the parts.
+Parts = Generator[tuple[int, Result], None, None]
 
 
 class Stopped(Exception):
@@ -71,19 +75,21 @@ def result_of(future: Future[Any]) -> Any:
     return result
 
 
-def in_order(results: Iterable[tuple[int, Result]]) -> Iterator[Result]:
+def in_order(results: Parts[Result]) -> Iterator[Result]:
     """Yields the results of parts, which may end in any order, in the order of the parts."""
     early, number = dict[int, Result](), 0
-    for one, result in results:
-        early[one] = result
-        while number in early:
-            yield early.pop(number)
-            number += 1
+    # After an interrupt in here, its traceback would keep the parts running.
+    with closing(results):
+        for one, result in results:
+            early[one] = result
+            while number in early:
+                yield early.pop(number)
+                number += 1
 
 
 def run_parts(
     function: Callable[..., Result], parts: Iterable[tuple[Any, ...]], jobs: int = 1, executor: Executor | None = None
-) -> Iterator[tuple[int, Result]]:
+) -> Parts[Result]:
     """Calls a function with the arguments of each part, and an event that is set when no result is needed any more.
     Yields the number of each part with its result, as they end. Raises CorewarError.
 
@@ -98,15 +104,19 @@ def run_parts(
     is_here = isinstance(pool, ThreadPoolExecutor)
     head: list[Any] = [function] if is_here else [call_there, versions(), function]
     room = PARTS_PER_JOB * jobs if executor is None else SUBMITTED_PARTS
-    left, out = enumerate(parts), dict[Future[Any], int]()
+    # `wait` takes the locks of all futures each time. Ctrl-C in there would leave some of them taken, and the executor
+    # would wait for these.
+    left, out, done = enumerate(parts), dict[Future[Any], int](), SimpleQueue[Future[Any]]()
     try:
         while True:
             for number, part in islice(left, room - len(out)):
-                out[pool.submit(*head, *part, *[stop] * is_here)] = number
+                future = pool.submit(*head, *part, *[stop] * is_here)
+                out[future] = number
+                future.add_done_callback(done.put)
             if not out:
                 return
-            for future in wait(out, return_when=FIRST_COMPLETED).done:
-                yield out.pop(future), future.result() if is_here else result_of(future)
+            future = done.get()
+            yield out.pop(future), future.result() if is_here else result_of(future)
     finally:
         stop.set()
         for future in out:

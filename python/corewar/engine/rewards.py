@@ -52,7 +52,7 @@ def points(made: NDArray[Any], formula: str = FORMULA) -> NDArray[np.int64]:
 
 
 def is_warrior(made: NDArray[Any]) -> NDArray[np.bool_]:
-    """Returns which places of outcomes have a warrior: each has made a turn."""
+    """Returns which rows of outcomes have a warrior: each has made a turn."""
     return np.asarray((made["turns"] > 0) | (made["cycles"] > 0))
 
 
@@ -67,7 +67,7 @@ def shares(made: NDArray[Any], cycles: int) -> NDArray[np.float64]:
     """
     if cycles < 1:
         raise CorewarError(f"expected 1 or more cycles, not {cycles}")
-    # A warrior also lives in the cycle in which it dies; a place without a warrior gets nothing.
+    # A warrior also lives in the cycle in which it dies; a row without a warrior gets nothing.
     is_here = is_warrior(made)
     lived = np.where(is_here, np.minimum(made["cycles"].astype(np.int64) + 1, cycles), 0).astype(float)
     order = np.argsort(lived, axis=-1, kind="stable")
@@ -92,16 +92,16 @@ def cycles_of(turns: NDArray[np.uint32], survived: NDArray[np.bool_], limit: int
     complete_at = np.empty(turns.shape, np.int64)
     # The last turn of the cycle of the latest death, and the number of cycles that are complete then.
     end, complete = np.zeros((2, *turns.shape[:-1]), np.int64)
-    for place in range(count):
-        left = count - place
-        whole = (deaths[..., place] - 1 - end) // left
+    for number in range(count):
+        left = count - number
+        whole = (deaths[..., number] - 1 - end) // left
         # Otherwise it died in the cycle of the death before it.
         is_later = whole >= 0
-        complete_at[..., place] = complete - 1 + np.where(is_later, whole + 1, 0)
-        end, complete = end + np.where(is_later, (whole + 1) * left, 0), complete_at[..., place] + 1
+        complete_at[..., number] = complete - 1 + np.where(is_later, whole + 1, 0)
+        end, complete = end + np.where(is_later, (whole + 1) * left, 0), complete_at[..., number] + 1
     found = np.empty_like(complete_at)
     np.put_along_axis(found, order, complete_at, -1)
-    # A place without a warrior has no turns.
+    # A row without a warrior has no turns.
     return np.where(survived, limit, np.where(turns > 0, found, 0))
 
 

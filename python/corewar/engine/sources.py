@@ -144,6 +144,7 @@ class Server:
             process.join()
             raise self._overrun(process.exitcode) from None
         except BaseException:
+            # Also after Ctrl-C the answer would still come.
             stop(process, pipe)
             raise
         self._running = process, pipe

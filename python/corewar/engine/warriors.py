@@ -17,8 +17,8 @@ from .binding import MAX_UINT32, ROOM, array, call, clamp, dtype_of, library, re
 
 # A cell as the library has it: opcode, modifier, modes and numbers. No cell has the greatest of them.
 CELL, MAX_CELL = struct.Struct("=4B2I"), (255, 255, 255, 255, MAX_UINT32, MAX_UINT32)
-# The number of cells for which a buffer is made first.
-CELLS = 128
+# The numbers of cells and of bytes of their lines for which buffers are made first.
+CELLS, LINES = 128, 1024
 
 
 @dataclass(frozen=True, repr=False)
@@ -32,6 +32,7 @@ class Warrior:
       load file says
     - `file`: the name of the file that it was read from, or ""
     - `source`: its source, or None without one
+    - `listing`: the lines and labels of its cells in the source, as the library writes them; `lines` reads it
 
     Equal warriors have equal fields. `len(warrior)` is its number of cells, and `str(warrior)` its load file as text.
     """
@@ -43,6 +44,7 @@ class Warrior:
     core: int
     file: str = ""
     source: bytes | None = None
+    listing: bytes = b""
 
     @staticmethod
     def from_cells(
@@ -69,6 +71,12 @@ class Warrior:
     def cells(self) -> Cells:
         """The cells, a read-only array with the fields op, modifier, a_mode, b_mode, a and b."""
         return np.frombuffer(self.data, dtype_of("MarsCell"))
+
+    @cached_property
+    def lines(self) -> list[tuple[int, list[str]]]:
+        """The number of the line, from 1, and the labels of each cell in the source; empty without a source."""
+        rows = map(str.split, self.listing.decode("ascii").splitlines())
+        return [(int(number), labels) for number, *labels in rows]
 
     def cells_in(self, core: int) -> bytes:
         """Returns the cells as a core of a size reads them: each number by value. Raises `MarsError`."""
@@ -142,12 +150,19 @@ def read_load(load: bytes, settings: Settings | str = "94nop", file: str = "") -
 
 
 def program(call_name: str, settings: Settings | str, rounds: int, more: list[int], data: bytes) -> Warrior:
-    """Returns the warrior of a source or a load file."""
-    given = settings_of(settings)
+    """Returns the warrior of a source or a load file, as the call of this name reads it."""
+    given, (ffi, _), has_lines = settings_of(settings), library(), call_name == "mars_assemble"
     parts = [settings_struct(given, rounds), *more, *slice_of("uint8_t", data)]
-    cells, result = array("MarsCell", CELLS), library()[0].new("MarsProgram *")
-    if call(call_name, *parts, *slice_of("MarsCell", cells), result) == ROOM:
-        cells = array("MarsCell", result.warrior.length)
-        call(call_name, *parts, *slice_of("MarsCell", cells), result)
+    cells, lines = array("MarsCell", CELLS), bytearray(LINES if has_lines else 0)
+    result, length = ffi.new("MarsProgram *"), ffi.new("size_t *")
+
+    def read() -> int:
+        text = (*slice_of("uint8_t", lines), length) if has_lines else ()
+        return call(call_name, *parts, *slice_of("MarsCell", cells), result, *text)
+
+    if read() == ROOM:
+        cells, lines = array("MarsCell", result.warrior.length), bytearray(length[0])
+        read()
     name, author = (bytes(field).rstrip(b"\0").decode("ascii") for field in (result.name, result.author))
-    return Warrior(name, author, cells[: result.warrior.length].tobytes(), result.warrior.start, given.core)
+    found, listing = cells[: result.warrior.length].tobytes(), bytes(lines[: length[0]])
+    return Warrior(name, author, found, result.warrior.start, given.core, listing=listing)

@@ -211,7 +211,7 @@ def unknown(source: Source, line: Line) -> Iterator[str]:
     if macro := source.equates.get(line.operation):
         for name in dict.fromkeys(name for one in source.equate(macro) for name in one.rest if name in counters):
             yield cause_sentence("equ counter", word=name, line=macro.number)
-    for name, place in names:
+    for name, user in names:
         if name in seen or "&" in name:
             continue
         seen.add(name)
@@ -220,11 +220,11 @@ def unknown(source: Source, line: Line) -> Iterator[str]:
             names += [(inner, head) for inner in head.operands if NAME.match(inner)]
         elif name not in labels:
             why = undefined(source, name, {**labels, **source.equates})
-            if place is line:
+            if user is line:
                 yield why
             else:
-                sentence, new = cause_sentence("earlier", line=place.number, inner=why), getattr(why, "new", "")
-                yield Misspelt(sentence, name, new, place.number)
+                sentence, new = cause_sentence("earlier", line=user.number, inner=why), getattr(why, "new", "")
+                yield Misspelt(sentence, name, new, user.number)
         elif line.text.lstrip().startswith(";"):
             yield cause_sentence("assert", word=name)
 

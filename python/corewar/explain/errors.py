@@ -12,7 +12,7 @@ from ..engine.sources import Assembler, Limit
 from ..model.errors import ASSEMBLY, MarsError
 from ..model.settings import Settings
 from .meanings import explain_error
-from .source import Advice, Line, Misspelt, Source, parse_line, place_of, read_source
+from .source import Advice, Line, Misspelt, Source, column_of, parse_line, read_source
 
 # The maximum number of errors that are reported for a source.
 MAX_ERRORS = 10
@@ -88,7 +88,7 @@ def problem_of(kind: str, number: int, source: bytes, sentences: Sequence[str]) 
     # Otherwise it is the first word that the first sentence names.
     words += [(word, "") for one in sentences[:1] for word in re.findall(r"`([^`]+)`", one)[:1]]
     words += [(part_of(kind, text), "")]
-    words = [pair for pair in words if pair[0] and place_of(pair[0], text) is not None]
+    words = [pair for pair in words if pair[0] and column_of(pair[0], text) is not None]
     return Problem(number, kind, text, tuple(map(str, sentences)), *(words or [("", "")])[0])
 
 

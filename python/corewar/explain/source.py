@@ -260,8 +260,8 @@ def misspelt(source: Source, line: Line) -> Misspelt | None:
     return Misspelt(cause_sentence("misspelt", word=word, new=meant), word, meant)
 
 
-def place_of(word: str, line: str) -> int | None:
-    """Returns the place of a word in a line, before its comment."""
+def column_of(word: str, line: str) -> int | None:
+    """Returns the column of a word in a line, before its comment."""
     before, after = (r"(?<!\w)" * word[:1].isalnum(), r"(?!\w)" * word[-1:].isalnum())
     found = re.search(before + re.escape(word) + after, line.partition(";")[0])
     return found.start() if found else None
@@ -275,7 +275,7 @@ def excerpt(data: bytes, number: int, word: str = "") -> list[str]:
     found = list[str]()
     for at in range(max(1, number - 1), min(len(lines), number + 1) + 1) if 0 < number <= len(lines) else ():
         found.append(f"{'>' if at == number else ' '} {at:4} | {lines[at - 1]}".rstrip())
-        place = place_of(word, lines[at - 1]) if word and at == number else None
-        if place is not None and printable(lines[at - 1]) == lines[at - 1]:
-            found.append(f"       | {' ' * place}{'^' * len(word)}")
+        column = column_of(word, lines[at - 1]) if word and at == number else None
+        if column is not None and printable(lines[at - 1]) == lines[at - 1]:
+            found.append(f"       | {' ' * column}{'^' * len(word)}")
     return found

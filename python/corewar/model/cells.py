@@ -24,7 +24,7 @@ def columns(records: Records) -> dict[str, NDArray[Any]]:
     of the first `change` is `change_0_address`.
     """
     if records.ndim > 1:
-        parts = {str(place): columns(records[:, place]) for place in range(records.shape[1])}
+        parts = {str(index): columns(records[:, index]) for index in range(records.shape[1])}
     elif records.dtype.names:
         parts = {name: columns(records[name]) for name in records.dtype.names}
     else:

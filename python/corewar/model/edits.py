@@ -19,7 +19,7 @@ class Edit:
 
     - `what`: 1 sets cells, 2 moves a process, 3 kills a process, 4 adds a process
     - `warrior`: the number of a warrior, from 0
-    - `place`: the index of a process in its queue; the next one has index 0
+    - `index`: that of a process in its queue; the next one has index 0
     - `address`, `last`: the first and the last cell to set; or the new address of a process
     - `cell`: the new cell
 
@@ -28,7 +28,7 @@ class Edit:
 
     what: int
     warrior: int = 0
-    place: int = 0
+    index: int = 0
     address: int = 0
     last: int = 0
     cell: Cell = (0, 0, 0, 0, 0, 0)
@@ -45,14 +45,14 @@ class Edit:
         return Edit(SET, address=first, last=last, cell=numbers)
 
     @staticmethod
-    def move(warrior: int, place: int, address: int) -> Edit:
+    def move(warrior: int, index: int, address: int) -> Edit:
         """Returns the edit that moves a process to an address."""
-        return Edit(MOVE, warrior, place, address)
+        return Edit(MOVE, warrior, index, address)
 
     @staticmethod
-    def kill(warrior: int, place: int) -> Edit:
+    def kill(warrior: int, index: int) -> Edit:
         """Returns the edit that removes a process; a warrior without a process is dead."""
-        return Edit(KILL, warrior, place)
+        return Edit(KILL, warrior, index)
 
     @staticmethod
     def add(warrior: int, address: int) -> Edit:
@@ -65,5 +65,5 @@ class Edit:
             where = f"edit {self.address}" if self.address == self.last else f"fill {self.address} {self.last}"
             return f"{where} {cell_text(self.cell, core)}"
         if self.what == MOVE:
-            return f"move {self.warrior} {self.place} {self.address}"
-        return f"kill {self.warrior} {self.place}" if self.what == KILL else f"spawn {self.warrior} {self.address}"
+            return f"move {self.warrior} {self.index} {self.address}"
+        return f"kill {self.warrior} {self.index}" if self.what == KILL else f"spawn {self.warrior} {self.address}"

@@ -26,8 +26,8 @@ CHARACTER = re.compile(r"MARS_\w+,? +/\* (\S) \*/")
 
 def header() -> str | None:
     """Returns the name of the header, or None if there is none."""
-    places = [ENGINE / "mars.h", *(folder / "include" / "mars.h" for folder in (CHECKOUT, *INSTALLED))]
-    return os.environ.get("MARS_HEADER") or next((str(path) for path in places if path.is_file()), None)
+    paths = [ENGINE / "mars.h", *(folder / "include" / "mars.h" for folder in (CHECKOUT, *INSTALLED))]
+    return os.environ.get("MARS_HEADER") or next((str(path) for path in paths if path.is_file()), None)
 
 
 def declarations(text: str) -> str:

@@ -3,6 +3,7 @@ from __future__ import annotations
 
 import re
 from collections.abc import Iterable
+from itertools import count
 from shutil import get_terminal_size
 from textwrap import wrap
 from typing import TextIO
@@ -16,6 +17,22 @@ COLUMN, INDENT = re.compile(r"(?<=\S)  +"), 4
 def printable(text: str) -> str:
     """Returns the text with `?` for each character that is not printable or controls a terminal."""
     return "".join(letter if letter.isprintable() else "?" for letter in text)
+
+
+def make_distinct(names: list[str]) -> list[str]:
+    """Returns distinct names: equal ones are followed by numbers, so that no two are the same."""
+    found: list[str] = []
+    for name in names:
+        new, numbers = name, count(1)
+        while names.count(name) > 1 and new in (*names, *found):
+            new = f"{name} {next(numbers)}"
+        found.append(new)
+    return found
+
+
+def cut(text: str, width: int) -> str:
+    """Returns a text that has a width of 2 or more at most: the end of a longer one is cut."""
+    return text if len(text) <= width else f"{text[: width - 2]}.."
 
 
 def lines_for(stream: TextIO, lines: Iterable[str]) -> str:

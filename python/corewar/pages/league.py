@@ -38,7 +38,7 @@ def write_pages(folder: Path, league: League) -> None:
         "league.html.j2",
         rows=[
             {**row, "title": title, "rank": rank}
-            for row, title, rank in zip(league.records(), league.titles, league.places[league.order].tolist())
+            for row, title, rank in zip(league.records(), league.titles, league.shown_ranks[league.order].tolist())
         ],
         settings=[*texts, f"score {contest.formula}"],
         lines=lines_of(league) if has_matrix else [],

@@ -18,12 +18,12 @@ class Pages:
     the site is not built.
     """
 
-    def __init__(self, folder: str, fight: Match, formula: str) -> None:
-        self.folder, self.fight = Path(folder), fight
+    def __init__(self, folder: str, match: Match, formula: str) -> None:
+        self.folder, self.match = Path(folder), match
         self.rounds: list[dict[str, Any]] = []
         site_folder()
         self.folder.mkdir(parents=True, exist_ok=True)
-        write_page(self.folder / PAGE, page_of(fight, formula))
+        write_page(self.folder / PAGE, page_of(match, formula))
 
     def add(self, one: Round) -> None:
         """Adds a round to the index."""
@@ -34,5 +34,5 @@ class Pages:
     def write_index(self) -> None:
         """Writes the page of all rounds."""
         counted = count_outcomes([one["outcomes"] for one in self.rounds])
-        index = render("match.html.j2", warriors=self.fight.warriors, sums=counted, rounds=self.rounds)
+        index = render("match.html.j2", warriors=self.match.warriors, sums=counted, rounds=self.rounds)
         write_page(self.folder / "index.html", index)

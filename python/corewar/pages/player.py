@@ -24,5 +24,5 @@ class Player:
 def player_of(history: History, turn: int, height: int) -> Player:
     """Returns the player of a battle. Raises CorewarError if the site is not built or the battle is too long."""
     check_length(history.end)
-    page = page_of(history.fight, round=history.round, turn=turn, edits=history.edits)
+    page = page_of(history.match, round=history.round, turn=turn, edits=history.edits)
     return Player(page, height)

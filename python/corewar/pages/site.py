@@ -21,7 +21,7 @@ from ..engine.warriors import Warrior
 
 # Where the site is in an installation and in a wheel, and in a checkout.
 INSTALLED, BUILT = Path(__file__).with_name("site"), CHECKOUT / "build" / "site"
-# The place for a fight.
+# The element for a fight: a match with a round and edits, as addresses carry it.
 FIGHT = re.compile(r'(<script id="page-fight" type="text/plain">)[^<]*(?=</script>)')
 VERSION = 1
 # The maximum number of turns of a battle that the site shows.
@@ -63,7 +63,7 @@ def pack_fight(fight: dict[str, Any]) -> str:
 
 
 def page_of(
-    fight: Match,
+    match: Match,
     formula: str = FORMULA,
     round: int = 0,
     turn: int = 0,
@@ -74,14 +74,14 @@ def page_of(
     """
     given = {
         "v": VERSION,
-        "h": settings_of(fight.settings),
-        "s": fight.seed,
-        "n": fight.rounds,
+        "h": settings_of(match.settings),
+        "s": match.seed,
+        "n": match.rounds,
         "r": round,
-        "p": fight.position or 0,
+        "p": match.position or 0,
         "f": formula,
-        "w": [source_of(warrior) for warrior in fight.warriors],
-        "e": [(after, edit.text(fight.settings.core)) for after, edit in edits],
+        "w": [source_of(warrior) for warrior in match.warriors],
+        "e": [(after, edit.text(match.settings.core)) for after, edit in edits],
         "t": turn,
     }
     text = pack_fight(given)

@@ -17,15 +17,15 @@ CELL, SIDE, LETTER = 0.25, 20.0, 4.0
 @rc_context({"text.parse_math": False})  # type: ignore[misc]
 def figure_of(league: League) -> Figure:
     """Returns the picture of the wins, ties and losses of each against each."""
-    titles, ranks = league.titles, league.places[league.order].tolist()
+    titles, ranks = league.titles, league.shown_ranks[league.order].tolist()
     side = min(CELL * len(titles), SIDE)
     letter = min(9.0, 72 * side / max(1, len(titles)) * 0.7)
     figure = Figure(figsize=(side + 4, side + 1), layout="constrained")
     axes = figure.subplots()
     axes.imshow(mix_colours(league.balances), interpolation="none")
-    places = range(len(titles)) if letter >= LETTER else []
-    axes.set_xticks(places, [str(ranks[place]) for place in places], fontsize=letter)
-    axes.set_yticks(places, [f"{titles[place]}  {ranks[place]}" for place in places], fontsize=letter)
+    shown = range(len(titles)) if letter >= LETTER else []
+    axes.set_xticks(shown, [str(ranks[one]) for one in shown], fontsize=letter)
+    axes.set_yticks(shown, [f"{titles[one]}  {ranks[one]}" for one in shown], fontsize=letter)
     axes.tick_params(length=0)
     shades = {"won": WON, "tied": TIED, "lost": LOST}
     patches = [Patch(color=[part / 255 for part in shade], label=name) for name, shade in shades.items()]
