@@ -2,7 +2,7 @@
 import assert from "node:assert/strict";
 import { test } from "node:test";
 
-import { changeOf, isSure, verdict } from "../src/words/comparison.js";
+import { changeOf, isLead, isSure, verdict } from "../src/words/comparison.js";
 
 const old = [[0, 0, 0, 0], [0, 3, 0, 3]];
 const now = [[1, 1, 1, 1], [3, 3, 3, 3]];
@@ -33,4 +33,12 @@ test("chance is not known from one round, or for a given position", () => {
     assert.deepEqual([found.error, isSure(found)], [null, false]);
     assert.match(verdict(found), /^Chance cannot be estimated/);
   }
+});
+
+test("the best of many is better by chance", () => {
+  const row = (wins) => ({ points: 3 * wins, wins, ties: 0, losses: 100 - wins, values: [0, 3, 1] });
+  // 15 wins more of 100 are 2.1 standard errors.
+  assert.deepEqual([1, 400].map((count) => isLead(row(65), row(50), count)), [true, false]);
+  assert.deepEqual([1, 400].map((count) => isLead(row(75), row(50), count)), [true, true]);
+  assert.equal(isLead(row(60), row(50), 1), false);
 });

@@ -10,7 +10,7 @@ import { after, test } from "node:test";
 
 import { Battle } from "../src/engine/battle.js";
 import { ASSEMBLY, BLOCK, EDIT, LOAD, OUT_OF_MEMORY, WARRIOR } from "../src/model/layout.js";
-import { EXECUTES, NUMBER_DIED } from "../src/model/layout.js";
+import { EXECUTES, MarsRow, NUMBER_DIED } from "../src/model/layout.js";
 import { Mars, MarsError } from "../src/engine/mars.js";
 import { MODES, MODIFIERS, OPCODES, cellText } from "../src/model/cells.js";
 import { DEFAULTS, HILLS } from "../src/model/settings.js";
@@ -73,6 +73,27 @@ function errorOf(act) {
   return null;
 }
 
+test("a row has each column of the header", () => {
+  const [row] = mars.match([mars.assemble("MOV 0, 1")]);
+  assert.deepEqual(["size", ...Object.keys(row)], Object.keys(MarsRow));
+});
+
+test("the outcomes of many matches are those of each, and counted if that is wanted", () => {
+  const warriors = ["dwarf", "imp", "paper"].map((name) => mars.assemble(example(name)));
+  const [lineups, seeds, rounds] = [[[0, 1], [2, 0, 1], [1]], [7, 8, 9], 5];
+  const found = mars.outcomes(warriors, lineups, { rounds, seeds });
+  lineups.forEach((lineup, index) => {
+    const rows = mars.match(lineup.map((one) => warriors[one]), { rounds, seed: seeds[index] });
+    const lived = lineup.map((_, who) => found[index].filter((round) => round[who].survived).length);
+    assert.deepEqual(lived, rows.map(({ wins, ties }) => wins + ties));
+    assert.ok(found[index].flat().every((one) => one.turns > 0 && one.own_turns === 0));
+  });
+  const [[[counted]]] = mars.outcomes(warriors, [[1]], { counts: true });
+  assert.deepEqual([counted.own_turns, counted.spawned, counted.written, counted.touched], [80000, 0, 8000, 8000]);
+  assert.throws(() => mars.outcomes(warriors, [[0, 3]]), MarsError);
+  assert.throws(() => mars.outcomes(warriors, [Array(17).fill(0)]), MarsError);
+});
+
 test("random battles are those of the native program", () => {
   for (let index = 0; index < BATTLES; index++) {
     const fight = randomFight();
@@ -99,10 +120,11 @@ test("random battles are those of the native program", () => {
 test("a load file is that of the native program", () => {
   for (const name of ["dwarf", "paper", "silk"]) {
     const fight = { settings: DEFAULTS, sources: [example(name)], seed: 1, rounds: 1 };
-    const warrior = mars.assemble(example(name));
+    const { lines, ...warrior } = mars.assemble(example(name));
     const load = mars.writeLoad(warrior);
     assert.equal(load, native(fight, ["--load"]));
     assert.deepEqual(mars.readLoad(load), warrior);
+    assert.equal(lines.length, mars.readLoad(load).cells.length / 3);
   }
 });
 

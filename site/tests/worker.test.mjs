@@ -86,7 +86,7 @@ test("a story is read part by part", () => {
 test("hits are the places that searches find", () => {
   const desk = new Desk(mars);
   desk.open(fightOf([example("dwarf"), example("imp")]));
-  const conditions = [{ word: "at", first: 5203 }, { word: "changes", first: 103 }, { word: "dies", first: -1 }];
+  const conditions = [{ word: "at", cells: [5203, 5203] }, { word: "changes", cells: [103, 103] }, { word: "dies" }];
   const hits = desk.hits(0, conditions, 100);
   const found = [];
   for (let turn = 0; turn !== null; ) {

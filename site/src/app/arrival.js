@@ -22,10 +22,13 @@ export class Arrival {
   async begin() {
     const { page } = this;
     addEventListener("popstate", () => this.#follow());
+    const { breaks, base } = page.places.written;
+    if (base) page.bench.compare(base);
     await page.places.arrive(async () => {
       await this.#arrive(ownFight());
       if (!page.session.latest) await this.#beginAnyway();
     });
+    if (breaks?.length) page.session.breaks.set(breaks);
     this.#offerToDelete(damagedNames());
   }
 
@@ -73,14 +76,15 @@ export class Arrival {
   /**
    * Shows a battle of the browser's history again.
    * @param {import("../model/fight.js").Fight} fight
-   * @param {{turn?: number, pinned?: number | null, plays?: boolean}} shown
+   * @param {import("./places.js").Battle} shown
    * @param {boolean} isGuest whether its sources may not be in the list
    */
   async #return(fight, shown, isGuest) {
     const { page } = this;
     try {
       await page.session.open(fight, { ...shown, plays: shown.plays && !element("battle").hidden });
-      page.takeTerms(fight, isGuest);
+      page.takeTerms(fight, isGuest, shown.terms);
+      if (shown.hasRounds) page.rounds.fight();
     } catch (error) {
       page.complain(errorWords(error, fight.warriors, page.meanings));
     }

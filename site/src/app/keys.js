@@ -1,5 +1,6 @@
 /** What the keys do. */
 import { element, typed } from "../view/dom.js";
+import { atCell } from "../view/breaks.js";
 
 /** @typedef {import("../view/session.js").Session} Session */
 /** @typedef {import("../view/theatre.js").Theatre} Theatre */
@@ -41,8 +42,8 @@ function keysOf({ session, theatre, another, round, edit }) {
     "[": () => round(-1),
     "]": () => round(1),
     b: () => {
-      const first = session.pinned ?? session.view?.head ?? null;
-      if (first !== null) session.breaks.toggle({ word: "at", first });
+      const cell = session.pinned ?? session.view?.head ?? null;
+      if (cell !== null) session.breaks.toggle(atCell(cell));
     },
     e: edit,
     n: another,

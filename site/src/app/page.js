@@ -1,6 +1,5 @@
 /** The page: its parts, and what they have to do with each other. */
 import { MAX_WARRIORS } from "../model/layout.js";
-import { DEFAULTS, FORMULA } from "../model/settings.js";
 import { showSheet } from "../view/assist.js";
 import { Bench } from "../view/bench.js";
 import { Cells } from "../view/cells.js";
@@ -24,12 +23,11 @@ import { Places } from "./places.js";
 import { listenToShare } from "./share.js";
 import { Sources } from "./sources.js";
 import { keep, stored } from "./store.js";
-import { Terms } from "./terms.js";
+import { DEFAULT_TERMS, Terms } from "./terms.js";
 import { Views } from "./views.js";
 
 /** @typedef {import("../view/host.js").MatchTerms} MatchTerms */
 
-const DEFAULT_TERMS = { settings: DEFAULTS, seed: 1, rounds: 100, position: 0, formula: FORMULA };
 const MAX_WORKERS = 16;
 /** The greatest seed that "Surprise me" picks: the field shows all of it. */
 const MAX_DRAWN_SEED = 9999;
@@ -53,6 +51,7 @@ export class Page {
     // A processor is left for the page.
     this.pool = new Pool(workerParts, clamp((navigator.hardwareConcurrency || 4) - 1, 1, MAX_WORKERS));
     this.session = new Session(desk, (text) => this.complain(text));
+    this.session.meanings = meanings;
     this.terms = new Terms(this, (changes, isShown) => this.#changeTerms(changes, isShown));
     this.terms.value = { ...DEFAULT_TERMS, ...stored.terms };
     this.shelf = this.#makeShelf();
@@ -67,11 +66,16 @@ export class Page {
     this.cells = new Cells(this.session, side);
     const lines = new Lines(this.session, this.shelf);
     this.why = new Why(this.session, side, (marked) => lines.mark(marked));
-    this.rounds = new Rounds(this.session, this.pool, showLine, (hits) => this.shelf.takeHits(hits));
+    this.rounds = new Rounds(this.session, host, showLine);
     this.console = new Console(this.session);
     const learner = { ...host, session: this.session, examples, ...this.#learning() };
     this.lessons = new Lessons(learner, lessons, stored.done ?? [], (done) => keep({ done }));
-    this.places = new Places(this.session, () => this.lessons.current);
+    this.places = new Places(this.session, () => this.lessons.current, () => ({
+      breaks: this.session.breaks.all,
+      hasRounds: this.rounds.isFought,
+      base: this.bench.base,
+      terms: this.#hasNewTerms ? this.terms.value : null,
+    }));
     this.arrival = new Arrival(this);
     this.session.listen((change) => this.#follow(change, side));
     this.sources.fill();
@@ -91,6 +95,7 @@ export class Page {
       shelf: this.shelf,
       meanings: this.meanings,
       terms: () => this.terms.value,
+      note: () => this.places.note(),
       fight: (sources, terms) => {
         this.views.show("battle");
         return this.fight(sources, true, terms);
@@ -150,6 +155,7 @@ export class Page {
     this.shelf.lint();
     if (this.bench.isOpen) this.bench.fight();
     this.#hasNewTerms ||= isShown;
+    this.places.note();
     this.#renew();
   }
 
@@ -251,10 +257,11 @@ export class Page {
    * Takes the terms of a battle that was opened as it is, and its sources as guests if they may not be in the list.
    * @param {import("../model/fight.js").Fight} fight
    * @param {boolean} isGuest
+   * @param {MatchTerms | null} [newer] terms with which it has not been fought yet
    */
-  takeTerms(fight, isGuest) {
-    this.#hasNewTerms = false;
-    this.#showTerms(fight);
+  takeTerms(fight, isGuest, newer) {
+    this.#hasNewTerms = Boolean(newer);
+    this.#showTerms(newer ?? fight);
     if (isGuest) this.session.rename(this.shelf.mark(fight.warriors));
     document.body.classList.add("running");
   }

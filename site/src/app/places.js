@@ -7,7 +7,16 @@ import { throttle } from "../view/dom.js";
 /** @typedef {import("../model/fight.js").Fight} Fight */
 /** @typedef {import("../view/session.js").Session} Session */
 /** @typedef {{view: string, number: number | null}} Place `number` is that of a lesson or a round */
-/** @typedef {{fight?: Fight, turn?: number, pinned?: number | null, plays?: boolean}} Battle as the history has it */
+/**
+ * A battle as the history has it.
+ * @typedef {{fight?: Fight, turn?: number, pinned?: number | null, plays?: boolean} & Partial<Kept>} Battle
+ */
+/**
+ * What else outlives the page: breakpoints, whether all rounds were fought, which gives the same results again, the
+ * version with which the bench compares, and terms with which a hidden battle has not been fought yet.
+ * @typedef {{breaks: import("../battle/conditions.js").Condition[], hasRounds: boolean,
+ *   base: import("../model/fight.js").Source | null, terms: import("../view/host.js").MatchTerms | null}} Kept
+ */
 
 /** The form of what is in the history, which outlives the version of the page. */
 const FORM = 1;
@@ -28,19 +37,21 @@ export class Places {
   /** The address of the battle that is shown, and its terms and sources. */
   #battle = "";
   #key = "";
+  /** Writes soon what is shown: a page that is left can write no more. */
+  note = throttle(() => this.#write(location.hash, false), 400);
 
   /**
    * @param {Session} session
    * @param {() => number} lesson the number of the lesson that is open, from 1, or 0
+   * @param {() => Kept} kept
    */
-  constructor(session, lesson) {
+  constructor(session, lesson, kept) {
     this.session = session;
     this.lesson = lesson;
-    // A page that is left can write no more.
-    const note = throttle(() => this.#write(location.hash, false), 400);
+    this.kept = kept;
     session.listen((change) => {
       if (change === "battle") this.#follow();
-      note();
+      this.note();
     });
   }
 
@@ -113,7 +124,8 @@ export class Places {
   #write(hash, isNew) {
     const { fight, opened, turn, pinned, way } = this.session;
     if (!fight || !opened) return;
-    const state = { form: FORM, fight: { ...fight, edits: opened.edits }, turn, pinned, plays: way > 0 };
+    const battle = { form: FORM, fight: { ...fight, edits: opened.edits }, turn, pinned, plays: way > 0 };
+    const state = { ...battle, ...this.kept() };
     const address = hash || location.pathname + location.search;
     try {
       if (isNew) history.pushState(state, "", address);

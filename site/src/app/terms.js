@@ -8,6 +8,8 @@ import { errorWords } from "../view/host.js";
 /** @typedef {import("../view/host.js").MatchTerms} MatchTerms */
 /** @typedef {import("../worker/pool.js").Pool} Pool */
 
+/** The terms of a page on which nothing is stored. */
+export const DEFAULT_TERMS = { settings: DEFAULTS, seed: 1, rounds: 100, position: 0, formula: FORMULA };
 /** The value of the list while the settings are custom ones, and of its line that opens their dialog. */
 const OWN = "";
 const EDIT = "edit";

@@ -1,19 +1,26 @@
 /** Conditions on turns, and searches for them in a battle, forwards and backwards. */
-import { CHANGES, EXECUTES, NUMBER_ADDRESS, READS } from "../model/layout.js";
-import { EVENTS, by as byWarrior } from "./records.js";
+import * as layout from "../model/layout.js";
+import { EVENTS } from "./records.js";
+
+const { CHANGES, EXECUTES, NUMBER_ADDRESS, NUMBER_NEW_OPCODE, NUMBER_OPCODE, NUMBER_ORIGIN } = layout;
+const { NUMBER_OWNER, NUMBER_WARRIOR, OPCODES, READS } = layout;
 
 /** @typedef {import("./history.js").History} History */
 /**
- * A condition on a place, which is a number of executed turns.
+ * A condition on a turn, and on a cell that it uses.
  *
- * - `at`: one of the cells is executed next
- * - `changes`, `reads`: the last turn changed one of the cells, or touched it without writing it
- * - `splits`, `ends`, `dies`: the warrior, or any, gained a process, lost one or died in the last turn
- * - `moves`: that was the warrior's turn
+ * - `word`: `at`, `changes` or `reads`: the turn executes, changed or read the cell; `splits`, `ends` or `dies`: its
+ *   warrior gained a process, lost one or died; `moves`: any turn. The last four are about the cell that it executed
+ * - `cells`: the first and the last address of the cell, around the end of the core if the last one is smaller
+ * - `of`: the warrior that changed the cell last, or that was loaded there
+ * - `origin`: where its instruction was loaded, the first and the last address
+ * - `was`, `becomes`: its opcode before the turn, and the one that the turn gave it in place of another
+ * - `by`: the warrior of the turn
+ * - `and`: what the same turn meets, too; if the word is the same, with the same cell
  *
- * The cells are those from `first` to `last`, around the end of the core if `last` is smaller. `by` is the warrior of
- * the turn. In a condition on a warrior `first` is its number, or -1 for any.
- * @typedef {{word: Word, first: number, last?: number, by?: number}} Condition
+ * It holds at a place, a number of executed turns: after its turn, or before it if a word is `at`.
+ * @typedef {{word: Word, cells?: number[], of?: number, origin?: number[], was?: string, becomes?: string, by?: number,
+ *   and?: Condition}} Condition
  */
 /** @typedef {"at" | "changes" | "reads" | "splits" | "ends" | "dies" | "moves"} Word */
 
@@ -22,17 +29,44 @@ import { EVENTS, by as byWarrior } from "./records.js";
  * @type {Partial<Record<Word, number>>}
  */
 const WAYS = { at: EXECUTES, changes: CHANGES, reads: READS };
+const MAX = 0xffffffff;
 
 /**
- * Returns the conditions of the library that a turn meets: for `at` the turn after the place.
+ * Returns the conditions of the library that a turn meets.
  * @param {Condition} condition
+ * @param {number} core
  * @returns {import("./records.js").Row[]}
  */
-function rowsOf({ word, first, last = first, by }) {
-  const way = WAYS[word];
-  if (way) return [[way, NUMBER_ADDRESS, first, last], ...(by === undefined ? [] : [byWarrior(by, way)])];
-  return [...(word === "moves" ? [] : [EVENTS[word]]), ...(first < 0 ? [] : [byWarrior(first)])];
+function rowsOf({ word, cells, of, origin, was, becomes, by, and }, core) {
+  const way = WAYS[word] ?? EXECUTES;
+  /** @type {import("./records.js").Row[]} */
+  const rows = [[way, NUMBER_ADDRESS, cells?.[0] ?? 0, cells?.[1] ?? MAX]];
+  const add = (/** @type {number} */ number, /** @type {number} */ first, last = first) =>
+    rows.push([way, number, first, last]);
+  if (of !== undefined) add(NUMBER_OWNER, of);
+  if (origin) {
+    add(NUMBER_ORIGIN, origin[0], origin[1]);
+    // A range around the end of the core has no cells that an edit set.
+    add(NUMBER_ORIGIN, 0, core - 1);
+  }
+  if (was) add(NUMBER_OPCODE, OPCODES.indexOf(was));
+  if (becomes) {
+    const opcode = OPCODES.indexOf(becomes);
+    add(NUMBER_NEW_OPCODE, opcode);
+    // A range whose end is below its start goes around.
+    add(NUMBER_OPCODE, opcode + 1, (opcode - 1) >>> 0);
+  }
+  if (by !== undefined) add(NUMBER_WARRIOR, by);
+  if (EVENTS[word]) rows.push(EVENTS[word]);
+  return [...rows, ...(and ? rowsOf(and, core) : [])];
 }
+
+/**
+ * Returns whether a condition is about the turn after the place where it holds.
+ * @param {Condition} condition
+ * @returns {boolean}
+ */
+const isBefore = ({ word, and }) => word === "at" || (and !== undefined && isBefore(and));
 
 /**
  * Yields the places from one to another at which a condition holds, some at once, in order or the latest first.
@@ -42,9 +76,8 @@ function rowsOf({ word, first, last = first, by }) {
  * @returns {Generator<number[]>}
  */
 function* placesOf(history, condition, { first, last, isForward }) {
-  // `at` holds at the place before its turn.
-  const shift = condition.word === "at" ? 1 : 0;
-  for (const turns of history.find(rowsOf(condition), first - 1 + shift, last + shift, isForward)) {
+  const shift = isBefore(condition) ? 1 : 0;
+  for (const turns of history.find(rowsOf(condition, history.core), first - 1 + shift, last + shift, isForward)) {
     yield turns.map((turn) => turn - shift);
   }
 }

@@ -1,5 +1,5 @@
 /** What the library says of turns: their records, and those that meet conditions. */
-import { EXECUTES, MarsFound, MarsRecord, NUMBER_DIED, NUMBER_QUEUED, NUMBER_WARRIOR } from "../model/layout.js";
+import * as layout from "../model/layout.js";
 import { CELL_WORDS } from "../model/cells.js";
 
 /** @typedef {import("../engine/machine.js").Condition} Row */
@@ -15,6 +15,7 @@ import { CELL_WORDS } from "../model/cells.js";
  * @typedef {{turn: number, warrior: number, queued: number, address: number, owner: number, written: number}} Found
  */
 
+const { EXECUTES, MarsFound, MarsPast, MarsRecord, NUMBER_DIED, NUMBER_QUEUED, NUMBER_WARRIOR } = layout;
 const CHANGE_WORDS = 1 + 2 * CELL_WORDS;
 const FOUND_WORDS = MarsFound.size / 4;
 
@@ -41,7 +42,7 @@ export const by = (warrior, way = EXECUTES) => [way, NUMBER_WARRIOR, warrior, wa
  * @param {Uint32Array} rows
  */
 export const turnsOf = (rows) =>
-  Array.from({ length: rows.length / FOUND_WORDS }, (_, index) => rows[FOUND_WORDS * index]);
+  Array.from({ length: rows.length / FOUND_WORDS }, (_, index) => rows[FOUND_WORDS * index + MarsFound.turn / 4]);
 
 /**
  * Yields turns that were found.
@@ -50,8 +51,15 @@ export const turnsOf = (rows) =>
  */
 export function* foundIn(rows) {
   for (let at = 0; at < rows.length; at += FOUND_WORDS) {
-    const [turn, warrior, queued, address, owner, written] = rows.subarray(at, at + FOUND_WORDS);
-    yield { turn, warrior, queued, address, owner, written };
+    const field = (/** @type {number} */ offset) => rows[at + offset / 4];
+    yield {
+      turn: field(MarsFound.turn),
+      warrior: field(MarsFound.warrior),
+      queued: field(MarsFound.queued),
+      address: field(MarsFound.address),
+      owner: field(MarsFound.past + MarsPast.owner),
+      written: field(MarsFound.past + MarsPast.turn),
+    };
   }
 }
 

@@ -190,26 +190,31 @@ export class Call {
   }
 
   /**
-   * Makes a call that writes a program, a second time with a larger buffer if the first is too short.
+   * Makes a call that writes a program, and if there is `room` for it the text that maps cells to lines; a second time
+   * with larger buffers if the first are too short.
    * @param {string} name
    * @param {Arguments} given
-   * @returns {Warrior}
+   * @param {number} room the bytes for the text of lines
+   * @returns {{warrior: Warrior, lines: string}}
    */
-  program(name, given) {
-    const program = this.allocate(MarsProgram.size);
-    let cells = this.allocate(MarsCell.size * CELLS);
-    const result = this.make(name, [...given, cells, BigInt(CELLS), program], ROOM);
-    const [length, start] = this.words(program, 2);
-    if (result === ROOM) {
-      cells = this.allocate(MarsCell.size * length);
-      this.make(name, [...given, cells, BigInt(length), program]);
-    }
+  program(name, given, room = 0) {
+    const [program, length] = [this.allocate(MarsProgram.size), this.allocate(8)];
+    const write = (/** @type {number} */ count, /** @type {number} */ size, allowed = DONE) => {
+      const [cells, text] = [this.allocate(MarsCell.size * count), this.allocate(size)];
+      const lines = room ? [text, BigInt(size), length] : [];
+      return { cells, text, result: this.make(name, [...given, cells, BigInt(count), program, ...lines], allowed) };
+    };
+    let written = write(CELLS, room, ROOM);
+    const [count, start] = this.words(program, 2);
+    const size = room ? this.#lengthAt(length) : 0;
+    if (written.result === ROOM) written = write(count, size);
     const bytes = this.bytesAt(program, MarsProgram.size);
     const [named, author] = [MarsProgram.name, MarsProgram.author].map((at) => {
       const field = bytes.slice(at, at + 64);
       return decoder.decode(field.subarray(0, field.indexOf(0)));
     });
-    return { name: named, author, start, cells: this.words(cells, CELL_WORDS * length).slice() };
+    const cells = this.words(written.cells, CELL_WORDS * count).slice();
+    return { warrior: { name: named, author, start, cells }, lines: decoder.decode(this.bytesAt(written.text, size)) };
   }
 
   /**
@@ -220,13 +225,20 @@ export class Call {
    */
   text(name, given, size) {
     const length = this.allocate(8);
-    const lengthOf = () => Number(this.view(length).getBigUint64(0, true));
     let buffer = this.allocate(size);
     if (this.make(name, [...given, buffer, BigInt(size), length], ROOM) === ROOM) {
-      const needed = lengthOf();
+      const needed = this.#lengthAt(length);
       buffer = this.allocate(needed);
       this.make(name, [...given, buffer, BigInt(needed), length]);
     }
-    return decoder.decode(this.bytesAt(buffer, lengthOf()));
+    return decoder.decode(this.bytesAt(buffer, this.#lengthAt(length)));
+  }
+
+  /**
+   * Returns the length that a call wrote.
+   * @param {bigint} address
+   */
+  #lengthAt(address) {
+    return Number(this.view(address).getBigUint64(0, true));
   }
 }

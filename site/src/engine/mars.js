@@ -3,7 +3,7 @@
  *
  * Nothing outlives a call: what a call takes of the module's memory it gives back. A battle is a value of the caller's.
  */
-import { VERSION, MarsLineup, MarsOutcome, MarsProgram, MarsRow } from "../model/layout.js";
+import { VERSION, MAX_WARRIORS, MarsLineup, MarsOutcome, MarsProgram, MarsRow } from "../model/layout.js";
 import { DEFAULTS, FORMULA } from "../model/settings.js";
 import { CELL_WORDS } from "../model/cells.js";
 import { Battle } from "./battle.js";
@@ -17,10 +17,20 @@ export { MarsError } from "../model/errors.js";
  * which it was assembled or read; `start` is the index of the cell at which it starts.
  * @typedef {{name: string, author: string, start: number, cells: Uint32Array}} Warrior
  */
+/** @typedef {{line: number, labels: string[]}} Line the number of a cell's line, from 1, and its labels */
 /** @typedef {{points: number, wins: number, ties: number, losses: number}} Row the result of a warrior */
+/**
+ * How a warrior fares in a round, as the header describes MarsOutcome.
+ * @typedef {{survived: number, turns: number, start: number, own_turns: number, spawned: number, executed: number,
+ *   written: number, touched: number}} Outcome
+ */
 /** @typedef {{settings?: Settings, rounds?: number, seed?: number, position?: number}} Terms */
 
 const encoder = new TextEncoder();
+// The bytes of lines for which a buffer is made first.
+const LINES = 1024;
+// The fields of an outcome, in the order of its words.
+const [, ...OUTCOME] = Object.keys(MarsOutcome);
 
 export class Mars extends Machine {
   /** @param {WebAssembly.Instance} instance */
@@ -43,14 +53,16 @@ export class Mars extends Machine {
   }
 
   /**
-   * Assembles a source and returns its warrior. Throws a MarsError with the line.
+   * Assembles a source and returns its warrior, with the lines of its cells. Throws a MarsError with the line.
    * @param {string | Uint8Array} source
    * @param {{settings?: Settings, rounds?: number, warriors?: number}} terms what ROUNDS and WARRIORS stand for
+   * @returns {Warrior & {lines: Line[]}}
    */
   assemble(source, { settings = DEFAULTS, rounds = 1, warriors = 2 } = {}) {
     return this.within((call) => {
       const given = [call.settings(settings, { rounds }), warriors, ...call.bytes(source)];
-      return call.program("mars_assemble", given);
+      const { warrior, lines } = call.program("mars_assemble", given, LINES);
+      return { ...warrior, lines: lines.trimEnd().split("\n").map(lineOf) };
     });
   }
 
@@ -60,7 +72,10 @@ export class Mars extends Machine {
    * @param {{settings?: Settings}} terms
    */
   readLoad(load, { settings = DEFAULTS } = {}) {
-    return this.within((call) => call.program("mars_read_load", [call.settings(settings, {}), ...call.bytes(load)]));
+    return this.within((call) => {
+      const given = [call.settings(settings, {}), ...call.bytes(load)];
+      return call.program("mars_read_load", given).warrior;
+    });
   }
 
   /**
@@ -79,22 +94,6 @@ export class Mars extends Machine {
       call.words(program, 2).set([count, start]);
       const given = [call.settings(settings, {}), call.wordsOf(cells), BigInt(count), program];
       return call.text("mars_write_load", given, 4096);
-    });
-  }
-
-  /**
-   * Returns for each cell of a source's warrior the number of its line, from 1, and its labels.
-   * @param {string | Uint8Array} source
-   * @param {{settings?: Settings, rounds?: number, warriors?: number}} terms
-   */
-  lines(source, { settings = DEFAULTS, rounds = 1, warriors = 2 } = {}) {
-    return this.within((call) => {
-      const given = [call.settings(settings, { rounds }), warriors, ...call.bytes(source)];
-      const text = call.text("mars_lines", given, 4096).trimEnd();
-      return text.split("\n").map((row) => {
-        const [line, ...labels] = row.split(" ");
-        return { line: Number(line), labels };
-      });
     });
   }
 
@@ -140,23 +139,42 @@ export class Mars extends Machine {
   }
 
   /**
+   * Runs matches of some of the warriors, and returns how each warrior of each match fares in each round.
+   * @param {Warrior[]} warriors
+   * @param {number[][]} lineups the indices of the warriors of each match
+   * @param {Terms & {seeds?: number[], counts?: boolean}} terms `seeds`: that of each match in place of one for all;
+   *   `counts`: whether to count what each warrior does
+   * @returns {Outcome[][][]} by match, round and warrior of the match
+   */
+  outcomes(warriors, lineups, terms = {}) {
+    const { settings = DEFAULTS, rounds = 1, seed = 1, seeds = [], position = 0, counts = false } = terms;
+    return this.within((call) => {
+      const table = call.allocate(MarsLineup.size * lineups.length);
+      const size = MarsLineup.size / 4;
+      const numbers = call.words(table, size * lineups.length).fill(0);
+      lineups.forEach((lineup, index) => {
+        numbers.set([seeds[index] ?? seed, lineup.length, ...lineup.slice(0, MAX_WARRIORS)], size * index);
+        numbers[size * index + MarsLineup.counting / 4] = Number(counts);
+      });
+      const count = rounds * lineups.flat().length;
+      const rows = call.allocate(MarsOutcome.size * count);
+      const given = [call.settings(settings, { rounds, seed, position }), ...call.fighters(warriors)];
+      call.make("mars_outcomes", [...given, table, BigInt(lineups.length), rows, BigInt(count)]);
+      const words = call.words(rows, (MarsOutcome.size / 4) * count);
+      let at = 0;
+      const row = () => /** @type {Outcome} */ (Object.fromEntries(OUTCOME.map((name) => [name, words[at++]])));
+      return lineups.map((lineup) => Array.from({ length: rounds }, () => lineup.map(row)));
+    });
+  }
+
+  /**
    * Runs a match and returns for each round and each warrior 1 if it survived, otherwise 0, round by round.
    * @param {Warrior[]} warriors
    * @param {Terms} terms
    */
-  survivors(warriors, { settings = DEFAULTS, rounds = 1, seed = 1, position = 0 } = {}) {
-    return this.within((call) => {
-      const [lineup, count] = [call.allocate(MarsLineup.size), rounds * warriors.length];
-      // The seed is that of the settings, and nothing is counted.
-      const numbers = [0, warriors.length, ...warriors.keys()];
-      call.words(lineup, MarsLineup.size / 4).fill(0).set(numbers);
-      const outcomes = call.allocate(MarsOutcome.size * count);
-      const given = [call.settings(settings, { rounds, seed, position }), ...call.fighters(warriors), lineup, 1n];
-      call.make("mars_outcomes", [...given, outcomes, BigInt(count)]);
-      const words = call.words(outcomes, (MarsOutcome.size / 4) * count);
-      const survived = (/** @type {number} */ index) => words[(MarsOutcome.size * index + MarsOutcome.survived) / 4];
-      return Uint8Array.from({ length: count }, (_, index) => survived(index));
-    });
+  survivors(warriors, terms = {}) {
+    const [rounds] = this.outcomes(warriors, [[...warriors.keys()]], terms);
+    return Uint8Array.from(rounds.flat(), ({ survived }) => survived);
   }
 
   /**
@@ -197,4 +215,14 @@ export class Mars extends Machine {
       }));
     });
   }
+}
+
+/**
+ * Returns what a row of the text of lines says.
+ * @param {string} row
+ * @returns {Line}
+ */
+function lineOf(row) {
+  const [line, ...labels] = row.split(" ");
+  return { line: Number(line), labels };
 }

@@ -1,14 +1,22 @@
 /** The arguments of the debugger's commands: numbers, warriors, addresses, conditions and lines of source. */
+import TABLE from "../../../python/corewar/debugger/commands.json";
+import { OPCODES } from "../model/cells.js";
+import { MarsError } from "../model/errors.js";
 import { sharedWords } from "../words/battle.js";
+import { explain } from "../words/errors.js";
 
 /** @typedef {import("../battle/conditions.js").Condition} Condition */
 /** @typedef {import("../model/fight.js").Edit} Edit */
 /** @typedef {import("./session.js").Session} Session */
 
-const CONDITIONS = "expected a condition: at, changes or reads A[..B] [by W], or splits, ends or dies W";
+const WORDS = TABLE.conditions;
+/** The words that can follow an argument of a condition. */
+const FOLLOWING = [...WORDS.more, "and"];
 
 /** A label in a line of source, as `bomb` or as `1.bomb`. */
 const LABEL = /(?<![\w.])(?:\d+\.)?[A-Za-z_]\w*/g;
+
+const OVER = "`.` is the cell to execute next, but the battle is over; use a number or a label";
 
 /** A number with separators, as the page shows it. */
 const SEPARATED = /\b\d{1,3}(,\d{3})+\b/g;
@@ -30,18 +38,31 @@ export function readNumber(text, what) {
 }
 
 /**
- * Returns a warrior by its number or its name, or by how only its name begins.
+ * Returns a warrior by its number, its name or its file, or by how only its name begins; -1 if there is none.
  * @param {Session} session
  * @param {string} text
  */
-export function readWarrior({ known: { names } }, text) {
+function warriorOf({ known: { names }, opened, fight }, text) {
   if (/^\d+$/.test(text) && Number(text) < names.length) return Number(text);
   const exact = names.indexOf(text);
   const warrior = exact >= 0 ? exact : names.findIndex((name) => name.toLowerCase() === text.toLowerCase());
   if (warrior >= 0) return warrior;
+  const files = (opened?.order ?? []).map((source) => fight?.warriors[source].name ?? "");
+  const file = text ? files.findIndex((name) => name === text || name.replace(/\.\w+$/, "") === text) : -1;
+  if (file >= 0) return file;
   const begins = (/** @type {string} */ name) => name.toLowerCase().startsWith(text.toLowerCase());
-  if (/\D/.test(text) && names.filter(begins).length === 1) return names.findIndex(begins);
-  const listing = names.map((name, index) => `${index} ${name}`).join(", ");
+  return /\D/.test(text) && names.filter(begins).length === 1 ? names.findIndex(begins) : -1;
+}
+
+/**
+ * Returns the warrior that a text names. Throws CommandError.
+ * @param {Session} session
+ * @param {string} text
+ */
+export function readWarrior(session, text) {
+  const warrior = warriorOf(session, text);
+  if (warrior >= 0) return warrior;
+  const listing = session.known.names.map((name, index) => `${index} ${name}`).join(", ");
   throw new CommandError(`no warrior \`${text}\`; the warriors are ${listing}`);
 }
 
@@ -54,11 +75,10 @@ export function readAddress({ known, view }, text) {
   const { core, addresses } = known;
   const found = /^(\.|[\w.]+?)((?:[+-]\d{1,9})*)$/.exec(withoutSeparators(text));
   const base = found?.[1] ?? "";
-  const isOver = base === "." && view?.head === null;
-  if (isOver) throw new CommandError("`.` is the cell to execute next, but the battle is over");
+  if (base === "." && view?.head === null) throw new CommandError(OVER);
   const label = addresses.get(base);
   const at = base === "." ? (view?.head ?? 0) : (label ?? (/^\d{1,9}$/.test(base) ? Number(base) : core));
-  const wanted = `a number below ${core}, a label or \`.\``;
+  const wanted = `a number below ${core}, a label or \`.\`, with or without +N or -N`;
   const why = sharedWords(base, known) || `\`${text}\` is not an address: ${wanted}`;
   if (!found || at >= core) throw new CommandError(why);
   const added = (found[2].match(/[+-]\d+/g) ?? []).reduce((sum, part) => sum + Number(part), 0);
@@ -66,23 +86,78 @@ export function readAddress({ known, view }, text) {
 }
 
 /**
+ * Returns the conditions of a text, which one turn meets.
  * @param {Session} session
  * @param {string} text
  * @returns {Condition}
  */
 export function readCondition(session, text) {
-  const [word, range, by, ...rest] = text.split(/\s+/);
-  if (word === "at" || word === "changes" || word === "reads") {
-    if (!range || (by !== undefined && (by !== "by" || !rest.length))) throw new CommandError(CONDITIONS);
-    const [from, to = from] = range.split("..");
-    /** @type {Condition} */
-    const cells = { word, first: readAddress(session, from), last: readAddress(session, to) };
-    return by === undefined ? cells : { ...cells, by: readWarrior(session, rest.join(" ")) };
+  const rest = text.split(/\s+/).filter(Boolean);
+  /** @type {Condition[]} */
+  const found = [];
+  for (let isJoined = true; rest.length; ) {
+    const word = /** @type {import("../battle/conditions.js").Word} */ (rest.shift());
+    if (word === /** @type {string} */ ("and") && !isJoined && rest.length) {
+      isJoined = true;
+      continue;
+    }
+    const [last] = found.slice(-1);
+    if (last && WORDS.more.includes(word)) addMore(session, last, word, rest);
+    else if (isJoined && (WORDS.cells.includes(word) || WORDS.warriors.includes(word))) {
+      found.push({ word });
+      const more = WORDS.cells.includes(word) ? "cells" : "by";
+      if (rest.length && !FOLLOWING.includes(rest[0])) addMore(session, found[found.length - 1], more, rest);
+    } else throw new CommandError(WORDS.expected);
+    isJoined = false;
   }
-  if ((word === "splits" || word === "ends" || word === "dies") && range) {
-    return { word, first: readWarrior(session, text.slice(word.length).trim()) };
+  if (!found.length) throw new CommandError(WORDS.expected);
+  return found.reduceRight((after, one) => ({ ...one, and: after }));
+}
+
+/**
+ * Adds to a condition what a word says. Removes its argument from the words that are left.
+ * @param {Session} session
+ * @param {Condition} condition
+ * @param {string} word
+ * @param {string[]} rest
+ */
+function addMore(session, condition, word, rest) {
+  const name = /** @type {keyof Condition} */ (word === "from" ? "origin" : word);
+  if (!rest.length || condition[name] !== undefined) throw new CommandError(WORDS.expected);
+  Object.assign(condition, { [name]: readMore(session, word, rest) });
+}
+
+/**
+ * @param {Session} session
+ * @param {string} word
+ * @param {string[]} rest
+ */
+function readMore(session, word, rest) {
+  if (word === "of" || word === "by") return readFirstWarrior(session, rest);
+  const text = rest.shift() ?? "";
+  if (word === "was" || word === "becomes") {
+    const opcode = text.toUpperCase();
+    if (!OPCODES.includes(opcode)) throw new CommandError(`expected an opcode, not \`${text.toLowerCase()}\``);
+    return opcode;
   }
-  throw new CommandError(CONDITIONS);
+  const [from, to] = text.split("..");
+  return [readAddress(session, from), readAddress(session, to || from)];
+}
+
+/**
+ * Returns the warrior that as many words as possible name, which may contain `and`, and removes these words.
+ * @param {Session} session
+ * @param {string[]} rest
+ */
+function readFirstWarrior(session, rest) {
+  for (let count = rest.length; count > 0; count--) {
+    const found = warriorOf(session, rest.slice(0, count).join(" "));
+    if (found < 0) continue;
+    rest.splice(0, count);
+    return found;
+  }
+  const end = rest.findIndex((word) => FOLLOWING.includes(word));
+  return readWarrior(session, rest.slice(0, end < 0 ? rest.length : end).join(" "));
 }
 
 /**
@@ -90,10 +165,11 @@ export function readCondition(session, text) {
  * @param {Session} session
  * @param {string} rest
  * @param {number} count
+ * @param {string} expected what is said if there are fewer
  */
-export function readWarriorAnd(session, rest, count) {
+export function readWarriorAnd(session, rest, count, expected) {
   const words = rest.split(/\s+/);
-  if (words.length <= count) throw new CommandError("expected a warrior and other arguments; see `help`");
+  if (words.length <= count) throw new CommandError(expected);
   return { warrior: readWarrior(session, words.slice(0, -count).join(" ")), words: words.slice(-count) };
 }
 
@@ -119,32 +195,35 @@ export function readProcess({ view, known }, warrior, text) {
  * @returns {Promise<Edit>}
  */
 export async function readCellEdit(session, line, address, last) {
-  try {
-    return { kind: "cell", address, last, cell: await cellOf(session, line, address) };
-  } catch (error) {
-    throw new CommandError(/** @type {Error} */ (error).message || `\`${line}\` is not an instruction`);
-  }
+  return { kind: "cell", address, last, cell: await cellOf(session, line, address) };
 }
 
 /**
  * Returns the cell of a line of Redcode for an address; labels of the warrior that was loaded there need no number.
- * Throws an Error without a message if it is not one, or with one about a label that several warriors have.
+ * Throws a CommandError if it is not one, or about a label that several warriors have.
  * @param {Session} session
  * @param {string} text
  * @param {number} address
  */
-export async function cellOf({ desk, known, opened }, text, address) {
+export async function cellOf({ desk, known, opened, meanings }, text, address) {
   const own = opened?.lines.find((one) => one.address === address)?.warrior;
   const addressOf = (/** @type {string} */ name) => known.addresses.get(`${own}.${name}`) ?? known.addresses.get(name);
+  const names = text.match(LABEL) ?? [];
+  const plain = [...new Set(names)].filter((name) => !name.includes(".") && addressOf(name) !== undefined);
+  const equates = plain.map((name) => `${name} EQU (${Number(addressOf(name)) - address})`);
+  // No name of a source has a point.
   const line = text.replace(LABEL, (name) => {
-    const at = addressOf(name);
+    const at = name.includes(".") ? addressOf(name) : undefined;
     return at === undefined ? name : `(${at - address})`;
   });
+  const source = [...equates, line, ""].join("\n");
   try {
-    return await desk.cellOf(line);
-  } catch {
-    const names = (text.match(LABEL) ?? []).filter((name) => addressOf(name) === undefined);
-    const shared = names.map((name) => sharedWords(name, known));
-    throw new Error(shared.find(Boolean));
+    return await desk.cellOf(source);
+  } catch (error) {
+    const shared = names.map((name) => (addressOf(name) === undefined ? sharedWords(name, known) : ""));
+    const first = shared.find(Boolean);
+    if (first || !(error instanceof MarsError)) throw new CommandError(first ?? /** @type {Error} */ (error).message);
+    const why = explain(error, source, meanings).text;
+    throw new CommandError(`\`${text}\` is not an instruction: ${error.what}: ${why}`);
   }
 }

@@ -1,7 +1,7 @@
 /** The bench: the source in the editor against each opponent, fought again whenever it changes. */
 import { MarsError } from "../model/errors.js";
 import { countWords, number, pluralize } from "../words/battle.js";
-import { changeOf, isSure, verdict } from "../words/comparison.js";
+import { changeOf, isSure, mean, verdict } from "../words/comparison.js";
 import { Stopped } from "../worker/pool.js";
 import { clamp, debounce, element, make, onClick, refill, throttle, typed, withCode } from "./dom.js";
 import { errorWords, sumOf } from "./host.js";
@@ -60,7 +60,9 @@ export class Bench {
     this.host = host;
     this.tune = new Tune(host, () => this.#rivals, show);
     this.map = new PositionMap(host);
-    onClick("bench-base", () => this.#compare());
+    onClick("bench-base", () => {
+      if (this.#own) this.compare(this.#own);
+    });
     element("bench-against").addEventListener("change", () => this.fight());
   }
 
@@ -105,10 +107,19 @@ export class Bench {
     return (isAll ? shelf.all : shelf.fighters).filter(({ name }) => name !== shelf.current?.name);
   }
 
-  #compare() {
-    if (!this.#own) return;
-    this.#base = { source: this.#own, rows: new Map() };
-    for (const opponent of this.#opponents) {
+  /** The version with which the source is compared, or null. */
+  get base() {
+    return this.#base?.source ?? null;
+  }
+
+  /**
+   * Compares from now on with a version. The results that it has are those of the same text.
+   * @param {Source} source
+   */
+  compare(source) {
+    this.#base = { source, rows: new Map() };
+    this.host.note();
+    for (const opponent of source === this.#own ? this.#opponents : []) {
       const row = this.rows.get(opponent.name);
       if (row) this.#base.rows.set(this.#key(opponent), row);
     }
@@ -146,7 +157,7 @@ export class Bench {
    * @param {string} key what is fought
    */
   #begin(own, opponents, terms, key) {
-    if (own.name !== this.#own?.name) this.#base = null;
+    if (own.name !== this.base?.name) this.#base = null;
     this.#own = own;
     this.#terms = terms;
     this.#title = own.name;
@@ -262,19 +273,6 @@ export class Bench {
       make("td", {}, make("button", every, "Map")),
     );
   }
-}
-
-/**
- * Returns the points per round, and how far from them the true value is at most, 19 times of 20. For that a round of
- * each outcome is added: a warrior that has lost all of 100 may win some of the next.
- * @param {Scored} row
- */
-function mean({ points, wins, ties, losses, values }) {
-  const rounds = wins + ties + losses;
-  const counts = [losses, wins, ties].map((count) => count + 1);
-  const moment = (/** @type {number} */ power) =>
-    counts.reduce((sum, count, index) => sum + count * values[index] ** power, 0) / (rounds + 3);
-  return { points: points / rounds, far: 1.96 * Math.sqrt((moment(2) - moment(1) ** 2) / rounds) };
 }
 
 /**

@@ -2,9 +2,21 @@
 
 /** @typedef {import("../battle/conditions.js").Condition} Condition */
 
+/**
+ * Returns the condition that a cell is executed next.
+ * @param {number} address
+ * @returns {Condition}
+ */
+export const atCell = (address) => ({ word: "at", cells: [address, address] });
+
 export class Breaks {
   /** @type {Condition[]} */
   all = [];
+  /**
+   * The number of each, which it keeps while others are deleted.
+   * @type {number[]}
+   */
+  numbers = [];
 
   /** @param {() => void} changed */
   constructor(changed) {
@@ -16,6 +28,9 @@ export class Breaks {
    * @param {Condition[]} breaks
    */
   set(breaks) {
+    const known = new Map(this.all.map((one, at) => [one, this.numbers[at]]));
+    let next = Math.max(-1, ...breaks.map((one) => known.get(one) ?? -1)) + 1;
+    this.numbers = breaks.map((one) => known.get(one) ?? next++);
     this.all = breaks;
     this.changed();
   }
@@ -39,7 +54,4 @@ export class Breaks {
  * @param {Condition} one
  * @param {Condition} other
  */
-const isAlike = (one, other) => keyOf(one) === keyOf(other);
-
-/** @param {Condition} condition */
-const keyOf = ({ word, first, last = first, by = -1 }) => [word, first, last, by].join();
+const isAlike = (one, other) => JSON.stringify(one) === JSON.stringify(other);

@@ -3,6 +3,7 @@ import { cellText, readCell } from "../model/cells.js";
 import { number, writtenWords } from "../words/battle.js";
 import { instructionWords } from "../words/instruction.js";
 import { cellOf } from "./arguments.js";
+import { atCell } from "./breaks.js";
 import { buttons, element, make, onClick, refill, throttle, withCode } from "./dom.js";
 import { swatch } from "./palette.js";
 import { standingNames, standingOn, timesWords } from "./standing.js";
@@ -12,7 +13,6 @@ import { standingNames, standingOn, timesWords } from "./standing.js";
 /** The number of cells before and after the one that is looked at. */
 const AROUND = 4;
 const DONE = { at: "executed", changes: "changed", reads: "read" };
-const NOT_A_LINE = "This is not an instruction; expected a line of source such as `jmp -3` or `dat #0, #0`.";
 
 export class Cells {
   #isEditing = false;
@@ -52,7 +52,7 @@ export class Cells {
     const { pinned } = session;
     if (pinned === null) return;
     const forward = button.dataset.way === "on";
-    const found = await session.leap([{ word, first: pinned }], forward);
+    const found = await session.leap([{ word, cells: [pinned, pinned] }], forward);
     if (found) return;
     const when = `${forward ? "after" : "before"} turn ${number(session.turn)}`;
     this.#notice = `Cell ${number(pinned)} is not ${DONE[word]} ${when}.`;
@@ -64,9 +64,9 @@ export class Cells {
     const { session } = this;
     for (const button of buttons("#seek [data-stop]")) {
       const word = /** @type {import("../battle/conditions.js").Word} */ (button.dataset.stop);
-      const first = session.pinned ?? 0;
-      button.onclick = () => session.breaks.toggle({ word, first });
-      button.setAttribute("aria-pressed", String(session.breaks.has({ word, first })));
+      const cells = [session.pinned ?? 0, session.pinned ?? 0];
+      button.onclick = () => session.breaks.toggle({ word, cells });
+      button.setAttribute("aria-pressed", String(session.breaks.has({ word, cells })));
     }
   }
 
@@ -123,8 +123,7 @@ export class Cells {
       make("i", { className: "chip", style: colour(who) }),
       timesWords(many),
     ]);
-    /** @type {import("../battle/conditions.js").Condition} */
-    const here = { word: "at", first: address };
+    const here = atCell(address);
     const stop = make("button", {
       className: "bare break",
       title: "Stop playing when this cell is to be executed",
@@ -212,7 +211,7 @@ export class Cells {
       return true;
     } catch (error) {
       input.setAttribute("aria-invalid", "true");
-      refill(element("cell-words"), withCode(/** @type {Error} */ (error).message || NOT_A_LINE));
+      refill(element("cell-words"), withCode(/** @type {Error} */ (error).message));
       return false;
     }
   }

@@ -9,7 +9,8 @@ import { CommandError } from "./arguments.js";
  * @typedef {{usage: string, short: string[], summary: string, repeats?: boolean, site?: string | null}} Command
  */
 
-const WORDS = ["at", "changes", "reads", "splits", "ends", "dies"];
+const { cells, warriors, more } = TABLE.conditions;
+const WORDS = [...cells, ...warriors, ...more, "and"];
 const PASTING = "Tab completes commands, labels and names. Pasted lines are executed one after another.";
 
 /** The commands that the page has. */
@@ -76,7 +77,7 @@ export const repeats = (line) => commandsOf(line.trim().split(/\s+/)[0])[0]?.rep
 export function completions({ known }, line) {
   const [command, ...rest] = line.trimStart().split(/\s+/);
   const last = (rest.at(-1) ?? command).toLowerCase();
-  const takesCondition = rest.length === 1 && commandsOf(command).some(({ usage }) => usage.includes("CONDITION"));
+  const takesCondition = rest.length > 0 && commandsOf(command).some(({ usage }) => usage.includes("CONDITION"));
   const words = [...(takesCondition ? WORDS : []), ...known.addresses.keys(), ...known.names];
   const all = rest.length ? words : COMMANDS.map(nameOf);
   return [...new Set(all)].filter((one) => one.toLowerCase().startsWith(last));

@@ -17,6 +17,7 @@ export class Console {
   /** @param {Session} session */
   constructor(session) {
     this.session = session;
+    session.width = charactersOf;
     const field = typed("line", HTMLInputElement);
     element("console").addEventListener("submit", (event) => {
       event.preventDefault();
@@ -59,7 +60,7 @@ export class Console {
     if (certain.length > word.length) field.setRangeText(certain, end - word.length, end, "end");
     else {
       this.#listed = before;
-      this.#print(found.join("  "), "asked");
+      this.#print([found.join("  ")], "asked");
     }
     return true;
   }
@@ -80,24 +81,35 @@ export class Console {
     if (!given) return;
     if (given !== this.#past.at(-1)) this.#past.push(given);
     this.#at = this.#past.length;
-    this.#print(`turn ${this.session.turn}> ${given}`, "asked");
+    this.#print([`turn ${this.session.turn}> ${given}`], "asked");
     try {
-      for (const answer of await execute(this.session, given)) this.#print(answer, "");
+      this.#print(await execute(this.session, given), "");
     } catch (error) {
-      this.#print(String(/** @type {Error} */ (error).message), "refused");
+      this.#print([String(/** @type {Error} */ (error).message)], "refused");
     }
   }
 
   /**
-   * @param {string} text
+   * @param {string[]} texts
    * @param {string} className
    */
-  #print(text, className) {
+  #print(texts, className) {
     const answers = element("answers");
-    answers.append(make("li", { className }, withCode(text)));
-    while (answers.children.length > MAX_LINES) answers.firstChild?.remove();
+    // A reply may be longer.
+    while (className === "asked" && answers.children.length > MAX_LINES) answers.firstChild?.remove();
+    answers.append(...texts.map((text) => make("li", { className }, withCode(text))));
     answers.scrollTop = answers.scrollHeight;
   }
+}
+
+/** Returns how many characters a line of the answers has, or 0 if they are hidden. */
+function charactersOf() {
+  const probe = make("span", {}, "0".repeat(10));
+  const line = make("li", {}, probe);
+  element("answers").append(line);
+  const found = Math.floor((10 * line.clientWidth) / probe.offsetWidth) || 0;
+  line.remove();
+  return found;
 }
 
 /**

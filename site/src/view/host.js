@@ -12,6 +12,7 @@ import { explain } from "../words/errors.js";
  * @property {import("../worker/pool.js").Pool} pool
  * @property {import("./shelf.js").Shelf} shelf
  * @property {() => MatchTerms} terms
+ * @property {() => void} note notes what outlives the page
  * @property {(sources: Source[], terms?: Partial<MatchTerms> & {round?: number}) => Promise<void>} fight fights a round
  *   of a match, the first one unless the terms say otherwise, and shows it
  * @property {Record<string, string>} meanings

@@ -1,4 +1,5 @@
 /** What the battle shows beside the lines of its sources: breakpoints, and the lines of a death that is explained. */
+import { atCell } from "./breaks.js";
 import { make } from "./dom.js";
 
 /** @typedef {import("codemirror").Document} Document */
@@ -39,7 +40,7 @@ export class Lines {
     const { session, shelf } = this;
     const name = shelf.shown?.name ?? "";
     const places = this.#cellsOf(name).filter((one) => one.line === line);
-    for (const { address } of places) session.breaks.toggle({ word: "at", first: address });
+    for (const { address } of places) session.breaks.toggle(atCell(address));
     if (!places.length) shelf.say("No cell of this battle is from that line");
   }
 
@@ -51,7 +52,7 @@ export class Lines {
       const doc = shelf.find(name)?.doc;
       if (!doc || this.#docs.includes(doc)) continue;
       this.#docs.push(doc);
-      const at = this.#cellsOf(name).filter(({ address }) => session.breaks.has({ word: "at", first: address }));
+      const at = this.#cellsOf(name).filter(({ address }) => session.breaks.has(atCell(address)));
       for (const { line } of at) {
         const mark = make("span", { className: "break", title: "Playing stops here; click to remove" });
         if (line <= doc.lineCount()) doc.setGutterMarker(line - 1, "breaks", mark);

@@ -22,8 +22,6 @@ import { CELL_WORDS } from "../model/cells.js";
 const SLOW = 15;
 /** The maximum number of marked cells that differ between two futures. */
 const MAX_DIFFERENCES = 2000;
-/** Conditions on cells. */
-const CELLS = ["at", "changes", "reads"];
 
 /**
  * @param {Session} session
@@ -35,7 +33,6 @@ export function marksOf(session, view, hovered) {
   const { move, opened, way, rate, pinned, breaks } = session;
   const showsTurn = way === 0 || rate < SLOW;
   const dead = (opened?.deaths ?? []).filter(({ turn, address }) => turn <= view.turn && address >= 0);
-  const stops = breaks.all.filter(({ word }) => CELLS.includes(word));
   return {
     pinned,
     hovered,
@@ -44,7 +41,7 @@ export function marksOf(session, view, hovered) {
     warrior: move?.warrior ?? 0,
     differences: differencesOf(session),
     graves: dead.map(({ address, warrior }) => ({ address, warrior })),
-    breaks: stops.map(({ first, last = first }) => [first, last]),
+    breaks: breaks.all.flatMap(({ cells }) => (cells ? [cells] : [])),
     arrows: way === 0 ? arrowsOf(session) : [],
   };
 }

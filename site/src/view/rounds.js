@@ -6,7 +6,6 @@ import { allOf } from "./host.js";
 import { swatch } from "./palette.js";
 
 /** @typedef {import("../worker/jobs.js").Round} Round */
-/** @typedef {import("../worker/pool.js").Pool} Pool */
 /** @typedef {import("./session.js").Session} Session */
 /** @typedef {import("./side.js").ShowLine} ShowLine */
 /**
@@ -24,19 +23,20 @@ export class Rounds {
   /** @type {Round[]} */
   #rounds = [];
   #match = "";
+  /** Whether all rounds are fought, or are to be. */
+  isFought = false;
   #later = throttle(() => this.#draw(), 100);
 
   /**
    * @param {Session} session
-   * @param {Pool} pool
+   * @param {import("./host.js").Host} host
    * @param {ShowLine} show
-   * @param {(hits: Hits) => void} showHits
    */
-  constructor(session, pool, show, showHits) {
+  constructor(session, host, show) {
     this.session = session;
-    this.pool = pool;
+    this.host = host;
+    this.pool = host.pool;
     this.show = show;
-    this.showHits = showHits;
     onClick("all-rounds", () => this.fight());
     session.listen((change) => {
       if (change === "battle") this.#open();
@@ -52,6 +52,7 @@ export class Rounds {
       this.pool.drop("rounds");
       this.#match = match;
       this.#rounds = [];
+      this.isFought = false;
     }
     this.#draw();
   }
@@ -63,6 +64,8 @@ export class Rounds {
     const rounds = Math.max(MIN_ROUNDS, fight.rounds);
     this.pool.drop("rounds");
     this.#rounds = [];
+    this.isFought = true;
+    this.host.note();
     const pending = Array.from({ length: rounds }, async (_, round) => {
       const outcome = await this.pool.ask("round", [{ ...fight, rounds, round, edits: [] }], "rounds", 1);
       if (match !== this.#match) return;
@@ -91,7 +94,7 @@ export class Rounds {
     const whys = whysOf(found);
     element("why-box").hidden = whys.length === 0;
     refill(element("why"), ...whys.slice(0, MAX_REASONS).map((why) => this.#why(why, names)));
-    this.showHits(hitsOf(whys, fight.warriors.map(({ name }) => name)));
+    this.host.shelf.takeHits(hitsOf(whys, fight.warriors.map(({ name }) => name)));
   }
 
   /**

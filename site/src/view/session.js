@@ -20,6 +20,13 @@ export class Session extends Turns {
   latest = null;
   /** @type {import("../words/battle.js").Known} */
   known = { names: [], core: 1, end: 0, deaths: [], addresses: new Map(), labels: new Map() };
+  /** The characters of a line of the debugger's replies, or 0 for any number. */
+  width = () => 0;
+  /**
+   * What the errors of sources mean.
+   * @type {Record<string, string>}
+   */
+  meanings = {};
   /** @type {number | null} */
   pinned = null;
   /** The warrior that is shown chosen, or -1. */
@@ -88,7 +95,7 @@ export class Session extends Turns {
    */
   #takeFight(fight, opened, pinned) {
     this.stop();
-    this.futures.begin(fight.edits, opened.end);
+    this.compared = null;
     this.rate = clamp(opened.end / LENGTH, 2, FASTEST);
     this.pinned = pinned;
     this.chosen = -1;
@@ -111,8 +118,8 @@ export class Session extends Turns {
   #setBattle(opened) {
     const { names, core, end, deaths, labels } = opened;
     this.opened = opened;
-    this.futures.show(opened);
-    if (!this.futures.beside) this.beside = null;
+    if (this.compared === opened.future) this.compared = null;
+    if (this.compared === null) this.beside = null;
     this.view = this.move = this.origins = this.chain = this.halted = null;
     this.wanted = clamp(this.wanted, 0, end);
     const addresses = addressesOf(labels);
@@ -120,6 +127,19 @@ export class Session extends Turns {
     this.known = { names: distinct(names), core, end, deaths, addresses, labels: named };
     this.notify("battle");
     this.#tell();
+  }
+
+  /**
+   * Returns the line of source of a loaded cell, the name of its source and its warrior, or null.
+   * @param {number} origin
+   */
+  lineOf(origin) {
+    const { opened, fight } = this;
+    const found = opened?.lines[origin];
+    if (!opened || !fight || !found) return null;
+    const { name, text } = fight.warriors[opened.order[found.warrior]];
+    const code = text.split("\n")[found.line - 1]?.split(";")[0].trim().replace(/\s+/g, " ") ?? "";
+    return { warrior: found.warrior, name, line: found.line, text: code };
   }
 
   /** Reads the story of the battle part by part, so that turns which are wanted meanwhile come between them. */
@@ -187,7 +207,6 @@ export class Session extends Turns {
     await this.#inOrder(async () => {
       if (fight !== this.fight) throw new Error("another battle has been opened");
       const opened = await this.#opened(this.desk.edit(this.future, turn, await wanted));
-      this.futures.add(opened);
       this.#setBattle(opened);
     });
     await this.go(turn);
@@ -207,7 +226,6 @@ export class Session extends Turns {
       const future = select();
       if (future < 0) return false;
       this.stop();
-      this.futures.visit(future);
       this.#setBattle(await this.desk.show(future));
       return true;
     });
@@ -219,28 +237,31 @@ export class Session extends Turns {
    * @param {number | null} future
    */
   compare(future) {
-    this.futures.beside = future === null ? null : this.futures.all[future];
+    this.compared = future;
     if (future === null) this.beside = null;
     this.notify("look");
     return this.go(this.wanted);
   }
 
-  get canUndo() {
-    return this.futures.before >= 0;
+  get futures() {
+    return this.opened?.futures ?? [];
   }
 
-  get canRedo() {
-    return this.futures.after >= 0;
+  /** The future that undo leads to, or -1. */
+  get before() {
+    return this.futures[this.future]?.parent ?? -1;
+  }
+
+  /** The future that redo leads to, or -1. */
+  get after() {
+    return this.futures[this.future]?.visited ?? -1;
   }
 
   undo() {
-    return this.#switch(() => {
-      this.futures.visit(this.future);
-      return this.futures.before;
-    });
+    return this.#switch(() => this.before);
   }
 
   redo() {
-    return this.#switch(() => this.futures.after);
+    return this.#switch(() => this.after);
   }
 }

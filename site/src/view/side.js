@@ -103,10 +103,10 @@ export class Side {
 
   #openFutures() {
     const { session } = this;
-    const { futures: { all: futures }, future, known } = session;
+    const { futures, future, known } = session;
     element("futures-box").hidden = futures.length < 2;
-    element("undo").toggleAttribute("disabled", !session.canUndo);
-    element("redo").toggleAttribute("disabled", !session.canRedo);
+    element("undo").toggleAttribute("disabled", session.before < 0);
+    element("redo").toggleAttribute("disabled", session.after < 0);
     const lines = futures.map(({ edits, end }, index) => {
       const edited = edits.map(({ turn, edit }) => `turn ${number(turn)}: ${editText(edit, known.core)}`);
       const text = `${index}: ${edited.join("; ") || "no edits"} (${pluralize(end, "turn")})`;
@@ -182,12 +182,7 @@ export class Side {
    * @param {number} origin
    */
   lineOfOrigin(origin) {
-    const { opened, fight } = this.session;
-    const found = opened?.lines[origin];
-    if (!opened || !fight || !found) return null;
-    const source = fight.warriors[opened.order[found.warrior]];
-    const text = source.text.split("\n")[found.line - 1]?.split(";")[0].trim().replace(/\s+/g, " ") ?? "";
-    return { name: source.name, line: found.line, text };
+    return this.session.lineOf(origin);
   }
 
   /**

@@ -1,6 +1,7 @@
 /** The core, the strip of time and the controls: what moves. */
 import { NOBODY, cellText, isEmpty, readCell } from "../model/cells.js";
-import { captionWords, haltWords, number, place, standingWords, writtenWords } from "../words/battle.js";
+import { captionWords, number, place, standingWords, writtenWords } from "../words/battle.js";
+import { haltWords } from "../words/conditions.js";
 import { instructionWords } from "../words/instruction.js";
 import { linkWords } from "../words/why.js";
 import { Core } from "./core.js";
@@ -100,7 +101,7 @@ export class Theatre {
    * @param {boolean} forward
    */
   async leap(word, forward) {
-    const found = await this.session.leap([{ word, first: -1 }], forward);
+    const found = await this.session.leap([{ word }], forward);
     const death = word === "dies" ? this.session.opened?.deaths.find(({ turn }) => turn === found?.turn) : undefined;
     if (death && death.address >= 0) this.session.pin(death.address);
     if (found) return;

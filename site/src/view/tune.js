@@ -1,5 +1,6 @@
 /** Tune: a number of the source in the editor, at many values, against the opponents of the bench. */
 import { number, pluralize } from "../words/battle.js";
+import { isLead } from "../words/comparison.js";
 import { readSource } from "../words/source.js";
 import { Stopped } from "../worker/pool.js";
 import { inBatches, spread } from "./batches.js";
@@ -28,7 +29,13 @@ export class Tune {
   #mark = null;
   /** @type {Result[]} */
   results = [];
-  #best = 1;
+  /**
+   * The result of the value that the source had.
+   * @type {Result | null}
+   */
+  #start = null;
+  /** What a loss, a win and a tie are worth. */
+  #worth = [0, 1, 1];
   #run = 0;
   #note = "";
   #later = throttle(() => this.#draw(), 60);
@@ -53,7 +60,7 @@ export class Tune {
     onClick("tune-here", () => this.begin());
     onClick("tune-run", () => this.sweep());
     onClick("tune-stop", () => this.stop());
-    onClick("tune-best", () => this.#take(this.#bestResult?.value));
+    onClick("tune-best", () => this.#take(this.#lead?.best.value));
     const canvas = element("tune-curve");
     canvas.onpointermove = (event) => this.#point(event);
     canvas.onpointerleave = () => (element("tip").hidden = true);
@@ -97,6 +104,7 @@ export class Tune {
     const [from, to] = [found.from, found.to].map((ch) => ({ line: found.line, ch }));
     this.#mark = shelf.shown.doc.markText(from, to, MARK);
     this.results = [];
+    this.#start = null;
     this.#note = "";
     const { core } = terms().settings;
     const first = clamp(Number(found.text) - AROUND / 2, -core, core - AROUND);
@@ -131,7 +139,9 @@ export class Tune {
     try {
       const values = this.#values;
       const opponents = this.opponents();
-      this.results = values.map((value) => ({ value, row: null, left: opponents.length }));
+      const result = (/** @type {number} */ value) => ({ value, row: null, left: opponents.length });
+      this.results = values.map(result);
+      this.#start = this.results.find(({ value }) => value === this.#current) ?? result(this.#current);
       const lines = own.text.split("\n");
       const text = lines[range.from.line];
       const before = [...lines.slice(0, range.from.line), text.slice(0, range.from.ch)].join("\n");
@@ -159,17 +169,18 @@ export class Tune {
     // A source with an error is no opponent.
     const warriors = entered.flatMap((one) => (one.status === "fulfilled" ? one.value[0].warrior : []));
     if (!warriors.length) throw new Error("There is no opponent.");
-    this.results.forEach((result) => (result.left = warriors.length));
-    const order = spread(this.results.length).map((index) => this.results[index]);
+    const far = spread(this.results.length).map((index) => this.results[index]);
+    const order = [...new Set([...(this.#start ? [this.#start] : []), ...far])];
+    order.forEach((result) => (result.left = warriors.length));
+    const all = pluralize(order.length * warriors.length * terms.rounds, "round");
     const few = FIRST_BATCHES.map((size) => order.splice(0, size)).filter(({ length }) => length);
     const batches = [...few, ...inBatches(order, BATCH)];
-    const all = pluralize(this.results.length * warriors.length * terms.rounds, "round");
     let done = 0;
     const fight = async (/** @type {Result[]} */ batch, /** @type {Warrior} */ warrior) => {
       const values = batch.map(({ value }) => value);
-      const { rows, best } = await pool.ask("sweep", [source, values, warrior, terms], "tune", LAST);
+      const { rows, worth } = await pool.ask("sweep", [source, values, warrior, terms], "tune", LAST);
       if (run !== this.#run) return;
-      this.#best = best;
+      this.#worth = worth;
       batch.forEach((result, index) => add(result, rows[index]));
       done += batch.length * terms.rounds;
       this.#note = `${number(done)} of ${all} in ${((performance.now() - began) / 1000).toFixed(1)} s`;
@@ -189,6 +200,25 @@ export class Tune {
     const points = (/** @type {Result} */ { row }) => row?.points ?? -Infinity;
     const [first, ...others] = this.results.filter(({ row, left }) => row && left === 0);
     return others.reduce((best, one) => (points(one) > points(best) ? one : best), first);
+  }
+
+  /** The best result, and that of the value that the source has, if both are known and the best one is better. */
+  get #lead() {
+    const best = this.#bestResult;
+    const own = [...this.results, this.#start].find((one) => one?.value === this.#current);
+    const isBetter = best && own?.left === 0 && best.row && !(own.row && own.row.points >= best.row.points);
+    return isBetter ? { best, own } : null;
+  }
+
+  /** What the best value is worth, and whether it may be so by chance. */
+  get #leadWords() {
+    const { best, own } = this.#lead ?? {};
+    if (!best?.row || !own) return "";
+    const taken = `Take ${number(best.value)}: ${meanOf(best).toFixed(2)} points`;
+    if (!own.row) return taken;
+    const [one, other] = [best.row, own.row].map((row) => ({ ...row, values: this.#worth }));
+    const chance = isLead(one, other, this.results.length) ? "" : "; may be chance";
+    return `${taken}, ${number(own.value)} has ${meanOf(own).toFixed(2)}${chance}`;
   }
 
   /** @param {number | undefined} value */
@@ -236,14 +266,15 @@ export class Tune {
   #draw() {
     const best = this.#bestResult;
     element("tune-stop").hidden = !this.host.pool.has("tune");
-    const button = element("tune-best");
-    button.hidden = !best;
-    if (best) button.textContent = `Take ${number(best.value)}: ${meanOf(best).toFixed(2)} points`;
+    const lead = this.#leadWords;
+    element("tune-best").hidden = !lead;
+    if (lead) element("tune-best").textContent = lead;
     const range = this.#mark?.find();
     const line = range && this.host.shelf.shown?.doc.getLine(range.from.line);
     refill(element("tune-line"), line ? make("code", {}, line.split(";")[0].trim().replace(/\s+/g, " ")) : "");
     refill(element("tune-note"), withCode(this.#note));
-    drawSweep(typed("tune-curve", HTMLCanvasElement), this.results, { best, most: this.#best, current: this.#current });
+    const most = Math.max(1, ...this.#worth);
+    drawSweep(typed("tune-curve", HTMLCanvasElement), this.results, { best, most, current: this.#current });
   }
 }
 

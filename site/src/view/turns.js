@@ -1,7 +1,6 @@
 /** The turns of a battle: which one is shown, and how they are played. */
 import { Breaks } from "./breaks.js";
 import { clamp } from "./dom.js";
-import { Futures } from "./futures.js";
 
 /** @typedef {import("../battle/conditions.js").Condition} Condition */
 /** @typedef {import("../worker/desk.js").View} View */
@@ -29,7 +28,11 @@ export class Turns {
    * @type {Uint32Array | null}
    */
   origins = null;
-  futures = new Futures();
+  /**
+   * The future that is wanted beside this one, or null.
+   * @type {number | null}
+   */
+  compared = null;
   /**
    * The future that is shown beside this one, and its battle at the same turn.
    * @type {{future: number, view: View} | null}
@@ -91,7 +94,7 @@ export class Turns {
 
   /** The future that is shown. */
   get future() {
-    return this.futures.current;
+    return this.opened?.future ?? 0;
   }
 
   get turn() {
@@ -139,14 +142,14 @@ export class Turns {
 
   get #isIncomplete() {
     const lacksOrigins = this.way === 0 && !this.origins;
-    return lacksOrigins || this.futures.beside !== (this.beside ? this.futures.all[this.beside.future] : null);
+    return lacksOrigins || this.compared !== (this.beside?.future ?? null);
   }
 
   /** @param {number} turn */
   async #show(turn) {
-    const wanted = this.futures.beside;
+    const wanted = this.compared;
     const shown = await this.ofThisBattle(this.#ask(turn, wanted));
-    if (!shown || wanted !== this.futures.beside) return;
+    if (!shown || wanted !== this.compared) return;
     Object.assign(this, shown);
     this.frames++;
     this.notify("turn");
@@ -172,20 +175,19 @@ export class Turns {
   /**
    * Requests a turn, and the same turn of another future.
    * @param {number} turn
-   * @param {import("./futures.js").Future | null} wanted
+   * @param {number | null} other
    */
-  async #ask(turn, wanted) {
+  async #ask(turn, other) {
     const { future } = this;
-    const other = wanted ? this.futures.all.indexOf(wanted) : -1;
     const [view, beside] = await Promise.all([
       this.desk.turn(future, turn),
-      other >= 0 ? this.desk.turn(other, turn) : null,
+      other === null ? null : this.desk.turn(other, turn),
     ]);
     // What the turn did is needed only if the battle stops there.
     const isStopped = this.way === 0;
     const move = isStopped && turn > 0 ? await this.desk.move(future, turn) : null;
     const origins = isStopped ? await this.desk.origins(future, turn) : null;
-    return { view, move, origins, beside: beside && { future: other, view: beside } };
+    return { view, move, origins, beside: other === null ? null : { future: other, view: beside } };
   }
 
   /**

@@ -8,7 +8,6 @@ import { BY_HAND, NOBODY, cellText, readCell } from "../model/cells.js";
  *   labels: Map<number, string>}} Known
  */
 /** @typedef {{address: number, name: string, warrior: number}} Label */
-/** @typedef {import("../battle/conditions.js").Condition} Condition */
 /**
  * What a turn did. Cells are three words; `owner` is the owner of the cell before; `left` is the number of processes
  * that the warrior has left.
@@ -90,6 +89,14 @@ export function sharedWords(name, { addresses }) {
  */
 export const place = (address, { labels }) =>
   labels.has(address) ? `${number(address)} (${labels.get(address)})` : number(address);
+
+/**
+ * Returns an address, with its label if it has one, as the debugger's line writes it.
+ * @param {number} address
+ * @param {Known} known
+ */
+export const where = (address, { labels }) =>
+  labels.has(address) ? `${address} (${labels.get(address)})` : String(address);
 
 /**
  * Returns the name of the owner of a cell.
@@ -220,22 +227,6 @@ function deathWords({ warrior, other, address, count }, known) {
   const killer = known.names[other];
   if (killer === undefined) return `${name} dies: it runs into empty memory at ${at}`;
   return `${name} dies: it executes ${at}, which ${count ? `${killer} wrote${when}` : `was loaded with ${killer}`}`;
-}
-
-/**
- * Returns what has happened, or comes next, at a breakpoint.
- * @param {Condition} condition
- * @param {Known} known
- */
-export function haltWords({ word, first, last = first, by }, known) {
-  const name = known.names[first];
-  if (word === "splits") return `${name} has split`;
-  if (word === "ends") return `a process of ${name} has ended`;
-  if (word === "dies") return `${name} has died`;
-  const [from, to] = [place(first, known), place(last, known)];
-  const cell = last === first ? `cell ${from}` : `a cell from ${from} to ${to}`;
-  const what = word === "at" ? "is executed next" : word === "reads" ? "was read" : "was changed";
-  return `${cell} ${what}${by === undefined ? "" : ` by ${known.names[by]}`}`;
 }
 
 /**

@@ -5,8 +5,15 @@
  * @typedef {{change: number, error: number | null}} Change
  */
 
+/**
+ * A row, and what a loss, a win and a tie are worth.
+ * @typedef {import("../engine/mars.js").Row & {values: number[]}} Counted
+ */
+
 /** The number of standard errors from which a change is more than chance. */
 const SURE = 2;
+/** How many standard errors the true value is away at most, 19 times of 20. */
+const FAR = 1.96;
 
 /**
  * Returns the change of the mean score of a round, over several opponents. Both versions start at the same positions
@@ -46,4 +53,29 @@ export function verdict({ change, error }) {
     return `The change is ${size} standard errors, which may be chance. More rounds can detect smaller changes.`;
   }
   return `The new version is ${change > 0 ? "better" : "worse"}: the change is ${size} standard errors.`;
+}
+
+/**
+ * Returns the points per round, and how far from them the true value is at most, 19 times of 20. For that a round of
+ * each outcome is added: a warrior that has lost all of 100 may win some of the next.
+ * @param {Counted} row
+ */
+export function mean({ points, wins, ties, losses, values }) {
+  const rounds = wins + ties + losses;
+  const counts = [losses, wins, ties].map((count) => count + 1);
+  const moment = (/** @type {number} */ power) =>
+    counts.reduce((sum, count, index) => sum + count * values[index] ** power, 0) / (rounds + 3);
+  return { points: points / rounds, far: FAR * Math.sqrt((moment(2) - moment(1) ** 2) / rounds) };
+}
+
+/**
+ * Returns whether the best of some rows is better than another row by more than the best one of them is by chance.
+ * @param {Counted} best
+ * @param {Counted} other
+ * @param {number} count of the rows
+ */
+export function isLead(best, other, count) {
+  const [one, two] = [best, other].map(mean);
+  const error = Math.hypot(one.far, two.far) / FAR;
+  return one.points - two.points >= Math.max(SURE, Math.sqrt(2 * Math.log(count))) * error;
 }

@@ -16,6 +16,7 @@ import { BY_HAND } from "../model/cells.js";
  * before the story is read.
  * @typedef {object} Opened
  * @property {number} future
+ * @property {import("./histories.js").Future[]} futures all of them
  * @property {number} core
  * @property {number} end
  * @property {number[]} order
@@ -50,7 +51,7 @@ const MAX_CHANGES = 5;
 const PIECE_TIME = 6;
 
 export class Desk {
-  /** @type {{fight: Fight, warriors: import("../engine/warrior.js").Warrior[], histories: Histories} | null} */
+  /** @type {{fight: Fight, warriors: ReturnType<typeof assembleAll>, histories: Histories} | null} */
   #battle = null;
   /** @type {Painter | null} */
   #painter = null;
@@ -104,13 +105,13 @@ export class Desk {
    * @returns {Opened}
    */
   show(future) {
-    const history = this.#history(future);
-    const { fight, warriors } = this.battle;
+    const { fight, warriors, histories } = this.battle;
+    const history = histories.visit(future);
     const { core, end, order, deaths, events, edits } = history;
     const found = order.map((source) => describe(warriors[source], fight.warriors[source].text));
     const names = found.map(({ name }, who) => name || fight.warriors[order[who]].name.replace(/\.\w+$/, ""));
     return {
-      ...{ future, core, end, order, deaths, events, edits, names },
+      ...{ future, futures: histories.futures, core, end, order, deaths, events, edits, names },
       authors: found.map(({ author }) => author),
       ...this.#lines(history),
     };
@@ -125,12 +126,10 @@ export class Desk {
     const labels = [];
     /** @type {Opened["lines"]} */
     const lines = [];
-    const { settings, rounds, warriors } = this.battle.fight;
     history.order.forEach((source, warrior) => {
-      const { start } = this.battle.warriors[source];
+      const { start, lines: own } = this.battle.warriors[source];
       const first = history.start.battle.queue(warrior)[0] - start + history.core;
-      const terms = { settings, rounds, warriors: warriors.length };
-      this.mars.lines(warriors[source].text, terms).forEach(({ line, labels: names }, index) => {
+      own.forEach(({ line, labels: names }, index) => {
         const address = (first + index) % history.core;
         lines.push({ warrior, line, address });
         for (const name of names) labels.push({ address, name, warrior });
@@ -247,6 +246,27 @@ export class Desk {
   }
 
   /**
+   * Returns where each warrior is loaded in a round of the match, in the order of its turns.
+   * @param {number} round
+   */
+  starts(round) {
+    const { order, start, core } = this.battle.histories.round(round);
+    return order.map((source, who) => {
+      return (start.battle.queue(who)[0] - this.battle.warriors[source].start + core) % core;
+    });
+  }
+
+  /**
+   * Counts as `count` in a round of the match, without edits.
+   * @param {number} round
+   * @param {Condition} condition
+   * @param {number} most
+   */
+  countIn(round, condition, most) {
+    return count(this.battle.histories.round(round), condition, most);
+  }
+
+  /**
    * Returns the places where one of the conditions holds, in order, at most `most`.
    * @param {number} future
    * @param {Condition[]} conditions
@@ -309,13 +329,13 @@ export class Desk {
 
   /**
    * Assembles a line of source as a cell of this battle. Throws a MarsError.
-   * @param {string} line
+   * @param {string} source the line, after those that give values to its names
    * @returns {import("../model/cells.js").Cell}
    */
-  cellOf(line) {
+  cellOf(source) {
     const { fight } = this.battle;
     const terms = { ...fight, warriors: fight.warriors.length };
-    const { cells } = describe(this.mars.assemble(`${line}\n`, terms));
+    const { cells } = describe(this.mars.assemble(source, terms));
     if (cells.length !== 1) throw new Error("expected one instruction");
     return cells[0];
   }

@@ -1,15 +1,22 @@
-/** The histories of a battle's futures, of which those that were used last are kept. */
+/** The histories of a battle's futures, of which those that were used last are kept, and of the match's rounds. */
+import { History } from "../battle/history.js";
 
-/** @typedef {import("../battle/history.js").History} History */
 /** @typedef {import("../model/fight.js").Made} Made */
+/**
+ * A future: its edits, its last turn, which future it branched from, and which one of those that branch from it was
+ * shown last. -1 is none.
+ * @typedef {{edits: Made[], end: number, parent: number, visited: number}} Future
+ */
 
 const MAX_KEPT = 4;
 
 export class Histories {
   /** @type {Map<number, History>} */
   #kept;
-  /** @type {Made[][]} */
-  #futures;
+  /** @type {Future[]} */
+  futures;
+  /** @type {History | null} */
+  #round = null;
 
   /**
    * Begins with a future for each edit of a battle.
@@ -18,7 +25,12 @@ export class Histories {
    */
   constructor(first, edits) {
     this.#kept = new Map([[0, first]]);
-    this.#futures = [[], ...edits.map((_, index) => edits.slice(0, index + 1))];
+    this.futures = [[], ...edits].map((_, at) => ({
+      edits: edits.slice(0, at),
+      end: first.end,
+      parent: at - 1,
+      visited: -1,
+    }));
   }
 
   /**
@@ -29,15 +41,25 @@ export class Histories {
   of(future) {
     let found = this.#kept.get(future);
     if (!found) {
-      const edits = this.#futures[future];
+      const { edits, parent } = this.futures[future];
       const { turn, edit } = edits[edits.length - 1];
-      found = this.of(this.#find(edits.slice(0, -1))).edited(turn, edit);
+      found = this.of(parent).edited(turn, edit);
+      this.futures[future].end = found.end;
     }
     this.#kept.delete(future);
     this.#kept.set(future, found);
     const oldest = [...this.#kept.keys()].find((one) => one !== 0);
     if (this.#kept.size > MAX_KEPT && oldest !== undefined) this.#kept.delete(oldest);
     return found;
+  }
+
+  /**
+   * Returns the history of a future, to which redo leads from now on.
+   * @param {number} future
+   */
+  visit(future) {
+    for (let at = future; at > 0; at = this.futures[at].parent) this.futures[this.futures[at].parent].visited = at;
+    return this.of(future);
   }
 
   /**
@@ -48,20 +70,27 @@ export class Histories {
    * @param {import("../model/fight.js").Edit} edit
    */
   edit(future, turn, edit) {
-    const earlier = this.#futures[future].filter((one) => one.turn <= turn);
-    const edits = [...earlier, { turn, edit }];
-    const there = this.#find(edits);
+    let parent = future;
+    while (this.futures[parent].edits.some((one) => one.turn > turn)) parent = this.futures[parent].parent;
+    const edits = [...this.futures[parent].edits, { turn, edit }];
+    const there = this.futures.findIndex((other) => JSON.stringify(other.edits) === JSON.stringify(edits));
     if (there >= 0) return there;
-    const edited = this.of(this.#find(earlier)).edited(turn, edit);
-    const made = this.#futures.push(edits) - 1;
+    const edited = this.of(parent).edited(turn, edit);
+    const made = this.futures.push({ edits, end: edited.end, parent, visited: -1 }) - 1;
     this.#kept.set(made, edited);
     return made;
   }
 
-  /** @param {Made[]} edits */
-  #find(edits) {
-    const text = JSON.stringify(edits);
-    return this.#futures.findIndex((other) => JSON.stringify(other) === text);
+  /**
+   * Returns a round of the match, without edits. The last one is kept.
+   * @param {number} round
+   */
+  round(round) {
+    if (this.#round?.match.round !== round) {
+      const { mars, match } = this.of(0);
+      this.#round = History.fight(mars, { ...match, round });
+    }
+    return this.#round;
   }
 
   /** The number of bytes of the marks that are kept. */

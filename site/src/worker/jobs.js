@@ -40,7 +40,7 @@ export class Jobs {
   assemble(text, terms) {
     const warrior = this.mars.assemble(text, terms);
     const load = this.mars.writeLoad(warrior, terms);
-    return { ...describe(warrior, text), load, lines: this.mars.lines(text, terms) };
+    return { ...describe(warrior, text), load, lines: warrior.lines };
   }
 
   /**
@@ -99,7 +99,7 @@ export class Jobs {
 
   /**
    * Fights a match of each version of a source, which differ in a number, with an opponent. Returns the row of each
-   * version, or null if it has an error, and what the best outcome of a round is worth.
+   * version, or null if it has an error, and what a loss, a win and a tie are worth.
    * @param {{before: string, after: string}} source the text around the number
    * @param {number[]} values
    * @param {Warrior} opponent
@@ -115,7 +115,7 @@ export class Jobs {
         throw error;
       }
     });
-    return { rows, best: Math.max(1, ...[0, 1, 2].map((left) => this.#scoreOf(left, terms.formula, false))) };
+    return { rows, worth: [0, 1, 2].map((left) => this.#scoreOf(left, terms.formula, false)) };
   }
 
   /**
@@ -161,7 +161,7 @@ export class Jobs {
     this.mars.play(ending, EVERYTHING);
     const [{ round }, end] = [fight, ending.turns];
     const isTie = ending.deaths.length === 0;
-    const deaths = isTie ? [] : this.#deaths(fight, History.fight(this.mars, { ...fight, warriors }));
+    const deaths = isTie ? [] : this.#deaths(warriors, History.fight(this.mars, { ...fight, warriors }));
     const living = warriors.length - deaths.length;
     const isDead = (/** @type {number} */ who) => deaths.some(({ warrior }) => warrior === who);
     const survives = living === 1 ? "win" : "tie";
@@ -169,16 +169,13 @@ export class Jobs {
   }
 
   /**
-   * @param {Fight} fight
+   * @param {ReturnType<typeof assembleAll>} warriors
    * @param {History} history
    * @returns {Death[]}
    */
-  #deaths({ warriors, settings, rounds }, history) {
+  #deaths(warriors, history) {
     const { order } = history;
-    const terms = { settings, rounds, warriors: order.length };
-    const lines = order.flatMap((source, who) =>
-      this.mars.lines(warriors[source].text, terms).map(({ line }) => ({ who, line })),
-    );
+    const lines = order.flatMap((source, who) => warriors[source].lines.map(({ line }) => ({ who, line })));
     const originAt = (/** @type {number} */ address, /** @type {number} */ turn) =>
       lines[history.origin(address, turn)];
     return history.deaths.map(({ warrior, turn, address, other, count: written }) => {

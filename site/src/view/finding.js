@@ -1,0 +1,89 @@
+/** `find`: how often a condition holds in the battle, or in each round of the match. */
+import TABLE from "../../../python/corewar/debugger/commands.json";
+import { addressesOf } from "../words/battle.js";
+import { conditionWords } from "../words/conditions.js";
+import { counted } from "../words/replies.js";
+import { CommandError, readCondition } from "./arguments.js";
+
+/** @typedef {import("./session.js").Session} Session */
+
+/** How many turns or rounds are listed, and how many turns of each of several rounds. */
+const [LISTED, LISTED_IN_ROUND] = [20, 5];
+const NUMBERED = ["of", "by", ...TABLE.conditions.warriors].map((word) => `(?<= ${word} )`).join("|");
+/** The numbers of warriors in a condition. */
+const WARRIORS = new RegExp(`\\b\\d+(?=\\.[A-Za-z_])|(?:${NUMBERED})\\d+(?!\\S)`, "g");
+
+/** @param {{count: number, first: number[]}} found */
+function timesOf({ count, first }) {
+  const more = count > first.length ? ` and ${count - first.length} more` : "";
+  return `${counted(count, "time")}, after turn ${first.join(", ")}${more}`;
+}
+
+/**
+ * @param {Session} session
+ * @param {string} rest
+ */
+export async function find(session, rest) {
+  const [word, ...more] = rest.split(/\s+/);
+  if (word === "-r") return findInRounds(session, more.join(" "));
+  const condition = readCondition(session, rest);
+  const found = await session.desk.count(session.future, condition, LISTED);
+  return [`${conditionWords(condition, session.known)}: ${found.count ? timesOf(found) : "never"}`];
+}
+
+/**
+ * Finds a condition in each round of the match, without edits. Names and labels mean those of each round.
+ * @param {Session} session
+ * @param {string} rest
+ */
+async function findInRounds(session, rest) {
+  const { fight, desk, known } = session;
+  const words = conditionWords(readCondition(session, rest), known);
+  const rows = [];
+  let total = 0;
+  const { rounds = 0, round: here = 0 } = fight ?? {};
+  for (let round = 0; round < rounds; round++) {
+    const other = inRound(session, round, await desk.starts(round));
+    const condition = readCondition(other, renumbered(rest, here - round, known.names.length));
+    const found = await desk.countIn(round, condition, LISTED_IN_ROUND);
+    if (session.fight !== fight) throw new CommandError("another battle has been opened");
+    total += found.count;
+    if (found.count) rows.push(`round ${round}: ${timesOf(found)}`);
+  }
+  const all = counted(rounds, "round");
+  if (!rows.length) return [`${words}: never in ${all}`];
+  const more = rows.length > LISTED ? [`and in ${rows.length - LISTED} more rounds`] : [];
+  return [`${words}: ${counted(total, "time")} in ${rows.length} of ${all}`, ...rows.slice(0, LISTED), ...more];
+}
+
+/**
+ * Returns what arguments of commands are read by in another round, at whose end no cell is the next one.
+ * @param {Session} session
+ * @param {number} round
+ * @param {number[]} starts where each warrior is loaded there
+ * @returns {Session}
+ */
+function inRound({ fight, opened, known }, round, starts) {
+  const order = starts.map((_, who) => (who + round) % starts.length);
+  const places = (opened?.order ?? []).map((source) => order.indexOf(source));
+  const firsts = places.map((_, who) => opened?.lines.find(({ warrior }) => warrior === who)?.address ?? 0);
+  const labels = (opened?.labels ?? []).map(({ name, address, warrior }) => {
+    const moved = (address - firsts[warrior] + starts[places[warrior]] + known.core) % known.core;
+    return { name, warrior: places[warrior], address: moved };
+  });
+  const names = order.map((source) => known.names[opened?.order.indexOf(source) ?? 0]);
+  const there = { ...known, names, addresses: addressesOf(labels) };
+  return /** @type {any} */ ({ known: there, view: { head: null }, opened: { order }, fight });
+}
+
+/**
+ * Returns a condition whose numbers of warriors are those of another round, in which another warrior begins.
+ * @param {string} text
+ * @param {number} shift
+ * @param {number} count
+ */
+const renumbered = (text, shift, count) =>
+  ` ${text}`.replace(WARRIORS, (found) => {
+    const number = Number(found);
+    return number < count ? String((((number + shift) % count) + count) % count) : found;
+  });
