@@ -2,6 +2,7 @@
 from __future__ import annotations
 
 import functools
+import json
 import re
 import subprocess
 from collections.abc import Iterator
@@ -13,7 +14,13 @@ from conftest import COMMAND, ENVIRONMENT, EXAMPLES, TOP
 from costly import slow
 from counting import PROGRAM, skip
 
-from corewar.debugger.commands import COMMANDS
+from corewar.battle.history import History
+from corewar.battle.labels import Sources
+from corewar.debugger.commands import COMMANDS, execute
+from corewar.debugger.session import Session
+from corewar.engine.calls import Match
+from corewar.engine.sources import read
+from corewar.model.errors import CorewarError
 from corewar.model.cells import MODES, MODIFIERS, OPCODES
 
 
@@ -105,20 +112,18 @@ def test_commands_are_those_of_the_terminal(page: Browser) -> None:
     assert not any(line.startswith("quit") for line in shown) and "A warrior W is a number" in "".join(shown)
     assert answer(page, "help rs") == "reverse-step [N|W]           step back in the same way (rs, back)"
     assert answer(page, "queue") == answer(page, "p") and answer(page, "quit").startswith("unknown command")
-    assert answer(page, "find dies imp") == "dies Imp: 1 time, after turn 7,798"
+    assert answer(page, "find dies imp") == "dies Imp: 1 time, after turn 7798"
     assert answer(page, "find splits dwar") == "splits Dwarf: never"
-    assert re.fullmatch(
-        r"changes 3 \(bomb\): [\d,]+ times, after turn (1, .*) and [\d,]+ more", answer(page, "f changes 3")
-    )
+    assert re.fullmatch(r"changes 3 \(bomb\): \d+ times, after turn (1, .*) and \d+ more", answer(page, "f changes 3"))
     # Only what moves or lists is repeated by an empty line.
     go_to_turn(page, 100)
     answer(page, "step 2")
     answer(page, "")
     assert page.value("corewar.session.turn") == 104
     answer(page, "kill 0 0")
-    before = page.value("corewar.session.futures.all.length")
+    before = page.value("corewar.session.futures.length")
     answer(page, "")
-    assert page.value("corewar.session.futures.all.length") == before
+    assert page.value("corewar.session.futures.length") == before
 
 
 def test_keys_move_in_time(page: Browser) -> None:
@@ -225,12 +230,12 @@ def test_breakpoints_stop_play(page: Browser) -> None:
     box = page.value(f"{gutter}.getBoundingClientRect()")
     page.mouse(box["x"] + 4, box["y"] + 6, "pointerDown", "pointerUp")
     page.until("document.querySelector('#editor .break')")
-    assert page.value("corewar.session.breaks.all") == [{"word": "at", "first": 2}]
+    assert page.value("corewar.session.breaks.all") == [{"word": "at", "cells": [2, 2]}]
     play = "corewar.session.setRate(given[1]); corewar.session.play(given[0])"
     page.run(play, 1, 3000)
     page.until("corewar.session.way === 0 && corewar.session.turn === 4 && corewar.session.isSettled")
     page.until("document.getElementById('caption').textContent === 'Breakpoint: cell 2 is executed next.'")
-    page.run("corewar.session.breaks.toggle({word: 'at', first: 2}); corewar.session.pin(5203)")
+    page.run("corewar.session.breaks.toggle({word: 'at', cells: [2, 2]}); corewar.session.pin(5203)")
     assert page.value("document.querySelector('#editor .break')") is None
     page.until("document.querySelector('#listing .focus .break')")
     page.click("#listing .focus .break")
@@ -305,11 +310,11 @@ def test_edits_make_futures(page: Browser) -> None:
     page.type("jmq 1")
     page.press("Enter")
     page.until("document.querySelector('#listing input')?.getAttribute('aria-invalid') === 'true'")
-    assert page.value("corewar.session.futures.all.length") == 1
+    assert page.value("corewar.session.futures.length") == 1
     page.press("a", held="Control")
     page.type("jmp 0")
     page.press("Enter")
-    page.until("corewar.session.futures.all.length === 2 && corewar.session.isSettled")
+    page.until("corewar.session.futures.length === 2 && corewar.session.isSettled")
     end = page.value("corewar.session.end")
     lines = native("-e", *files("dwarf", "imp"), input="run 7790\nedit 2 JMP.B $0, $0\nrun 1000000\nshow\n")
     assert f"turn {end} " in lines
@@ -332,7 +337,7 @@ def test_edits_make_futures(page: Browser) -> None:
 def test_keys_that_are_pressed_quickly(page: Browser) -> None:
     """Each press counts: leaps, undo and redo, and rounds, of which only the last one is opened."""
     fight(page, "silk", "paper")
-    code = "await Promise.all(given[0].map(word => corewar.session.leap([{word, first: -1}], true)))"
+    code = "await Promise.all(given[0].map(word => corewar.session.leap([{word}], true)))"
     page.run(code, ["splits"] * 3)
     third = page.value("corewar.session.turn")
     page.run("corewar.session.jump(0)")
@@ -342,7 +347,7 @@ def test_keys_that_are_pressed_quickly(page: Browser) -> None:
     for address in (7000, 7001):
         answer(page, f"edit {address} jmp 0")
     page.run("const {session} = corewar; await Promise.all([session.undo(), session.undo()])")
-    assert page.value("[corewar.session.future, corewar.session.canUndo]") == [0, False]
+    assert page.value("[corewar.session.future, corewar.session.before >= 0]") == [0, False]
     page.run("const {session} = corewar; await Promise.all([session.redo(), session.redo()])")
     assert page.value("corewar.session.future") == 2
     page.run("document.activeElement.blur()")
@@ -354,7 +359,7 @@ def test_keys_that_are_pressed_quickly(page: Browser) -> None:
       await opening;
       return document.querySelector("#answers").lastChild.textContent;"""
     assert page.run(code).endswith(": another battle has been opened")
-    assert page.value("[corewar.session.fight.round, corewar.session.futures.all.length]") == [5, 1]
+    assert page.value("[corewar.session.fight.round, corewar.session.futures.length]") == [5, 1]
 
 
 def test_a_message_stays_until_the_turn_changes(page: Browser) -> None:
@@ -393,7 +398,7 @@ def test_an_edit_while_it_plays(page: Browser) -> None:
             await new Promise((done) => setTimeout(done, 40 + 17 * k));
             const shown = session.turn;
             await corewar.console.run(`edit 3000 dat 1, ${k + 1}`);
-            found.push([shown, session.futures.all.at(-1).edits.at(-1).turn]);
+            found.push([shown, session.futures.at(-1).edits.at(-1).turn]);
         }
         return found;"""
     )
@@ -403,17 +408,17 @@ def test_an_edit_while_it_plays(page: Browser) -> None:
 def test_the_debugger_has_a_line(page: Browser) -> None:
     page.run("corewar.session.stop()")
     ask = functools.partial(answer, page)
-    assert ask("c dies imp") == "the battle is over" and page.value("corewar.session.turn") == 7798
+    assert ask("c dies imp") == "the battle is over: Dwarf survives" and page.value("corewar.session.turn") == 7798
     ask("rc changes 5203")
     assert page.value("corewar.session.turn") == 7797
-    assert ask("until 100") == "cycle 100 is already completed; use goto"
+    assert ask("until 100") == "cycle 100 is already completed in turn 7797; use goto with an earlier turn"
     ask("goto start")
     ask("until 100")
     assert page.value("corewar.session.view.cycle") == 100
-    assert ask("edit bomb+1 jmp bomb") == "after turn 200: edit 4 JMP.B $-1, $0"
-    assert ask("changed 4") == "cell 4 was edited after turn 200: DAT.F $0, $0 -> JMP.B $-1, $0"
-    assert ask("changed 2") == "cell 2 has not changed since the start"
-    assert ask("move imp 0 3") == "after turn 200: move 1 0 3"
+    assert ask("edit bomb+1 jmp bomb") == "4: DAT.F $0, $0 -> JMP.B $-1, $0"
+    assert ask("changed 4") == "Cell 4 was edited after turn 200: DAT.F $0, $0 -> JMP.B $-1, $0"
+    assert ask("changed 2") == "Cell 2 has not changed since the start."
+    assert ask("move imp 0 3") == "Imp: 3"
     ask("break at 3 by imp")
     assert ask("break at 2..4") == "breakpoint 1: at 2..4"
     assert ask("kill imp 1") == "Imp has no process 1; its number of processes is 1"
@@ -433,13 +438,58 @@ def test_the_debugger_has_a_line(page: Browser) -> None:
     assert ask("explain 1") == "Copy bomb to the cell pointed to by the B-number of bomb."
     assert ask("explain 4") == "End the process."
     ask("goto end")
-    assert ask("explain") == ". is the cell to execute next, but the battle is over"
+    assert ask("explain").startswith(". is the cell to execute next, but the battle is over; use ")
     fight(page, "silk", "imp")
     go_to_turn(page, 1000)
     addresses = [ask(f"queue silk {first}") for first in (0, 20)]
     assert ask("queue Silk") == addresses[0] and len({*addresses}) == 2
-    for first, line in zip((20, 40), addresses):
-        assert re.fullmatch(rf"Silk:( \d+){{20}} and \d+ more: queue 0 {first}", line)
+    for start, line in ((0, addresses[0]), (20, addresses[1])):
+        on = f", from process {start} on" * (start > 0)
+        assert re.fullmatch(rf"Silk{on}:( \d+){{20}} and \d+ more: queue 0 {start + 20}", line)
+
+
+REPLIES = """const list = document.getElementById("answers"), replies = [];
+for (const line of given[0]) {
+  list.replaceChildren();
+  await corewar.console.run(line);
+  replies.push([...list.children].slice(1).map(one => one.textContent));
+}
+return replies;"""
+
+
+def terminal_replies(names: list[str], lines: list[str], width: int) -> Iterator[list[str]]:
+    """The replies of `corewar debug` to some lines, in a terminal of a width."""
+    warriors = tuple(read(str(path), rounds=10, warriors=len(names)) for path in files(*names))
+    history = History(Match(warriors, rounds=10))
+    session = Session(history, Sources(history), width=lambda: width)
+    for line in lines:
+        try:
+            yield execute(session, line)
+        except CorewarError as fault:
+            yield [str(fault)]
+
+
+def comparable(line: str, reply: list[str]) -> list[str]:
+    """What of a reply is the same in both: the page shows code without backquotes, and why a warrior died by the turns
+    that it marks.
+    """
+    is_death = line.startswith("why") and " died in turn " in reply[0]
+    return [text.replace("`", "") for text in reply[: 1 if is_death else None]]
+
+
+def test_replies_are_those_of_the_terminal(page: Browser) -> None:
+    """Good and bad lines of all commands, after moves and edits, in a terminal as wide as the page's replies."""
+    page.run("corewar.session.stop()")
+    width = page.value("corewar.session.width()")
+    assert 25 < width < 50
+    page.run("rounds.value = '10'; rounds.dispatchEvent(new Event('change'))")
+    for part in (TOP / "tests" / "replies.txt").read_text().split("# ")[1:]:
+        head, *lines = part.splitlines()
+        fight(page, *head.split())
+        page.run("corewar.session.breaks.set([])")
+        shown = page.run(REPLIES, lines)
+        for line, reply, own in zip(lines, shown, terminal_replies(head.split(), lines, width), strict=True):
+            assert comparable(line, reply) == comparable(line, own), line
 
 
 def test_labels_of_several_warriors(page: Browser) -> None:
@@ -449,10 +499,10 @@ def test_labels_of_several_warriors(page: Browser) -> None:
     shared = "bomb is a label of several warriors; use 0.bomb or 1.bomb"
     assert ask("list bomb") == shared and ask("edit 700 jmp bomb") == shared
     # In a warrior, labels are its own.
-    assert ask("edit 0 jmp bomb").endswith("edit 0 JMP.B $3, $0") and ask("undo")
+    assert ask("edit 0 jmp bomb").endswith(" -> JMP.B $3, $0") and ask("undo")
     there = page.value("corewar.session.known.addresses.get('1.bomb')")
     assert ask("list 1.bomb 1").split()[:2] == [str(there), "1.bomb"]
-    assert ask("edit 2 mov 0.bomb, @1.bomb+1").endswith(f"edit 2 MOV.I $1, @{there - 1}")
+    assert ask("edit 2 mov 0.bomb, @1.bomb+1").endswith(f" -> MOV.I $1, @{there - 1}")
     assert ask("explain 0") == "Add 4 to the B-number of 0.bomb."
     page.run("corewar.session.pin(700); await new Promise(done => setTimeout(done, 200))")
     page.click("#listing .focus .text")
@@ -541,11 +591,17 @@ def test_loading_again_keeps_the_place(page: Browser) -> None:
     known = "[location.hash, corewar.lessons.current, corewar.session.turn, corewar.session.end, corewar.session.way]"
     before = page.value(known)
     names = page.value("corewar.session.known.names")
-    page.until("history.state.turn === 500 && history.state.fight.edits.length === 1")
+    # Breakpoints stay, and all rounds are fought again.
+    assert answer(page, "break dies 0") == f"breakpoint 0: dies {names[0]}"
+    page.run("await corewar.rounds.fight()")
+    tally = page.text("tally")
+    page.until("history.state.turn === 500 && history.state.fight.edits.length === 1 && history.state.hasRounds")
     page.run("window.isOld = true; location.reload()")
     page.until("!window.isOld && window.corewar?.session.isSettled")
     assert page.value(known) == before and before[:3] == ["#learn/3", 3, 500]
     assert page.value("corewar.session.known.names") == names
+    assert answer(page, "break") == f"breakpoint 0: dies {names[0]}"
+    page.until(f"document.getElementById('tally').textContent === {json.dumps(tally)}")
     page.run("document.querySelector('#lesson-box > .link').click()")
     assert page.value("location.hash") == ""
     # What another version of the page wrote is left out.
@@ -993,7 +1049,7 @@ def test_opening_a_battle_is_cancelled(page: Browser) -> None:
     page.run("await opening")
     assert page.text("complaint") == "Cancelled." and page.value("document.getElementById('waiting').hidden")
     go_to_turn(page, 100)
-    assert page.value("[corewar.session.futures.all.length, document.title]") == [2, "Dwarf against Imp · Core War"]
+    assert page.value("[corewar.session.futures.length, document.title]") == [2, "Dwarf against Imp · Core War"]
 
 
 def test_workers_that_are_blocked(browser: Browser) -> None:
@@ -1154,6 +1210,11 @@ def test_versions_on_the_bench(page: Browser, tmp_path: Path) -> None:
     # No column is cut off.
     table = "document.querySelector('table.bench').parentElement"
     assert page.value(f"{table}.scrollWidth - {table}.clientWidth") <= 1
+    # The page that is loaded again compares with the same version.
+    page.until("history.state.base?.text.includes('Dwarf')")
+    page.run("window.isOld = true; location.reload()")
+    page.until(f"!window.isOld && window.corewar && {done}")
+    page.until(f"document.getElementById('bench-change').textContent === {json.dumps(message)}")
     # Results of an earlier text are marked.
     page.run("corewar.shelf.editor.mirror.setValue('x')")
     page.until("document.getElementById('bench-note').textContent.startsWith('The source has an error')")
@@ -1206,13 +1267,17 @@ def test_a_number_is_tuned(page: Browser, tmp_path: Path) -> None:
         path = tmp_path / "dwarf.red"
         path.write_text(re.sub(r"EQU +4", f"EQU {value}", text))
         assert dict(found)[value] == sum(table("-r", 20, path, other)[0][0] for other in opponents), value
-    best = max((points or 0, -index) for index, (_, points) in enumerate(found))
-    page.click("#tune-best")
-    line = page.value("corewar.shelf.editor.mirror.getLine(5)")
-    assert line == text.split("\n")[5].replace("4", str(found[-best[1]][0]))
+    # No value is better than the one that the source has; then another one is taken, and the button compares with it.
+    line, points = text.split("\n")[5], dict(found)
+    assert max(points.values(), key=lambda one: one or 0) == points[4]
+    assert page.value("document.getElementById('tune-best').hidden")
     box = page.value("document.getElementById('tune-curve').getBoundingClientRect()")
     page.mouse(box["x"] + box["width"] * 11.5 / 12, box["y"] + 40, "pointerDown", "pointerUp")
-    assert page.value("corewar.shelf.editor.mirror.getLine(5)") == text.split("\n")[5].replace("4", "8")
+    assert page.value("corewar.shelf.editor.mirror.getLine(5)") == line.replace("4", "8")
+    means = f"{points[4] / 40:.2f} points, 8 has {points[8] / 40:.2f}"
+    assert page.text("tune-best") == f"Take 4: {means}; may be chance"
+    page.click("#tune-best")
+    assert page.value("corewar.shelf.editor.mirror.getLine(5)") == line
     # A sweep can be cancelled.
     page.run("document.getElementById('tune-to').value = 19000; window.swept = corewar.bench.tune.sweep()")
     page.until("!document.getElementById('tune-stop').hidden")

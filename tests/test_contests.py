@@ -4,12 +4,12 @@ from __future__ import annotations
 import json
 import random
 import threading
-from collections.abc import Callable
+from collections.abc import Callable, Generator
 from concurrent.futures import Executor, Future, ProcessPoolExecutor
 from dataclasses import FrozenInstanceError, replace
 from multiprocessing import get_context
 from pathlib import Path
-from typing import Any
+from typing import Any, cast
 
 import numpy as np
 import pytest
@@ -17,6 +17,7 @@ from conftest import EXAMPLES, Run
 
 import corewar
 from corewar import Contest, CorewarError, MarsError
+from corewar.engine.parts import in_order, run_parts
 
 NAMES = "dwarf imp paper vampire bomber".split()
 CONTEST = Contest(rounds=6, seed=3)
@@ -147,6 +148,61 @@ def test_errors_of_executors() -> None:
     ):
         with pytest.raises(CorewarError, match=text):
             CONTEST.league(warriors(), executor=Broken(fault))
+
+
+def test_an_interrupt_anywhere_ends_the_parts() -> None:
+    """Also between two results: none is awaited while the interrupt is handled."""
+
+    class Interrupting(int):
+        def __hash__(self) -> int:
+            raise KeyboardInterrupt
+
+    ended = []
+
+    def parts() -> Generator[tuple[int, str], None, None]:
+        try:
+            yield Interrupting(), "result"
+        finally:
+            ended.append("parts")
+
+    try:
+        next(in_order(parts()))
+    except KeyboardInterrupt:
+        assert ended
+
+
+def test_waiting_takes_no_locks() -> None:
+    """Ctrl-C while those of many futures are taken would leave some taken, for which an executor waits at its end."""
+    futures, taken = list[Future[int]](), list[object]()
+
+    class Lock:
+        def __init__(self) -> None:
+            self.lock = threading.RLock()
+            self.release, self._is_owned = self.lock.release, getattr(self.lock, "_is_owned")
+
+        def acquire(self, *given: Any) -> bool:
+            taken.append(self)
+            return self.lock.acquire(*given)
+
+        __enter__ = acquire
+
+        def __exit__(self, *_: object) -> None:
+            self.release()
+
+    class Pool(Executor):
+        def submit(self, *given: Any, **named: Any) -> Future[Any]:
+            futures.append(Future[int]())
+            setattr(futures[-1], "_condition", threading.Condition(cast(threading.Lock, locks[len(futures) - 1])))
+            return futures[-1]
+
+    locks = [Lock() for _ in range(3)]
+    found = run_parts(int, [(), (), ()], executor=Pool())
+    threading.Timer(0.1, lambda: futures[1].set_result(7)).start()
+    assert next(found) == (1, 7)
+    # Once for each, so that it reports itself when it is done; the result was also set and read.
+    assert [*map(taken.count, locks)] == [1, 3, 1]
+    found.close()
+    assert futures[0].cancelled() and futures[2].cancelled()
 
 
 def test_seeds_of_matches() -> None:

@@ -15,7 +15,8 @@ from costly import slow
 from hypothesis import given, strategies as st
 
 from corewar.analysis.formatting import paint
-from corewar.battle.history import History, make_distinct
+from corewar.battle.conditions import Condition
+from corewar.battle.history import History
 from corewar.battle.labels import Sources
 from corewar.debugger.commands import COMMANDS, QuitDebugger, execute, find_command
 from corewar.debugger.prompt import LineHistory
@@ -23,6 +24,7 @@ from corewar.debugger.session import Session
 from corewar.engine.calls import Match, assemble
 from corewar.engine.sources import read
 from corewar.model.errors import CorewarError
+from corewar.model.printing import make_distinct
 from corewar.model.printing import COLOUR
 
 
@@ -93,7 +95,7 @@ def test_searches_go_both_ways() -> None:
     assert refused(session, "rc dies imp") == "not found before turn 1"
     assert refused(session, "c dies nobody") == "no warrior `nobody`; the warriors are 0 Dwarf, 1 Imp"
     assert execute(session, "c changes 0..7999 by dwar")[0].endswith(" by Dwarf:") and execute(session, "goto 1")
-    assert refused(session, "break sees 3").startswith("expected a condition: at, changes or reads A")
+    assert refused(session, "break sees 3").startswith("expected a condition: at, changes or reads [A")
     assert execute(session, "c reads bomb")[:2] == [
         "reads 3 (bomb):",
         "turn 3: Dwarf at 1: MOV.I $2, @2; reads 3 (bomb); 7: DAT.F $0, $0 -> DAT.F #0, #4; then at 2",
@@ -143,18 +145,19 @@ def test_a_list_fits_a_narrow_terminal() -> None:
     assert [*map(len, execute(session, "list 1 3"))] == [21, 22, 21]
 
 
-def test_edits_of_processes_show_a_part_of_a_long_queue() -> None:
+def test_a_long_queue_is_shown_in_parts() -> None:
+    """An edit shows the processes around its own."""
     session = session_of("dwarf", "imp")
     for address in range(39):
         lines = execute(session, f"spawn imp {address}")
     last = " ".join(map(str, range(19, 39)))
-    assert lines == [f"Imp: {last} (processes 20 to 39; `queue` also lists the other 20)"]
+    assert lines == [f"Imp, from process 20 on: {last}"]
     first = " ".join(map(str, [1305, *range(4), *range(5, 20)]))
-    assert execute(session, "kill imp 5") == [f"Imp: {first} (processes 0 to 19; `queue` also lists the other 19)"]
+    assert execute(session, "kill imp 5") == [f"Imp: {first} and 19 more: `queue 1 20`"] == execute(session, "queue 1")
     middle = " ".join(map(str, [*range(9, 19), 500, *range(20, 29)]))
-    lines = execute(session, "move imp 19 500")
-    assert lines == [f"Imp: {middle} (processes 9 to 28; `queue` also lists the other 19)"]
-    assert execute(session, "queue imp")[0].endswith(" 36 37 38")
+    assert execute(session, "move imp 19 500") == [f"Imp, from process 9 on: {middle} and 10 more: `queue 1 29`"]
+    assert execute(session, "queue 1 29")[0].endswith("on: 29 30 31 32 33 34 35 36 37 38")
+    assert refused(session, "queue imp 39") == "Imp has no process 39; its number of processes is 39"
 
 
 def test_edits_make_futures() -> None:
@@ -232,13 +235,83 @@ def test_find_counts_places() -> None:
     assert [*map(int, first.split(", "))][:3] == found and int(count) > 20
     # A cell is executed next after the turn before its own.
     assert execute(session, "find at 1305") == ["at 1305: 1 time, after turn 1"]
-    assert refused(session, "find") == refused(session, "break at")
+    assert refused(session, "find") == refused(session, "break at 3 or 4")
+
+
+def test_conditions_are_joined() -> None:
+    """They are about one turn, and those with the same word about one cell; a history finds the same by values."""
+    session = session_of("dwarf", "imp")
+    history = session.history
+    (line,) = execute(session, "find changes of 1 by dwarf and becomes dat")
+    found = history.find(Condition("changes", of=1, by=0, becomes="DAT"))
+    assert line.startswith(f"changes of Imp becomes DAT by Dwarf: {len(found)} times, after turn {found[0]}, ")
+    # Each of them is a bomb on what Imp wrote, or was loaded with.
+    for turn in found[::100].tolist():
+        (bomb,) = history.trace(turn, turn)
+        assert bomb.warrior == 0 and history.owners(turn - 1)[bomb.writes[0].at.address] == 1
+    assert execute(session, "find changes 3 and changes 4") == ["changes 3 (bomb) and changes 4: never"]
+    assert execute(session, "find reads bomb and changes 5203 becomes dat") == [
+        "reads 3 (bomb) and changes 5203 becomes DAT: 1 time, after turn 7797"
+    ]
+    # What Imp executed last is a copy of what was loaded at `bomb`, and `at` is about the next turn.
+    assert history.find(Condition("at", origin=(3, 3)), Condition("dies")).tolist() == [7797]
+    assert execute(session, "c at from bomb and dies imp") and session.turn == 7797
+    assert execute(session, "break dies imp and was dat of dwarf") == ["breakpoint 0: dies Imp of Dwarf was DAT"]
+    for words in (
+        "of 0",
+        "changes of",
+        "changes of 0 of 1",
+        "changes 3 reads 3",
+        "changes 3 and",
+        "and dies",
+        "dies by 0 1",
+    ):
+        assert refused(session, f"find {words}") == refused(session, "find")
+    assert refused(session, "find changes was dut") == "expected an opcode, not `dut`"
+    with pytest.raises(CorewarError, match="no condition `changed`"):
+        Condition("changed")
+    with pytest.raises(CorewarError, match="the core has cells 0 to 7999"):
+        history.find(Condition("at", (0, 8000)))
+
+
+def test_names_may_have_words_of_conditions() -> None:
+    sources = [f";name {name}\nmov 0, 1\n" for name in ("Wrath of and", "Wrath", "of")]
+    history = History(Match(tuple(assemble(source) for source in sources)))
+    session = Session(history, Sources(history))
+    assert execute(session, "break changes of wrath of and and by Wrath") == [
+        "breakpoint 0: changes of Wrath of and by Wrath"
+    ]
+    assert execute(session, "break dies wrath and reads 3 of wrath of and and was mov")[1] == (
+        "breakpoint 1: dies Wrath and reads 3 of Wrath of and was MOV"
+    )
+
+
+def test_find_looks_at_all_rounds() -> None:
+    """Names, numbers and labels are of the same warriors in each round, in which another one begins."""
+    fight = Match(tuple(read(str(EXAMPLES / f"{name}.red"), rounds=30) for name in ("dwarf", "imp")), rounds=30)
+    found = [History(fight, number) for number in range(30)]
+    for place, words in ((0, "of imp by dwarf"), (1, "of 0 by 1")):
+        session = Session(found[place], Sources(found[place]))
+        first, *rows = execute(session, f"find -r changes {words} becomes dat")
+        assert first.endswith(f" times in {len(rows)} of 30 rounds")
+        hits = [one.find(Condition("changes", of=1 - n % 2, by=n % 2, becomes="DAT")) for n, one in enumerate(found)]
+        assert len(rows) == sum(map(bool, map(len, hits))) and int(re.findall(r"\d+ ", first)[0]) == sum(map(len, hits))
+        assert rows[1] == f"round 1: {len(hits[1])} times, after turn {', '.join(map(str, hits[1][:5]))}" + (
+            f" and {len(hits[1]) - 5} more"
+        )
+    for line in ("find -r reads bomb by dwarf", f"find -r reads {session.names.index('Dwarf')}.bomb by dwarf"):
+        first, *rows = execute(session, line)
+        assert first.endswith(" in 30 of 30 rounds") and len(rows) == 21 and rows[-1] == "and in 10 more rounds"
+    assert execute(session, "find -r splits") == ["splits: never in 30 rounds"]
+    assert refused(session, "find -r at .").startswith("`.` is the cell to execute next")
 
 
 def test_help_describes_each_command() -> None:
     session = session_of("imp")
     text = "\n".join(execute(session, "help"))
     assert all(one.usage in text for one in COMMANDS.values())
+    # These lines are broken already.
+    assert max(map(len, text.partition("A CONDITION")[2].split("\n"))) <= 80
     assert execute(session, "help step")[0].startswith("step [N|W]")
     assert find_command("cont").name == "continue"
     assert refused(session, "re") == "`re` can mean reverse-step, reverse-continue, redo"

@@ -2,11 +2,12 @@
 from __future__ import annotations
 
 import json
+import os
 from pathlib import Path
 
 import numpy as np
 import pytest
-from conftest import EXAMPLES, Run
+from conftest import ENVIRONMENT, EXAMPLES, Run, begin
 
 from corewar.contests.contest import Contest, Progress
 from corewar.contests.exact import LEVELS, distances, strip_of
@@ -56,6 +57,35 @@ def test_strips() -> None:
     assert strip_of(scores, "(W*W-1)/S", 4) == LEVELS[0] + LEVELS[2] + LEVELS[7] * 2
     assert strip_of(scores[:1], "(W*W-1)/S", 9) == LEVELS[0] and strip_of(np.array([2.0]), "S", 9) == LEVELS[7]
     assert strip_of(scores[:1], "4/(S-1)", 1) == LEVELS[0]
+
+
+def shown(columns: int, *words: object) -> list[str]:
+    """The lines that a command prints on a terminal of this width."""
+    ours, theirs = os.openpty()
+    with begin(*words, cwd=EXAMPLES, env={**ENVIRONMENT, "COLUMNS": str(columns)}, stdout=theirs):
+        os.close(theirs)
+        data = b""
+        try:
+            while part := os.read(ours, 4096):
+                data += part
+        except OSError:
+            # The other end is closed.
+            os.close(ours)
+    return data.decode().splitlines()
+
+
+def test_narrow_terminals() -> None:
+    """A row has one line, unless not even the name of its file fits."""
+    words = ["--positions", "all", "--hill", "nano", "dwarf.red", "imp.red", "clear.red"]
+    wide, narrow, least = (shown(columns, "challenge", *words) for columns in (120, 70, 58))
+    assert "  by distance               opponent" in wide[0] and wide[1].endswith("  imp.red    Imp by A. K. Dewdney")
+    assert len(narrow) == len(wide) == 4 and max(map(len, narrow)) == 70 and narrow[2].endswith("..")
+    assert [line[:38] for line in narrow] == [line[:38] for line in wide] and "  distance  opponent" in narrow[0]
+    assert len(least) == 6 and least[2].strip() == "Imp by A. K. Dewdney"
+    plain = shown(70, "challenge", "--hill", "nano", *words[4:])
+    assert len(plain) == 4 and max(map(len, plain)) == 70
+    sentence = shown(50, "fight", *words[:-1])[3:]
+    assert [*map(len, sentence)] == [48, 13, 50]
 
 
 def test_the_commands(run: Run) -> None:

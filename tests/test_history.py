@@ -135,7 +135,7 @@ def test_searches_are_those_of_single_steps(fight: Match, address: int) -> None:
     died = [turn for turn, before, after in steps(history) if len(after.deaths) > len(before.deaths)]
     for turn in range(history.end + 1):
         assert last_change(history, address, turn) == max((one for one in changed if one <= turn), default=None)
-        held = [Condition("at", address, address), *(Condition("dies", n, n) for n in range(len(fight.warriors)))]
+        held = [[Condition("at", (address, address))], [Condition("dies")]]
         found, back = search(history, held, turn), search(history, held, turn, False)
         assert (found and found[0]) == min((one for one in at + died if one > turn), default=None)
         assert (back and back[0]) == max((one for one in at + died if one < turn), default=None)
@@ -164,9 +164,9 @@ def test_reads_are_those_of_each_turn(fight: Match, first: int, more: int, place
         if cells & {*row["address"][: row["count"]].tolist()} - {*written}:
             reads.append(turn)
     for turn in range(begin, history.end + 1):
-        found = search(history, [Condition("reads", first, last)], turn)
+        found = search(history, [[Condition("reads", (first, last))]], turn)
         assert (found and found[0]) == min((one for one in reads if one > turn), default=None)
-        found = search(history, [Condition("reads", first, last)], turn, False)
+        found = search(history, [[Condition("reads", (first, last))]], turn, False)
         assert not reads or turn <= reads[0] or found and found[0] == max(one for one in reads if one < turn)
 
 
@@ -287,7 +287,7 @@ def test_wrong_turns_are_rejected() -> None:
     with pytest.raises(MarsError, match="4 Warriors"):
         History(Match(()))
     with pytest.raises(TypeError):
-        Battle(history.fight).debug("step")
+        Battle(history.match).debug("step")
     for text in ("edit", "jmp -3", "DAT.F $0,$0", "DAT.F $0, $0\n", "DAT.F $0, $١"):
         with pytest.raises(CorewarError, match="expected a cell such as"):
             cell_of(text, 8000)
@@ -324,7 +324,7 @@ def test_a_battle_is_a_value(fight: Match, round: int, first: int, more: int, li
 
 def test_records_are_returned_in_portions(monkeypatch: pytest.MonkeyPatch) -> None:
     """They are the same, and need memory only for the turns that are left."""
-    fight = dwarf_and_imp().fight
+    fight = dwarf_and_imp().match
     records, touched = Battle(fight).play(records=9000, touched=50)
     for size in (100, 7000):
         monkeypatch.setattr("corewar.engine.battles.RECORDED_TURNS", size)
@@ -336,7 +336,7 @@ def test_records_are_returned_in_portions(monkeypatch: pytest.MonkeyPatch) -> No
 
 
 def test_a_battle_is_checked() -> None:
-    battle = Battle(dwarf_and_imp().fight)
+    battle = Battle(dwarf_and_imp().match)
     for length, name in ((0, "Short"), (255, "Short"), (len(bytes(battle)) - 1, "Short")):
         with pytest.raises(MarsError) as fault:
             Battle.of_bytes(bytes(battle)[:length])

@@ -11,7 +11,7 @@ from corewar.battle import history as module
 from corewar.battle.conditions import executed
 from corewar.battle.history import History
 from corewar.battle.labels import Sources
-from corewar.engine.calls import Match, assemble, source_lines
+from corewar.engine.calls import Match, assemble
 from corewar.engine.sources import read
 from corewar.engine.warriors import read_load
 from corewar.model.errors import CorewarError
@@ -36,7 +36,7 @@ last    JMP first
 def test_lines_of_loops_and_equ_names() -> None:
     """A line of a loop occurs once per iteration, with its joined label; an EQU name has the line of its use."""
     lines = [(4, ["first", "second"]), (6, ["lab01"]), (6, ["lab02"]), (10, []), (10, []), (11, ["last"])]
-    assert source_lines(SOURCE) == lines
+    assert assemble(SOURCE).lines == lines
 
 
 def test_labels_of_two_warriors() -> None:

@@ -593,7 +593,7 @@ def test_a_large_league() -> None:
     league = Contest("nano", formula="S").league(warriors, jobs=3, progress=seen.append)
     assert seen[0].done == 0 and seen[-1].done == seen[-1].total == 1770 and len(seen) > 6
     assert league.points.sum() == league.results[:, [0, 4]].sum() == league.matrix[..., 0].sum()
-    assert sorted(league.places.tolist()) == [*range(1, 61)]
+    assert sorted(league.shown_ranks.tolist()) == [*range(1, 61)]
 
 
 def test_a_contest_is_words() -> None:

@@ -430,7 +430,7 @@ def test_positions_are_in_utf16(line: str, data: st.DataObject) -> None:
     column = data.draw(st.integers(0, len(shown)))
     end = text.span(1, 0, column)["end"]
     assert end["character"] == sum(1 + (ord(one) > 0xFFFF) for one in shown[:column])
-    assert text.place(end) == (1, column)
+    assert text.line_and_column(end) == (1, column)
 
 
 def test_semantic_tokens() -> None:

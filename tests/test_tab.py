@@ -92,14 +92,15 @@ def test_warriors_and_hills(shell: str, folder: Path) -> None:
             child.sendcontrol("u")
 
 
-def test_arguments_of_mars_are_not_checked_while_they_are_typed() -> None:
+def test_arguments_of_mars() -> None:
+    """They are not checked while they are typed, and options are those of `mars`, not of `explain`."""
     words = {"COMP_WORDS": "corewar explain mars di", "COMP_CWORD": "3", "_COREWAR_COMPLETE": "bash_complete"}
     done = subprocess.run(COMMAND, env={**ENVIRONMENT, **words}, capture_output=True, text=True)
     assert (done.stdout, done.stderr) == ("file,di\n", "")
     done = subprocess.run(
-        COMMAND, env={**ENVIRONMENT, **words, "COMP_WORDS": "corewar explain mars --"}, capture_output=True, text=True
+        COMMAND, env={**ENVIRONMENT, **words, "COMP_WORDS": "corewar explain mars --l"}, capture_output=True, text=True
     )
-    assert (done.stdout, done.stderr) == ("\n", "")
+    assert (done.stdout, done.stderr) == ("plain,--league\nplain,--load\n", "")
 
 
 def test_the_line_of_the_debugger(folder: Path) -> None:
@@ -114,7 +115,11 @@ def test_the_line_of_the_debugger(folder: Path) -> None:
     assert offered("und") == ["undo"] and offered("goto ") == ["goto start", "goto end"] and offered("quit ") == []
     assert offered("c d") == ["c dies"] and offered("c dies fl") == ["c dies Flash Paper"]
     assert offered("c changes l") == ["c changes loop"] and offered("c changes 1..lo") == ["c changes 1..loop"]
-    assert offered("c changes loop ") == ["c changes loop by"]
+    words = "of from was becomes by and".split()
+    assert offered("c changes loop ") == [f"c changes loop {word}" for word in words]
+    assert offered("c dies Flash Paper a") == ["c dies Flash Paper and"]
+    assert offered("c changes becomes sp") == ["c changes becomes spl"]
+    assert offered("c changes loop and dies f") == ["c changes loop and dies Flash Paper"]
     assert offered("break at loop by ") == ["break at loop by Unknown", "break at loop by Flash Paper"]
     assert offered("break at loop by Flash P") == ["break at loop by Flash Paper"]
     assert offered("edit loop jm") == ["edit loop jmp", "edit loop jmz", "edit loop jmn"]

@@ -56,8 +56,8 @@ def test_why() -> None:
 def test_trace() -> None:
     history = History(fight("dwarf", "imp"))
     first, second = history.trace(1, 2)
-    assert (first.name, str(first.place), first.line) == ("Dwarf", "0 (loop)", 9) and first.processes[0].address == 1
-    assert [(str(one.place), one.before, one.after) for one in first.writes] == [
+    assert (first.name, str(first.at), first.line) == ("Dwarf", "0 (loop)", 9) and first.processes[0].address == 1
+    assert [(str(one.at), one.before, one.after) for one in first.writes] == [
         ("3 (bomb)", "DAT.F #0, #0", "DAT.F #0, #4")
     ]
     assert len(history.trace(7790)) == 9 and history.trace(7798)[0].processes == ()

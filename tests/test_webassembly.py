@@ -17,7 +17,7 @@ from conftest import TOP
 from counting import PROGRAM, skip
 from test_explain import NEWCOMERS, SOURCES, line_to_correct, mutated
 
-from corewar.battle.conditions import WARRIOR_CONDITIONS, Condition, search
+from corewar.battle.conditions import Condition, search
 from corewar.battle.history import History
 from corewar.battle.labels import Sources
 from corewar.battle.runs import BY_HAND
@@ -69,11 +69,20 @@ def randomly(count: int) -> list[dict[str, Any]]:
         return pick([f"kill {number(2)} 0", f"spawn {number(2)} {number(24)}", f"move {number(2)} 0 {number(24)}"])
 
     def question(core: int) -> dict[str, Any]:
+        return {"condition": condition(core), "turn": number(80), "forward": bool(number(2))}
+
+    def condition(core: int) -> dict[str, Any]:
+        """Returns a condition; half of them have only what holds often, and some are joined."""
+        more: dict[str, Any] = {
+            "of": number(2),
+            "origin": [number(core), number(core)],
+            "was": pick(OPCODES),
+            "becomes": pick(OPCODES),
+        }
+        given: dict[str, Any] = {"cells": [number(core), number(core)], "by": number(2)} | (more if number(2) else {})
         word = pick(["at", "changes", "reads", "splits", "ends", "dies", "moves"])
-        condition: dict[str, Any] = {"word": word, "first": number(2) if word in WARRIOR_CONDITIONS else number(core)}
-        if word not in WARRIOR_CONDITIONS and number(2):
-            condition |= {"last": number(core)} | ({"by": number(2)} if number(2) else {})
-        return {"condition": condition, "turn": number(80), "forward": bool(number(2))}
+        found = {name: value for name, value in given.items() if not number(2)}
+        return {"word": word, **found} | ({} if number(4) else {"and": condition(core)})
 
     def fight() -> dict[str, Any]:
         core = pick([24, 40, 61])
@@ -113,6 +122,13 @@ def history_of(fight: dict[str, Any]) -> History:
     return history
 
 
+def joined_of(parts: dict[str, Any]) -> list[Condition]:
+    """Returns Python's conditions of one of JavaScript."""
+    values = {name: tuple(value) if isinstance(value, list) else value for name, value in parts.items()}
+    rest = values.pop("and", None)
+    return [Condition(**values), *(joined_of(rest) if rest else [])]
+
+
 def test_its_history_is_that_of_python() -> None:
     """States, owners, source lines, deaths, conditions and the overview, also after edits."""
     if not WASM.is_file():
@@ -138,9 +154,8 @@ def test_its_history_is_that_of_python() -> None:
             assert (state["head"], state["cycle"]) == (history.head(turn), block.cycle(turn))
             assert state["queues"] == [int(one) for queue in history.state(turn).queues for one in queue]
         for question, found in zip(fight["questions"], answer["found"]):
-            parts = question["condition"]
-            condition = Condition(parts["word"], parts["first"], parts.get("last", parts["first"]), parts.get("by"))
-            expected = search(history, [condition], min(question["turn"], history.end), question["forward"])
+            joined = joined_of(question["condition"])
+            expected = search(history, [joined], min(question["turn"], history.end), question["forward"])
             assert found == (expected and expected[0]), (fight, question)
         count = len(history.warriors)
         for row, turn in enumerate(answer["moments"]):
@@ -184,18 +199,9 @@ def test_its_types_are_sound() -> None:
     assert (done.stdout, done.returncode) == ("", 0)
 
 
-def test_its_layout_is_that_of_the_header(tmp_path: Path) -> None:
-    """The positions of fields are those that a C compiler gives them."""
-    header = TOP / "include" / "mars.h"
-    assert run("node", SITE / "tools" / "layout.mjs", header, "--check").stderr == ""
-    if not shutil.which("gcc"):
-        skip("the layout", "there is no gcc", "gcc")
-    assertions = run("node", SITE / "tools" / "layout.mjs", header, "--assert").stdout
-    assert assertions.count("_Static_assert") > 60
-    source = tmp_path / "layout.c"
-    source.write_text(assertions)
-    done = run("gcc", "-c", "-I", header.parent, source, "-o", tmp_path / "layout.o")
-    assert (done.stderr, done.returncode) == ("", 0)
+def test_its_layout_is_that_of_the_header() -> None:
+    done = run(SITE / "tools" / "layout.py")
+    assert done.stdout == (SITE / "src" / "model" / "layout.js").read_text(), done.stderr
 
 
 def test_its_errors_have_the_texts_of_python() -> None:

@@ -1,5 +1,5 @@
 """Tests the wheels: that of this system installs into a fresh virtual environment and runs there from any folder, and
-pip accepts each for its system.
+pip accepts each for its system. Also the source archive, which pip compiles.
 """
 from __future__ import annotations
 
@@ -111,6 +111,18 @@ def test_commands_run_from_any_folder(environment: Path, tmp_path: Path) -> None
     assert "Dwarf by A. K. Dewdney" in league
     assert "Imp died" in started(environment, "corewar", "why", *files).replace("dies", "died")
     assert "turn 3" in started(environment, "corewar", "debug", *files, input="step 3\n")
+
+
+def test_pip_compiles_the_source_archive(environment: Path, tmp_path: Path) -> None:
+    """Its library is not that of the wheel, and a league has the same results."""
+    make_well("dist")
+    words = ["-q", "--no-index", "--no-deps", "--no-build-isolation", "--target", tmp_path]
+    started(environment, "pip", "install", *words, TOP / "build" / f"corewar-{corewar.__version__}.tar.gz")
+    (library,) = environment.glob("lib/python*/site-packages/corewar/engine/libmars.so.2")
+    assert (tmp_path / "corewar" / "engine" / "libmars.so.2").read_bytes() != library.read_bytes()
+    league = ["league", "-r", "20", *(EXAMPLES / f"{name}.red" for name in ("dwarf", "imp", "silk", "scanner"))]
+    code = f"import sys; sys.path.insert(0, '{tmp_path}'); from corewar.__main__ import main; main()"
+    assert started(environment, "python", "-c", code, *league) == started(environment, "corewar", *league)
 
 
 # The packages of the extras, hidden.

@@ -42,11 +42,14 @@ int main(int count, char **words) {
     MarsCell cells[5];
     MarsWarrior warriors[2];
     MarsProgram program;
+    size_t unread;
     MarsRow rows[2];
     MarsFault fault;
     for (int i = 0; i < 2; i++) {
         const uint8_t *source = (const uint8_t *)sources[i];
-        if (mars_assemble(&nano, 2, source, strlen(sources[i]), cells + 4 * i, 5 - 4 * i, &program, &fault)) return 1;
+        size_t length = strlen(sources[i]);
+        MarsCell *own = cells + 4 * i;
+        if (mars_assemble(&nano, 2, source, length, own, 5 - 4 * i, &program, NULL, 0, &unread, &fault)) return 1;
         warriors[i] = program.warrior;
     }
     for (int i = 0; i < atoi(words[1]); i++)

@@ -58,14 +58,25 @@ def with_refusal(name: str, result: Value) -> Value:
     return ("Err", (name, result[1])) if result[0] == "Err" else result
 
 
+def read_program(name: str, *words: object) -> Value:
+    """Returns the program and the cells that the library reads, or its error. Its texts are not looked at."""
+    cells, program = room("MarsCell", ROOM_FOR_CELLS), new("MarsProgram *", {"name": [0]})
+    unread = [*room("uint8_t", 0), new("size_t *", 0)] if name == "mars_assemble" else []
+    fault = call(name, *words, *cells, program, *unread)
+    return fault if fault["code"] else (plain(program[0]), rows_in(cells[0], program.warrior.length))
+
+
+def read_lines(*words: object) -> Value:
+    """Returns the text that maps the cells of a source to its lines, or the error of the source."""
+    cells, program = room("MarsCell", ROOM_FOR_CELLS), new("MarsProgram *", {"name": [0]})
+    return read_text("mars_assemble", *words, *cells, program)
+
+
 def compare_program(
     definitions: Evaluator, kind: str, given: Value, defined: Value, name: str, *words: object
 ) -> Comparison:
     """A program that the library reads, or its error. `defined` is a result, whose error is a refusal."""
-    cells, program = room("MarsCell", ROOM_FOR_CELLS), new("MarsProgram *", {"name": [0]})
-    computed = call(name, *words, *cells, program)
-    if computed["code"] == 0:
-        computed = plain(program[0]), rows_in(cells[0], program.warrior.length)
+    computed = read_program(name, *words)
     if defined[0] == "Err":
         return Comparison(kind, given, refused(definitions, *defined[1]), computed)
     own_cells = tuple(map(definitions.get("mars_c.Cells.plain_cell"), defined[1]["cells"]))
@@ -95,7 +106,7 @@ def compare_sources(definitions: Evaluator, dice: random.Random) -> Iterator[Com
     shown = settings, bytes(text)
     yield compare_program(definitions, "sources", shown, defined, "mars_assemble", *words)
     expected = refused(definitions, *lines[1]) if lines[0] == "Err" else lines[1]
-    yield Comparison("lists of lines", shown, expected, read_text("mars_lines", *words))
+    yield Comparison("lists of lines", shown, expected, read_lines(*words))
 
 
 def random_warrior(dice: random.Random, core: int, longest: int) -> Value:

@@ -85,8 +85,8 @@ static void call(int which, Left *got) {
     prepare(which, got);
     const uint8_t *formula = (const uint8_t *)FORMULA, *lines = (const uint8_t *)LINES, *source = (const uint8_t *)SOURCE;
     size_t bytes = strlen(FORMULA), source_length = strlen(SOURCE);
-    if (which == 0) got->answer = mars_assemble(&SETTINGS, 2, source, source_length, got->cells, 20, &got->program, &got->fault);
-    if (which == 1) got->answer = mars_lines(&SETTINGS, 2, source, source_length, got->text, sizeof got->text, &got->length, &got->fault);
+    if (which < 2) got->answer = mars_assemble(&SETTINGS, 2, source, source_length, got->cells, 20, &got->program, got->text,
+                                               which == 0 ? sizeof got->text : 0, &got->length, &got->fault);
     if (which == 2) got->answer = mars_read_load(&SETTINGS, load, load_length, got->cells, 20, &got->program, &got->fault);
     if (which == 3) got->answer = mars_write_load(&SETTINGS, cells, CELLS, &program, got->text, sizeof got->text, &got->length, &got->fault);
     if (which == 4) got->answer = mars_match(&SETTINGS, formula, bytes, cells, 3 * CELLS, warriors, 3, got->rows, 3, &got->fault);
@@ -145,9 +145,10 @@ static int are_nulls_taken(void) {
     const uint8_t *source = (const uint8_t *)SOURCE, *formula = (const uint8_t *)FORMULA;
     size_t bytes = strlen(FORMULA), all = 3 * CELLS;
     MarsWarrior none = {0, 0};
-    return mars_assemble(settings, 2, NULL, 0, NULL, 0, &got.program, &got.fault) == MARS_ASSEMBLY && got.fault.number == MARS_ASSEMBLY_EMPTY
-        && mars_assemble(settings, 2, source, strlen(SOURCE), NULL, 0, &got.program, &got.fault) == MARS_ROOM && got.program.warrior.length == CELLS
-        && mars_lines(settings, 2, source, strlen(SOURCE), NULL, 0, &got.length, &got.fault) == MARS_ROOM && got.length == strlen(PLACES)
+    return mars_assemble(settings, 2, NULL, 0, NULL, 0, &got.program, NULL, 0, &got.length, &got.fault) == MARS_ASSEMBLY
+        && got.fault.number == MARS_ASSEMBLY_EMPTY
+        && mars_assemble(settings, 2, source, strlen(SOURCE), NULL, 0, &got.program, NULL, 0, &got.length, &got.fault) == MARS_ROOM
+        && got.program.warrior.length == CELLS && got.length == strlen(PLACES)
         && mars_read_load(settings, NULL, 0, NULL, 0, &got.program, &got.fault) == MARS_LOAD && got.fault.number == MARS_LOAD_EMPTY
         && mars_write_load(settings, cells, CELLS, &program, NULL, 0, &got.length, &got.fault) == MARS_ROOM && got.length == load_length
         && mars_match(settings, NULL, 0, cells, all, warriors, 3, got.rows, 3, &got.fault) == MARS_FORMULA && got.fault.number == MARS_EXPRESSION_SYNTAX
@@ -297,15 +298,22 @@ static int are_edits_all_or_none(void) {
     return !memcmp(once.battle, several.battle, 4 * ((const MarsBattle *)once.battle)->words);
 }
 
-/* The lines of a source's instructions, and the same error as when it is assembled. */
+/* The lines of a source's cells. If the buffer is too short, nothing is written but the program and the length; without one, the cells. */
 static int are_lines_reported(void) {
-    Left got, other;
-    const uint8_t *wrong = (const uint8_t *)"NOP\nFOO 1";
-    call(1, &got);
-    if (got.length != strlen(PLACES) || memcmp(got.text, PLACES, got.length) || got.text[got.length] != 7) return 0;
-    uint32_t lines = mars_lines(&SETTINGS, 2, wrong, 9, got.text, 9, &got.length, &got.fault);
-    return lines == mars_assemble(&SETTINGS, 2, wrong, 9, other.cells, 9, &other.program, &other.fault) && got.fault.line == 2
-        && memcmp(&got.fault, &other.fault, sizeof got.fault) == 0;
+    Left got, blank;
+    size_t full = strlen(PLACES);
+    call(0, &got);
+    if (got.length != full || memcmp(got.text, PLACES, full) || got.text[full] != 7) return 0;
+    for (size_t given = 0; given < full; given++) {
+        prepare(0, &got);
+        prepare(0, &blank);
+        got.answer = mars_assemble(&SETTINGS, 2, (const uint8_t *)SOURCE, strlen(SOURCE), got.cells, 20, &got.program, got.text, given, &got.length,
+                                   &got.fault);
+        if (got.answer != (given ? MARS_ROOM : MARS_DONE) || got.length != full || got.program.warrior.length != CELLS) return 0;
+        if (memcmp(got.text, blank.text, sizeof got.text)) return 0;
+        if ((memcmp(got.cells, blank.cells, sizeof got.cells) == 0) != (given > 0)) return 0;
+    }
+    return 1;
 }
 
 /* Whether these calls are refused for this setting, whatever else is wrong. */

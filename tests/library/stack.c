@@ -37,8 +37,11 @@ static void *assemble(void *unused) {
     cell_count = 0;
     for (int i = 0; i < WARRIORS; i++) {
         MarsProgram program;
+        uint8_t lines[1000];
+        size_t length;
         const char *source = SOURCES[i % 4];
-        check(mars_assemble(&settings, WARRIORS, (const uint8_t *)source, strlen(source), cells + cell_count, 100, &program, &fault));
+        check(mars_assemble(&settings, WARRIORS, (const uint8_t *)source, strlen(source), cells + cell_count, 100, &program, lines, sizeof lines,
+                            &length, &fault));
         warriors[i] = program.warrior;
         cell_count += program.warrior.length;
     }

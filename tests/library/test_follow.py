@@ -60,7 +60,7 @@ def executed(battle: Battle, pasts: list[Past]) -> Facts:
 
 def read(history: History, last: int) -> tuple[list[Past], list[Facts]]:
     """Returns the pasts after a turn and the edits there, and the facts of each turn up to it."""
-    battle, facts = Battle(history.fight, history.round), list[Facts]()
+    battle, facts = Battle(history.match, history.round), list[Facts]()
     pasts = [(NOBODY, 0, address) for address in range(history.core)]
     for number, warrior in enumerate(history.warriors):
         first = int(battle.queues[number][0]) - warrior.start

@@ -212,8 +212,9 @@ def test_length_after_errors() -> None:
     """The length of a text is only written if there is a text."""
     (ffi, calls), (settings, _) = library(), Arguments().converted()
     length, fault, buffer = ffi.new("size_t *", 12345), ffi.new("MarsFault *"), untouched("uint8_t", 100)[1]
-    assert calls.mars_lines(settings, 2, *text("MOV"), *buffer, length, fault) == 5
     nothing, zeros = filled("MarsCell", []), slice_of("uint32_t", array("uint32_t", 9))
+    program = ffi.new("MarsProgram *")
+    assert calls.mars_assemble(settings, 2, *text("MOV"), *nothing, program, *buffer, length, fault) == 5
     assert calls.mars_write_load(settings, *nothing, ffi.new("MarsProgram *"), *buffer, length, fault) == 13
     assert calls.mars_debug(*zeros, 1, *text("show\n"), *buffer, length, fault) == 11
     assert length[0] == 12345
@@ -312,3 +313,31 @@ def test_battles(name: str) -> None:
         assert code == fault.code == first[2][0]
         assert (fault.number, fault.problem, fault.line, fault.warrior) == (number, 0, 0, warrior)
         assert (words == before).all()
+
+
+def test_what_is_wrong_with_a_block() -> None:
+    """Of several things that are wrong with words the first one is reported, and repaired before the next."""
+    words, (pointer, _) = battle(Battle())
+    right, fault, whole = words.copy(), library()[0].new("MarsFault *"), int(words[1])
+    last = whole - 1
+    for place, value in {0: 1, 3: 0, 9: 17, 14: 17, 64: 16, last: 800, 12: 2, 15: 1}.items():
+        words[place] = value
+    # The number of the error, how many words are given, and the word that is repaired; one death is as wrong as 17.
+    for number, given, place, repaired in [
+        (1, 63, 0, 1),
+        (2, last, 0, right[0]),
+        (3, last, 3, right[3]),
+        (4, last, 9, right[9]),
+        (1, last, 14, 17),
+        (7, whole, 14, 1),
+        (5, whole, 64, right[64]),
+        (6, whole, last, right[last]),
+        (7, whole, 14, 0),
+        (8, whole, 12, right[12]),
+        (9, whole, 15, 0),
+        (0, whole, 15, 0),
+    ]:
+        assert library()[1].mars_check(pointer, given, fault) == (11 if number else 0)
+        assert fault.number == number
+        words[place] = repaired
+    assert (words == right).all()

@@ -1,6 +1,5 @@
 """The calls of the library for C at the maximum sizes of their ranges: none runs out of memory."""
 import corewar
-from corewar.engine.calls import source_lines
 from corewar.engine.warriors import read_load
 from corewar.model.settings import MAX_WARRIORS
 
@@ -28,8 +27,9 @@ def test_longest_warrior() -> None:
 def test_longest_source() -> None:
     """A source with the maximum number of lines: its cells, and the line of each."""
     source = b"nop\n" * MAX_LINES
-    assert len(corewar.assemble(source, settings=HUGE)) == MAX_LINES
-    assert source_lines(source, HUGE) == [(line, []) for line in range(1, MAX_LINES + 1)]
+    warrior = corewar.assemble(source, settings=HUGE)
+    assert len(warrior) == MAX_LINES
+    assert warrior.lines == [(line, []) for line in range(1, MAX_LINES + 1)]
 
 
 def test_most_warriors() -> None:
