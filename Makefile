@@ -51,10 +51,10 @@ $(PROGRAM):
 	@echo "$@ is not built; prove and build it with ./mars --help" >&2; exit 1
 
 $(LIBRARY):
-	@echo "$@ is not built; prove and build it with scripts/library" >&2; exit 1
+	@echo "$@ is not built; prove and build it with dev/library" >&2; exit 1
 
 $(WASM):
-	@echo "$@ is not built; install Debian's binaryen, then prove and build it with scripts/library" >&2; exit 1
+	@echo "$@ is not built; install Debian's binaryen, then prove and build it with dev/library" >&2; exit 1
 
 site: $(SITE)
 
@@ -72,7 +72,7 @@ man: $(PROGRAM)
 
 api:
 	mkdir -p build
-	scripts/api >build/API-PYTHON.md
+	dev/api >build/API-PYTHON.md
 
 completion: $(PROGRAM)
 	mkdir -p build/completion
@@ -91,7 +91,7 @@ install: $(PROGRAM) $(LIBRARY) $(SITE) man api completion editors
 	install -D -m 755 packaging/corewar $(to)/bin/corewar
 	install -D -m 644 -t $(to)/lib $(LIBRARY)
 	ln -sf libmars.so.2 $(to)/lib/libmars.so
-	install -D -m 644 -t $(to)/include include/mars.h
+	install -D -m 644 -t $(to)/include crates/mars_c/include/mars.h
 	install -d $(to)/lib/pkgconfig
 	sed 's|@PREFIX@|$(PREFIX)|; s|@VERSION@|$(VERSION)|' packaging/mars.pc >$(to)/lib/pkgconfig/mars.pc
 	$(call copy,python,$(package),corewar)
@@ -113,7 +113,7 @@ uninstall:
 	rm -rf $(documents) $(package)/corewar $(to)/share/corewar
 
 packages: $(PROGRAM) $(LIBRARY) $(SITE)
-	@dpkg-checkbuilddeps packaging/debian/control || { echo "packing needs more packages: scripts/setup --all, as root, installs them" >&2; exit 1; }
+	@dpkg-checkbuilddeps packaging/debian/control || { echo "packing needs more packages: dev/setup --all, as root, installs them" >&2; exit 1; }
 	rm -rf build/package
 	mkdir -p build/package/licences
 	cp -R packaging/debian build/package
@@ -126,16 +126,16 @@ packages: $(PROGRAM) $(LIBRARY) $(SITE)
 NATIVE = build/native
 HERE := $(shell sed -n 's/^HERE = "\(.*\)"/\1/p' setup.py)
 
-$(NATIVE): $(LIBRARY) scripts/natives scripts/targets.py portable/native.c portable/stack.s
+$(NATIVE): $(LIBRARY) dev/natives dev/targets.py packaging/portable/native.c packaging/portable/stack.s
 	rm -rf $@ $@.new
-	scripts/natives $@.new
+	dev/natives $@.new
 	install -D -m 755 -t $@.new/$(HERE) build/libmars.so.2
 	mv $@.new $@
 
 # Built from a copy, since setuptools leaves folders in its source; building them again gives the same bytes.
 wheels: $(NATIVE) $(SITE)
 	rm -rf build/wheel
-	$(call copy,.,build/wheel/kit,pyproject.toml setup.py README.md python include build/site)
+	$(call copy,.,build/wheel/kit,pyproject.toml setup.py README.md python crates/mars_c/include build/site)
 	$(COREWAR) packaging/editors.py build/wheel/kit/build/share
 	$(call licences,build/wheel/kit/licences)
 	set -e; for library in $(CURDIR)/$(NATIVE)/*/*; do rm -rf build/wheel/kit/build/lib* build/wheel/kit/build/bdist*; \
@@ -145,12 +145,12 @@ wheels: $(NATIVE) $(SITE)
 
 # The library as C, and what makes an archive of it.
 C = build/portable/libmars.c
-CHECKER = portable/arguments.h portable/check.c portable/check.cmake
-TRANSLATOR = scripts/portable scripts/boundary.py scripts/translator/reading.py scripts/translator/values.py \
-	scripts/translator/instructions.py scripts/translator/writing.py
+CHECKER = packaging/portable/arguments.h packaging/portable/check.c packaging/portable/check.cmake
+TRANSLATOR = dev/portable dev/boundary.py dev/translator/reading.py dev/translator/values.py \
+	dev/translator/instructions.py dev/translator/writing.py
 
-$(C): $(LIBRARY) $(TRANSLATOR) include/mars.h portable/before.c portable/heap.c portable/calls.c
-	scripts/portable $@
+$(C): $(LIBRARY) $(TRANSLATOR) crates/mars_c/include/mars.h packaging/portable/before.c packaging/portable/heap.c packaging/portable/calls.c
+	dev/portable $@
 
 # Packs the folder build/archive/$(1)-VERSION, with the same bytes each time.
 pack = tar -c -z -f build/$(1)-$(VERSION).tar.gz -C build/archive --sort=name --owner=0 --group=0 --numeric-owner --mtime=@$(EPOCH) \
@@ -160,19 +160,19 @@ portable: folder = build/archive/libmars-$(VERSION)
 portable: $(C) $(CHECKER)
 	rm -rf build/archive
 	mkdir -p $(folder)
-	cp $(C) include/mars.h portable/Makefile portable/README $(CHECKER) $(folder)
-	sed 's|@VERSION@|$(VERSION)|' portable/CMakeLists.txt >$(folder)/CMakeLists.txt
+	cp $(C) crates/mars_c/include/mars.h packaging/portable/Makefile packaging/portable/README $(CHECKER) $(folder)
+	sed 's|@VERSION@|$(VERSION)|' packaging/portable/CMakeLists.txt >$(folder)/CMakeLists.txt
 	sed 's|@VERSION@|$(VERSION)|' packaging/mars.pc >$(folder)/mars.pc
 	$(call licences,$(folder)/licences)
 # What the proved library leaves.
-	gcc -O1 -Iinclude portable/check.c build/libmars.a -o build/archive/check
+	gcc -O1 -Icrates/mars_c/include packaging/portable/check.c build/libmars.a -o build/archive/check
 	build/archive/check 2000 1 >$(folder)/check.expected
 	$(call pack,libmars)
 
 dist: folder = build/archive/corewar-$(VERSION)
 dist: $(C) $(SITE)
 	rm -rf build/archive
-	$(call copy,.,$(folder),pyproject.toml setup.py README.md python include build/site)
+	$(call copy,.,$(folder),pyproject.toml setup.py README.md python crates/mars_c/include build/site)
 	mkdir $(folder)/portable
 	cp $(C) $(folder)/portable
 	$(COREWAR) packaging/editors.py $(folder)/build/share
@@ -181,7 +181,7 @@ dist: $(C) $(SITE)
 	$(call pack,corewar)
 
 vectors:
-	checks/vectors build/vectors
+	dev/checks/vectors build/vectors
 
 check:
-	checks/run
+	dev/checks/run

@@ -1,7 +1,7 @@
 """Builds what pyproject.toml cannot express: a package with the library and mars.h, which any Python calls by cffi, and
 with the built site.
 
-The library is that in `build`, which scripts/library proves and builds. `make wheels` gives one for another system as
+The library is that in `build`, which dev/library proves and builds. `make wheels` gives one for another system as
 MARS_NATIVE, in a folder that has the name of the wheel's tags. A source archive (`make dist`) has portable/libmars.c
 instead, which the system's C compiler compiles.
 """
@@ -21,7 +21,8 @@ from setuptools import Distribution, setup
 from setuptools.command.build_py import build_py
 from wheel.bdist_wheel import bdist_wheel
 
-HEADER, SOURCE = "include/mars.h", "portable/libmars.c"
+INCLUDE, SOURCE = "crates/mars_c/include", "portable/libmars.c"
+HEADER = INCLUDE + "/mars.h"
 SITE = "build/site"
 READER: dict[str, Any] = runpy.run_path("python/corewar/model/header.py")
 BUILT = Path(os.environ.get("MARS_NATIVE") or Path("build", READER["LIBRARY"]))
@@ -54,7 +55,7 @@ def compile_library(target: Path, room: str) -> None:
     exported = "__declspec(dllexport)" if is_windows else '__attribute__((visibility("default")))'
     print(f"compiling {SOURCE}, which takes some minutes", flush=True)
     objects = compiler.compile(
-        [SOURCE], output_dir=room, macros=[("MARS_CALL", exported)], include_dirs=["include"], extra_postargs=options
+        [SOURCE], output_dir=room, macros=[("MARS_CALL", exported)], include_dirs=[INCLUDE], extra_postargs=options
     )
     compiler.link_shared_object(objects, str(target))
 
@@ -72,7 +73,7 @@ class BuildPackage(build_py):
         elif Path(SOURCE).is_file():
             compile_library(engine / BUILT.name, self.get_finalized_command("build").build_temp)
         else:
-            raise SystemExit(f"{BUILT} is not built; scripts/library proves and builds it")
+            raise SystemExit(f"{BUILT} is not built; dev/library proves and builds it")
         shutil.copy(HEADER, engine)
         shutil.copytree(SITE, Path(self.build_lib, "corewar", "pages", "site"), dirs_exist_ok=True)
         write_types(HEADER, engine / "declared.py")

@@ -21,7 +21,7 @@ sys.path.insert(0, os.path.join(os.path.dirname(os.path.realpath(__file__)), "..
 try:
     import corewar
 except ImportError as fault:
-    sys.exit(f"asktell: {fault}; install the dependencies of corewar with scripts/setup")
+    sys.exit(f"asktell: {fault}; install the dependencies of corewar with dev/setup")
 
 NANO, SIZE, KEPT, ROUNDS = corewar.HILLS["nano"], 40, 8, 20
 OPPONENTS = ["MOV 0, 1", "SPL 0, <-9\nMOV 3, <2\nJMP -1", "JMP 0, <-3"]

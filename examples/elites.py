@@ -18,7 +18,7 @@ sys.path.insert(0, os.path.join(os.path.dirname(os.path.realpath(__file__)), "..
 try:
     import corewar
 except ImportError as fault:
-    sys.exit(f"elites: {fault}; install the dependencies of corewar with scripts/setup")
+    sys.exit(f"elites: {fault}; install the dependencies of corewar with dev/setup")
 
 NANO, SIZE, ROUNDS = corewar.HILLS["nano"], 100, 20
 OPPONENTS = [

@@ -22,7 +22,7 @@ sys.path.insert(0, os.path.join(os.path.dirname(os.path.realpath(__file__)), "..
 try:
     import corewar
 except ImportError as fault:
-    sys.exit(f"environment: {fault}; install the dependencies of corewar with scripts/setup")
+    sys.exit(f"environment: {fault}; install the dependencies of corewar with dev/setup")
 
 OPPONENTS = ["MOV 0, 1", "SPL 0, <-9\nMOV 3, <2\nJMP -1", "JMP 0, <-3"]
 Step = tuple[Any, Any, Any, Any, dict[str, Any]]

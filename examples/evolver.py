@@ -3,7 +3,7 @@
 
 usage: examples/evolver.py [SECONDS [SEED]]      [default: 60 seconds, seed 1]
 
-It requires the package `corewar` with its library; run scripts/setup and scripts/library first. In each generation the
+It requires the package `corewar` with its library; run dev/setup and dev/library first. In each generation the
 best warriors stay and the others are replaced by children of the best with changed cells. One call runs all matches of
 a generation.
 """
@@ -20,7 +20,7 @@ sys.path.insert(0, os.path.join(os.path.dirname(os.path.realpath(__file__)), "..
 try:
     import corewar
 except ImportError as fault:
-    sys.exit(f"evolver: {fault}; install the dependencies of corewar with scripts/setup")
+    sys.exit(f"evolver: {fault}; install the dependencies of corewar with dev/setup")
 
 # The numbers of an instruction.
 Cell = tuple[int, int, int, int, int, int]

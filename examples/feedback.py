@@ -20,7 +20,7 @@ sys.path.insert(0, os.path.join(os.path.dirname(os.path.realpath(__file__)), "..
 try:
     import corewar
 except ImportError as fault:
-    sys.exit(f"feedback: {fault}; install the dependencies of corewar with scripts/setup")
+    sys.exit(f"feedback: {fault}; install the dependencies of corewar with dev/setup")
 
 OPPONENTS = ["MOV 0, 1", "ADD #4, 3\nMOV 2, @2\nJMP -2\nDAT #0, #0", "SPL 0, <-9\nMOV 3, <2\nJMP -1"]
 ROUNDS, DEATHS = 100, 3

@@ -27,7 +27,7 @@ sys.path.insert(0, os.path.join(os.path.dirname(os.path.realpath(__file__)), "..
 try:
     import corewar
 except ImportError as fault:
-    sys.exit(f"hill: {fault}; install the dependencies of corewar with scripts/setup")
+    sys.exit(f"hill: {fault}; install the dependencies of corewar with dev/setup")
 
 # The limits for assembling the source of a newcomer, who may be a stranger.
 LIMIT = corewar.Limit(5, 500)

@@ -12,7 +12,7 @@ from typing import Any
 from corewar import __version__
 from corewar.explain import words
 
-HERE = Path(__file__).resolve().parents[1] / "editors"
+HERE = Path(__file__).with_name("editors")
 NAMES = {name: "|".join(getattr(words, name)) for name in ("OPCODES", "DIRECTIVES", "MODIFIERS", "PREDEFINED")}
 # Where the files of each folder belong. Neovim also reads those of Vim.
 PLACES = {

@@ -17,7 +17,7 @@ try:
     from corewar.debugger.commands import COMMANDS as debugger_commands
     from corewar.debugger.table import TABLE
 except ImportError as error:
-    sys.exit(f"cannot make the man pages: {error}; run scripts/setup")
+    sys.exit(f"cannot make the man pages: {error}; run dev/setup")
 
 
 def escaped(text: str) -> str:

@@ -1,4 +1,4 @@
-"""Runs pMARS, for the tests of agreement with it. bench/pmars builds it from Debian's source, without a display."""
+"""Runs pMARS, for the tests of agreement with it. dev/bench/pmars builds it from Debian's source, without a display."""
 from __future__ import annotations
 
 import re
@@ -21,7 +21,7 @@ def build_pmars() -> Path:
     if not DEBIAN.is_dir():
         skip("agreement with pMARS", "there is no pMARS", "pmars")
     if not PMARS.is_file():
-        subprocess.run([Path(TOP) / "bench" / "pmars", PMARS.parent], check=True, capture_output=True)
+        subprocess.run([Path(TOP) / "dev" / "bench" / "pmars", PMARS.parent], check=True, capture_output=True)
     return PMARS
 
 

@@ -1,7 +1,7 @@
 """Battles as blocks of words: their turns, their edits, and words that are not a battle.
 
 States and edits are compared with the replies of the debugger, rows with the states before and after their turns.
-`checks/evaluate` compares the words that the library accepts with the definition of a battle.
+`dev/checks/evaluate` compares the words that the library accepts with the definition of a battle.
 """
 from __future__ import annotations
 

@@ -120,7 +120,7 @@ def test_a_worker_of_another_version(run: Run, start: Start, scheduler: tuple[st
     shutil.copytree(TOP / "python", kit / "python")
     package = kit / "python" / "corewar" / "__init__.py"
     package.write_text(re.sub('__version__ = ".*"', '__version__ = "0.9"', package.read_text()))
-    for name in ("build", "include"):
+    for name in ("build", "crates"):
         (kit / name).symlink_to(TOP / name)
     worker(start, scheduler[0], path=str(kit / "python"))
     done = run("league", "--scheduler", scheduler[0], *FILES, cwd=EXAMPLES)

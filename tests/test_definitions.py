@@ -1,4 +1,4 @@
-"""checks/evaluating: the language of definitions, and the operations of the toolchain's library."""
+"""dev/checks/evaluating: the language of definitions, and the operations of the toolchain's library."""
 from __future__ import annotations
 
 import sys
@@ -9,7 +9,7 @@ from typing import Any
 import pytest
 from conftest import TOP
 
-sys.path.insert(0, str(TOP / "checks"))
+sys.path.insert(0, str(TOP / "dev" / "checks"))
 from evaluating.base import OPERATIONS  # noqa: E402
 from evaluating.evaluator import Evaluator, NoCase  # noqa: E402
 from evaluating.words import NotReadable  # noqa: E402

@@ -1,4 +1,4 @@
-"""checks/evaluate: the values of definitions beside what the library computes."""
+"""dev/checks/evaluate: the values of definitions beside what the library computes."""
 from __future__ import annotations
 
 import random
@@ -12,11 +12,11 @@ from conftest import TOP
 from counting import skip
 from peer import build_pmars
 
-sys.path.insert(0, str(TOP / "checks"))
+sys.path.insert(0, str(TOP / "dev" / "checks"))
 from comparing.comparison import shown, where_different  # noqa: E402
 from comparing.running import AREAS, NEEDS, compare  # noqa: E402
 
-COMMAND = TOP / "checks" / "evaluate"
+COMMAND = TOP / "dev" / "checks" / "evaluate"
 
 
 def require(area: str) -> None:
@@ -35,7 +35,7 @@ def test_differences_are_shown() -> None:
 
 @pytest.mark.parametrize("area", [name for name in AREAS if name != "examples"])
 def test_definitions_are_what_is_computed(area: str) -> None:
-    """Other inputs than those of checks/evaluate."""
+    """Other inputs than those of dev/checks/evaluate."""
     require(area)
     count = 3 + AREAS[area].usual // 60
     result = compare(area, 2, 0, count)
@@ -87,7 +87,7 @@ def test_a_mistake_in_a_definition_is_found(area: str, file: str, before: str, a
     assert text.count(before) == 1
     result = compare(area, 1, 0, AREAS[area].usual, {f"crates/{file}": text.replace(before, after)})
     assert result.difference.startswith("DIFFERENT in ")
-    assert f"\n  again: checks/evaluate --only {area} --seed 1 --first " in result.difference
+    assert f"\n  again: dev/checks/evaluate --only {area} --seed 1 --first " in result.difference
 
 
 def test_command() -> None:
@@ -107,7 +107,7 @@ def test_command() -> None:
 
 def test_vectors(tmp_path: Path) -> None:
     """The same seed gives the same files; pMARS has no other answers, except to a changed one."""
-    command = TOP / "checks" / "vectors"
+    command = TOP / "dev" / "checks" / "vectors"
     for name in ("one", "other"):
         subprocess.run([command, tmp_path / name, "--count", "25"], check=True)
     texts = {path.name: path.read_text("latin-1") for path in sorted((tmp_path / "one").iterdir())}

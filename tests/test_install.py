@@ -141,7 +141,7 @@ def test_a_missing_build_is_reported(tmp_path: Path) -> None:
     done = make("install", f"PREFIX={tmp_path}/prefix", "LIBRARY=none.a")
     assert (done.returncode, done.stderr.splitlines()[0]) == (
         2,
-        "none.a is not built; prove and build it with scripts/library",
+        "none.a is not built; prove and build it with dev/library",
     )
     assert not (tmp_path / "prefix").exists()
 
@@ -185,11 +185,11 @@ def test_packages() -> None:
 def test_one_version() -> None:
     """The package and the library have the same version."""
     major, minor = map(int, corewar.__version__.split("."))
-    assert f"#define MARS_VERSION {major * 1000 + minor}\n" in (TOP / "include" / "mars.h").read_text()
+    assert f"#define MARS_VERSION {major * 1000 + minor}\n" in (TOP / "crates/mars_c/include/mars.h").read_text()
 
 
 def test_one_list_of_packages(tmp_path: Path) -> None:
-    """The dependencies of `corewar` are the same for pip, for the Debian package, and for scripts/setup. A wheel needs
+    """The dependencies of `corewar` are the same for pip, for the Debian package, and for dev/setup. A wheel needs
     only two, and pictures are an extra of both packages, since matplotlib is larger than all else.
     """
     project = tomllib.loads((TOP / "pyproject.toml").read_text())["project"]
@@ -208,7 +208,7 @@ def test_one_list_of_packages(tmp_path: Path) -> None:
     (tmp_path / "dpkg-query").write_text("#!/bin/sh\n")
     (tmp_path / "dpkg-query").chmod(0o755)
     (tmp_path / "python3").symlink_to("/usr/bin/python3")
-    command = [str(TOP / "scripts" / "setup"), "--dry-run"]
+    command = [str(TOP / "dev" / "setup"), "--dry-run"]
     done = subprocess.run(command, env={"PATH": str(tmp_path)}, capture_output=True, text=True)
     assert done.returncode == 1 and "apt-get install" in done.stderr
     assert required == {word for word in done.stderr.split() if word.startswith("python3-")}

@@ -358,7 +358,7 @@ def test_what_is_missing_is_reported_before_matches(run: Run, folder: Path) -> N
     command = [sys.executable, "-c", hidden, "league", "--picture", "a.png", *map(str, long)]
     done = subprocess.run(command, cwd=folder, env=ENVIRONMENT, capture_output=True, text=True, timeout=20)
     missing = "corewar: import of matplotlib halted; None in sys.modules; install Debian's python3-matplotlib, or all "
-    assert (done.returncode, done.stderr) == (1, f"{missing}with scripts/setup, or with pip corewar[pictures]\n")
+    assert (done.returncode, done.stderr) == (1, f"{missing}with dev/setup, or with pip corewar[pictures]\n")
 
 
 def test_two_files_are_required(run: Run, folder: Path) -> None:

@@ -9,7 +9,7 @@ from conftest import TOP
 
 
 def test_the_page_has_each_public_name() -> None:
-    done = subprocess.run([TOP / "scripts" / "api"], capture_output=True, text=True)
+    done = subprocess.run([TOP / "dev" / "api"], capture_output=True, text=True)
     assert (done.stderr, done.returncode) == ("", 0)
     for name in corewar.__all__:
         thing = getattr(corewar, name)

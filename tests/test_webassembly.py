@@ -47,7 +47,7 @@ def node() -> None:
 def test_it_is_the_native_machine() -> None:
     """Random battles, edits, errors and failed allocations."""
     if not WASM.is_file():
-        skip("mars.wasm", "scripts/library could not build it", "binaryen")
+        skip("mars.wasm", "dev/library could not build it", "binaryen")
     done = run("node", "--test", SITE / "tests", MARS_WASM=str(WASM), MARS=str(PROGRAM))
     assert done.returncode == 0, done.stdout
 
@@ -132,7 +132,7 @@ def joined_of(parts: dict[str, Any]) -> list[Condition]:
 def test_its_history_is_that_of_python() -> None:
     """States, owners, source lines, deaths, conditions and the overview, also after edits."""
     if not WASM.is_file():
-        skip("mars.wasm", "scripts/library could not build it", "binaryen")
+        skip("mars.wasm", "dev/library could not build it", "binaryen")
     fights = randomly(60)
     done = subprocess.run(
         ["node", SITE / "tests" / "answers.mjs", WASM], input=json.dumps(fights), capture_output=True, text=True
@@ -218,7 +218,7 @@ def test_its_errors_have_the_texts_of_python() -> None:
 def test_its_errors_are_those_of_explain() -> None:
     """The lines and the sentences, also of several errors in a source. JavaScript has no names of characters."""
     if not WASM.is_file():
-        skip("mars.wasm", "scripts/library could not build it", "binaryen")
+        skip("mars.wasm", "dev/library could not build it", "binaryen")
     texts = [text for text, fault, _ in SOURCES if "NotAscii" not in fault]
     texts += [text for text, _ in [*NEWCOMERS, *mutated(150)]]
     meanings = TOP / "python" / "corewar" / "explain" / "meanings.json"

@@ -154,7 +154,7 @@ def test_the_engine_needs_no_extra(environment: Path) -> None:
     command = [str(environment / "bin" / "python"), "-c", code, "fight"]
     done = subprocess.run(command, capture_output=True, text=True)
     assert (done.returncode, done.stdout) == (1, "") and done.stderr.endswith(
-        "; install Debian's python3-click, or all with scripts/setup, or with pip corewar[cli]\n"
+        "; install Debian's python3-click, or all with dev/setup, or with pip corewar[cli]\n"
     )
 
 

@@ -1,4 +1,4 @@
-//! Links libmars.a from the folder MARS_LIB, or from the folder build/, where `scripts/library` builds it.
+//! Links libmars.a from the folder MARS_LIB, or from the folder build/, where `dev/library` builds it.
 
 use std::{env, path::PathBuf};
 
@@ -12,7 +12,7 @@ fn main() {
     println!("cargo:rerun-if-changed={}", library.display());
     assert!(
         library.is_file(),
-        "there is no {}: scripts/library builds it, and MARS_LIB names another folder",
+        "there is no {}: dev/library builds it, and MARS_LIB names another folder",
         library.display()
     );
     println!("cargo:rustc-link-search=native={}", folder.display());

@@ -10,7 +10,7 @@ def missing_module(error: ModuleNotFoundError) -> str:
     """Says what to install for a missing module."""
     module = (error.name or "").partition(".")[0]
     debian, extra = f"Debian's python3-{module.replace('_', '-')}", EXTRAS.get(module, "cli")
-    return f"{error}; install {debian}, or all with scripts/setup, or with pip corewar[{extra}]"
+    return f"{error}; install {debian}, or all with dev/setup, or with pip corewar[{extra}]"
 
 
 def main() -> None:

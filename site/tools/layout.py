@@ -1,5 +1,5 @@
 #!/usr/bin/python3 -B
-"""Prints site/src/model/layout.js: the position of each field of each struct of include/mars.h in memory, as cffi knows
+"""Prints site/src/model/layout.js: the position of each field of each struct of mars.h in memory, as cffi knows
 it, the numbers of results, limits and edits, and the names of cells and errors.
 
 usage: site/tools/layout.py > site/src/model/layout.js
@@ -52,7 +52,7 @@ def struct_lines(name: str, kind: Any) -> Iterator[str]:
 
 ffi = FFI()
 ffi.cdef(declarations(content()))
-lines = ["// Written by site/tools/layout.py from include/mars.h; do not edit."]
+lines = ["// Written by site/tools/layout.py from mars.h; do not edit."]
 lines += [
     f"export const VERSION = {ffi.dlopen(None).MARS_VERSION};",
     f"export const MODES = {json.dumps(characters())};",

@@ -32,7 +32,7 @@ from corewar.model.header import names, numbers
 from corewar.model.settings import NUMBERS
 
 ARCHIVE = os.environ.get("MARS_ARCHIVE") or f"{TOP}/crates/mars_c/out/libmars_c.a"
-HEADER = Path(TOP, "include", "mars.h").read_text()
+HEADER = Path(TOP, "crates", "mars_c", "include", "mars.h").read_text()
 EXAMPLES = sorted(map(str, Path(TOP, "examples").glob("*.red")))
 OPCODES, MODES = [*cells.OPCODES, "CMP", "FOO"], ["", *cells.MODES, "?"]
 LINES = ["", "x EQU 3", "i FOR 2", "ROF", "END 1", "ORG 5", ";assert 0", "MOV 1/0, 2", "lab ADD lab, x", "MOV é"]
@@ -86,7 +86,7 @@ dice = random.Random(1)
 @pytest.fixture(scope="module")
 def built(tmp_path_factory: pytest.TempPathFactory) -> str:
     """The folder with a build of the library."""
-    assert os.path.isfile(ARCHIVE), "no archive of the library; run scripts/library"
+    assert os.path.isfile(ARCHIVE), "no archive of the library; run dev/library"
     folder = str(tmp_path_factory.mktemp("built"))
     done = subprocess.run([f"{SCRIPTS}/library", "--archive", ARCHIVE, "--out", folder], capture_output=True, text=True)
     assert (done.returncode, done.stderr) == (0, "")
@@ -336,7 +336,7 @@ C_PROGRAMS = [
 def test_c(tmp_path: Path, built: str, more: list[str], before: list[str]) -> None:
     """The C program without tools, under valgrind, and under AddressSanitizer."""
     text, program = str(Path(__file__).with_name("library.c")), str(tmp_path / "calls")
-    words = ["gcc", *more, "-Wall", "-Wextra", "-Werror", f"-I{TOP}/include", text, "-o", program]
+    words = ["gcc", *more, "-Wall", "-Wextra", "-Werror", f"-I{TOP}/crates/mars_c/include", text, "-o", program]
     words += ["-Wl,--wrap=malloc,--wrap=realloc,--wrap=free", f"{built}/libmars.a"]
     compiled = subprocess.run(words, capture_output=True, text=True)
     if before and not shutil.which(before[0]) or more and compiled.returncode:
@@ -381,7 +381,7 @@ def test_header() -> None:
 
 
 def test_script() -> None:
-    """Wrong arguments of `scripts/library`."""
+    """Wrong arguments of `dev/library`."""
     library = [f"{SCRIPTS}/library"]
     assert subprocess.run([*library, "--none"], capture_output=True).returncode == 2
     done = subprocess.run([*library, "--archive", "none", "--out", "none"], capture_output=True, text=True)

@@ -14,7 +14,8 @@ def test_stack(tmp_path: Path) -> None:
     if not shutil.which("gcc"):
         skip("the stack of the library", "there is no gcc", "gcc")
     text, program = str(Path(__file__).with_name("stack.c")), str(tmp_path / "stack")
-    words = ["gcc", "-O2", "-Wall", "-Wextra", "-Werror", "-pthread", f"-I{TOP}/include", text, "-o", program]
+    include = f"-I{TOP}/crates/mars_c/include"
+    words = ["gcc", "-O2", "-Wall", "-Wextra", "-Werror", "-pthread", include, text, "-o", program]
     subprocess.run([*words, f"{TOP}/build/libmars.a"], check=True)
     lines = subprocess.run([program], stdout=subprocess.PIPE, text=True, check=True).stdout.splitlines()
     used = {call: int(size) for call, size in (line.rsplit(" ", 1) for line in lines)}

@@ -49,7 +49,8 @@ class Machine:
     def contest(self, library: Path) -> str:
         """Returns what the program prints over a library, whose header is beside it or in the checkout."""
         program = library.parent / "contest"
-        words = [*self.compiler.split(), f"-I{library.parent}", f"-I{TOP / 'include'}", str(PROGRAM), str(library)]
+        include = f"-I{TOP}/crates/mars_c/include"
+        words = [*self.compiler.split(), f"-I{library.parent}", include, str(PROGRAM), str(library)]
         subprocess.run([*words, "-o", str(program)], check=True)
         done = subprocess.run([*self.run.split(), str(program), *SOURCES], capture_output=True, text=True, check=True)
         return done.stdout

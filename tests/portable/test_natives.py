@@ -17,16 +17,16 @@ from conftest import TOP
 from test_install import make_well, require
 from test_machines import PROGRAM, SOURCES
 
-sys.path.insert(0, str(TOP / "scripts"))
+sys.path.insert(0, str(TOP / "dev"))
 from machine import toolchain  # noqa: E402
 from modules import CannotBuild  # noqa: E402
 from targets import ARM64_LINUX, WINDOWS, Compiler  # noqa: E402
 from webassembly import exports  # noqa: E402
 
 NATIVE = TOP / "build" / "native"
-INCLUDE = f"-I{TOP / 'include'}"
+INCLUDE = f"-I{TOP}/crates/mars_c/include"
 # Programs over the library, each with its arguments.
-CALLS: tuple[list[object], list[str]] = [TOP / "portable" / "check.c", "-O1"], ["2000", "1"]
+CALLS: tuple[list[object], list[str]] = [TOP / "packaging" / "portable" / "check.c", "-O1"], ["2000", "1"]
 CONTEST: tuple[list[object], list[str]] = [PROGRAM], SOURCES
 
 

@@ -14,7 +14,7 @@ import pytest
 from conftest import TOP
 from llvm_rules import RULES, module
 
-sys.path.insert(0, str(TOP / "scripts"))
+sys.path.insert(0, str(TOP / "dev"))
 from machine import toolchain  # noqa: E402
 from translator.reading import CannotTranslate, unescaped  # noqa: E402
 from translator.writing import Translator  # noqa: E402
@@ -40,8 +40,8 @@ EDGES = [
 ]
 DICE = random.Random(5)
 PAIRS = [(a, b) for a in EDGES for b in EDGES] + [(DICE.getrandbits(64), DICE.getrandbits(64)) for _ in range(200)]
-BEFORE = (TOP / "portable" / "before.c").read_text()
-HEAP = (TOP / "portable" / "heap.c").read_text()
+BEFORE = (TOP / "packaging" / "portable" / "before.c").read_text()
+HEAP = (TOP / "packaging" / "portable" / "heap.c").read_text()
 
 
 def built(command: list[str], source: Path) -> Any:
@@ -69,7 +69,7 @@ def translated(
     after = "".join(f"u64 {name}(u64 a, u64 b) {{ return x_{name}(a, b); }}\n" for name in names)
     source = folder / "translated.c"
     source.write_text(translator(module(rules), names).text(before, HEAP, after))
-    return numbers(built(["gcc", "-O1", "-w", *options, f"-I{TOP / 'include'}"], source), rules)
+    return numbers(built(["gcc", "-O1", "-w", *options, f"-I{TOP}/crates/mars_c/include"], source), rules)
 
 
 def only(rule: str) -> dict[str, str]:
@@ -155,7 +155,7 @@ def test_an_edit_is_noticed(
     new: str,
     rule: str,
 ) -> None:
-    edited = shutil.copytree(TOP / "scripts" / "translator", tmp_path / "translator") / f"{file}.py"
+    edited = shutil.copytree(TOP / "dev" / "translator", tmp_path / "translator") / f"{file}.py"
     text = edited.read_text()
     assert text.count(old) == 1
     edited.write_text(text.replace(old, new))

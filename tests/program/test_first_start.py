@@ -1,4 +1,4 @@
-"""Tests ./mars and scripts/prove with a stub for the toolchain: which crates are proved, in which order, the messages,
+"""Tests ./mars and dev/prove with a stub for the toolchain: which crates are proved, in which order, the messages,
 and the files that are left.
 """
 from __future__ import annotations
@@ -90,7 +90,7 @@ class Place:
         self.folder, self.log = folder, os.path.join(folder, "log")
         for name in ("mars", "crates.txt", "HANDLES"):
             shutil.copy(os.path.join(TOP, name), folder)
-        os.mkdir(os.path.join(folder, "scripts"))
+        os.mkdir(os.path.join(folder, "dev"))
         for name in (
             "library",
             "prove",
@@ -102,7 +102,7 @@ class Place:
             "rooms.py",
             "webassembly.py",
         ):
-            shutil.copy(os.path.join(TOP, "scripts", name), os.path.join(folder, "scripts"))
+            shutil.copy(os.path.join(TOP, "dev", name), os.path.join(folder, "dev"))
         for crate in dependencies(os.path.join(TOP, "crates.txt"), ""):
             for part in ("src", "specs", "proofs"):
                 os.makedirs(os.path.join(folder, "crates", crate, part))
@@ -300,7 +300,7 @@ def test_two_starts(place: Place) -> None:
 def test_stored_work(place: Place) -> None:
     """With --keep, and if files of such a run are left, `rt` proves each crate in a room, and its files are stored."""
     place.leave_out("mars_match", "redcode_text")
-    done = place.run("--keep", script="scripts/prove")
+    done = place.run("--keep", script="dev/prove")
     assert (done.returncode, {words[1] for words in place.calls()}) == (0, {"rt"}), "rt proves each crate"
     assert all(
         name in room and is_closed(room) for name, room in place.rooms().items()
@@ -321,7 +321,7 @@ def test_stored_work(place: Place) -> None:
     place.touch("mars_core_tests")
     place.run("-b", "a.red")
     assert len(place.proved()) == count, "a program that is newer than its sources is not built again"
-    place.run("--library", script="scripts/prove")
+    place.run("--library", script="dev/prove")
     assert "mars" not in place.proved()[count:], "the library does not cause a build of the program"
     link = os.path.join(place.folder, "linked")
     os.symlink(os.path.join(place.folder, "mars"), link)
@@ -390,7 +390,7 @@ def test_progress(folder: str, monkeypatch: pytest.MonkeyPatch) -> None:
 def test_library(place: Place) -> None:
     """The library for C is proved in the same run as the program, and again if a source is newer than its archive."""
     below = {**dependencies(os.path.join(TOP, "crates.txt"), "_tests:"), "mars": {"mars_app"}}
-    done = place.run(script="scripts/library")
+    done = place.run(script="dev/library")
     assert is_in_order(place.proved(), below), "the library and the program are proved in one run"
     assert place.jobs()["mars"] == 1, "the program has one job"
     assert place.work() == ["libmars_c.a", "mars"], "the archive and the program are left"
@@ -399,11 +399,11 @@ def test_library(place: Place) -> None:
         "library",
     ), "the stub's archive is reported as an error"
     count = len(place.proved())
-    place.run(script="scripts/library")
+    place.run(script="dev/library")
     place.run("b.red")
     assert len(place.proved()) == count, "nothing is proved again"
     place.touch("mars_c")
-    place.run(script="scripts/library")
+    place.run(script="dev/library")
     assert "mars_c" in place.proved()[count:], "an archive that is older than its source is built again"
     assert "mars" not in place.proved()[count:], "the program is not built again"
 
@@ -421,11 +421,11 @@ def test_after_rt_ci(place: Place) -> None:
             env=environment,
             stdout=subprocess.DEVNULL,
         )
-    place.run("--library", script="scripts/prove")
+    place.run("--library", script="dev/prove")
     assert sorted(place.proved()) == ["mars", "mars_c"]
     assert place.work().count("format") == 7, "the files of the crates are left"
     place.touch("mars_match")
-    place.run("--library", script="scripts/prove")
+    place.run("--library", script="dev/prove")
     assert sorted(place.proved()[2:]) == [
         "mars",
         "mars_app",

@@ -1,4 +1,4 @@
-"""The measurements of bench/measure."""
+"""The measurements of dev/bench/measure."""
 from __future__ import annotations
 
 import os
@@ -8,7 +8,7 @@ from pathlib import Path
 
 from counting import PROGRAM, TOP
 
-MEASURE = os.path.join(TOP, "bench", "measure")
+MEASURE = os.path.join(TOP, "dev", "bench", "measure")
 
 
 def measured(*words: str) -> str:
@@ -17,7 +17,7 @@ def measured(*words: str) -> str:
 
 def test_help() -> None:
     """The help lists each module that measures something."""
-    folder = Path(TOP, "bench", "measuring")
+    folder = Path(TOP, "dev", "bench", "measuring")
     modules = {path.stem for path in folder.glob("*.py") if "def measure(" in path.read_text()}
     assert set(re.findall(r"^    (\w+) ", measured("--help"), re.M)) == modules
 

@@ -1,4 +1,4 @@
-"""Tests scripts/try: what it passes to a stub for `rt`, and once with the toolchain that the unproved run has the
+"""Tests dev/try: what it passes to a stub for `rt`, and once with the toolchain that the unproved run has the
 output of the program.
 """
 from __future__ import annotations

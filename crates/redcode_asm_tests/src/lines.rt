@@ -74,7 +74,7 @@ fn faults_of_sources(rt: HostRuntime) -> Result<(), Fail> {
     Ok(())
 }
 
-/// Returns the lines of a source, and tries again if memory runs out: `checks/memory` lets each allocation fail in
+/// Returns the lines of a source, and tries again if memory runs out: `dev/checks/memory` lets each allocation fail in
 /// turn.
 #[test]
 fn lines_are_made(rt: HostRuntime) -> Result<(), Fail> {

@@ -1,4 +1,4 @@
-//! The calls of libmars that this example uses; see `include/mars.h` for all calls, with the units and ranges of each field.
+//! The calls of libmars that this example uses; see `mars.h` for all calls, with the units and ranges of each field.
 
 use std::{error::Error, fmt};
 

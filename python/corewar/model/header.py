@@ -1,8 +1,8 @@
 """The header of the library: where it is, its declarations for cffi, and its names and numbers, from which the package
 has opcodes, errors and ranges. This module imports no other of the package, since setup.py runs it.
 
-The header is the file that MARS_HEADER names; otherwise mars.h beside the binding (in a wheel), or include/mars.h of
-the checkout that contains this file, of the prefix in which the package is installed, or of the system.
+The header is the file that MARS_HEADER names; otherwise mars.h beside the binding (in a wheel), of the checkout that
+contains this file, of the prefix in which the package is installed, or of the system.
 """
 from __future__ import annotations
 
@@ -26,7 +26,8 @@ CHARACTER = re.compile(r"MARS_\w+,? +/\* (\S) \*/")
 
 def header() -> str | None:
     """Returns the name of the header, or None if there is none."""
-    paths = [ENGINE / "mars.h", *(folder / "include" / "mars.h" for folder in (CHECKOUT, *INSTALLED))]
+    folders = [ENGINE, CHECKOUT / "crates" / "mars_c" / "include", *(prefix / "include" for prefix in INSTALLED)]
+    paths = [folder / "mars.h" for folder in folders]
     return os.environ.get("MARS_HEADER") or next((str(path) for path in paths if path.is_file()), None)
 
 

@@ -8,7 +8,7 @@ from numpy.typing import NDArray
 
 # The numbers of a cell: opcode, modifier, modes and numbers of A and B.
 Cell = tuple[int, int, int, int, int, int]
-# Arrays of cells, and of records of turns or deaths, with the fields of the header `include/mars.h`.
+# Arrays of cells, and of records of turns or deaths, with the fields of the header `mars.h`.
 Cells = NDArray[Any]
 Records = NDArray[Any]
 # The past of each cell, with the fields of `MarsPast`.

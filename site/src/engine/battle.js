@@ -6,7 +6,7 @@ const WORD = 4;
 const HEADER_WORDS = MarsBattle.size / WORD;
 
 /**
- * A view of the words of a battle, as struct MarsBattle of include/mars.h describes them. It copies nothing: a
+ * A view of the words of a battle, as struct MarsBattle of mars.h describes them. It copies nothing: a
  * change of the words changes the battle, and the next call of the machine checks them.
  */
 export class Battle {

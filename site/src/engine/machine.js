@@ -1,4 +1,4 @@
-/** Battles on the machine: the calls of include/mars.h that take a battle as a block. */
+/** Battles on the machine: the calls of mars.h that take a battle as a block. */
 import {
   ADD_PROCESS,
   KILL_PROCESS,
@@ -42,7 +42,7 @@ export class Machine {
 
   /**
    * Makes turns of a battle in place: `turns` of them, or all that are left if these are fewer. Returns the words of
-   * the records and of the touched cells of the first turns, as MarsRecord and MarsTouched of include/mars.h.
+   * the records and of the touched cells of the first turns, as MarsRecord and MarsTouched of mars.h.
    * @param {Battle} battle
    * @param {number} turns
    * @param {{records?: number, touched?: number}} rows how many turns to report at most; a RangeError if below 0

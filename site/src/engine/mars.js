@@ -1,5 +1,5 @@
 /**
- * The proved machine, compiled to WebAssembly: the calls of include/mars.h over JavaScript's values.
+ * The proved machine, compiled to WebAssembly: the calls of mars.h over JavaScript's values.
  *
  * Nothing outlives a call: what a call takes of the module's memory it gives back. A battle is a value of the caller's.
  */

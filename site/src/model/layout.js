@@ -1,4 +1,4 @@
-// Written by site/tools/layout.py from include/mars.h; do not edit.
+// Written by site/tools/layout.py from mars.h; do not edit.
 export const VERSION = 2000;
 export const MODES = "#$*@{<}>";
 export const MAX_CORE = 1048576;

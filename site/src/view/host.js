@@ -19,7 +19,7 @@ import { explain } from "../words/errors.js";
  */
 
 /**
- * Results of include/mars.h that are not about a source.
+ * Results of mars.h that are not about a source.
  * @type {Record<number, string>}
  */
 const REASONS = {

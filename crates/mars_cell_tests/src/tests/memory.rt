@@ -1,4 +1,4 @@
-//! Calls whose allocations fail. checks/memory lets each allocation of a test fail in turn. Each test must pass
+//! Calls whose allocations fail. dev/checks/memory lets each allocation of a test fail in turn. Each test must pass
 //! whichever one fails, since a second try has memory.
 ghost use Rattle.std.specs.Prelude.{All, IfOk};
 ghost use Rattle.mars_cell.specs.Cells.{FitsCore};

@@ -1,5 +1,5 @@
 //! Calls that don't allocate. Each test makes its objects, then makes one request for memory, then makes the calls.
-//! checks/memory lets each request fail in turn, together with all later ones; a test must pass whether its last
+//! dev/checks/memory lets each request fail in turn, together with all later ones; a test must pass whether its last
 //! request fails or not. If its objects can't be allocated, a test shows nothing.
 ghost use Rattle.std.specs.Prelude.{IfSome, string_bytes};
 ghost use Rattle.mars_cell.specs.Warriors.{IsName};

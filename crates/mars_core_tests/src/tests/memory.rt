@@ -1,4 +1,4 @@
-//! Calls whose allocations fail. checks/memory lets each allocation of a test fail in turn. Each test must pass
+//! Calls whose allocations fail. dev/checks/memory lets each allocation of a test fail in turn. Each test must pass
 //! whichever one fails, since a second try has memory.
 use super::{check_clock, check_same, params};
 use mars_cell::{Params, Warrior, read_cell};

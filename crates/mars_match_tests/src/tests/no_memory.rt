@@ -1,5 +1,5 @@
 //! Calls that don't allocate. Each test creates its objects, allocates one more time, and passes whether or not that
-//! allocation and all later ones fail: checks/memory lets all allocations from each one on fail. If the objects
+//! allocation and all later ones fail: dev/checks/memory lets all allocations from each one on fail. If the objects
 //! themselves can't be allocated, there is nothing to check. Calls of the crates below are tested here, too.
 use super::{BY_DEFAULT, LEAGUE, Narrow, row};
 use mars_cell::{Mode, Modifier, Op, Params, Warrior, WriteFault, default_modifier, read_cell};

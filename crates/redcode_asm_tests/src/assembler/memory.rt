@@ -1,5 +1,5 @@
 //! Calls whose allocations fail. Each test tries the call again if memory runs out, so it passes whichever allocation
-//! fails. checks/memory lets each allocation fail in turn.
+//! fails. dev/checks/memory lets each allocation fail in turn.
 use mars_cell::{Params, Warrior};
 use redcode_asm::{AsmFault, AsmProblem, Formula, FormulaFault, assemble, assemble_load};
 use std::alloc::Global;

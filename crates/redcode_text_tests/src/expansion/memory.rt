@@ -1,5 +1,5 @@
 //! Calls whose allocations fail. Each test tries the call again if memory runs out, so it passes whichever allocation
-//! fails. checks/memory lets each allocation fail in turn.
+//! fails. dev/checks/memory lets each allocation fail in turn.
 use super::NAMES;
 use redcode_text::{
     Line, LineTokens, Program, TextFault, TextProblem, Token, TokenKind, expand, scan,

@@ -1,6 +1,6 @@
 //! Calls that don't allocate. Each test allocates once, and passes whether or not that allocation and all later ones
-//! fail: checks/memory lets all allocations from each one on fail. If the program of a test can't be allocated, there
-//! is nothing to check.
+//! fail: dev/checks/memory lets all allocations from each one on fail. If the program of a test can't be allocated,
+//! there is nothing to check.
 use super::{NAMES, NoNames};
 use redcode_text::{
     ExprFault, Line, Program, Sign, Token, TokenKind, check_shape, eval, expand, is_instruction,

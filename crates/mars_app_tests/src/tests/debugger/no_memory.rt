@@ -1,6 +1,6 @@
-//! The debugger does not allocate, and neither does a command of it over a ring of records. The test creates its objects,
-//! allocates again, and holds whether that allocation and all later ones fail or not; checks/memory lets all allocations from
-//! each one on fail. If the objects themselves cannot be allocated, the test checks nothing.
+//! The debugger does not allocate, and neither does a command of it over a ring of records. The test creates its
+//! objects, allocates again, and holds whether that allocation and all later ones fail or not; dev/checks/memory lets
+//! all allocations from each one on fail. If the objects themselves cannot be allocated, the test checks nothing.
 use super::{AMPLE, IMP, Narrow, Pieces};
 use mars_app::{DebugFault, debug_within};
 use mars_cell::{Params, read_load};
