@@ -1,5 +1,7 @@
-# Installs and uninstalls the built kit, and makes Debian packages.
+# Proves, builds, checks, installs and packs the kit.
 #
+#   make              proves and builds what is missing or older than its sources: program, library, site and what `install` copies
+#   make check        all checks of CI; as root, it first installs the packages that they need
 #   make install      program, library, package, man pages, completion, files for editors, documents and examples below PREFIX
 #   make uninstall    removes them
 #   make site         the site, in build/site, a folder that any web server can serve
@@ -11,9 +13,9 @@
 #   make portable     the library as one C file for any machine, in build/libmars-VERSION.tar.gz
 #   make dist         a source archive of `corewar`, which pip compiles on any machine, in build
 #   make vectors      battles, sources and matches with their answers for other simulators, in build/vectors (docs/dev/VECTORS.md)
-#   make check        all checks of CI
 #
-# DESTDIR is put before PREFIX when a package is made. Nothing is proved here; files that are not built are reported.
+# DESTDIR is put before PREFIX when a package is made. Only `make` itself proves, so that `make install` as root doesn't; the
+# other targets report what is not built.
 PREFIX = /usr/local
 ZSH = $(PREFIX)/share/zsh/site-functions
 
@@ -45,16 +47,16 @@ licences = mkdir -p $(1); set -e; for library in $(LIBRARIES); do for file in "$
 
 .PHONY: all install uninstall site man api completion editors packages wheels portable dist vectors check
 
-all: man api completion editors
+all:
+	dev/prove --library
+	dev/library
+	@$(MAKE) --no-print-directory site man api completion editors
 
-$(PROGRAM):
-	@echo "$@ is not built; prove and build it with ./mars --help" >&2; exit 1
-
-$(LIBRARY):
-	@echo "$@ is not built; prove and build it with dev/library" >&2; exit 1
+$(PROGRAM) $(LIBRARY):
+	@echo "$@ is not built; prove and build it with make" >&2; exit 1
 
 $(WASM):
-	@echo "$@ is not built; install Debian's binaryen, then prove and build it with dev/library" >&2; exit 1
+	@echo "$@ is not built; install Debian's binaryen, then prove and build it with make" >&2; exit 1
 
 site: $(SITE)
 
@@ -184,4 +186,4 @@ vectors:
 	dev/checks/vectors build/vectors
 
 check:
-	dev/checks/run
+	.ci/run

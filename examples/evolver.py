@@ -3,7 +3,7 @@
 
 usage: examples/evolver.py [SECONDS [SEED]]      [default: 60 seconds, seed 1]
 
-It requires the package `corewar` with its library; run dev/setup and dev/library first. In each generation the
+It requires the package `corewar` with its library; build the kit first. In each generation the
 best warriors stay and the others are replaced by children of the best with changed cells. One call runs all matches of
 a generation.
 """

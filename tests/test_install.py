@@ -141,7 +141,7 @@ def test_a_missing_build_is_reported(tmp_path: Path) -> None:
     done = make("install", f"PREFIX={tmp_path}/prefix", "LIBRARY=none.a")
     assert (done.returncode, done.stderr.splitlines()[0]) == (
         2,
-        "none.a is not built; prove and build it with dev/library",
+        "none.a is not built; prove and build it with make",
     )
     assert not (tmp_path / "prefix").exists()
 

@@ -7,7 +7,7 @@
     history = corewar.History(corewar.Match((dwarf, imp)))
     print(history.end, history.deaths(history.end))
 
-The package calls the library that `dev/library` builds, and requires cffi and NumPy.
+The package calls the library that `make` builds, and requires cffi and NumPy.
 """
 from .analysis.causes import Why
 from .analysis.endings import Executed

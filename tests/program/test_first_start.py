@@ -107,6 +107,8 @@ class Place:
             for part in ("src", "specs", "proofs"):
                 os.makedirs(os.path.join(folder, "crates", crate, part))
             self.touch(crate)
+        include = os.path.join("crates", "mars_c", "include")
+        shutil.copytree(os.path.join(TOP, include), os.path.join(folder, include))
         self.tools = os.path.join(folder, "kit", "bin")
         os.makedirs(self.tools)
         os.makedirs(os.path.join(folder, "kit", "toolchain", "bin"))

@@ -53,7 +53,7 @@ def open_library() -> tuple[Any, Any]:
     built = [ENGINE / LIBRARY, CHECKOUT / "build" / LIBRARY, *below]
     shared = os.environ.get("MARS_LIBRARY") or next((str(path) for path in built if path.is_file()), None)
     if shared is None:
-        raise NoLibrary(f"cannot find {LIBRARY}; build it with dev/library or set MARS_LIBRARY")
+        raise NoLibrary(f"cannot find {LIBRARY}; build it with make or set MARS_LIBRARY")
     ffi, source = types()
     try:
         calls: Any = ffi.dlopen(shared)
@@ -61,7 +61,7 @@ def open_library() -> tuple[Any, Any]:
     except (OSError, AttributeError) as fault:
         raise NoLibrary(f"{shared}: {fault}") from None
     if given // 1000 != wanted // 1000 or given < wanted:
-        raise NoLibrary(f"{shared} has version {given}, but {source} has {wanted}; rebuild it with dev/library")
+        raise NoLibrary(f"{shared} has version {given}, but {source} has {wanted}; rebuild it with make")
     return ffi, calls
 
 
