@@ -44,7 +44,7 @@ contest_size o = if o.league then 2 else length o.files
 -- `setup` is the setup of the match, league or debugged battle that the options describe.
 pub record IsSetupOf (o : OptionsValue) (setup : Setup) : Type 0 where
   pub allowed : checked_parameters (parameters_of o) ≡ Ok setup.params
-  pub scored : formula_of o.score ≡ Ok setup.plan.formula
+  pub scored : formula_of o.score ≡ Ok setup.formula
   pub rounds : setup.plan.rounds ≡ o.rounds
   pub seed : setup.plan.seed ≡ o.seed
   pub fixed : setup.plan.fixed ≡ o.fixed
@@ -52,8 +52,8 @@ pub record IsSetupOf (o : OptionsValue) (setup : Setup) : Type 0 where
 -- The rows of the match, or of the league.
 abbrev pub contest : Bool → Setup → List WarriorValue → Result (List RowValue) MatchFault
 contest league setup warriors =
-    if league then league_of setup.params warriors setup.plan.formula setup.plan.fixed setup.plan.rounds setup.plan.seed
-    else table_of setup.params warriors setup.plan.formula setup.plan.fixed setup.plan.rounds setup.plan.seed
+    if league then league_of setup.params warriors setup.formula setup.plan.fixed setup.plan.rounds setup.plan.seed
+    else table_of setup.params warriors setup.formula setup.plan.fixed setup.plan.rounds setup.plan.seed
 
 -- The error of the program for an error of a match. A failed allocation at any step is `OutOfMemory`.
 abbrev pub fault_of : MatchFault → RunFault

@@ -122,8 +122,8 @@ fn setup_of(alloc: Global, options: &Options) -> Result<Setup, RunFault>
                 rounds: options.rounds,
                 seed: options.seed,
                 fixed: options.fixed,
-                formula,
             },
+            formula,
         }),
         Err(FormulaFault::OutOfMemory) => Err(RunFault::OutOfMemory),
         Err(FormulaFault::Expression(fault)) => {

@@ -200,7 +200,7 @@ fn check_fault(
 }
 
 /// Checks that each run has status 0.
-fn check_well(rt: &impl Abort, alloc: Global, runs: &[&[&str]]) -> Result<(), Fail> {
+fn check_success(rt: &impl Abort, alloc: Global, runs: &[&[&str]]) -> Result<(), Fail> {
     for words in runs {
         let answer = answer(alloc, words, b"show\n")?;
         assert_eq!(rt; answer.status, 0, "{words:?}");

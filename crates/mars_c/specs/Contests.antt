@@ -35,14 +35,14 @@ plain_row row = record { points = row.points; wins = row.wins; ties = row.ties; 
 abbrev pub IsMatch : MarsSettings → List ℕ → List MarsCell → List MarsWarrior → List RowValue → Type 0
 IsMatch s text cells entrants rows = (setup : Setup) × (ws : List WarriorValue)
     × IsSetup s text setup × AreEntrants setup.params cells entrants ws × FitsTwo setup.params (length ws) setup.plan.fixed
-    × (table_of setup.params ws setup.plan.formula setup.plan.fixed setup.plan.rounds setup.plan.seed ≡ Ok rows)
+    × (table_of setup.params ws setup.formula setup.plan.fixed setup.plan.rounds setup.plan.seed ≡ Ok rows)
 
 -- `rows` is the table of a league of these warriors, with the settings `s` and the formula `text`. The settings may not have a
 -- position.
 abbrev pub IsLeague : MarsSettings → List ℕ → List MarsCell → List MarsWarrior → List RowValue → Type 0
 IsLeague s text cells entrants rows = (setup : Setup) × (ws : List WarriorValue)
     × IsSetup s text setup × AreEntrants setup.params cells entrants ws × (setup.plan.fixed ≡ None)
-    × (league_of setup.params ws setup.plan.formula None setup.plan.rounds setup.plan.seed ≡ Ok rows)
+    × (league_of setup.params ws setup.formula None setup.plan.rounds setup.plan.seed ≡ Ok rows)
 
 -- The caller's rows hold the table of a match.
 abbrev pub HoldsMatch : MarsSettings → List ℕ → List MarsCell → List MarsWarrior → List MarsRow → Type 0
@@ -54,7 +54,7 @@ HoldsLeague s text cells entrants place = (rows : List RowValue) × IsLeague s t
 
 -- The sums of a population: the first `candidates` warriors of `ws` are the candidates, and the others their opponents.
 abbrev pub population : Setup → ℕ → List WarriorValue → Result (List Sum) MatchFault
-population setup candidates ws = population_of setup.params setup.plan.formula setup.plan.fixed setup.plan.rounds setup.plan.seed (drop candidates ws) (take candidates ws)
+population setup candidates ws = population_of setup.params setup.formula setup.plan.fixed setup.plan.rounds setup.plan.seed (drop candidates ws) (take candidates ws)
 
 -- A sum as numbers.
 abbrev pub plain_sum : Sum → MarsRow

@@ -218,8 +218,8 @@ by_formula text = record {
     rounds = 1;
     seed = 1;
     fixed = None;
-    formula = elim (formula_of text) [ Ok formula ↦ formula | Err fault ↦ record { tokens = []; names = [] } ];
   };
+  formula = elim (formula_of text) [ Ok formula ↦ formula | Err fault ↦ record { tokens = []; names = [] } ];
 }
 
 abbrev one_cell : Op → Modifier → WarriorValue

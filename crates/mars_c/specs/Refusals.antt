@@ -142,11 +142,11 @@ IsOutOfRange fault Fits refusal = (refusal ≡ Settings fault) × (Fits → ⊥)
 
 -- `refusal` is the error of a match of these warriors.
 abbrev pub FailsMatch : MarsSettings → List ℕ → List MarsCell → List MarsWarrior → CallRefusal → Type 0
-FailsMatch s text cells entrants = Fails s text cells entrants (λ setup ws. table_of setup.params ws setup.plan.formula setup.plan.fixed setup.plan.rounds setup.plan.seed)
+FailsMatch s text cells entrants = Fails s text cells entrants (λ setup ws. table_of setup.params ws setup.formula setup.plan.fixed setup.plan.rounds setup.plan.seed)
 
 -- `refusal` is the error of a league of these warriors.
 abbrev pub FailsLeague : MarsSettings → List ℕ → List MarsCell → List MarsWarrior → CallRefusal → Type 0
-FailsLeague s text cells entrants = Fails s text cells entrants (λ setup ws. league_of setup.params ws setup.plan.formula setup.plan.fixed setup.plan.rounds setup.plan.seed)
+FailsLeague s text cells entrants = Fails s text cells entrants (λ setup ws. league_of setup.params ws setup.formula setup.plan.fixed setup.plan.rounds setup.plan.seed)
 
 -- `refusal` is the error of the start of a round's battle.
 abbrev pub FailsRound : MarsSettings → List MarsCell → List MarsWarrior → ℕ → CallRefusal → Type 0

@@ -3,6 +3,7 @@ use Rattle.std.specs.Prelude.{◌≡◌, ◌≤◌, ◌==◌, ℕ, if◌then◌e
 use Rattle.mars_cell.specs.Parameters.{Parameters}
 use Rattle.mars_cell.specs.ParameterFaults.{checked_parameters}
 use Rattle.mars_app.specs.Limits.{max_rounds}
+use Rattle.mars_match.specs.declared.setup.Plan.{Plan}
 use Rattle.mars_match.specs.declared.setup.Setup.{Setup}
 use Rattle.redcode_asm.specs.Formula.{formula_of}
 use Rattle.mars_c.specs.declared.settings.MarsSettings.{MarsSettings}
@@ -35,12 +36,16 @@ AreRounds rounds = (1 ≤ rounds) × (rounds ≤ max_rounds)
 abbrev pub IsSeed : ℕ → Type 0
 IsSeed seed = (1 ≤ seed) × (seed ≤ 2147483646)
 
+-- `plan` is what the settings `s` describe.
+pub record IsPlan (s : MarsSettings) (plan : Plan) : Type 0 where
+  pub rounds : plan.rounds ≡ s.rounds
+  pub seed : plan.seed ≡ s.seed
+  pub fixed : plan.fixed ≡ position_of s.position
+  pub rounds_allowed : AreRounds s.rounds
+  pub seed_allowed : IsSeed s.seed
+
 -- `setup` is what the settings `s` and the formula `text` describe.
 pub record IsSetup (s : MarsSettings) (text : List ℕ) (setup : Setup) : Type 0 where
   pub params : checked_parameters (parameters_in s) ≡ Ok setup.params
-  pub formula : formula_of text ≡ Ok setup.plan.formula
-  pub rounds : setup.plan.rounds ≡ s.rounds
-  pub seed : setup.plan.seed ≡ s.seed
-  pub fixed : setup.plan.fixed ≡ position_of s.position
-  pub rounds_allowed : AreRounds s.rounds
-  pub seed_allowed : IsSeed s.seed
+  pub plan : IsPlan s setup.plan
+  pub formula : formula_of text ≡ Ok setup.formula

@@ -1,16 +1,18 @@
 //! How each warrior fares in each round of many matches.
-ghost use Rattle.std.specs.Prelude.{◌≡◌, ◌++◌, ◌≤◌, All, IfErr, IfOk, IfSome, List, None, OnErr, OnOk, length, map};
+ghost use Rattle.std.specs.Prelude.{◌≡◌, ◌++◌, ◌≤◌, All, IfErr, IfOk, IfSome, List, None, Ok, OnErr, OnOk, length, map};
 ghost use Rattle.mars_match.specs.declared.fates.Fate.{Fate as FateValue};
 ghost use Rattle.mars_c.specs.Outcomes.{AreChosen, AreFought, HoldsOutcomes, IsFirstFailure, IsFought, IsLineup, IsNoLineup, IsWrongLineup, RefusesLineup, RefusesOutcomes, indices_of, plain_fate, rows_for, seeded as spec_seeded};
 ghost use Rattle.mars_c.specs.Refusals.{IsOutOfRange};
+ghost use Rattle.mars_c.specs.Settings.{parameters_in};
 ghost use Rattle.mars_c.specs.declared.ranges.SettingsFault.TheVariants as settings_fault;
+ghost use Rattle.mars_cell.specs.ParameterFaults.{checked_parameters};
 ghost use Rattle.mars_core.specs.Limits.{max_warriors};
 
 use crate::entrants::{Entrants, read_all};
 use crate::faults::{CallRefusal, refused_fight};
 use crate::ranges::{LineupFault, SettingsFault};
-use crate::settings::{MarsSettings, make_setup, parameters};
-use mars_cell::Warrior;
+use crate::settings::{MarsSettings, make_plan, parameters};
+use mars_cell::{Params, Warrior};
 use mars_core::{Battle, MAX_WARRIORS};
 use mars_match::{Fate, Fought, fight_rounds};
 use std::alloc::Global;
@@ -160,18 +162,23 @@ fn choose(
 fn fight_lineup(
     alloc: Global,
     settings: &MarsSettings,
+    params: &Params,
     warriors: &[Warrior],
     lineup: &MarsLineup,
     last: Option<Box<Battle>>,
 ) -> Result<Fought, CallRefusal>
-    requires { IsLineup (length warriors.now) lineup.now }
+    requires params { checked_parameters (parameters_in settings.now) ≡ Ok params.now }
+    requires lineup { IsLineup (length warriors.now) lineup.now }
     ensures fought { IfOk result (λ fought. IsFought settings.now warriors.now lineup.now fought.fates.items) }
     ensures refused { IfErr result (RefusesLineup settings.now warriors.now lineup.now) }
 {
     let count = lineup.count as usize;
-    let setup = make_setup(alloc, &seeded(settings, lineup.seed), b"0", count)?;
+    let plan = match make_plan(&seeded(settings, lineup.seed), params, count) {
+        Ok(plan) => plan,
+        Err(fault) => return Err(CallRefusal::Settings(fault)),
+    };
     let chosen = choose(alloc, warriors, lineup)?;
-    match fight_rounds(alloc, &setup, chosen, lineup.counting != 0, last) {
+    match fight_rounds(alloc, params, &plan, chosen, lineup.counting != 0, last) {
         Ok(fought) => Ok(fought),
         Err(fault) => Err(refused_fight(fault)),
     }
@@ -194,17 +201,19 @@ fn append(outcomes: &mut Vec<MarsOutcome>, fates: &[Fate]) -> Result<(), CallRef
 fn fight_all(
     alloc: Global,
     settings: &MarsSettings,
+    params: &Params,
     warriors: &[Warrior],
     lineups: &[MarsLineup],
 ) -> Result<Vec<MarsOutcome>, CallRefusal>
-    requires { All (IsLineup (length warriors.now)) lineups.now }
+    requires params { checked_parameters (parameters_in settings.now) ≡ Ok params.now }
+    requires lineups { All (IsLineup (length warriors.now)) lineups.now }
     ensures fought { IfOk result (λ outcomes. (fates : List FateValue) × AreFought settings.now warriors.now lineups.now fates × (outcomes.items ≡ map plain_fate fates)) }
     ensures refused { IfErr result (IsFirstFailure settings.now warriors.now lineups.now) }
 {
     let mut outcomes = Vec::new(alloc);
     let mut last = None;
     for i in 0..lineups.len() {
-        let fought = fight_lineup(alloc, settings, warriors, &lineups[i], last)?;
+        let fought = fight_lineup(alloc, settings, params, warriors, &lineups[i], last)?;
         append(&mut outcomes, &fought.fates)?;
         last = fought.last;
     }
@@ -230,7 +239,7 @@ pub fn outcomes_into(
         Err(fault) => return Err(CallRefusal::Parameters(fault)),
     };
     let warriors = read_all(alloc, &params, entrants)?;
-    let outcomes = fight_all(alloc, settings, &warriors, lineups)?;
+    let outcomes = fight_all(alloc, settings, &params, &warriors, lineups)?;
     if outcomes.len() != places.len() {
         // There is a place for each fate, so this is never reached, and any error would do.
         return Err(CallRefusal::OutOfMemory);

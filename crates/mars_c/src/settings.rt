@@ -3,7 +3,7 @@ ghost use Rattle.std.specs.Prelude.{◌≡◌, ◌≤◌, ℕ, IfErr, IfOk, IfSo
 ghost use Rattle.mars_cell.specs.ParameterFaults.{checked_parameters};
 ghost use Rattle.mars_core.specs.Limits.{max_warriors};
 ghost use Rattle.mars_match.specs.Placement.{FitsTwo};
-ghost use Rattle.mars_c.specs.Settings.{AreRounds, IsSeed, IsSetup, limit_of, parameters_in, position_of};
+ghost use Rattle.mars_c.specs.Settings.{AreRounds, IsPlan, IsSeed, IsSetup, limit_of, parameters_in, position_of};
 ghost use Rattle.mars_c.specs.Refusals.{AreWarriors, IsOutside, RefusesEntry};
 ghost use Rattle.mars_c.specs.declared.cells.MarsCell.{MarsCell as CellNumbers};
 ghost use Rattle.mars_c.specs.declared.warriors.MarsWarrior.{MarsWarrior as WarriorNumbers};
@@ -116,6 +116,33 @@ fn position(
     Ok(Some(position))
 }
 
+/// Returns the plan that the settings describe, or the first error.
+///
+/// The position of the settings must fit battles of `warriors` warriors.
+pub fn make_plan(
+    settings: &MarsSettings,
+    params: &Params,
+    warriors: usize,
+) -> Result<Plan, SettingsFault>
+    ensures fits { IfOk result (λ plan. FitsTwo params.now warriors plan.fixed) }
+    ensures plan { IfOk result (IsPlan settings.now) }
+    ensures outside { (cells : List CellNumbers) (entrants : List WarriorNumbers) → checked_parameters (parameters_in settings.now) ≡ Ok params.now
+        → IfErr result (IsOutside settings.now warriors cells entrants) }
+{
+    if let Some(fault) = numbers_fault(settings) {
+        return Err(fault);
+    }
+    let (rounds, seed) = (settings.rounds, settings.seed);
+    match position(settings, params, warriors) {
+        Ok(fixed) => Ok(Plan {
+            rounds,
+            seed,
+            fixed,
+        }),
+        Err(fault) => Err(fault),
+    }
+}
+
 /// Returns the setup that the settings and the formula describe.
 ///
 /// The position of the settings must fit battles of `warriors` warriors.
@@ -133,11 +160,8 @@ pub fn make_setup(
         Ok(params) => params,
         Err(fault) => return Err(CallRefusal::Parameters(fault)),
     };
-    if let Some(fault) = numbers_fault(settings) {
-        return Err(CallRefusal::Settings(fault));
-    }
-    let fixed = match position(settings, &params, warriors) {
-        Ok(fixed) => fixed,
+    let plan = match make_plan(settings, &params, warriors) {
+        Ok(plan) => plan,
         Err(fault) => return Err(CallRefusal::Settings(fault)),
     };
     let formula = match Formula::new(alloc, formula) {
@@ -145,14 +169,9 @@ pub fn make_setup(
         Err(FormulaFault::OutOfMemory) => return Err(CallRefusal::OutOfMemory),
         Err(FormulaFault::Expression(fault)) => return Err(CallRefusal::Formula(fault)),
     };
-    let (rounds, seed) = (settings.rounds, settings.seed);
     Ok(Setup {
         params,
-        plan: Plan {
-            rounds,
-            seed,
-            fixed,
-            formula,
-        },
+        plan,
+        formula,
     })
 }

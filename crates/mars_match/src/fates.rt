@@ -13,7 +13,7 @@ ghost use Rattle.mars_match.specs.declared.fates.Played.{Played as PlayedValue};
 use crate::counts::{Counts, count_to_end};
 use crate::fault::MatchFault;
 use crate::fights::{Lineup, Round, check_count, fight_round, is_alive, start_round};
-use crate::setup::Setup;
+use crate::setup::Plan;
 use mars_cell::{Params, Warrior};
 use mars_core::{Battle, Death};
 use std::alloc::Global;
@@ -142,31 +142,32 @@ pub struct Fought {
 /// Returns the fates of all rounds of a match.
 fn fight_lineup(
     alloc: Global,
-    setup: &Setup,
+    params: &Params,
+    plan: &Plan,
     lineup: &Lineup,
     counting: bool,
     last: Option<Box<Battle>>,
 ) -> Result<Fought, MatchFault>
     requires some { 1 ≤ length lineup.now }
     requires few { length lineup.now ≤ max_warriors }
-    requires fixed { IfSome setup.now.plan.fixed (λ position. length lineup.now ≡ 2) }
-    requires room { IfSome last (λ battle. HasRoom setup.now.params (length lineup.now) battle.value) }
-    ensures { let plan = setup.now.plan in IsResult (λ (fought : FoughtValue). fought.fates.items)
-        (fates counting setup.now.params lineup.now plan.fixed plan.rounds 0 plan.seed) result }
+    requires fixed { IfSome plan.now.fixed (λ position. length lineup.now ≡ 2) }
+    requires room { IfSome last (λ battle. HasRoom params.now (length lineup.now) battle.value) }
+    ensures { IsResult (λ (fought : FoughtValue). fought.fates.items)
+        (fates counting params.now lineup.now plan.now.fixed plan.now.rounds 0 plan.now.seed) result }
 {
     let mut starts = vec![in alloc; 0u32; lineup.len()]?;
     let mut fates = Vec::new(alloc);
-    let mut seed = setup.plan.seed;
+    let mut seed = plan.seed;
     let mut last = last;
-    for number in 0..setup.plan.rounds {
-        seed = setup.place_round(seed, starts.as_mut_slice())?;
+    for number in 0..plan.rounds {
+        seed = plan.place_round(params, seed, starts.as_mut_slice())?;
         let starts = starts.as_slice();
         let round = Round {
             lineup,
             starts,
             number,
         };
-        let played = play_round(alloc, &setup.params, round, last, counting)?;
+        let played = play_round(alloc, params, round, last, counting)?;
         append_fates(&mut fates, &played, number as usize % lineup.len(), starts)?;
         last = Some(played.battle);
     }
@@ -203,7 +204,7 @@ fn with_room(last: Option<Box<Battle>>, params: &Params, count: usize) -> Option
 
 /// Returns the fate of each warrior in each round of a match, in load order, one round after another.
 ///
-/// The rounds are those of `rounds` for the same setup, but no formula is evaluated. If `counting`, each turn is recorded to
+/// The rounds are those of `rounds` for a setup with the same parameters and plan. If `counting`, each turn is recorded to
 /// count what the warriors do, which takes several times as long. The battles are fought in the memory of `last`, the battle
 /// of an earlier match, if that has the same parameters and number of warriors. Otherwise a battle is allocated, and in any
 /// case copies of the warriors, and the fates; if `counting`, also marks for the cells of each warrior in each round.
@@ -213,17 +214,18 @@ fn with_room(last: Option<Box<Battle>>, params: &Params, count: usize) -> Option
 /// Returns the first error of the warriors' number or of a round, or `OutOfMemory` if an allocation fails.
 pub fn fight_rounds(
     alloc: Global,
-    setup: &Setup,
+    params: &Params,
+    plan: &Plan,
     warriors: Vec<Warrior>,
     counting: bool,
     last: Option<Box<Battle>>,
 ) -> Result<Fought, MatchFault>
-    requires fixed { FitsTwo setup.now.params (length warriors.items) setup.now.plan.fixed }
-    ensures { let plan = setup.now.plan in IsResult (λ (fought : FoughtValue). fought.fates.items)
-        (fates_of counting setup.now.params warriors.items plan.fixed plan.rounds plan.seed) result }
+    requires fixed { FitsTwo params.now (length warriors.items) plan.now.fixed }
+    ensures { IsResult (λ (fought : FoughtValue). fought.fates.items)
+        (fates_of counting params.now warriors.items plan.now.fixed plan.now.rounds plan.now.seed) result }
 {
     check_count(warriors.len())?;
     let lineup = Lineup::of(warriors)?;
-    let last = with_room(last, &setup.params, lineup.len());
-    fight_lineup(alloc, setup, &lineup, counting, last)
+    let last = with_room(last, params, lineup.len());
+    fight_lineup(alloc, params, plan, &lineup, counting, last)
 }

@@ -136,13 +136,13 @@ impl Matches {
     ) -> Result<(Box<Battle>, i64), MatchFault>
         requires kept { IsKept setup.now (length round.lineup.now) self.old }
         ensures outcome { let r = round.entry in IsResult (λ (played : Box State Global × ℤ). outcome_by (r.number % length r.lineup.now) played.0.value played.1)
-            (round_outcome setup.now.params r.lineup.now setup.now.plan.formula r.starts.now r.number) result }
+            (round_outcome setup.now.params r.lineup.now setup.now.formula r.starts.now r.number) result }
         ensures room { IfOk result (λ played. HasRoom setup.now.params (length round.entry.lineup.now) played.0.value) }
-        ensures scores { IfOk result (λ _. AreScores setup.now.plan.formula (length round.entry.lineup.now) self.new.scores) }
+        ensures scores { IfOk result (λ _. AreScores setup.now.formula (length round.entry.lineup.now) self.new.scores) }
         ensures no_memory { IfSome self.old.last (λ _. IfErr result (λ fault. fault ≢ MatchFault.OutOfMemory)) }
     {
         let battle = fight_round(self.alloc, &setup.params, round, self.last.take())?;
-        let score = score_round(&setup.plan.formula, &battle, &mut self.scores)?;
+        let score = score_round(&setup.formula, &battle, &mut self.scores)?;
         Ok((battle, score))
     }
 
@@ -160,14 +160,16 @@ impl Matches {
         requires fresh { All (IsOf 0) tallies.old }
         requires kept { IsKept setup.now (length lineup.now) self.old }
         ensures sums { let plan = setup.now.plan in IsResult (λ _. tallies.new)
-            (tallied setup.now.params lineup.now plan.formula plan.fixed plan.rounds 0 plan.seed tallies.old) result }
+            (tallied setup.now.params lineup.now setup.now.formula plan.fixed plan.rounds 0 plan.seed tallies.old) result }
         ensures bounds { IfOk result (λ _. All (IsOf max_rounds) tallies.new) }
         ensures kept { IfOk result (λ _. IsKept setup.now (length lineup.now) self.new) }
     {
         let mut starts = vec![in self.alloc; 0u32; lineup.len()]?;
         let mut seed = setup.plan.seed;
         for number in 0..setup.plan.rounds {
-            seed = setup.place_round(seed, starts.as_mut_slice())?;
+            seed = setup
+                .plan
+                .place_round(&setup.params, seed, starts.as_mut_slice())?;
             let starts = starts.as_slice();
             let round = Round {
                 lineup,
@@ -191,7 +193,7 @@ impl Matches {
         requires kept { IsKept setup.now (length lineup.now) self.old }
         ensures table { let plan = setup.now.plan in (first second : WarriorValue) → lineup.now ≡ first ∷ second ∷ []
             → IsResult (λ (both : Tally × Tally). row_with first both.0 ∷ row_with second both.1 ∷ [])
-            (table_of setup.now.params (first ∷ second ∷ []) plan.formula plan.fixed plan.rounds plan.seed) result }
+            (table_of setup.now.params (first ∷ second ∷ []) setup.now.formula plan.fixed plan.rounds plan.seed) result }
         ensures bounds { IfOk result (λ both. IsOf max_rounds both.0 × IsOf max_rounds both.1) }
         ensures points { IfOk result (λ both. fits_in_64 both.0.points ≡ true) }
         ensures kept { IfOk result (λ _. IsKept setup.now (length lineup.now) self.new) }
@@ -217,7 +219,7 @@ impl Matches {
         requires bounds { All (IsOf (i * max_row_rounds)) tallies.old }
         requires kept { IsKept setup.now 2 self.old }
         ensures sums { let plan = setup.now.plan in IsResult (λ _. tallies.new)
-            (after_matches setup.now.params plan.formula plan.fixed plan.rounds plan.seed (pairs_of_first i (drop i warriors.now)) tallies.old) result }
+            (after_matches setup.now.params setup.now.formula plan.fixed plan.rounds plan.seed (pairs_of_first i (drop i warriors.now)) tallies.old) result }
         ensures bounds { IfOk result (λ _. All (IsOf ((i + 1) * max_row_rounds)) tallies.new) }
         ensures kept { IfOk result (λ _. IsKept setup.now 2 self.new) }
     {
@@ -243,7 +245,7 @@ impl Matches {
         requires bounds { All (IsOf 0) tallies.old }
         requires kept { IsKept setup.now 2 self.old }
         ensures { let plan = setup.now.plan in IsResult (λ _. tallies.new)
-            (after_matches setup.now.params plan.formula plan.fixed plan.rounds plan.seed (all_pairs 0 warriors.now) tallies.old) result }
+            (after_matches setup.now.params setup.now.formula plan.fixed plan.rounds plan.seed (all_pairs 0 warriors.now) tallies.old) result }
     {
         for i in 0..warriors.len() {
             self.play_others(setup, warriors, i, tallies)?;
@@ -265,7 +267,7 @@ pub fn rounds(alloc: Global, setup: &Setup, warriors: &[Warrior]) -> Result<Tabl
     requires fixed { FitsTwo setup.now.params (length warriors.now) setup.now.plan.fixed }
     ensures count { IfSome (count_fault (length warriors.now)) (λ fault. result ≡ Err (MatchFault.Battle fault)) }
     ensures table { let plan = setup.now.plan in IsResult (λ (table : Table). table.rows.items)
-        (table_of setup.now.params warriors.now plan.formula plan.fixed plan.rounds plan.seed) result }
+        (table_of setup.now.params warriors.now setup.now.formula plan.fixed plan.rounds plan.seed) result }
 {
     check_count(warriors.len())?;
     let lineup = Lineup::new(alloc, warriors)?;
@@ -291,7 +293,7 @@ pub fn league(alloc: Global, setup: &Setup, warriors: &[Warrior]) -> Result<Tabl
     requires few { length warriors.now ≤ max_league_warriors }
     requires fixed { FitsTwo setup.now.params (length warriors.now) setup.now.plan.fixed }
     ensures table { let plan = setup.now.plan in IsResult (λ (table : Table). table.rows.items)
-        (league_of setup.now.params warriors.now plan.formula plan.fixed plan.rounds plan.seed) result }
+        (league_of setup.now.params warriors.now setup.now.formula plan.fixed plan.rounds plan.seed) result }
 {
     let mut tallies = first_tallies(alloc, warriors.len())?;
     let mut matches = Matches::new(alloc);

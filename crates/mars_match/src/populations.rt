@@ -89,7 +89,7 @@ impl Matches {
     ) -> Result<Sum, MatchFault>
         requires kept { IsKept setup.now 2 self.old }
         ensures sum { let plan = setup.now.plan in IsResult (λ (sum : SumNumbers). sum)
-            (candidate_sum setup.now.params plan.formula plan.fixed plan.rounds plan.seed opponents.now candidate.now) result }
+            (candidate_sum setup.now.params setup.now.formula plan.fixed plan.rounds plan.seed opponents.now candidate.now) result }
         ensures kept { IfOk result (λ _. IsKept setup.now 2 self.new) }
     {
         let mut lineup = Lineup::twice(self.alloc, candidate)?;
@@ -124,7 +124,7 @@ pub fn population(
     requires fixed { FitsTwo setup.now.params 2 setup.now.plan.fixed }
     ensures many { IfOk result (λ sums. vec_len sums ≡ length candidates.now) }
     ensures sums { let plan = setup.now.plan in IsResult (λ (sums : Vec SumNumbers Global). sums.items)
-        (population_of setup.now.params plan.formula plan.fixed plan.rounds plan.seed opponents.now candidates.now) result }
+        (population_of setup.now.params setup.now.formula plan.fixed plan.rounds plan.seed opponents.now candidates.now) result }
 {
     let mut sums = Vec::with_capacity(alloc, candidates.len())?;
     let mut matches = Matches::new(alloc);

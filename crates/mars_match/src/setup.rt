@@ -12,8 +12,8 @@ use mars_cell::Params;
 use redcode_asm::Formula;
 use std::alloc::Global;
 
-/// The plan of a match.
-#[derive(Drop)]
+/// The plan of a match's battles.
+#[derive(Clone, Copy)]
 pub struct Plan {
     /// The number of rounds of a match, which in a league is a match of one pair.
     pub rounds: u32,
@@ -22,37 +22,45 @@ pub struct Plan {
     /// The start of the second of two warriors in each round, instead of a drawn position. It is at least the minimum
     /// distance, and at most the core size minus the minimum distance.
     pub fixed: Option<u32>,
-    /// The formula for the points of each survivor of a round.
-    pub formula: Formula,
 }
 
-/// The setup of a match or a league: the parameters of its battles, and its plan.
-#[derive(Drop)]
-pub struct Setup {
-    pub params: Params,
-    pub plan: Plan,
-}
-
-impl Setup {
+impl Plan {
     /// Sets the starts of a round, and returns the seed that is left.
-    pub(crate) fn place_round(&self, seed: u32, starts: &mut [u32]) -> Result<u32, MatchFault>
+    pub(crate) fn place_round(
+        &self,
+        params: &Params,
+        seed: u32,
+        starts: &mut [u32],
+    ) -> Result<u32, MatchFault>
         requires some { 1 ≤ length starts.old }
         requires few { length starts.old ≤ max_warriors }
-        requires fixed { IfSome self.now.plan.fixed (λ position. length starts.old ≡ 2) }
-        ensures { MatchResult result (λ left. placed_for self.now.params (length starts.old) self.now.plan.fixed seed ≡ Ok (starts.new, left))
-            (λ fault. placed_for self.now.params (length starts.old) self.now.plan.fixed seed ≡ Err fault) }
+        requires fixed { IfSome self.now.fixed (λ position. length starts.old ≡ 2) }
+        ensures { MatchResult result (λ left. placed_for params.now (length starts.old) self.now.fixed seed ≡ Ok (starts.new, left))
+            (λ fault. placed_for params.now (length starts.old) self.now.fixed seed ≡ Err fault) }
     {
-        if let Some(position) = self.plan.fixed {
+        if let Some(position) = self.fixed {
             starts[0] = 0;
             starts[1] = position;
             return Ok(seed);
         }
-        if let Some(fault) = find_fault(&self.params, starts.len() as u32, seed) {
+        if let Some(fault) = find_fault(params, starts.len() as u32, seed) {
             return Err(MatchFault::Place(fault));
         }
-        Ok(place_all(&self.params, seed, starts))
+        Ok(place_all(params, seed, starts))
     }
+}
 
+/// The setup of a match or a league.
+#[derive(Drop)]
+pub struct Setup {
+    /// The parameters of its battles.
+    pub params: Params,
+    pub plan: Plan,
+    /// The formula for the points of each survivor of a round.
+    pub formula: Formula,
+}
+
+impl Setup {
     /// Returns the starts of the warriors of a round, in load order, and the seed that is left.
     ///
     /// The starts are drawn from the seed. If the plan has a fixed position, it is the start of the second of two
@@ -75,7 +83,9 @@ impl Setup {
         ensures many { IfOk result (λ placed. vec_len placed.0 ≡ warriors) }
     {
         let mut starts = vec![in alloc; 0u32; warriors as usize]?;
-        let left = self.place_round(seed, starts.as_mut_slice())?;
+        let left = self
+            .plan
+            .place_round(&self.params, seed, starts.as_mut_slice())?;
         Ok((starts, left))
     }
 }

@@ -179,8 +179,8 @@ fn setup_of(alloc: Global, params: &Params, plans: Plans) -> Option<Setup>
             rounds: count,
             seed,
             fixed,
-            formula,
         },
+        formula,
     })
 }
 

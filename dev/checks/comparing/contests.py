@@ -71,7 +71,7 @@ class Contest:
         self.numbers = some(settings["position"] or None), settings["rounds"], settings["seed"]
         self.scored = definitions("redcode_asm.Formula.formula_of", FORMULA)[1]
         plan = {"rounds": settings["rounds"], "seed": settings["seed"], "fixed": self.numbers[0]}
-        self.setup = {"params": self.bounds, "plan": {**plan, "formula": self.scored}}
+        self.setup = {"params": self.bounds, "plan": plan, "formula": self.scored}
         plain_cell = definitions.get("mars_c.Cells.plain_cell")
         cells = [plain_cell(cell) for warrior in warriors for cell in warrior["cells"]]
         places = [{"length": len(warrior["cells"]), "start": warrior["start"]} for warrior in warriors]

@@ -88,7 +88,7 @@ def expected(definitions: Evaluator, options: Value, contents: list[bytes], line
     if options["load"]:
         return 0, definitions("mars_cell.Written.load_text", options["core"], warriors[0])
     plan = {name: options[name] for name in ("rounds", "seed", "fixed")}
-    setup = {"params": bounds[1], "plan": {**plan, "formula": scored[1]}}
+    setup = {"params": bounds[1], "plan": plan, "formula": scored[1]}
     if options["debugger"]:
         started, output = definitions("mars_app.Debugging.first_round", setup, warriors), ()
     else:

@@ -147,10 +147,10 @@ def match(definitions: Evaluator, dice: random.Random) -> Iterator[str]:
     scored = definitions("redcode_asm.Formula.formula_of", FORMULA)[1]
     rows = definitions("mars_match.Rounds.table_of", bounds, tuple(warriors), scored, *numbers)[1]
     fates = definitions("mars_match.Fates.fates_of", False, bounds, tuple(warriors), *numbers)[1]
-    plan = {"rounds": settings["rounds"], "seed": settings["seed"], "fixed": ("None",), "formula": scored}
+    plan = {"rounds": settings["rounds"], "seed": settings["seed"], "fixed": ("None",)}
     marks = marks_of(bounds, count)
     for number in range(settings["rounds"]):
-        setup = {"params": bounds, "plan": plan}
+        setup = {"params": bounds, "plan": plan, "formula": scored}
         started = definitions("mars_c.Battles.round_start_state", setup, tuple(warriors), number)
         marks |= end_of(definitions, started[1])[1]
     yield from settings_lines(settings)

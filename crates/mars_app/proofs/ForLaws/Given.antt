@@ -65,8 +65,8 @@ module _ (words : List (List ℕ)) (known : List ℕ → Option (List ℕ)) (all
   params : a.setup.params ≡ b.setup.params
   params = ok_injective a.setup.params b.setup.params (sym a.held.allowed ∙ ap (λ o. checked_parameters (parameters_of o)) options ∙ b.held.allowed)
 
-  formula : a.setup.plan.formula ≡ b.setup.plan.formula
-  formula = ok_injective a.setup.plan.formula b.setup.plan.formula (sym a.held.scored ∙ ap (λ (o : OptionsValue). formula_of o.score) options ∙ b.held.scored)
+  formula : a.setup.formula ≡ b.setup.formula
+  formula = ok_injective a.setup.formula b.setup.formula (sym a.held.scored ∙ ap (λ (o : OptionsValue). formula_of o.score) options ∙ b.held.scored)
 
   rounds : a.setup.plan.rounds ≡ b.setup.plan.rounds
   rounds = a.held.rounds ∙ ap (λ (o : OptionsValue). o.rounds) options ∙ sym b.held.rounds

@@ -164,7 +164,7 @@ errors_recur words known old new before after f is_given own first second = both
     both (not_scored o said p allowed e fails is u) q =
         let a = asked_by words known is_given f own before after q in
         let same = same_options words known is_given f own o said a in
-        not_both (formula_of o.score) a.setup.plan.formula e (ap (λ (o : OptionsValue). formula_of o.score) same ∙ a.held.scored) fails
+        not_both (formula_of o.score) a.setup.formula e (ap (λ (o : OptionsValue). formula_of o.score) same ∙ a.held.scored) fails
     both (not_loaded o said p allowed s scored first u) q =
         all_load words known is_given f own o said p allowed (asked_by words known is_given f own before after q) first
     both (not_written a l is w) q = system fault.Output is refl

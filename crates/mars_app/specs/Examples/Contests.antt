@@ -44,9 +44,9 @@ limits_are_the_core o = (refl, refl, refl)
 pub a_league_or_a_match : (o : OptionsValue) (setup : Setup) (warriors : List WarriorValue) →
     let p = setup.params in
     let plan = setup.plan in
-    (contest true setup warriors ≡ league_of p warriors plan.formula plan.fixed plan.rounds plan.seed)
+    (contest true setup warriors ≡ league_of p warriors setup.formula plan.fixed plan.rounds plan.seed)
     × (contest_size (record o { league = true }) ≡ 2)
-    × (contest false setup warriors ≡ table_of p warriors plan.formula plan.fixed plan.rounds plan.seed)
+    × (contest false setup warriors ≡ table_of p warriors setup.formula plan.fixed plan.rounds plan.seed)
 a_league_or_a_match o setup warriors = (refl, refl, refl)
 
 -- The status is 2 if the arguments have an error, otherwise 1.

@@ -1,6 +1,6 @@
 //! Matches and leagues: listings and results.
 
-use super::{Played, check_played, check_well};
+use super::{Played, check_played, check_success};
 use std::test::Fail;
 
 const MATCHES: &[Played] = &[
@@ -103,7 +103,7 @@ const CONTESTS: &[&[&str]] = &[
 
 #[test]
 fn sources_know_the_contest(rt: HostRuntime) -> Result<(), Fail> {
-    check_well(&rt, rt.alloc(), CONTESTS)
+    check_success(&rt, rt.alloc(), CONTESTS)
 }
 
 const NAMED_WARRIORS: &[Played] = &[

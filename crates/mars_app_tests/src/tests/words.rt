@@ -1,6 +1,6 @@
 //! The arguments of the program: which are accepted, their defaults and ranges, and the help.
 
-use super::{Played, answer, check_fault, check_played, check_well};
+use super::{Played, answer, check_fault, check_played, check_success};
 use std::alloc::Global;
 use std::process::Abort;
 use std::test::Fail;
@@ -183,7 +183,7 @@ fn least_and_greatest_numbers(rt: HostRuntime) -> Result<(), Fail> {
     check_taken(&rt, rt.alloc(), LEAST_WORDS)?;
     check_taken(&rt, rt.alloc(), GREATEST_WORDS)?;
     check_played(&rt, rt.alloc(), MAX_HISTORY)?;
-    check_well(&rt, rt.alloc(), LEAST_AND_GREATEST_POSITION)
+    check_success(&rt, rt.alloc(), LEAST_AND_GREATEST_POSITION)
 }
 
 const LIMITS_OF_THEIR_OWN: &[Played] = &[(
@@ -255,12 +255,12 @@ const WELL: &[&[&str]] = &[
 
 #[test]
 fn what_is_large_ends_well(rt: HostRuntime) -> Result<(), Fail> {
-    check_well(&rt, rt.alloc(), WELL)
+    check_success(&rt, rt.alloc(), WELL)
 }
 
 const NUMBERS_AS_WORDS: &[&[&str]] = &[&["-e", "-s", "+8", "-l", "001", "-d", "1", "imp.load"]];
 
 #[test]
 fn numbers_as_words(rt: HostRuntime) -> Result<(), Fail> {
-    check_well(&rt, rt.alloc(), NUMBERS_AS_WORDS)
+    check_success(&rt, rt.alloc(), NUMBERS_AS_WORDS)
 }

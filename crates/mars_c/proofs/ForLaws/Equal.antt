@@ -114,11 +114,11 @@ module _ (p : Parameters) where
 one_setup : (s : MarsSettings) (text : List ℕ) (a b : Setup) → IsSetup s text a → IsSetup s text b → a ≡ b
 one_setup s text a b first second =
     let params = ok_injective a.params b.params (sym first.params ∙ second.params) in
-    let formula = ok_injective a.plan.formula b.plan.formula (sym first.formula ∙ second.formula) in
-    let rounds : a.plan.rounds ≡ b.plan.rounds = first.rounds ∙ sym second.rounds in
-    let seed : a.plan.seed ≡ b.plan.seed = first.seed ∙ sym second.seed in
-    let fixed : a.plan.fixed ≡ b.plan.fixed = first.fixed ∙ sym second.fixed in
-    let whole : ◌≡◌ {A = Setup} (record { params = a.params; plan = record { rounds = a.plan.rounds; seed = a.plan.seed; fixed = a.plan.fixed; formula = a.plan.formula } }) b =
+    let formula = ok_injective a.formula b.formula (sym first.formula ∙ second.formula) in
+    let rounds : a.plan.rounds ≡ b.plan.rounds = first.plan.rounds ∙ sym second.plan.rounds in
+    let seed : a.plan.seed ≡ b.plan.seed = first.plan.seed ∙ sym second.plan.seed in
+    let fixed : a.plan.fixed ≡ b.plan.fixed = first.plan.fixed ∙ sym second.plan.fixed in
+    let whole : ◌≡◌ {A = Setup} (record { params = a.params; plan = record { rounds = a.plan.rounds; seed = a.plan.seed; fixed = a.plan.fixed }; formula = a.formula }) b =
     rw (params, formula, rounds, seed, fixed) refl in
     whole
 
@@ -133,10 +133,10 @@ module _ (s : MarsSettings) (text : List ℕ) (cells : List MarsCell) (entrants 
 
 -- The tables of the match and of the league that a setup describes.
 abbrev pub match_of : Setup → List WarriorValue → Result (List RowValue) MatchFault
-match_of a ws = table_of a.params ws a.plan.formula a.plan.fixed a.plan.rounds a.plan.seed
+match_of a ws = table_of a.params ws a.formula a.plan.fixed a.plan.rounds a.plan.seed
 
 abbrev pub league_in : Setup → List WarriorValue → Result (List RowValue) MatchFault
-league_in a ws = league_of a.params ws a.plan.formula a.plan.fixed a.plan.rounds a.plan.seed
+league_in a ws = league_of a.params ws a.formula a.plan.fixed a.plan.rounds a.plan.seed
 
 pub round_starts : (a : Setup) (ws : List WarriorValue) (round : ℕ) (s : State) → IsRound a ws round s → round_start_state a ws round ≡ Ok s
 round_starts a ws round s (starts, placed, begins) = rw placed begins

@@ -120,16 +120,16 @@ module _ (s : MarsSettings) (text : List ℕ) (cells : List MarsCell) (entrants 
 
   module _ (count : ℕ) (fits : FitsTwo a.params count a.plan.fixed) where
     inside : (f : SettingsFault) → IsOutside s count cells entrants f → ⊥
-    inside settings.Rounds outside = outside made.rounds_allowed
-    inside settings.Seed outside = outside made.seed_allowed
+    inside settings.Rounds outside = outside made.plan.rounds_allowed
+    inside settings.Seed outside = outside made.plan.seed_allowed
     inside settings.Position (p, allowed, outside) =
-        outside (subst (λ p. FitsTwo p count (position_of s.position)) (sym (same_params p allowed)) (subst (FitsTwo a.params count) made.fixed fits))
+        outside (subst (λ p. FitsTwo p count (position_of s.position)) (sym (same_params p allowed)) (subst (FitsTwo a.params count) made.plan.fixed fits))
     inside settings.Lengths outside = outside (lengths_add_up a.params cells entrants ws are)
     inside other outside = outside
 
     pub entered : (refusal : CallRefusal) → RefusesEntry s text count cells entrants refusal → refusal ≡ call.OutOfMemory
     entered (call.Settings f) h = absurd (inside f h)
-    entered (call.Formula f) h = absurd (not_both _ a.plan.formula f made.formula h)
+    entered (call.Formula f) h = absurd (not_both _ a.formula f made.formula h)
     entered other h = warriors_read s cells entrants a.params ws made.params are other h
 
     -- If what the warriors do has a result, the call is refused only because memory ran out.

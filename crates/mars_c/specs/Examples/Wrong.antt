@@ -21,14 +21,14 @@ use Rattle.mars_c.specs.declared.warriors.MarsWarrior.{MarsWarrior}
 
 -- The same setup does not have two numbers of rounds, two seeds, or two positions.
 pub one_number_of_rounds : (text : List ℕ) (setup : Setup) → IsSetup (nano 2 7 0) text setup → IsSetup (nano 3 7 0) text setup → ⊥
-one_number_of_rounds text setup one other = let e : 2 ≡ 3 = sym one.rounds ∙ other.rounds in omega (arith, e)
+one_number_of_rounds text setup one other = let e : 2 ≡ 3 = sym one.plan.rounds ∙ other.plan.rounds in omega (arith, e)
 
 pub one_seed : (text : List ℕ) (setup : Setup) → IsSetup (nano 2 7 0) text setup → IsSetup (nano 2 8 0) text setup → ⊥
-one_seed text setup one other = let e : 7 ≡ 8 = sym one.seed ∙ other.seed in omega (arith, e)
+one_seed text setup one other = let e : 7 ≡ 8 = sym one.plan.seed ∙ other.plan.seed in omega (arith, e)
 
 pub one_position : (text : List ℕ) (setup : Setup) → IsSetup (nano 2 7 5) text setup → IsSetup (nano 2 7 6) text setup → ⊥
 one_position text setup one other =
-    let same : Some 5 ≡ Some 6 = sym one.fixed ∙ other.fixed in
+    let same : Some 5 ≡ Some 6 = sym one.plan.fixed ∙ other.plan.fixed in
     let e : 5 ≡ 6 = ap (λ o. unwrap_or o 0) same in
     omega (arith, e)
 
@@ -40,13 +40,13 @@ a_core_of_another_size text setup one =
 
 -- The setup has the formula of the text, so a text that is no formula has none.
 pub no_formula_of_257_bytes : (setup : Setup) → IsSetup (nano 2 7 0) (replicate 257 87) setup → ⊥
-no_formula_of_257_bytes setup s = let e : ◌≡◌ {A = Result Scanned ExprFault} (Err Syntax) (Ok setup.plan.formula) = s.formula in cc
+no_formula_of_257_bytes setup s = let e : ◌≡◌ {A = Result Scanned ExprFault} (Err Syntax) (Ok setup.formula) = s.formula in cc
 
 pub rounds_out_of_range : (text : List ℕ) (setup : Setup) → (IsSetup (nano 0 7 0) text setup → ⊥) × (IsSetup (nano 100001 7 0) text setup → ⊥)
-rounds_out_of_range text setup = (λ s. omega (arith, s.rounds_allowed.0), λ s. omega (arith, s.rounds_allowed.1))
+rounds_out_of_range text setup = (λ s. omega (arith, s.plan.rounds_allowed.0), λ s. omega (arith, s.plan.rounds_allowed.1))
 
 pub seeds_out_of_range : (text : List ℕ) (setup : Setup) → (IsSetup (nano 1 0 0) text setup → ⊥) × (IsSetup (nano 1 2147483647 0) text setup → ⊥)
-seeds_out_of_range text setup = (λ s. omega (arith, s.seed_allowed.0), λ s. omega (arith, s.seed_allowed.1))
+seeds_out_of_range text setup = (λ s. omega (arith, s.plan.seed_allowed.0), λ s. omega (arith, s.plan.seed_allowed.1))
 
 -- ---- Battles
 
@@ -59,7 +59,7 @@ pub no_nearer_start : (cells : List MarsCell) (entrants : List MarsWarrior) (s :
 no_nearer_start cells entrants s start =
     let same : parameters_in (nano 3 7 4) ≡ start.0.params = cc in
     let distance : 5 ≡ start.0.params.distance = ap (λ (p : Parameters). p.distance) same in
-    let fits = rw (start.2.fixed) at start.4 in
+    let fits = rw (start.2.plan.fixed) at start.4 in
     omega (arith, distance, fits.1)
 
 pub histories : (IsHistory 0 → ⊥) × IsHistory 1 × IsHistory 1000000 × (IsHistory 1000001 → ⊥)

@@ -13,4 +13,4 @@ AreScores formula warriors scores = (i : ℕ) (score : ℤ) → slice_index_or s
 -- The retained battle has memory for `warriors` warriors, and the retained scores are right.
 pub record IsKept (setup : Setup) (warriors : ℕ) (matches : Matches) : Type 0 where
   pub room : IfSome matches.last (λ battle. HasRoom setup.params warriors battle.value)
-  pub scores : AreScores setup.plan.formula warriors matches.scores
+  pub scores : AreScores setup.formula warriors matches.scores

@@ -1,36 +1,21 @@
 //! The fate of each warrior in each round.
-ghost use Rattle.std.specs.Prelude.{◌≡◌, IfOk, None};
-
-use super::{BY_DEFAULT, DEAD, STAY, one_cells, sizes};
-use mars_match::{Counts, Plan, Setup, fight_rounds};
-use redcode_asm::Formula;
-use std::alloc::Global;
+use super::{DEAD, STAY, one_cells, sizes};
+use mars_match::{Counts, Plan, fight_rounds};
 use std::process::Abort;
 use std::test::Fail;
 
-/// The setup of a match of two rounds in a core that three warriors fill.
-fn two_rounds(alloc: Global) -> Result<Setup, Fail>
-    ensures { IfOk result (λ setup. setup.plan.fixed ≡ None) }
-{
-    let formula = Formula::new(alloc, BY_DEFAULT.as_bytes())
-        .ok()
-        .ok_or("formula")?;
-    Ok(Setup {
-        params: sizes(6, 2)?,
-        plan: Plan {
-            rounds: 2,
-            seed: 1,
-            fixed: None,
-            formula,
-        },
-    })
-}
+/// Two rounds whose starts are drawn.
+const TWO_ROUNDS: Plan = Plan {
+    rounds: 2,
+    seed: 1,
+    fixed: None,
+};
 
 #[test]
 fn each_warrior_has_a_fate_in_each_round(rt: HostRuntime) -> Result<(), Fail> {
-    let setup = two_rounds(rt.alloc())?;
+    let params = sizes(6, 2)?;
     let warriors = one_cells(rt.alloc(), 6, &[STAY, DEAD, STAY])?;
-    let fought = fight_rounds(rt.alloc(), &setup, warriors, false, None)
+    let fought = fight_rounds(rt.alloc(), &params, &TWO_ROUNDS, warriors, false, None)
         .ok()
         .ok_or("fates")?;
     let fates = &fought.fates;
@@ -47,9 +32,9 @@ fn each_warrior_has_a_fate_in_each_round(rt: HostRuntime) -> Result<(), Fail> {
 
 #[test]
 fn each_warrior_is_counted(rt: HostRuntime) -> Result<(), Fail> {
-    let setup = two_rounds(rt.alloc())?;
+    let params = sizes(6, 2)?;
     let warriors = one_cells(rt.alloc(), 6, &[STAY, DEAD, STAY])?;
-    let fought = fight_rounds(rt.alloc(), &setup, warriors, true, None)
+    let fought = fight_rounds(rt.alloc(), &params, &TWO_ROUNDS, warriors, true, None)
         .ok()
         .ok_or("fates")?;
     let fates = &fought.fates;
@@ -72,16 +57,16 @@ fn each_warrior_is_counted(rt: HostRuntime) -> Result<(), Fail> {
 
 #[test]
 fn no_warrior_has_no_fate(rt: HostRuntime) -> Result<(), Fail> {
-    let setup = two_rounds(rt.alloc())?;
+    let params = sizes(6, 2)?;
     let none = Vec::new(rt.alloc());
-    assert!(rt; fight_rounds(rt.alloc(), &setup, none, true, None).is_err());
+    assert!(rt; fight_rounds(rt.alloc(), &params, &TWO_ROUNDS, none, true, None).is_err());
     Ok(())
 }
 
 /// A battle of three warriors leaves nothing to a match of three others, nor to one of two.
 #[test]
 fn matches_share_memory(rt: HostRuntime) -> Result<(), Fail> {
-    let setup = two_rounds(rt.alloc())?;
+    let params = sizes(6, 2)?;
     let mut last = None;
     for texts in [
         &[STAY, DEAD, STAY] as &[&str],
@@ -90,11 +75,11 @@ fn matches_share_memory(rt: HostRuntime) -> Result<(), Fail> {
         &[DEAD, DEAD],
     ] {
         let warriors = one_cells(rt.alloc(), 6, texts)?;
-        let fought = fight_rounds(rt.alloc(), &setup, warriors, false, last)
+        let fought = fight_rounds(rt.alloc(), &params, &TWO_ROUNDS, warriors, false, last)
             .ok()
             .ok_or("fates")?;
         let warriors = one_cells(rt.alloc(), 6, texts)?;
-        let alone = fight_rounds(rt.alloc(), &setup, warriors, false, None)
+        let alone = fight_rounds(rt.alloc(), &params, &TWO_ROUNDS, warriors, false, None)
             .ok()
             .ok_or("fates")?;
         assert!(rt; fought.fates.as_slice() == alone.fates.as_slice());

@@ -62,8 +62,8 @@ fn setup_of(alloc: Global, count: u32) -> Result<Setup, Fail>
             rounds: count,
             seed: 1,
             fixed: None,
-            formula,
         },
+        formula,
     })
 }
 
@@ -144,11 +144,18 @@ fn fates_of_rounds(
 ) -> Result<Vec<Fate>, Fail>
     requires { setup.now.plan.fixed ≡ None }
 {
-    match fight_rounds(alloc, setup, warriors_of(alloc, texts)?, true, None) {
+    match fight_rounds(
+        alloc,
+        &setup.params,
+        &setup.plan,
+        warriors_of(alloc, texts)?,
+        true,
+        None,
+    ) {
         Err(fault) => {
             assert!(rt; is_of_memory(fault));
             let warriors = warriors_of(alloc, texts)?;
-            let fought = fight_rounds(alloc, setup, warriors, true, None)
+            let fought = fight_rounds(alloc, &setup.params, &setup.plan, warriors, true, None)
                 .ok()
                 .ok_or("fates")?;
             Ok(fought.fates)

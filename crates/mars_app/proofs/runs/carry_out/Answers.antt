@@ -47,7 +47,7 @@ returns-then-options-clause-err g c =
           let fails : FailsToLoad known p o.rounds c.contest_size.result (string_bytes (get_or o.files.items 0 c.index.result.now)) f = rw first (rw c.as_str.ensures.value at unread.0) in
           let first_fails = alone_fails known p o.rounds c.contest_size.result o.files.items c.index.result.now f alone fails in
           let counted = subst (λ (n : ℕ). FirstFails known p o.rounds n (map (λ s. string_bytes s) o.files.items) f) c.contest_size.ensures first_fails in
-          not_loaded (value_of o) said p are.allowed setup.plan.formula are.scored counted unread.1
+          not_loaded (value_of o) said p are.allowed setup.formula are.scored counted unread.1
       | inr w ↦
           let there : IsLoaded known p o.rounds c.contest_size.result (string_bytes (get_or o.files.items 0 c.index.result.now)) w.2.0 = rw first (rw c.as_str.ensures.value at w.2.1) in
           let loaded = loaded_alone known p o.rounds c.contest_size.result o.files.items w.2.0 c.index.result.now alone there in
@@ -61,7 +61,7 @@ returns-in_err-warriors-clause-err g c =
     let setup = c.args.setup.now in
     let are = c.requires.setup in
     let fails = rw (c.as_slice.ensures.value, c.contest_size.ensures) at c.in_err-warriors.ensures.err in
-    rw (fault.1, fault.2) (λ words said. not_loaded (value_of c.args.options.now) said setup.params are.allowed setup.plan.formula are.scored fails (Keeps-refl _, Keeps-refl _))
+    rw (fault.1, fault.2) (λ words said. not_loaded (value_of c.args.options.now) said setup.params are.allowed setup.formula are.scored fails (Keeps-refl _, Keeps-refl _))
 
 pub returns-clause-err : goal.returns-clause-err
 returns-clause-err g c =

@@ -16,7 +16,7 @@ returns-in-Err-clause-refused c =
     let setup = c.in_ok-entry.entry.setup in
     let ws = c.in_ok-entry.entry.warriors.items in
     let fault = c.in-Err.fault in
-    let shown : (fault ≡ fight.OutOfMemory) ⊎ (table_of setup.params ws setup.plan.formula setup.plan.fixed setup.plan.rounds setup.plan.seed ≡ Err fault) = search rules in
+    let shown : (fault ≡ fight.OutOfMemory) ⊎ (table_of setup.params ws setup.formula setup.plan.fixed setup.plan.rounds setup.plan.seed ≡ Err fault) = search rules in
     fails c.args.settings.now c.args.formula.now (length c.args.entrants.warriors.now) c.args.entrants.cells.now c.args.entrants.warriors.now
-    (λ setup ws. table_of setup.params ws setup.plan.formula setup.plan.fixed setup.plan.rounds setup.plan.seed) setup ws fault c.refused_fight.result
+    (λ setup ws. table_of setup.params ws setup.formula setup.plan.fixed setup.plan.rounds setup.plan.seed) setup ws fault c.refused_fight.result
     c.in_ok-entry.ensures.setup c.in_ok-entry.ensures.read (memory_or fault shown) c.refused_fight.ensures

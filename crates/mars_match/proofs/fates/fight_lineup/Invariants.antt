@@ -7,8 +7,8 @@ use Rattle.mars_match.proofs.fates.fight_lineup.Given as goal
 -- The fates so far and those of the remaining rounds are the fates of all rounds.
 abbrev pub invariant-loop-number : goal.invariant-loop-number
 invariant-loop-number l = record {
-  made : gathered l.fates.items (fates l.counting l.setup.params l.lineup l.setup.plan.fixed (l.setup.plan.rounds - l.number) l.number l.seed)
-      ≡ fates l.counting l.setup.params l.lineup l.setup.plan.fixed l.setup.plan.rounds 0 l.setup.plan.seed;
+  made : gathered l.fates.items (fates l.counting l.params l.lineup l.plan.fixed (l.plan.rounds - l.number) l.number l.seed)
+      ≡ fates l.counting l.params l.lineup l.plan.fixed l.plan.rounds 0 l.plan.seed;
   starts : length l.starts.items ≡ length l.lineup;
-  room : IfSome l.last (λ battle. HasRoom l.setup.params (length l.lineup) battle.value);
+  room : IfSome l.last (λ battle. HasRoom l.params (length l.lineup) battle.value);
 }

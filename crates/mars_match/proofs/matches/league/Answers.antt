@@ -21,8 +21,8 @@ returns-in_err-play_all c =
       table = fault_answer _ _ _ p.0 p.1 (elim c.in_err-play_all.ensures [
         | inl none ↦ inl (p.2 ∙ none)
         | inr bad ↦
-            let e : after_matches c.args.setup.now.params plan.formula plan.fixed plan.rounds plan.seed (all_pairs 0 ws) (replicate (length ws) no_rounds) ≡ Err p.0 = rw (p.2, ← fresh) bad in
-            inr (league_err c.args.setup.now.params ws plan.formula plan.fixed plan.rounds plan.seed p.0 e)
+            let e : after_matches c.args.setup.now.params c.args.setup.now.formula plan.fixed plan.rounds plan.seed (all_pairs 0 ws) (replicate (length ws) no_rounds) ≡ Err p.0 = rw (p.2, ← fresh) bad in
+            inr (league_err c.args.setup.now.params ws c.args.setup.now.formula plan.fixed plan.rounds plan.seed p.0 e)
       ]);
     }
 
@@ -33,12 +33,12 @@ returns-in_err-rows c =
     let ws = c.args.warriors.now in
     let fresh : c.as_mut_slice.result.now ≡ replicate (length ws) no_rounds = c.as_mut_slice.ensures.value ∙ c.in_ok-tallies.ensures in
     let ts = c.play_all.new.tallies in
-    let e : after_matches c.args.setup.now.params plan.formula plan.fixed plan.rounds plan.seed (all_pairs 0 ws) (replicate (length ws) no_rounds) ≡ Ok ts = rw (← fresh) c.in_ok-play_all.ensures in
+    let e : after_matches c.args.setup.now.params c.args.setup.now.formula plan.fixed plan.rounds plan.seed (all_pairs 0 ws) (replicate (length ws) no_rounds) ≡ Ok ts = rw (← fresh) c.in_ok-play_all.ensures in
     let there : c.as_slice.result.now ≡ ts = grind (arith, common_steps, c.as_slice.ensures.value) in
     record {
       table = fault_answer _ _ _ p.0 p.1 (elim c.in_err-rows.ensures [
         | inl none ↦ inl (p.2 ∙ none)
-        | inr bad ↦ inr (league_with c.args.setup.now.params ws plan.formula plan.fixed plan.rounds plan.seed ts e ∙ rw (p.2, ← there) bad)
+        | inr bad ↦ inr (league_with c.args.setup.now.params ws c.args.setup.now.formula plan.fixed plan.rounds plan.seed ts e ∙ rw (p.2, ← there) bad)
       ]);
     }
 
@@ -48,6 +48,6 @@ returns c =
     let ws = c.args.warriors.now in
     let fresh : c.as_mut_slice.result.now ≡ replicate (length ws) no_rounds = c.as_mut_slice.ensures.value ∙ c.in_ok-tallies.ensures in
     let ts = c.play_all.new.tallies in
-    let e : after_matches c.args.setup.now.params plan.formula plan.fixed plan.rounds plan.seed (all_pairs 0 ws) (replicate (length ws) no_rounds) ≡ Ok ts = rw (← fresh) c.in_ok-play_all.ensures in
+    let e : after_matches c.args.setup.now.params c.args.setup.now.formula plan.fixed plan.rounds plan.seed (all_pairs 0 ws) (replicate (length ws) no_rounds) ≡ Ok ts = rw (← fresh) c.in_ok-play_all.ensures in
     let there : c.as_slice.result.now ≡ ts = grind (arith, common_steps, c.as_slice.ensures.value) in
-    record { table = league_with c.args.setup.now.params ws plan.formula plan.fixed plan.rounds plan.seed ts e ∙ rw (← there) c.in_ok-rows.ensures }
+    record { table = league_with c.args.setup.now.params ws c.args.setup.now.formula plan.fixed plan.rounds plan.seed ts e ∙ rw (← there) c.in_ok-rows.ensures }

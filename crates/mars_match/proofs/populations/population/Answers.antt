@@ -8,6 +8,6 @@ loop-candidate-init c =
     let plan = c.args.setup.now.plan in
     record {
       many = search rules;
-      sums = rw c.in_ok-sums.ensures.items (none_before (population_of c.args.setup.now.params plan.formula plan.fixed plan.rounds plan.seed c.args.opponents.now c.args.candidates.now));
+      sums = rw c.in_ok-sums.ensures.items (none_before (population_of c.args.setup.now.params c.args.setup.now.formula plan.fixed plan.rounds plan.seed c.args.opponents.now c.args.candidates.now));
       kept = c.new-matches.ensures c.args.setup.now 2;
     }

@@ -8,8 +8,8 @@ use Rattle.mars_match.proofs.matches.Matches.play_all.Given as goal
 -- The remaining matches lead to the tallies of all matches.
 abbrev pub invariant-loop-i : goal.invariant-loop-i
 invariant-loop-i l = record {
-  sums : after_matches l.setup.params l.setup.plan.formula l.setup.plan.fixed l.setup.plan.rounds l.setup.plan.seed (all_pairs l.i (drop l.i l.warriors)) l.tallies
-      ≡ after_matches l.setup.params l.setup.plan.formula l.setup.plan.fixed l.setup.plan.rounds l.setup.plan.seed (all_pairs 0 l.warriors) l.initial.tallies;
+  sums : after_matches l.setup.params l.setup.formula l.setup.plan.fixed l.setup.plan.rounds l.setup.plan.seed (all_pairs l.i (drop l.i l.warriors)) l.tallies
+      ≡ after_matches l.setup.params l.setup.formula l.setup.plan.fixed l.setup.plan.rounds l.setup.plan.seed (all_pairs 0 l.warriors) l.initial.tallies;
   bounds : All (IsOf (l.i * max_row_rounds)) l.tallies;
   kept : IsKept l.setup 2 l.self;
 }

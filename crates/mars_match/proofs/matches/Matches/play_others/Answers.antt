@@ -13,7 +13,7 @@ loop-j-init c =
     let i = c.args.i in
     let plan = c.args.setup.now.plan in
     record {
-      sums = ap (λ pairs. after_matches c.args.setup.now.params plan.formula plan.fixed plan.rounds plan.seed pairs c.args.tallies.now) (from_first c.args.warriors.now i c.requires.inside);
+      sums = ap (λ pairs. after_matches c.args.setup.now.params c.args.setup.now.formula plan.fixed plan.rounds plan.seed pairs c.args.tallies.now) (from_first c.args.warriors.now i c.requires.inside);
       bounds = all_more (i * max_row_rounds) (i * max_row_rounds + (i + 1) * max_rounds) c.args.tallies.now (omega arith) c.requires.bounds;
       kept = c.requires.kept;
       two = rw c.in_ok-lineup.ensures refl;
@@ -66,7 +66,7 @@ loop-j-preserved c =
     let bounds = set_both_bounds xs i j t u a b no_rounds before inside c.joined.ensures c.joined-in-loop-j.ensures m max_rounds c.loop-j.invariant.bounds c.in_ok-one.ensures.bounds.0 c.in_ok-one.ensures.bounds.1 in
     record {
       sums = rw (set_both xs i j t u a b no_rounds before inside c.joined.ensures c.joined-in-loop-j.ensures)
-          (match_more c.args.setup.now.params plan.formula plan.fixed plan.rounds plan.seed ws i j c.index-warriors-i.result c.index-warriors-j.result xs t u first second c.index-warriors-i.is c.index-warriors-j.is (c.in_ok-one.ensures.table c.index-warriors-i.result c.index-warriors-j.result both) ∙ c.loop-j.invariant.sums);
+          (match_more c.args.setup.now.params c.args.setup.now.formula plan.fixed plan.rounds plan.seed ws i j c.index-warriors-i.result c.index-warriors-j.result xs t u first second c.index-warriors-i.is c.index-warriors-j.is (c.in_ok-one.ensures.table c.index-warriors-i.result c.index-warriors-j.result both) ∙ c.loop-j.invariant.sums);
       bounds = all_more (m + max_rounds) (i * max_row_rounds + (j + 1) * max_rounds) (set (set xs i a) j b) (omega arith) bounds;
       kept = rw two at c.in_ok-one.ensures.kept;
       two = two;
@@ -84,7 +84,7 @@ returns-in_err-one-clause-sums c =
     lined_up ws c.loop-j.lineup c.replace_second.new.self c.args.i c.index-warriors-i.result c.index-warriors-j.result first c.index-warriors-i.is c.loop-j.invariant.first c.in_ok-replace_second.ensures in
     fault_answer _ _ _ p.0 p.1 (elim (c.in_err-one.ensures.table c.index-warriors-i.result c.index-warriors-j.result both) [
       | inl none ↦ inl (p.2 ∙ none)
-      | inr bad ↦ inr (sym c.loop-j.invariant.sums ∙ match_err c.args.setup.now.params plan.formula plan.fixed plan.rounds plan.seed ws c.args.i c.loop-j.j c.index-warriors-i.result c.index-warriors-j.result c.loop-j.tallies p.0 first second c.index-warriors-i.is c.index-warriors-j.is (rw p.2 bad))
+      | inr bad ↦ inr (sym c.loop-j.invariant.sums ∙ match_err c.args.setup.now.params c.args.setup.now.formula plan.fixed plan.rounds plan.seed ws c.args.i c.loop-j.j c.index-warriors-i.result c.index-warriors-j.result c.loop-j.tallies p.0 first second c.index-warriors-i.is c.index-warriors-j.is (rw p.2 bad))
     ])
 
 pub returns-clause-bounds : goal.returns-clause-bounds

@@ -8,8 +8,8 @@ use Rattle.mars_match.proofs.matches.Matches.play_others.Given as goal
 -- The remaining matches lead to the tallies of all matches.
 abbrev pub invariant-loop-j : goal.invariant-loop-j
 invariant-loop-j l = record {
-  sums : after_matches l.setup.params l.setup.plan.formula l.setup.plan.fixed l.setup.plan.rounds l.setup.plan.seed (pairs_left l.i l.j (drop l.i l.warriors) (drop l.j l.warriors)) l.tallies
-      ≡ after_matches l.setup.params l.setup.plan.formula l.setup.plan.fixed l.setup.plan.rounds l.setup.plan.seed (pairs_of_first l.i (drop l.i l.warriors)) l.initial.tallies;
+  sums : after_matches l.setup.params l.setup.formula l.setup.plan.fixed l.setup.plan.rounds l.setup.plan.seed (pairs_left l.i l.j (drop l.i l.warriors) (drop l.j l.warriors)) l.tallies
+      ≡ after_matches l.setup.params l.setup.formula l.setup.plan.fixed l.setup.plan.rounds l.setup.plan.seed (pairs_of_first l.i (drop l.i l.warriors)) l.initial.tallies;
   bounds : All (IsOf (l.i * max_row_rounds + l.j * max_rounds)) l.tallies;
   kept : IsKept l.setup 2 l.self;
   two : length l.lineup ≡ 2;

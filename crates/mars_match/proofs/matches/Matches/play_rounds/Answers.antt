@@ -16,7 +16,7 @@ returns-in_err-seed-clause-sums c =
     let many : length c.as_mut_slice.result.now ≡ length c.args.lineup.now = rw c.as_mut_slice.ensures.value c.loop-number.invariant.starts in
     let bad : placed_for c.args.setup.now.params (length c.args.lineup.now) plan.fixed c.loop-number.seed ≡ Err c.in_err-seed.field-0.0 = rw many at c.in_err-seed.ensures in
     let more : c.loop-number.number < plan.rounds = omega arith in
-    fault_answer _ _ _ p.0 p.1 (inr (sym c.loop-number.invariant.sums ∙ tallied_place_err c.args.setup.now.params c.args.lineup.now plan.formula plan.fixed plan.rounds c.loop-number.number c.loop-number.seed c.loop-number.tallies more p.0 (rw p.2 bad)))
+    fault_answer _ _ _ p.0 p.1 (inr (sym c.loop-number.invariant.sums ∙ tallied_place_err c.args.setup.now.params c.args.lineup.now c.args.setup.now.formula plan.fixed plan.rounds c.loop-number.number c.loop-number.seed c.loop-number.tallies more p.0 (rw p.2 bad)))
 
 pub returns-in_err-battle-clause-sums : goal.returns-in_err-battle-clause-sums
 returns-in_err-battle-clause-sums c =
@@ -28,7 +28,7 @@ returns-in_err-battle-clause-sums c =
     let same : c.as_slice-starts.result.now ≡ c.place_round.new.starts = grind (arith, common_steps, c.as_slice-starts.ensures.value) in
     fault_answer _ _ _ p.0 p.1 (elim c.in_err-battle.ensures.outcome [
       | inl none ↦ inl (p.2 ∙ none)
-      | inr bad ↦ inr (sym c.loop-number.invariant.sums ∙ tallied_round_err c.args.setup.now.params c.args.lineup.now plan.formula plan.fixed plan.rounds c.loop-number.number c.loop-number.seed c.loop-number.tallies more
+      | inr bad ↦ inr (sym c.loop-number.invariant.sums ∙ tallied_round_err c.args.setup.now.params c.args.lineup.now c.args.setup.now.formula plan.fixed plan.rounds c.loop-number.number c.loop-number.seed c.loop-number.tallies more
           c.place_round.new.starts c.in_ok-seed.seed p.0 good (rw (p.2, ← same) bad))
     ])
 
@@ -44,10 +44,10 @@ loop-number-preserved c =
     let o = outcome_by (k % length c.args.lineup.now) c.in_ok-battle.battle.value c.in_ok-battle.score in
     let fits : FitsSigned w64 c.in_ok-battle.score = search rules in
     let score = to_z-of_z w64 c.in_ok-battle.score fits in
-    let played : round_outcome c.args.setup.now.params c.args.lineup.now plan.formula c.place_round.new.starts k ≡ Ok o = rw (← same) c.in_ok-battle.ensures.outcome in
+    let played : round_outcome c.args.setup.now.params c.args.lineup.now c.args.setup.now.formula c.place_round.new.starts k ≡ Ok o = rw (← same) c.in_ok-battle.ensures.outcome in
     let sums : c.add_round.new.tallies ≡ all_added o 0 c.loop-number.tallies = rw (c.deref.ensures, score, count) at c.add_round.ensures.sums in
     record {
-      sums = rw sums (tallied_more c.args.setup.now.params c.args.lineup.now plan.formula plan.fixed plan.rounds k c.loop-number.seed c.loop-number.tallies more c.place_round.new.starts c.in_ok-seed.seed o good played ∙ c.loop-number.invariant.sums);
+      sums = rw sums (tallied_more c.args.setup.now.params c.args.lineup.now c.args.setup.now.formula plan.fixed plan.rounds k c.loop-number.seed c.loop-number.tallies more c.place_round.new.starts c.in_ok-seed.seed o good played ∙ c.loop-number.invariant.sums);
       bounds = c.add_round.ensures.bounds;
       kept = record { room = c.in_ok-battle.ensures.room; scores = c.in_ok-battle.ensures.scores };
       starts = ap length (sym c.as_slice-starts.ensures.value ∙ same) ∙ c.place_round.auto.starts ∙ many;

@@ -1,5 +1,5 @@
 use Rattle.std.proofs.Common.{◌≡◌, ℕ, List, [], ◌∷◌, length, set, refl, arith}
-use Rattle.mars_match.proofs.setup.Setup.place_round.Goals as goal
+use Rattle.mars_match.proofs.setup.Plan.place_round.Goals as goal
 
 two : (xs : List ℕ) (position : ℕ) → length xs ≡ 2 → set (set xs 0 0) 1 position ≡ 0 ∷ position ∷ []
 two [] position e = absurd (omega (arith, e))
