@@ -1282,7 +1282,7 @@ def test_a_number_is_tuned(page: Browser, tmp_path: Path) -> None:
     page.run("document.getElementById('tune-to').value = 19000; window.swept = corewar.bench.tune.sweep()")
     page.until("!document.getElementById('tune-stop').hidden")
     # It is the longest job: a league does not wait for it.
-    page.run("document.getElementById('league-of').value = 'marked'; await corewar.league.hold()")
+    page.run("document.getElementById('league-of').value = 'marked'; await corewar.league.runAll()")
     assert page.value("corewar.league.done === corewar.league.total && !document.getElementById('tune-stop').hidden")
     page.click("#tune-stop")
     page.run("await swept")
@@ -1321,7 +1321,7 @@ def test_a_map_of_positions(page: Browser) -> None:
 def test_the_league_is_the_program(page: Browser) -> None:
     page.run(
         "rounds.value = '20'; rounds.dispatchEvent(new Event('change'));"
-        "corewar.views.show('league'); await corewar.league.hold()"
+        "corewar.views.show('league'); await corewar.league.runAll()"
     )
     page.until("document.querySelectorAll('#league-table tr').length === corewar.examples.length + 1")
     names = sorted(path.stem for path in EXAMPLES.glob("*.red"))
@@ -1334,7 +1334,7 @@ def test_the_league_is_the_program(page: Browser) -> None:
 
 def test_a_league_that_fails_says_why(page: Browser) -> None:
     page.run("corewar.terms.value = {...corewar.terms.value, rounds: 1, formula: 'W/'}")
-    page.run("corewar.views.show('league'); await corewar.league.hold()")
+    page.run("corewar.views.show('league'); await corewar.league.runAll()")
     note = page.text("league-note")
     assert re.fullmatch(r"0 of \d+ matches, 1 round each, in 0\.0 s; error: The score formula is not valid\.", note)
     assert page.value("document.getElementById('league-stop').hidden && document.getElementById('league-done').hidden")
@@ -1343,7 +1343,7 @@ def test_a_league_that_fails_says_why(page: Browser) -> None:
 def test_a_league_that_runs_has_an_order(page: Browser) -> None:
     """By points per round: some warriors have fought more matches than others."""
     page.run("corewar.terms.value = {...corewar.terms.value, rounds: 1}")
-    page.run("corewar.views.show('league'); await corewar.league.hold()")
+    page.run("corewar.views.show('league'); await corewar.league.runAll()")
     page.run(
         """const row = (points, wins, ties, losses) => ({points, wins, ties, losses});
         corewar.league.against = [[null, row(0, 0, 0, 1), row(4, 1, 1, 0)], [row(3, 1, 0, 0), null, null],
@@ -1357,7 +1357,7 @@ def test_a_league_that_runs_has_an_order(page: Browser) -> None:
 def test_a_match_of_the_league_is_watched(page: Browser) -> None:
     """Its first round is that of the league, also if the seed has changed since."""
     page.run("corewar.terms.value = {...corewar.terms.value, seed: 7, rounds: 2}; corewar.views.show('league')")
-    page.run("await corewar.league.hold(); corewar.terms.value = {...corewar.terms.value, seed: 8}")
+    page.run("await corewar.league.runAll(); corewar.terms.value = {...corewar.terms.value, seed: 8}")
     page.run("document.querySelector('#league-table button').click()")
     page.until("corewar.session.fight.seed === 7 && !document.getElementById('battle').hidden")
     assert page.value("document.getElementById('seed').value") == "7"

@@ -12,6 +12,7 @@ enum { MAX_SOURCE = 1 << 20, MAX_REPLIES = 1 << 16, LENGTH = 100, WARRIORS = 16,
 
 static const char formula[] = "(W*W-1)/S";
 static const char lines[] = "show\nrun 700\nlist 0 5\nedit 3 JMP.B $0, $0\nstep\nundo\nundo\nrun 5000\nqueue 0\nqueue 1\nfill 9 8 DAT.F $0, $0\nshow\n";
+/* In the order of the fields, since C89 cannot name them: core, processes, cycles, both limits, longest, distance, rounds, seed, position. */
 static MarsSettings settings = {8000, 8000, 80000, 0, 0, LENGTH, LENGTH, 5, 7, 0};
 static MarsCell cells[WARRIORS * LENGTH];
 static MarsWarrior warriors[WARRIORS];

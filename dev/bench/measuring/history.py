@@ -40,6 +40,7 @@ def measure_places(program: str, kind: str, file: str) -> None:
     command = [program, "-e", "-c", str(MAX_HISTORY), "-F", "4000", "--history", str(MAX_HISTORY), file, file]
     ready = [f"run {PLACES}"]
     fewer, most = (run_well(command, text_of([f"run {count}", "queue 0"])) for count in (FEWER, MAX_HISTORY))
+    # The last line is `queue 0:` and an address for each process.
     processes = len(most.output.splitlines()[1].split()) - 2
     print(f"two {kind}: {(most.peak - fewer.peak) / (MAX_HISTORY - FEWER):.0f} bytes for each place")
     print(

@@ -89,8 +89,8 @@ def states_from(definitions: Evaluator, state: Value, turns: int) -> list[Value]
 def compare_turns(
     definitions: Evaluator, dice: random.Random, played: Callable[..., Value] = play
 ) -> Iterator[Comparison]:
-    """Some turns of a battle: the words after them, records and touched cells. Of each turn also the execution by
-    ReferenceCode, and its record back and forth.
+    """Compares some turns of a battle: the words after them, their records, and the cells that they touch; also, in the
+    definitions, each turn as ReferenceCode executes it, and whether its record leads back and forth.
     """
     state, turns = random_state(dice), dice.choice([dice.randrange(TURNS), TURNS])
     words, states = block_words(definitions, state), states_from(definitions, state, turns)

@@ -31,8 +31,8 @@ def no_case() -> Value:
     raise NoCase
 
 
-def given(compute: Callable[[], Value]) -> Callable[[], Value]:
-    """Returns a function that computes a value; here, one that takes no time."""
+def cheap(compute: Callable[[], Value]) -> Callable[[], Value]:
+    """Returns the function, in place of `later` if its value takes no time to compute again."""
     return compute
 
 
@@ -79,7 +79,7 @@ class Evaluator:
         self.known: dict[tuple[str, str], Meaning] = {}
         self.arities = Arities()
         # The names of the functions in Python, and their sources.
-        self.space: dict[str, Any] = {"given": given, "later": later, "no_case": no_case}
+        self.space: dict[str, Any] = {"cheap": cheap, "later": later, "no_case": no_case}
         self.sources: dict[str, str] = {}
         self.functions: dict[str, Callable[..., Value]] = {}
         for operation in OPERATIONS.values():
@@ -154,7 +154,7 @@ class Evaluator:
         self.known[module, name] = meaning
         lines = self.body(module, clauses, meaning, Name(name))
         if any("lambda" in line for line in lines) or not any(line.endswith("continue") for line in lines):
-            # (a function that is made in one round of a loop would see the variables of a later one)
+            # A function that is made in one iteration of the loop would see the variables of a later one.
             lines = self.body(module, clauses, meaning, None)
         self.add(meaning, lines)
         return meaning

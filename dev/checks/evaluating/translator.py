@@ -200,7 +200,7 @@ class Translator:
             return self.value(term, scope)
         if isinstance(term, Name) and term.name in scope.later:
             return scope.names[term.name]
-        return f"{'given' if is_cheap(term) else 'later'}(lambda: {self.value(term, scope)})"
+        return f"{'cheap' if is_cheap(term) else 'later'}(lambda: {self.value(term, scope)})"
 
     def cons(self, arguments: tuple[Term, ...], scope: Scope) -> str:
         """Returns a list of some items and the rest."""

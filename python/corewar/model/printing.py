@@ -42,8 +42,10 @@ def lines_for(stream: TextIO, lines: Iterable[str]) -> str:
 
 
 def broken(line: str, width: int) -> str:
-    """Returns a line with ends of lines in place of spaces, such that its parts have the width if words allow it. They
-    begin in a column of the line, or further right than its start: in the last one for which they are fewest.
+    """Returns a line that is broken at spaces into parts of at most this width, unless a word is longer.
+
+    The parts after the first one are indented: to the start of one of the line's columns, or by INDENT more than the
+    line. Of these indents, those with the fewest parts are taken, and of them the greatest.
     """
     least = min(len(line) - len(line.lstrip(" ")) + INDENT, width // 2)
     starts = {least, *(found.end() for found in COLUMN.finditer(line) if least < found.end() <= width // 2)}

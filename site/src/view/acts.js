@@ -107,11 +107,11 @@ function deleteBreak(session, rest) {
 }
 
 /**
- * Edits. Throws CommandError if the machine refuses it.
+ * Makes an edit. Throws CommandError if the machine refuses it.
  * @param {Session} session
  * @param {Edit | Promise<Edit>} edit
  */
-async function make(session, edit) {
+async function makeEdit(session, edit) {
   const why = await session.edit(edit).then(() => "", (/** @type {Error} */ { message }) => message);
   if (why) throw new CommandError(`\`${editText(await edit, session.known.core)}\`: ${why}`);
 }
@@ -122,7 +122,7 @@ async function edit(session, rest) {
   if (!line.length) throw new CommandError("expected an address and a line of source");
   const address = readAddress(session, first);
   const old = cellAt(session, address);
-  await make(session, readCellEdit(session, line.join(" "), address, address));
+  await makeEdit(session, readCellEdit(session, line.join(" "), address, address));
   return [`${where(address, session.known)}: ${old} -> ${cellAt(session, address)}`];
 }
 
@@ -132,7 +132,7 @@ async function fill(session, rest) {
   if (!line.length) throw new CommandError("expected two addresses and a line of source");
   const [address, last] = [readAddress(session, from), readAddress(session, to)];
   if (last < address) throw new CommandError(`cannot fill ${address} to ${last}: the first address is above the last`);
-  await make(session, readCellEdit(session, line.join(" "), address, last));
+  await makeEdit(session, readCellEdit(session, line.join(" "), address, last));
   return [`${address} to ${last}: ${cellAt(session, address)}`];
 }
 
@@ -141,7 +141,7 @@ async function move(session, rest) {
   const expected = "expected a warrior, the index of a process and an address";
   const { warrior, words } = readWarriorAnd(session, rest, 2, expected);
   const place = readProcess(session, warrior, words[0]);
-  await make(session, { kind: "move", warrior, place, address: readAddress(session, words[1]) });
+  await makeEdit(session, { kind: "move", warrior, place, address: readAddress(session, words[1]) });
   return queueAround(session, warrior, place);
 }
 
@@ -149,7 +149,7 @@ async function move(session, rest) {
 async function kill(session, rest) {
   const { warrior, words } = readWarriorAnd(session, rest, 1, "expected a warrior and the index of a process");
   const place = readProcess(session, warrior, words[0]);
-  await make(session, { kind: "kill", warrior, place });
+  await makeEdit(session, { kind: "kill", warrior, place });
   return queueAround(session, warrior, place);
 }
 
@@ -161,7 +161,7 @@ async function spawn(session, rest) {
   const isFull = count >= (session.fight?.settings.processes ?? 0);
   const why = isFull ? `has ${counted(count, "process")}, the maximum` : "is dead";
   if (!count || isFull) throw new CommandError(`cannot add a process: ${session.known.names[warrior]} ${why}`);
-  await make(session, { kind: "add", warrior, address });
+  await makeEdit(session, { kind: "add", warrior, address });
   return queueAround(session, warrior, count);
 }
 

@@ -56,7 +56,7 @@ export class League {
     this.host = host;
     this.runner = runner;
     this.#terms = host.terms();
-    onClick("hold", () => this.hold());
+    onClick("league-run", () => this.runAll());
     onClick("league-stop", () => this.#stop());
   }
 
@@ -67,7 +67,8 @@ export class League {
     this.draw();
   }
 
-  async hold() {
+  /** Runs the league of the selected sources, or of all. Resolves when it has ended. */
+  async runAll() {
     const { pool, shelf } = this.host;
     const isAll = typed("league-of", HTMLSelectElement).value === "all";
     const sources = isAll ? shelf.all : shelf.fighters;

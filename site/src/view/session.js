@@ -194,15 +194,15 @@ export class Session extends Turns {
   }
 
   /**
-   * Edits the battle at the turn that is shown, and shows the future that this makes. Throws what the machine says, and
-   * what the edit fails with if that is not known yet.
+   * Edits the battle at the turn that is shown, and shows the future that this makes. Throws the error of the machine,
+   * or that of a promised edit.
    * @param {Edit | Promise<Edit>} edit
    */
   async edit(edit) {
     this.stop();
     const { turn, fight } = this;
     const wanted = Promise.resolve(edit);
-    // It may fail before its turn has come.
+    // If it fails while earlier edits are awaited, the browser would report a rejection that nothing handles.
     wanted.catch(() => {});
     await this.#inOrder(async () => {
       if (fight !== this.fight) throw new Error("another battle has been opened");

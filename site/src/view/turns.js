@@ -62,8 +62,10 @@ export class Turns {
   frames = 0;
   /** @type {((change: Change) => void)[]} */
   #listeners = [];
+  /** The time of play in turns, with a fraction, and when it was computed. */
   #exact = 0;
-  #then = 0;
+  #lastTick = 0;
+  /** The request for the next tick. */
   #frame = 0;
   /**
    * The turn at which playing stops, once it is known, and whether that is a breakpoint.
@@ -219,7 +221,7 @@ export class Turns {
     this.way = way;
     this.halted = this.chain = null;
     this.#exact = this.wanted;
-    this.#then = performance.now();
+    this.#lastTick = performance.now();
     this.notify("play");
     this.notify("look");
     this.#findLimit();
@@ -254,10 +256,10 @@ export class Turns {
   #tick(now) {
     if (this.way === 0) return;
     const limit = this.#limit;
-    const seconds = limit ? clamp(now - this.#then, 0, 250) / 1000 : 0;
+    const seconds = limit ? clamp(now - this.#lastTick, 0, 250) / 1000 : 0;
     const exact = this.#exact + this.way * seconds * this.rate;
     this.#exact = !limit ? exact : this.way > 0 ? Math.min(exact, limit.turn) : Math.max(exact, limit.turn);
-    this.#then = now;
+    this.#lastTick = now;
     if (Math.floor(this.#exact) !== this.wanted) this.go(Math.floor(this.#exact));
     if (limit && this.#exact === limit.turn) {
       this.halted = limit.at;
