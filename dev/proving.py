@@ -59,12 +59,12 @@ def has_work(name: str) -> bool:
 
 
 def time_of(path: str) -> float | None:
-    """Returns when a file was written, or a folder of statements; with a mark, when the proof of these began. None if
-    there is none.
+    """Returns when a file or a folder of statements was written, or None if there is none. For statements with a mark,
+    returns when their proof began, so that a source that was changed during the proof is newer.
     """
-    written, mark = (
-        (os.path.join(path, "format"), os.path.join(os.path.dirname(path), MARK)) if os.path.isdir(path) else (path, "")
-    )
+    if not os.path.isdir(path):
+        return os.stat(path).st_mtime if os.path.exists(path) else None
+    written, mark = os.path.join(path, "format"), os.path.join(os.path.dirname(path), MARK)
     if not os.path.exists(written):
         return None
     return os.stat(mark if os.path.exists(mark) else written).st_mtime
@@ -152,6 +152,7 @@ class FromScratch:
         os.makedirs(os.path.dirname(output), exist_ok=True)
         tools = f"{self.kit}/toolchain"
         if name == LIBRARY:
+            # The clang that keeps the module replaces only a smaller one.
             if os.path.exists(MODULE):
                 os.remove(MODULE)
             with tempfile.TemporaryDirectory() as room:

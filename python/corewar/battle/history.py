@@ -67,6 +67,7 @@ class History:
         self.segments = [whole_segment(Run(Battle(match, round)))]
         self.warriors = match.warriors[round % len(match.warriors) :] + match.warriors[: round % len(match.warriors)]
         self.names = make_distinct([warrior.called for warrior in self.warriors])
+        # Histories that edits make of this one share the cache. One of the module would keep the runs of all histories.
         self._blocks = lru_cache(maxsize=CACHED_BLOCKS)(read_block)
 
     def __repr__(self) -> str:
@@ -139,7 +140,7 @@ class History:
         return self._load("analysis.formatting").BattleFormatter(self, self._load("battle.labels").Sources(self))
 
     def __getstate__(self) -> dict[str, Any]:
-        # What is derived is computed again.
+        # The cache cannot be pickled, and the formatter is made again when it is needed.
         return {name: value for name, value in vars(self).items() if name not in ("_blocks", "_formatter")}
 
     def __setstate__(self, state: dict[str, Any]) -> None:
@@ -244,6 +245,7 @@ class History:
     def is_killed(self, warrior: int) -> bool:
         """Returns whether a warrior was killed by an edit, and not in a turn of its own."""
         turn = self.death(warrior)
+        # No turn has the number 0: it is the death of a warrior that an edit killed at the start.
         if turn is None or turn == 0:
             return turn == 0
         record = self.record(turn)
@@ -316,9 +318,9 @@ class History:
         before = self.state(turn)
         after = before.copy()
         after.edit(edit)
+        # The constructor would run the battle from its start.
         edited = History.__new__(History)
-        edited.__dict__.update(vars(self))
-        edited.__dict__.pop("_formatter", None)
+        edited.__dict__.update({name: value for name, value in vars(self).items() if name != "_formatter"})
         kept = [Segment(one.run, min(one.last, turn)) for one in self.segments if one.first <= turn]
         edited.segments = [*kept, whole_segment(Run(after, edit, before))]
         return edited

@@ -69,6 +69,7 @@ def split_line(line: str) -> tuple[str, str]:
 
 def find_command(word: str) -> Command:
     """Finds a command by its name, a short name, or the first letters of its name. Raises CorewarError."""
+    # Short names come before the first letters of others: `s` also begins `show`.
     found = [one for one in COMMANDS.values() if word == one.name or word in one.short]
     found = found or [one for one in COMMANDS.values() if one.name.startswith(word)]
     if len(found) != 1:
@@ -236,6 +237,7 @@ def fill(session: Session, rest: str) -> Iterator[str]:
 
 @command("move")
 def move(session: Session, rest: str) -> Iterator[str]:
+    # From the right, as in the next two commands, since the name of a warrior may have spaces.
     words = rest.rsplit(None, 2)
     if len(words) != 3:
         raise CorewarError("expected a warrior, the index of a process and an address")
@@ -371,4 +373,5 @@ for name in ("source", "log"):
 def execute(session: Session, line: str) -> list[str]:
     """Executes the command of a line and returns the lines to show. Raises CorewarError, and QuitDebugger."""
     word, rest = split_line(line)
+    # Most commands are generators, which act and raise errors only while their lines are taken.
     return list(find_command(word).act(session, rest))

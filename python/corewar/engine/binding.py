@@ -60,6 +60,7 @@ def open_library() -> tuple[Any, Any]:
         given, wanted = calls.mars_version(), calls.MARS_VERSION
     except (OSError, AttributeError) as fault:
         raise NoLibrary(f"{shared}: {fault}") from None
+    # The thousands are the major version; a later minor version has all that an earlier one has.
     if given // 1000 != wanted // 1000 or given < wanted:
         raise NoLibrary(f"{shared} has version {given}, but {source} has {wanted}; rebuild it with make")
     return ffi, calls
@@ -123,6 +124,7 @@ def settings_struct(settings: Settings, rounds: int = 1, seed: int = 1, position
     """Returns the settings in the form that a call expects. There, 0 says of some that they are not given."""
     numbers = {**vars(settings), "rounds": rounds, "seed": seed, "position": position}
     given = {name: 0 if value is None else clamp(value) for name, value in numbers.items()}
+    # A 0 that is given is out of its range, but the library would take it for one that is not given.
     given |= {name: MAX_UINT32 for name in OPTIONAL if numbers[name] == 0}
     return library()[0].new("MarsSettings *", given)
 

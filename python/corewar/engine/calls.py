@@ -99,6 +99,7 @@ def assemble(
 
 def encode_source(source: str | bytes) -> bytes:
     """Returns the bytes of a source; those that are not UTF-8 may be in a text as `surrogateescape` decodes them."""
+    # Of a number `bytes` would make as many zeros; a memoryview refuses it.
     return source.encode(errors="surrogateescape") if isinstance(source, str) else bytes(memoryview(source))
 
 
@@ -130,6 +131,7 @@ def match(
     count, sums = len(warriors), []
     size = TURNS // max(1, given.cycles * count)
     if rounds > size:
+        # The portions are computed from these two; each call checks the position.
         check_numbers(given, rounds, seed, None)
         # Python raises Ctrl-C between two calls.
         for part in portions(numbers, count, size):
@@ -137,11 +139,13 @@ def match(
         found = [Row(*map(sum, zip(*own))) for own in zip(*sums)]
         if all(fits(row.points) for row in found):
             return found
+        # The call of the whole match raises the error of a sum that does not fit.
     return rows("mars_match", given, numbers, formula, warriors, count)
 
 
 def check_numbers(settings: Settings, rounds: int, seed: int, position: int | None) -> None:
     """Raises MarsError if the library would refuse one of these numbers."""
+    # Without candidates no match is run.
     rows("mars_population", settings, (rounds, seed, position), FORMULA, [], 0)
 
 

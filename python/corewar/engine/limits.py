@@ -60,6 +60,7 @@ def limit_memory(megabytes: int) -> None:
     """Limits what this process adds to its memory. Windows has no such limit, and macOS does not enforce it."""
     if resource and sys.platform == "linux":
         lower_limit(resource.RLIMIT_AS, taken_memory() + megabytes * 1_000_000)
+        # The system would write the memory of a process that SIGXCPU ends to a file.
         lower_limit(resource.RLIMIT_CORE, 0)
 
 

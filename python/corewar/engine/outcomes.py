@@ -25,9 +25,9 @@ OUTCOME = np.dtype([("survived", "?"), ("turns", "u4"), ("cycles", "u4"), ("star
 # What it did, if that is counted.
 COUNTS = ("own_turns", "spawned", "executed", "written", "touched")
 COUNTED = np.dtype([*OUTCOME.descr, *((name, "u4") for name in COUNTS)])
-# The number of parts for each thread, so that all end at about the same time, and the maximum rows of one.
+# The number of parts for each thread, so that all end at about the same time, and the maximum rows of one, 17 MB.
 PARTS, MAX_ROWS = 4, 1 << 19
-# The maximum number of matches that are listed at a time.
+# The maximum number of matches that are listed at a time, 20 MB of lineups.
 BLOCK = 1 << 18
 # How many times as long a turn takes at most if it is counted.
 COUNTING = 8

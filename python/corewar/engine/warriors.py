@@ -80,6 +80,7 @@ class Warrior:
 
     def cells_in(self, core: int) -> bytes:
         """Returns the cells as a core of a size reads them: each number by value. Raises `MarsError`."""
+        # A core that is too small is refused by the call that uses the warrior, with the warrior's index.
         if core == self.core or core < len(self):
             return self.data
         return read_load(self.load, Settings(core=core, longest=core, distance=core)).data

@@ -55,6 +55,8 @@ export class Call {
   }
 
   /**
+   * Returns a view of the memory, as the next two do, until the next allocation: if the memory grows, its buffer is
+   * another one, and older views are empty.
    * @param {bigint} block
    * @param {number} length
    */

@@ -153,6 +153,7 @@ export class Mars extends Machine {
       const size = MarsLineup.size / 4;
       const numbers = call.words(table, size * lineups.length).fill(0);
       lineups.forEach((lineup, index) => {
+        // A row has no more places; the library refuses the length of a longer lineup.
         numbers.set([seeds[index] ?? seed, lineup.length, ...lineup.slice(0, MAX_WARRIORS)], size * index);
         numbers[size * index + MarsLineup.counting / 4] = Number(counts);
       });

@@ -46,6 +46,7 @@ export class Session extends Turns {
    */
   #inOrder(act) {
     const done = this.#done.then(act);
+    // After one that fails, the next ones are called all the same.
     this.#done = done.catch(() => {});
     return done;
   }
@@ -110,6 +111,7 @@ export class Session extends Turns {
   rename(warriors) {
     if (!this.fight) return;
     const renamed = { ...this.fight, warriors };
+    // `open` knows a fight by its identity.
     if (this.latest === this.fight) this.latest = renamed;
     this.fight = renamed;
   }
@@ -123,6 +125,7 @@ export class Session extends Turns {
     this.view = this.move = this.origins = this.chain = this.halted = null;
     this.wanted = clamp(this.wanted, 0, end);
     const addresses = addressesOf(labels);
+    // The last entry of a Map counts, but of several labels of a cell the first one is shown.
     const named = new Map([...addresses].reverse().map(([name, address]) => [address, name]));
     this.known = { names: distinct(names), core, end, deaths, addresses, labels: named };
     this.notify("battle");

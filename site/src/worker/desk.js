@@ -159,6 +159,7 @@ export class Desk {
       cycle: battle.cycle,
       next: battle.next,
       head: at === history.end ? null : queues[battle.next][0],
+      // The message would contain the whole buffer of a view. That of a copy is handed over to the page.
       cells: battle.cells.slice(),
       ...place.columns,
       queues: all,
@@ -294,6 +295,7 @@ export class Desk {
    */
   until(future, cycle) {
     const history = this.#history(future);
+    // No turn and no edit leads back to an earlier cycle, so the place is found by halves.
     let [low, high] = [0, history.end];
     if (history.place(high).battle.cycle < cycle) return null;
     while (low < high) {
@@ -316,6 +318,7 @@ export class Desk {
     const isEdited = (/** @type {number} */ at) => history.place(at).owner(address) === BY_HAND;
     /** @type {CellChange[]} */
     const changes = [];
+    // From the turn that changed the cell last to the one before that turn, and so on.
     for (let at = turn; changes.length < MAX_CHANGES && !isEdited(at); at--) {
       at = history.place(at).written(address);
       if (at === 0) break;

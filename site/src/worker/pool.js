@@ -40,7 +40,7 @@ class WorkerClient {
       else request?.failed(new MarsError(data.error.message, data.error));
     };
     this.worker.onerror = (event) => {
-      // What asks the worker says it.
+      // The calls that wait for the worker fail with the error, so the browser need not report it.
       event.preventDefault();
       this.#fail(new Error(event.message || "A worker does not start."));
     };

@@ -16,6 +16,7 @@ const JOB_CALLS = "assemble warriors match scores round sweep positions checkFor
  * @type {Promise<Calls>}
  */
 let calls = Promise.reject(new Error("the worker has not started"));
+// Without a handler the browser would report the rejection.
 calls.catch(() => {});
 
 /**
