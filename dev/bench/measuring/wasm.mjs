@@ -3,7 +3,7 @@
 //     node wasm.mjs MARS.WASM FILE FILE
 import fs from "node:fs";
 
-import { Mars } from "../../site/src/engine/mars.js";
+import { Mars } from "../../../site/src/engine/mars.js";
 
 const OPTIONS = { rounds: 20, position: 4000 };
 const TURNS = 160_000;

@@ -5,8 +5,8 @@
 import fs from "node:fs";
 import readline from "node:readline";
 
-import { Battle } from "../../site/src/engine/battle.js";
-import { Mars } from "../../site/src/engine/mars.js";
+import { Battle } from "../../../site/src/engine/battle.js";
+import { Mars } from "../../../site/src/engine/mars.js";
 
 const mars = await Mars.load(fs.readFileSync(process.argv[2]));
 for await (const line of readline.createInterface({ input: process.stdin })) {
