@@ -8,7 +8,7 @@ from typing import NoReturn
 import pytest
 
 TOP = str(Path(__file__).resolve().parents[1])
-SCRIPTS = os.path.join(TOP, "dev")
+DEV = os.path.join(TOP, "dev")
 # The program that `./mars` or CI has built, or the one that MARS names.
 PROGRAM = os.path.abspath(os.environ.get("MARS") or f"{TOP}/crates/mars/out/mars")
 

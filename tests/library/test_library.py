@@ -21,7 +21,7 @@ from typing import Any
 
 import pytest
 from battles import edits, matches
-from counting import PROGRAM, SCRIPTS, TOP, skip
+from counting import DEV, PROGRAM, TOP, skip
 from hypothesis import HealthCheck, given, settings as how, strategies as st
 
 import corewar
@@ -88,7 +88,7 @@ def built(tmp_path_factory: pytest.TempPathFactory) -> str:
     """The folder with a build of the library."""
     assert os.path.isfile(ARCHIVE), "no archive of the library; run dev/library"
     folder = str(tmp_path_factory.mktemp("built"))
-    done = subprocess.run([f"{SCRIPTS}/library", "--archive", ARCHIVE, "--out", folder], capture_output=True, text=True)
+    done = subprocess.run([f"{DEV}/library", "--archive", ARCHIVE, "--out", folder], capture_output=True, text=True)
     assert (done.returncode, done.stderr) == (0, "")
     return folder
 
@@ -391,7 +391,7 @@ def test_nothing_is_built_twice(built: str) -> None:
 
 def test_script() -> None:
     """Wrong arguments of `dev/library`."""
-    library = [f"{SCRIPTS}/library"]
+    library = [f"{DEV}/library"]
     assert subprocess.run([*library, "--none"], capture_output=True).returncode == 2
     done = subprocess.run([*library, "--archive", "none", "--out", "none"], capture_output=True, text=True)
     assert done.stderr == "library: none: no such archive\n"

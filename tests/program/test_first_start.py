@@ -17,9 +17,9 @@ from typing import Any
 
 import pytest
 
-from counting import SCRIPTS, TOP
+from counting import DEV, TOP
 
-sys.path.insert(0, SCRIPTS)
+sys.path.insert(0, DEV)
 import progress  # noqa: E402
 
 # Replaces rt, rattle and rattle-link. It logs each proof, fails or sleeps at the crates of its environment, and makes

@@ -7,7 +7,7 @@ import os
 import subprocess
 from pathlib import Path
 
-from counting import PROGRAM, SCRIPTS, TOP
+from counting import DEV, PROGRAM, TOP
 
 STAND_IN = """#!/bin/sh
 [ "$1" != doc ] || { echo /kit/START-HERE.md; exit 0; }
@@ -20,7 +20,7 @@ WORDS = ["-b", "-r", "10", "examples/dwarf.red", "examples/imp.red"]
 def tried(folder: str, *words: str) -> tuple[int, list[str], str]:
     """Returns the status, the arguments of `rt`, and the messages."""
     done = subprocess.run(
-        [os.path.join(SCRIPTS, "try"), *words],
+        [os.path.join(DEV, "try"), *words],
         cwd=folder,
         capture_output=True,
         text=True,
@@ -55,7 +55,7 @@ def test_words(tmp_path: Path) -> None:
     assert (tried(folder)[0], tried(folder, "--help")[0]) == (2, 0)
     os.remove(os.path.join(folder, "rt"))
     done = subprocess.run(
-        [os.path.join(SCRIPTS, "try"), "a.red"],
+        [os.path.join(DEV, "try"), "a.red"],
         cwd=folder,
         capture_output=True,
         text=True,
@@ -70,7 +70,7 @@ def test_run() -> None:
     patient = {**os.environ, "RT_SECONDS": "600"}
     unproved, proved = (
         subprocess.run([program, *WORDS], cwd=TOP, capture_output=True, text=True, env=patient)
-        for program in (os.path.join(SCRIPTS, "try"), PROGRAM)
+        for program in (os.path.join(DEV, "try"), PROGRAM)
     )
     assert (unproved.returncode, unproved.stdout) == (0, proved.stdout)
     assert unproved.stderr.endswith(" proved=no\n")
