@@ -384,7 +384,7 @@ def test_nothing_is_built_twice(built: str) -> None:
     if not shutil.which("wasm-opt"):
         skip("mars.wasm", "there is no wasm-opt", "binaryen")
     times = {path: path.stat().st_mtime_ns for path in Path(built).iterdir()}
-    again = [f"{SCRIPTS}/library", "--archive", ARCHIVE, "--out", built]
+    again = [f"{DEV}/library", "--archive", ARCHIVE, "--out", built]
     assert subprocess.run(again, capture_output=True, text=True).stdout == f"{built} is up to date\n"
     assert times == {path: path.stat().st_mtime_ns for path in Path(built).iterdir()}
 
