@@ -188,7 +188,8 @@ test("errors have their line or their index", () => {
   const imp = mars.assemble("MOV 0, 1");
   const wrong = { ...imp, cells: Uint32Array.of(...imp.cells, 16, 0, 0) };
   assert.throws(() => mars.match([imp, wrong]), { code: WARRIOR, number: 3, warrior: 1, line: 1 });
-  assert.throws(() => mars.writeLoad({ ...imp, name: "é" }), { code: WARRIOR, number: 5 });
+  for (const name of ["é", "A\0B"])
+    assert.throws(() => mars.writeLoad({ ...imp, name }), { code: WARRIOR, number: 5 });
 });
 
 test("a long warrior fits", () => {

@@ -27,6 +27,11 @@ export { MarsError } from "../model/errors.js";
 /** @typedef {{settings?: Settings, rounds?: number, seed?: number, position?: number}} Terms */
 
 const encoder = new TextEncoder();
+/**
+ * Returns the bytes of a name. The library refuses one of more than 60, or with a control character; but 0 would end it.
+ * @param {string} name
+ */
+const nameBytes = (name) => encoder.encode(name.replaceAll("\0", "\n")).subarray(0, 64);
 // The bytes of lines for which a buffer is made first.
 const LINES = 1024;
 // The fields of an outcome, in the order of its words.
@@ -87,9 +92,8 @@ export class Mars extends Machine {
     return this.within((call) => {
       const program = call.allocate(MarsProgram.size);
       const bytes = call.bytesAt(program, MarsProgram.size).fill(0);
-      // The library refuses a name of more than 60 bytes.
-      bytes.set(encoder.encode(name).subarray(0, 64), MarsProgram.name);
-      bytes.set(encoder.encode(author).subarray(0, 64), MarsProgram.author);
+      bytes.set(nameBytes(name), MarsProgram.name);
+      bytes.set(nameBytes(author), MarsProgram.author);
       const count = cells.length / CELL_WORDS;
       call.words(program, 2).set([count, start]);
       const given = [call.settings(settings, {}), call.wordsOf(cells), BigInt(count), program];
