@@ -5,7 +5,7 @@
 import { MODES, MODIFIERS, NOBODY, OPCODES, isEmpty, readCell, signed } from "../model/cells.js";
 import { drawArrow } from "./arrow.js";
 import { READABLE, bestColumns } from "./columns.js";
-import { SHADES } from "./palette.js";
+import { BETWEEN, SHADES } from "./palette.js";
 
 /** @typedef {import("../worker/desk.js").View} View */
 /** @typedef {import("./marks.js").Marks} Marks */
@@ -31,12 +31,12 @@ export class Core {
   cell = 1;
   #inner = 1;
   #gap = 0;
-  #margin = 0;
   /** Whether cells are large enough for their texts. */
   #isReadable = false;
-  /** Where columns and rows begin and end. */
+  /** Where columns and rows begin and end on the canvas. */
   #xs = new Uint32Array(2);
   #ys = new Uint32Array(2);
+  /** All of the canvas, so that putting it there clears what was drawn over the cells. Its margin is transparent. */
   #image = new ImageData(1, 1);
   #pixels = new Uint32Array(1);
   #processOwners = new Uint8Array(1);
@@ -65,7 +65,7 @@ export class Core {
     const { columns, x, y } = bestColumns(size, width * ratio - 2 * margin, height * ratio - 2 * margin);
     const [rows, unit] = [Math.ceil(size / columns), Math.min(x, y)];
     const ends = (/** @type {number} */ count, /** @type {number} */ side) =>
-      Uint32Array.from({ length: count + 1 }, (_, index) => Math.round(index * Math.max(side, 1)));
+      Uint32Array.from({ length: count + 1 }, (_, index) => margin + Math.round(index * Math.max(side, 1)));
     this.size = size;
     this.columns = columns;
     this.rows = rows;
@@ -73,23 +73,23 @@ export class Core {
     this.#gap = unit >= 12 * ratio ? 2 : unit >= 4 ? 1 : 0;
     this.#inner = this.cell - this.#gap;
     this.#isReadable = this.cell >= READABLE * ratio;
-    this.#margin = margin;
     this.#xs = ends(columns, x);
     this.#ys = ends(rows, y);
-    const [wide, tall] = [this.#xs[columns], this.#ys[rows]];
-    this.canvas.width = wide + 2 * margin;
-    this.canvas.height = tall + 2 * margin;
+    const [right, bottom] = [this.#xs[columns], this.#ys[rows]];
+    this.canvas.width = right + margin;
+    this.canvas.height = bottom + margin;
     // A cell has at least one pixel of the canvas. If there are more cells than pixels of the screen, it is shrunk.
     const scale = ratio * Math.max(1, 1 / unit);
     for (const [shown, width, height] of /** @type {const} */ ([
       [this.canvas, this.canvas.width, this.canvas.height],
-      [this.#glow, wide, tall],
+      [this.#glow, right - margin, bottom - margin],
     ])) {
       shown.style.width = `${width / scale}px`;
       shown.style.height = `${height / scale}px`;
     }
-    this.#image = this.context.createImageData(wide, tall);
+    this.#image = this.context.createImageData(right + margin, bottom + margin);
     this.#pixels = new Uint32Array(this.#image.data.buffer);
+    this.#fillGaps(margin);
     this.#processOwners = new Uint8Array(size);
     this.#glow.width = columns;
     this.#glow.height = rows;
@@ -101,18 +101,28 @@ export class Core {
   }
 
   /**
+   * Fills all but the margin with the colour between cells, where they are not drawn later.
+   * @param {number} margin
+   */
+  #fillGaps(margin) {
+    const { width, height } = this.#image;
+    for (let line = margin; line < height - margin; line++) {
+      this.#pixels.fill(BETWEEN, line * width + margin, (line + 1) * width - margin);
+    }
+  }
+
+  /**
    * @param {View} view
    * @param {Palette} palette
    * @param {number} grain the number of turns that a shade lasts
    * @param {Marks} marks
    */
   draw(view, palette, grain, marks) {
-    const { context, canvas } = this;
+    const { context } = this;
     this.#drawCells(view, palette, grain);
     const few = this.#drawProcesses(view, palette);
+    context.putImageData(this.#image, 0, 0);
     context.setTransform(1, 0, 0, 1, 0, 0);
-    context.clearRect(0, 0, canvas.width, canvas.height);
-    context.putImageData(this.#image, this.#margin, this.#margin);
     if (this.#isReadable) this.#drawTexts(view);
     else this.#glow.getContext("2d")?.putImageData(this.#glowImage, 0, 0);
     this.#drawMarks(palette, marks, this.cell < LARGE * devicePixelRatio ? few : []);
@@ -124,10 +134,9 @@ export class Core {
    * @param {Palette} palette
    * @param {number} grain
    */
-  #drawCells({ owner, written, turn }, { shades, glows, back }, grain) {
+  #drawCells({ owner, written, turn }, { shades, glows }, grain) {
     const [pixels, xs, ys, own, gap] = [this.#pixels, this.#xs, this.#ys, this.#glows, this.#gap];
     const { width } = this.#image;
-    pixels.fill(back);
     for (let row = 0; row < this.rows; row++) {
       const [start, first] = [ys[row] * width, row * this.columns];
       const last = Math.min(this.columns, this.size - first);
@@ -155,17 +164,17 @@ export class Core {
   #drawProcesses({ queues, processes }, palette) {
     /** @type {{address: number, warrior: number}[]} */
     const few = [];
-    this.#processOwners.fill(0);
-    let first = 0;
+    const owners = this.#processOwners.fill(0);
+    let at = 0;
     processes.forEach((count, warrior) => {
-      for (const address of queues.subarray(first, first + count)) {
-        if (this.#processOwners[address] === warrior + 1) continue;
+      for (const last = at + count; at < last; at++) {
+        const address = queues[at];
+        if (owners[address] === warrior + 1) continue;
         if (count <= MAX_RINGED) few.push({ address, warrior });
-        this.#drawProcess(address, palette.process[warrior], this.#processOwners[address] > 0);
+        this.#drawProcess(address, palette.process[warrior], owners[address] > 0);
         this.#glows[address] = palette.processGlow[warrior];
-        this.#processOwners[address] = warrior + 1;
+        owners[address] = warrior + 1;
       }
-      first += count;
     });
     return few;
   }
@@ -219,8 +228,8 @@ export class Core {
     context.font = `600 ${unit}px ${FONT}`;
     context.textBaseline = "alphabetic";
     for (let address = 0; address < size; address++) {
-      const left = this.#margin + (address % columns) * cell + unit * 0.75;
-      const top = this.#margin + Math.floor(address / columns) * cell;
+      const left = this.#xs[address % columns] + unit * 0.75;
+      const top = this.#ys[Math.floor(address / columns)];
       const isFree = owner[address] === NOBODY;
       context.fillStyle = isFree ? "rgba(255,255,255,.45)" : this.#isDark(address) ? "#fff" : "rgba(8,10,13,.92)";
       const { op, modifier, aMode, bMode, a, b } = readCell(cells, address);
@@ -240,7 +249,7 @@ export class Core {
    */
   #isDark(address) {
     const { x, y } = this.#middle(address);
-    const at = Math.floor(y - this.#margin) * this.#image.width + Math.floor(x - this.#margin);
+    const at = Math.floor(y) * this.#image.width + Math.floor(x);
     const [red, green, blue] = [0, 8, 16].map((place) => (this.#pixels[at] >> place) & 255);
     return 3 * red + 6 * green + blue < 1200;
   }
@@ -307,7 +316,7 @@ export class Core {
   #middle(address) {
     const [column, row] = [address % this.columns, Math.floor(address / this.columns)];
     const middle = (/** @type {Uint32Array} */ ends, /** @type {number} */ at) =>
-      this.#margin + (ends[at] + ends[at + 1] - this.#gap) / 2;
+      (ends[at] + ends[at + 1] - this.#gap) / 2;
     return { x: middle(this.#xs, column), y: middle(this.#ys, row) };
   }
 
@@ -319,7 +328,7 @@ export class Core {
     const box = this.canvas.getBoundingClientRect();
     const scale = this.canvas.width / box.width;
     const at = (/** @type {Uint32Array} */ ends, /** @type {number} */ distance) =>
-      ends.findIndex((end) => end > distance * scale - this.#margin) - 1;
+      ends.findIndex((end) => end > distance * scale) - 1;
     const [column, row] = [at(this.#xs, clientX - box.left), at(this.#ys, clientY - box.top)];
     const address = row * this.columns + column;
     return row >= 0 && column >= 0 && address < this.size ? address : null;

@@ -37,12 +37,14 @@ function pixel(colour) {
   return ((255 << 24) | (blue << 16) | (green << 8) | red) >>> 0;
 }
 
+/** The pixels between cells. */
+export const BETWEEN = pixel(BACK);
+
 /** @param {Colour} colour */
 const css = (colour) => `rgb(${colour.map(Math.round)})`;
 
 /** The colours of a battle, by the order of turns. */
 export class Palette {
-  back = pixel(BACK);
   backText = css(BACK);
   /** What each shade of each owner adds to the cells around it. */
   glows = new Uint32Array((NOBODY + 1) * (SHADES + 1));
