@@ -15,7 +15,7 @@ export class Picture {
   #owner = new Uint8Array(0);
   #light = new Uint8Array(0);
   /** The number of columns that are painted, and of those that are drawn. */
-  #painted = 0;
+  painted = 0;
   #drawn = 0;
   /** @type {Palette | null} */
   #palette = null;
@@ -50,14 +50,14 @@ export class Picture {
       if (from === 0) this.#begin(frame);
       this.#owner.set(piece.owner, piece.from * frame.rows);
       this.#light.set(piece.light, piece.from * frame.rows);
-      from = this.#painted = piece.from + piece.owner.length / frame.rows;
+      from = this.painted = piece.from + piece.owner.length / frame.rows;
       this.changed();
     }
   }
 
   /** Whether all of it is painted. */
   get isWhole() {
-    return this.frame !== null && this.#painted === this.frame.columns;
+    return this.frame !== null && this.painted === this.frame.columns;
   }
 
   /** Forgets the picture: it is of another battle. */
@@ -70,7 +70,7 @@ export class Picture {
   /** @param {Frame} frame */
   #begin(frame) {
     this.frame = frame;
-    this.#painted = this.#drawn = 0;
+    this.painted = this.#drawn = 0;
     this.#owner = new Uint8Array(frame.columns * frame.rows);
     this.#light = new Uint8Array(frame.columns * frame.rows);
     this.canvas.width = frame.columns;
@@ -85,7 +85,7 @@ export class Picture {
     const { frame } = this;
     if (palette !== this.#palette) this.#drawn = 0;
     this.#palette = palette;
-    const columns = this.#painted - this.#drawn;
+    const columns = this.painted - this.#drawn;
     if (!frame || columns <= 0) return;
     const image = new ImageData(columns, frame.rows);
     const pixels = new Uint32Array(image.data.buffer);
@@ -98,7 +98,7 @@ export class Picture {
       }
     }
     this.canvas.getContext("2d")?.putImageData(image, this.#drawn, 0);
-    this.#drawn = this.#painted;
+    this.#drawn = this.painted;
   }
 }
 

@@ -40,6 +40,8 @@ export class Track {
   #film = document.createElement("canvas");
   /** @type {unknown[]} */
   #drawn = [];
+  /** Where the line was drawn. */
+  #line = 0;
   /** Whether curves are shown in place of the picture. */
   hasCurves = false;
   #paint = debounce(() => this.paint(), 90);
@@ -175,30 +177,53 @@ export class Track {
   }
 
   /**
-   * Draws the strip with a line at a turn. The rest is drawn again only if it has changed.
+   * Draws the strip with a line at a turn. What has not changed is drawn again only where that line moves.
    * @param {Palette} palette
    * @param {number} turn
    */
   draw(palette, turn) {
+    const { clientWidth: width, clientHeight: height } = this.canvas;
+    if (!this.opened || !width) return;
+    const size = [width, height, devicePixelRatio];
+    const film = [...size, palette, this.#overview, this.#hits, this.first, this.last];
+    const what = [...film, this.picture.frame, this.picture.painted];
+    const isOther = (/** @type {unknown[]} */ some) => some.some((value, index) => value !== this.#drawn[index]);
+    const isWhole = isOther(what);
+    if (isOther(size)) this.#paint();
+    if (isOther(film)) this.#drawFilm(palette, width, height);
+    this.#drawn = what;
+    const [before, now] = [this.#line, Math.round(this.#across(turn, width))];
+    this.#line = now;
+    if (isWhole) this.#drawPart(palette, now, 0, width);
+    else if (now !== before) this.#drawPart(palette, now, Math.min(before, now) - 1, Math.max(before, now) + 1);
+  }
+
+  /**
+   * Draws the strip from one column to another, with the line at `now`.
+   * @param {Palette} palette
+   * @param {number} now
+   * @param {number} left
+   * @param {number} right
+   */
+  #drawPart(palette, now, left, right) {
     const { canvas } = this;
     const { clientWidth: width, clientHeight: height } = canvas;
-    const context = canvas.getContext("2d");
-    if (!context || !this.opened || !width) return;
-    const what = [palette, this.#overview, this.#hits, this.first, this.last, width, height, devicePixelRatio];
-    if (what.some((value, index) => value !== this.#drawn[index])) {
-      if (width !== this.#drawn[5] || height !== this.#drawn[6]) this.#paint();
-      this.#drawn = what;
-      this.#drawFilm(palette, width, height);
-    }
+    const context = /** @type {CanvasRenderingContext2D} */ (canvas.getContext("2d"));
+    const wide = Math.ceil((right - left) * devicePixelRatio) + 1;
+    context.save();
+    context.beginPath();
+    // Whole pixels: the edges of a part are not to be seen.
+    context.rect(Math.floor(left * devicePixelRatio), 0, wide, canvas.height);
+    context.clip();
     context.setTransform(devicePixelRatio, 0, 0, devicePixelRatio, 0, 0);
     context.clearRect(0, 0, width, height);
-    const now = Math.round(this.#across(turn, width));
     if (!this.hasCurves) this.#drawPicture(context, palette, width, height - FOOT);
     context.fillStyle = "rgba(8,10,14,.5)";
     context.fillRect(now, 0, width - now, height - FOOT);
     context.drawImage(this.#film, 0, 0, width, height);
     context.fillStyle = "#fff";
     context.fillRect(now - 1, 0, 2, height - FOOT + 4);
+    context.restore();
   }
 
   /** @param {number} turn */
