@@ -51,6 +51,23 @@ def test_why(run: Run) -> None:
     assert bad.returncode == 2 and "no warrior `nobody`; the warriors are 0 Dwarf, 1 Imp" in bad.stderr
 
 
+def test_why_finds_the_bomb_on_an_equal_opcode(run: Run, tmp_path: Path) -> None:
+    """A bomb on an empty cell changes no opcode, and the victim, which counts its number down, did not write it."""
+    (tmp_path / "bomber.red").write_text(";name Bomber\nMOV 2, 60\nJMP 0\nDAT #1, #1\n")
+    (tmp_path / "victim.red").write_text(";name Victim\nSUB #1, -40\nJMP -41\n")
+    lines = run("why", "-F", 100, "bomber.red", "victim.red").stdout.splitlines()
+    assert lines[3:9] == [
+        "Cell 60 was last changed in turn 2:",
+        "turn 2: Victim at 100: SUB.AB #1, $-40",
+        "    60: DAT.F #1, #1 -> DAT.F #1, #0",
+        "Its instruction was copied there in turn 1:",
+        "turn 1: Bomber at 0: MOV.I $2, $60; reads 2",
+        "    60: DAT.F $0, $0 -> DAT.F #1, #1",
+    ]
+    rounds = run("why", "-r", 2, "-F", 100, "bomber.red", "victim.red").stdout
+    assert re.search(r" 0  empty core +Bomber, by line 2: MOV 2, 60$", rounds, re.M)
+
+
 def test_why_shows_what_another_wrote(run: Run) -> None:
     """If a warrior executed a cell of another one, the turn that wrote it is reported, however far back."""
     output = run("why", "--turns", 2, "--of", "Dwarf", "@dwarf", "@paper").stdout

@@ -6,11 +6,10 @@ from dataclasses import dataclass
 from itertools import islice
 
 from ..battle.conditions import EXECUTES, OWNER, TURN, Condition, by_warrior, find
-from ..battle.conditions import last_change, last_opcode_change, search
+from ..battle.conditions import last_change, last_copy, search
 from ..battle.history import History
 from ..battle.runs import BY_HAND
 from ..engine.binding import MAX_UINT32
-from ..model.cells import OPCODES
 from .endings import Executed, describe_survivor, executed_by, own_turns
 from .formatting import BattleFormatter
 from .turns import Turn
@@ -35,23 +34,22 @@ def describe_change(formatter: BattleFormatter, address: int, turn: int) -> list
 
 
 def describe_cause(formatter: BattleFormatter, address: int, turn: int) -> list[str]:
-    """Describes how a cell got its value up to a turn: its last change, and the last change of its opcode."""
-    history, lines = formatter.history, describe_change(formatter, address, turn)
-    for became in causes_of(history, address, turn)[1:]:
-        opcode = OPCODES[history.block(turn).cell(address, turn)["op"]]
-        lines += [f"It became a {opcode} in turn {became}:", *formatter.lines(became)]
+    """Describes how a cell got its value up to a turn: its last change, and the copy of its instruction."""
+    lines = describe_change(formatter, address, turn)
+    for copied in causes_of(formatter.history, address, turn)[1:]:
+        lines += [f"Its instruction was copied there in turn {copied}:", *formatter.lines(copied)]
     return lines
 
 
 def causes_of(history: History, address: int, turn: int) -> list[int]:
-    """Returns the last turn, up to this one, that changed a cell, and if it is another one that which changed its
-    opcode; nothing before an edit of the cell.
+    """Returns the last turn, up to this one, that changed a cell, and if it is another one that which copied its
+    instruction there; nothing before an edit of the cell.
     """
     found, by_hand = last_change(history, address, turn), history.by_hand(address, turn)
     if found is None:
         return []
-    became = last_opcode_change(history, address, turn)
-    return [*dict.fromkeys(one for one in (found, became) if one and (by_hand is None or by_hand[0] < one))]
+    copied = last_copy(history, address, turn)
+    return [*dict.fromkeys(one for one in (found, copied) if one and (by_hand is None or by_hand[0] < one))]
 
 
 def foreign_write(history: History, turn: int) -> int | None:
@@ -147,7 +145,7 @@ class Why:
     - `turn`: the turn in which it died, or the last one
     - `last`: the turn in which its last process died, or None
     - `causes`: the turn that last changed the cell which that turn executed and, if it is another one, that which
-      changed its opcode
+      copied its instruction there
     - `before`: its turns before that, the latest last
     - `hit`: the first turn in which another warrior changed its loaded code, or None
     - `executed`: for one that is alive, the lines that it executed in its last turns, the most frequent first

@@ -10,7 +10,7 @@ from itertools import chain
 
 import numpy as np
 
-from ..battle.conditions import last_change, last_opcode_change
+from ..battle.conditions import last_change, last_copy
 from ..battle.history import History
 from ..model.printing import make_distinct
 from ..battle.labels import Sources
@@ -94,12 +94,12 @@ def fates_of(match: Match, number: int, warriors: Collection[int], _: object = N
 
 
 def cause_of_death(history: History, sources: Sources, names: Sequence[str], warrior: int) -> tuple[str, str]:
-    """Returns what a warrior died on, as it was before it was hit, and what hit it: the turn that gave the cell its
-    opcode, or else the one that changed it last. Names are in the order of turns.
+    """Returns what a warrior died on, as it was before it was hit, and what hit it: the turn that copied its
+    instruction there, or else the one that changed it last. Names are in the order of turns.
     """
     turn = history.death(warrior) or 0
     address = int(history.record(turn)["address"])
-    hit = last_opcode_change(history, address, turn - 1) or last_change(history, address, turn - 1)
+    hit = last_copy(history, address, turn - 1) or last_change(history, address, turn - 1)
     before = (hit or turn) - 1
     line = sources.line(history, address, before)
     if line is not None:

@@ -143,10 +143,11 @@ def last_change(history: History, address: int, turn: int) -> int | None:
     return int(past["turn"]) if past["turn"] and past["owner"] != BY_HAND else None
 
 
-def last_opcode_change(history: History, address: int, turn: int) -> int | None:
-    """Returns the last turn, up to this one, that gave a cell the opcode that it has after it, instead of another."""
-    opcode = OPCODES[history.block(turn).cell(address, turn)["op"]]
-    rows = Condition("changes", (address, address), becomes=opcode).rows(history.core)
+def last_copy(history: History, address: int, turn: int) -> int | None:
+    """Returns the last turn, up to this one, that copied the instruction of a cell there in place of another one."""
+    origin = int(history.pasts(turn)[address]["origin"])
+    # A range whose end is below its start goes around.
+    rows = [(CHANGES, ADDRESS, address, address), (CHANGES, ORIGIN, origin + 1, (origin - 1) & MAX_UINT32)]
     return next((int(turns[-1]) for turns in find(history, rows, 0, turn, False) if len(turns)), None)
 
 
