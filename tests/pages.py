@@ -511,6 +511,21 @@ def test_labels_of_several_warriors(page: Browser) -> None:
     page.until(f"document.getElementById('cell-words').textContent === '{shared}'")
 
 
+def test_the_line_stays_in_view(page: Browser) -> None:
+    """Below replies of any length, and says how far a search in all rounds is."""
+    page.run("rounds.value = '3'; rounds.dispatchEvent(new Event('change'))")
+    fight(page, "dwarf", "imp")
+    page.press(":")
+    code = """const line = document.getElementById("line"), told = [line.placeholder];
+      new MutationObserver(() => told.push(line.placeholder)).observe(line, {attributeFilter: ["placeholder"]});
+      for (const text of ["show", "help", "find -r dies"]) await corewar.console.run(text);
+      return [told, line.getBoundingClientRect().bottom <= innerHeight];"""
+    told, is_visible = page.run(code)
+    assert is_visible
+    assert [text for text in told if text != told[0]] == [f"searched {count} of 3 rounds" for count in range(3)]
+    assert told[-1] == told[0]
+
+
 def test_the_line_is_completed(page: Browser) -> None:
     """Tab completes the line, and leaves it if there is nothing to complete."""
     page.press(" ", ":")

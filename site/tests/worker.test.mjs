@@ -68,6 +68,22 @@ test("a death has a chain of turns", () => {
   ]);
 });
 
+test("a chain has the bomb on an equal opcode, and what changed a number of it", () => {
+  const desk = new Desk(mars);
+  const bomber = "MOV 2, 60\nJMP 0\nDAT #1, #1\n";
+  desk.open({ ...fightOf([bomber, "SUB #1, -40\nJMP -41\n"]), position: 100 });
+  assert.deepEqual(desk.why(0, 1).map(({ kind, turn, warrior }) => [kind, turn, warrior]), [
+    ["write", 1, 0],
+    ["change", 2, 1],
+    ["arrival", 4, 1],
+    ["death", 6, 1],
+  ]);
+  assert.deepEqual([desk.copied(0, 60, 5), desk.copied(0, 61, 5)], [1, 0]);
+  // What was copied before an edit of the cell led to nothing.
+  const { future } = desk.edit(0, 3, { kind: "cell", address: 60, last: 60, cell: desk.cellOf("DAT 7") });
+  assert.equal(desk.copied(future, 60, 5), 0);
+});
+
 test("a story is read part by part", () => {
   const desk = new Desk(mars);
   const { events, deaths, end } = desk.open(fightOf([example("dwarf"), example("imp")]));

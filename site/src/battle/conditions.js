@@ -150,3 +150,20 @@ export function hits(history, conditions, most) {
   });
   return [...new Set(found.flat())].sort((one, other) => one - other).slice(0, most);
 }
+
+/**
+ * Returns the place where a number of cycles is completed, or null if the battle ends before.
+ * @param {History} history
+ * @param {number} cycle
+ */
+export function completed(history, cycle) {
+  // No turn and no edit leads back to an earlier cycle, so the place is found by halves.
+  let [low, high] = [0, history.end];
+  if (history.place(high).battle.cycle < cycle) return null;
+  while (low < high) {
+    const middle = Math.floor((low + high) / 2);
+    if (history.place(middle).battle.cycle < cycle) low = middle + 1;
+    else high = middle;
+  }
+  return low;
+}

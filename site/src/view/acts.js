@@ -19,7 +19,7 @@ import { cellAt, changed, explain, here, list, queue, queueAround, show, why } f
 /** @typedef {import("../battle/conditions.js").Condition} Condition */
 /** @typedef {import("../model/fight.js").Edit} Edit */
 /** @typedef {import("./session.js").Session} Session */
-/** @typedef {(session: Session, rest: string) => Promise<string[]> | string[]} Act */
+/** @typedef {(session: Session, rest: string, tell: (progress: string) => void) => Promise<string[]> | string[]} Act */
 
 const NO_BREAK = "no breakpoint is set; use `break CONDITION` or add a condition to this command";
 

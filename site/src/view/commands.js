@@ -56,11 +56,12 @@ function commandOf(word) {
  * Executes a line and returns what to show. Throws CommandError.
  * @param {Session} session
  * @param {string} line
+ * @param {(progress: string) => void} tell shows how far the command is
  */
-export async function execute(session, line) {
+export async function execute(session, line, tell) {
   const [word, ...rest] = line.trim().split(/\s+/);
   const name = nameOf(commandOf(word));
-  return name === "help" ? help(rest.join(" ")) : ACTS[name](session, rest.join(" "));
+  return name === "help" ? help(rest.join(" ")) : ACTS[name](session, rest.join(" "), tell);
 }
 
 /**

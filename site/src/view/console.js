@@ -11,6 +11,7 @@ export class Console {
   #past = [];
   #at = 0;
   #done = Promise.resolve();
+  #field = typed("line", HTMLInputElement);
   /** The text whose completions were listed last. */
   #listed = "";
 
@@ -18,7 +19,7 @@ export class Console {
   constructor(session) {
     this.session = session;
     session.width = charactersOf;
-    const field = typed("line", HTMLInputElement);
+    const field = this.#field;
     element("console").addEventListener("submit", (event) => {
       event.preventDefault();
       this.run(field.value);
@@ -82,11 +83,16 @@ export class Console {
     if (given !== this.#past.at(-1)) this.#past.push(given);
     this.#at = this.#past.length;
     this.#print([`turn ${this.session.turn}> ${given}`], "asked");
+    const { placeholder } = this.#field;
+    const tell = (/** @type {string} */ progress) => {
+      this.#field.placeholder = progress;
+    };
     try {
-      this.#print(await execute(this.session, given), "");
+      this.#print(await execute(this.session, given, tell), "");
     } catch (error) {
       this.#print([String(/** @type {Error} */ (error).message)], "refused");
     }
+    this.#field.placeholder = placeholder;
   }
 
   /**
@@ -99,6 +105,7 @@ export class Console {
     while (className === "asked" && answers.children.length > MAX_LINES) answers.firstChild?.remove();
     answers.append(...texts.map((text) => make("li", { className }, withCode(text))));
     answers.scrollTop = answers.scrollHeight;
+    if (document.activeElement === this.#field) this.#field.scrollIntoView({ block: "nearest" });
   }
 }
 

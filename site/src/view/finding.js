@@ -22,10 +22,11 @@ function timesOf({ count, first }) {
 /**
  * @param {Session} session
  * @param {string} rest
+ * @param {(progress: string) => void} tell
  */
-export async function find(session, rest) {
+export async function find(session, rest, tell) {
   const [word, ...more] = rest.split(/\s+/);
-  if (word === "-r") return findInRounds(session, more.join(" "));
+  if (word === "-r") return findInRounds(session, more.join(" "), tell);
   const condition = readCondition(session, rest);
   const found = await session.desk.count(session.future, condition, LISTED);
   return [`${conditionWords(condition, session.known)}: ${found.count ? timesOf(found) : "never"}`];
@@ -35,14 +36,16 @@ export async function find(session, rest) {
  * Finds a condition in each round of the match, without edits. Names and labels mean those of each round.
  * @param {Session} session
  * @param {string} rest
+ * @param {(progress: string) => void} tell
  */
-async function findInRounds(session, rest) {
+async function findInRounds(session, rest, tell) {
   const { fight, desk, known } = session;
   const words = conditionWords(readCondition(session, rest), known);
   const rows = [];
   let total = 0;
   const { rounds = 0, round: here = 0 } = fight ?? {};
   for (let round = 0; round < rounds; round++) {
+    tell(`searched ${round} of ${counted(rounds, "round")}`);
     const other = inRound(session, round, await desk.starts(round));
     const condition = readCondition(other, renumbered(rest, here - round, known.names.length));
     const found = await desk.countIn(round, condition, LISTED_IN_ROUND);

@@ -1,5 +1,5 @@
 /** What the commands of the debugger's line show of a turn: each returns the lines. */
-import { OPCODES, cellText, readCell } from "../model/cells.js";
+import { cellText, readCell } from "../model/cells.js";
 import { where } from "../words/battle.js";
 import { instructionWords } from "../words/instruction.js";
 import * as words from "../words/replies.js";
@@ -176,22 +176,17 @@ async function changeLines({ desk, future, turn, known }, address) {
 }
 
 /**
- * Returns how a cell got its value: its last change, and the turn that gave it its opcode if that is an earlier one.
+ * Returns how a cell got its value: its last change, and the turn that copied its instruction there if that is another.
  * @param {Session} session
  * @param {number} address
  */
 async function causeLines(session, address) {
-  const { desk, future, turn, known, view, opened } = session;
+  const { desk, future, turn, known } = session;
   const lines = await changeLines(session, address);
-  const becomes = OPCODES[readCell(view?.cells ?? new Uint32Array(0), address).op];
-  const found = await desk.search(future, [{ word: "changes", cells: [address, address], becomes }], turn + 1, false);
-  const isHere = (/** @type {import("../model/fight.js").Edit} */ edit) =>
-    edit.kind === "cell" && edit.address <= address && address <= edit.last;
-  const edited = Math.max(0, ...(opened?.edits ?? []).flatMap((one) => (isHere(one.edit) ? one.turn : [])));
-  const isOther = found && found.turn > edited && !lines[0].endsWith(` in turn ${found.turn}:`);
-  if (!isOther) return lines;
-  const move = await desk.move(future, found.turn);
-  return [...lines, `It became a ${becomes} in turn ${found.turn}:`, ...words.turnLines(move, known)];
+  const copied = await desk.copied(future, address, turn);
+  if (!copied || lines[0].endsWith(` in turn ${copied}:`)) return lines;
+  const move = await desk.move(future, copied);
+  return [...lines, `Its instruction was copied there in turn ${copied}:`, ...words.turnLines(move, known)];
 }
 
 /**

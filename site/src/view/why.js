@@ -37,7 +37,7 @@ export class Why {
     if (!death) return;
     const links = await session.ofThisBattle(session.desk.why(future, death.warrior));
     if (!links) return;
-    const write = links.filter(({ kind }) => kind === "write").at(-1);
+    const [write] = ["write", "change"].flatMap((kind) => links.filter((link) => link.kind === kind).slice(-1));
     // On a narrow page the cell would cover the turns that led to it.
     session.pin(death.address < 0 || isNarrow() ? null : death.address);
     session.explain({ death, links });
@@ -62,7 +62,7 @@ export class Why {
     element("chain-others").hidden = others.length === 0;
     const marked = links.flatMap((link) => {
       const found = this.side.lineOfOrigin(link.origin);
-      const className = link.kind === "write" || link.kind === "aim" ? "kills" : "dies";
+      const className = link.kind === "arrival" || link.kind === "death" ? "dies" : "kills";
       return found ? [{ name: found.name, line: found.line, className }] : [];
     });
     this.markLines(marked);

@@ -4,11 +4,12 @@ import { place } from "./battle.js";
 
 /** @typedef {import("./battle.js").Known} Known */
 /**
- * A turn that led to a death. It `aim`ed by setting the pointer of the write, it was the `write` itself, the `arrival`
- * of the process at the cell, or the `death`. `target` is the cell that it set, wrote or led to, with `after` in it;
- * `executed` is the instruction, at `address`, and `origin` the loaded cell of which that is a copy.
+ * A turn that led to a death. It `aim`ed by setting the pointer of the write, it was the `write` that copied the
+ * instruction, a `change` of a number after that, the `arrival` of the process at the cell, or the `death`. `target` is
+ * the cell that it set, wrote, changed or led to, with `after` in it; `executed` is the instruction, at `address`, and
+ * `origin` the loaded cell of which that is a copy.
  * @typedef {object} Link
- * @property {"aim" | "write" | "arrival" | "death"} kind
+ * @property {"aim" | "write" | "change" | "arrival" | "death"} kind
  * @property {number} turn
  * @property {number} warrior
  * @property {number} address
@@ -31,6 +32,8 @@ export function linkWords({ kind, warrior, target, executed, after }, known) {
       return `${name} set the pointer ${there} for its write.`;
     case "write":
       return `${name} wrote ${text(after)} to ${there}.`;
+    case "change":
+      return `${name} changed ${there} to ${text(after)}.`;
     case "arrival":
       return `The last process of ${name} went to ${there}.`;
     default:

@@ -1,9 +1,9 @@
 /** The battle that the page shows, with all its futures, and the answers to the page's questions about it. */
-import { count, hits, search } from "../battle/conditions.js";
+import { completed, count, hits, search } from "../battle/conditions.js";
 import { History } from "../battle/history.js";
 import { Histories } from "./histories.js";
 import { Painter } from "./picture.js";
-import { chainOf } from "./why.js";
+import { chainOf, copiedIn } from "./why.js";
 import { assembleAll, describe } from "../engine/warrior.js";
 import { BY_HAND } from "../model/cells.js";
 
@@ -289,21 +289,22 @@ export class Desk {
   }
 
   /**
+   * Returns the last turn up to another one that copied the instruction of a cell there, or 0.
+   * @param {number} future
+   * @param {number} address
+   * @param {number} turn
+   */
+  copied(future, address, turn) {
+    return copiedIn(this.#history(future), address, turn);
+  }
+
+  /**
    * Returns the place where a number of cycles is completed, or null if the battle ends before.
    * @param {number} future
    * @param {number} cycle
    */
   until(future, cycle) {
-    const history = this.#history(future);
-    // No turn and no edit leads back to an earlier cycle, so the place is found by halves.
-    let [low, high] = [0, history.end];
-    if (history.place(high).battle.cycle < cycle) return null;
-    while (low < high) {
-      const middle = Math.floor((low + high) / 2);
-      if (history.place(middle).battle.cycle < cycle) low = middle + 1;
-      else high = middle;
-    }
-    return low;
+    return completed(this.#history(future), cycle);
   }
 
   /**

@@ -1,7 +1,7 @@
 /** Why a warrior died: the turns that led to its death. */
 import { by } from "../battle/records.js";
 import { BY_HAND, MODES, readCell } from "../model/cells.js";
-import { EXECUTES, NUMBER_QUEUED } from "../model/layout.js";
+import { CHANGES, EXECUTES, NUMBER_ADDRESS, NUMBER_ORIGIN, NUMBER_QUEUED } from "../model/layout.js";
 
 /** @typedef {import("../battle/history.js").History} History */
 /** @typedef {import("../battle/story.js").Event} Event */
@@ -11,8 +11,8 @@ import { EXECUTES, NUMBER_QUEUED } from "../model/layout.js";
 const INDIRECT = "*@{<}>";
 
 /**
- * Returns the turns that led to a death, in the order of time: those that aimed and wrote the cell in which the warrior
- * died, the one that led its process there, those that wrote the instruction of that if another warrior did, and the
+ * Returns the turns that led to a death, in the order of time: those that aimed, wrote and changed the cell in which the
+ * warrior died, the one that led its process there, those that wrote the instruction of that if another warrior did, and the
  * death.
  * @param {History} history
  * @param {Event} death
@@ -25,7 +25,7 @@ export function chainOf(history, death) {
   const arrival = arrivalOf(history, death);
   const lead = arrival ? writesOf(history, arrival.address, arrival.turn) : [];
   // How a warrior came to write its own instructions leads away from its death.
-  const isTrapped = lead.some((link) => link.kind === "write" && link.warrior !== warrior);
+  const isTrapped = lead.some(({ kind, warrior: who }) => (kind === "write" || kind === "change") && who !== warrior);
   const links = [...(isTrapped ? lead : []), ...writesOf(history, address, turn), ...(arrival ? [arrival] : [])];
   const order = links.map((link, index) => ({ link, index }));
   order.sort((one, other) => one.link.turn - other.link.turn || one.index - other.index);
@@ -33,29 +33,50 @@ export function chainOf(history, death) {
 }
 
 /**
- * Returns the turn that wrote a cell last before another turn, after the one that aimed it; none if the cell was loaded
- * or edited.
+ * Returns the turn before another one that copied its instruction to a cell, and the one that changed it last, each
+ * after the one that aimed it; none if the cell was loaded or edited.
  * @param {History} history
  * @param {number} address
  * @param {number} before
  */
 function writesOf(history, address, before) {
-  const turn = writtenBy(history, address, before);
-  if (turn === 0) return [];
-  const write = linkOf(history, "write", turn, address);
-  const aim = aimOf(history, write);
-  return aim ? [aim, write] : [write];
+  const [changed, copied] = [changedIn(history, address, before - 1), copiedIn(history, address, before - 1)];
+  return [...new Set([copied, changed])].filter(Boolean).flatMap((turn) => {
+    const write = linkOf(history, turn === copied ? "write" : "change", turn, address);
+    const aim = aimOf(history, write);
+    return aim ? [aim, write] : [write];
+  });
 }
 
 /**
- * Returns the turn that changed a cell last before another turn; 0 if it was loaded or edited.
+ * Returns the last turn up to another one that changed a cell; 0 if it was loaded or edited.
  * @param {History} history
  * @param {number} address
- * @param {number} before
+ * @param {number} turn
  */
-function writtenBy(history, address, before) {
-  const place = history.place(before - 1);
+function changedIn(history, address, turn) {
+  const place = history.place(turn);
   return place.owner(address) === BY_HAND ? 0 : place.written(address);
+}
+
+/**
+ * Returns the last turn up to another one that copied the instruction of a cell there in place of another one; 0 if it
+ * was loaded or edited.
+ * @param {History} history
+ * @param {number} address
+ * @param {number} turn
+ */
+export function copiedIn(history, address, turn) {
+  const origin = history.place(turn).origin(address);
+  const edited = history.byHand(address, turn)?.turn ?? 0;
+  /** @type {import("../battle/records.js").Row[]} */
+  const rows = [
+    [CHANGES, NUMBER_ADDRESS, address, address],
+    // A range whose end is below its start goes around.
+    [CHANGES, NUMBER_ORIGIN, origin + 1, (origin - 1) >>> 0],
+  ];
+  for (const turns of history.find(rows, edited, turn, false)) if (turns.length) return turns[turns.length - 1];
+  return 0;
 }
 
 /**
@@ -83,7 +104,7 @@ function aimOf(history, { turn, address, target, executed }) {
   // A read limit folds addresses: then the pointer is another cell.
   const isPointer = INDIRECT.includes(MODES[bMode]) && pointer !== target;
   if (!isPointer || !history.deed(turn).touched.includes(pointer)) return null;
-  const set = writtenBy(history, pointer, turn);
+  const set = changedIn(history, pointer, turn - 1);
   return set > 0 ? linkOf(history, "aim", set, pointer) : null;
 }
 

@@ -8,7 +8,7 @@ import { Jobs } from "./jobs.js";
 /** @typedef {Record<string, (...given: unknown[]) => unknown>} Calls */
 
 const DESK_CALLS =
-  "open show edit turn origins move overview story paint search count starts countIn hits why until cell cellOf memory";
+  "open show edit turn origins move overview story paint search count starts countIn hits why copied until cell cellOf memory";
 const JOB_CALLS = "assemble warriors match scores round sweep positions checkFormula".split(" ");
 
 /**
