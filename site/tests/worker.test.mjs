@@ -7,7 +7,7 @@ import { test } from "node:test";
 
 import { Mars } from "../src/engine/mars.js";
 import { DEFAULTS, MAX_TURNS } from "../src/model/settings.js";
-import { fateWords, moveWords, writtenWords } from "../src/words/battle.js";
+import { eventWords, fateWords, moveWords, writtenWords } from "../src/words/battle.js";
 import { Desk } from "../src/worker/desk.js";
 import { Jobs } from "../src/worker/jobs.js";
 
@@ -71,7 +71,9 @@ test("a death has a chain of turns", () => {
 test("a chain has the bomb on an equal opcode, and what changed a number of it", () => {
   const desk = new Desk(mars);
   const bomber = "MOV 2, 60\nJMP 0\nDAT #1, #1\n";
-  desk.open({ ...fightOf([bomber, "SUB #1, -40\nJMP -41\n"]), position: 100 });
+  const { deaths } = desk.open({ ...fightOf([bomber, "SUB #1, -40\nJMP -41\n"]), position: 100 });
+  const words = eventWords(deaths[0], known(["Bomber", "Victim"]));
+  assert.equal(words, "Victim dies at 60, a cell that it changed itself in turn 2");
   assert.deepEqual(desk.why(0, 1).map(({ kind, turn, warrior }) => [kind, turn, warrior]), [
     ["write", 1, 0],
     ["change", 2, 1],

@@ -221,12 +221,12 @@ function deathWords({ warrior, other, address, count }, known) {
   const name = known.names[warrior];
   if (address < 0) return `${name} dies: you removed its last process`;
   const [at, when] = [place(address, known), count ? ` in turn ${number(count)}` : ""];
-  const own = count ? `it wrote itself${when}` : "was loaded with it";
+  const own = count ? `it changed itself${when}` : "was loaded with it";
   if (other === warrior) return `${name} dies at ${at}, a cell that ${own}`;
   if (other === BY_HAND) return `${name} dies at ${at}, which you wrote`;
   const killer = known.names[other];
   if (killer === undefined) return `${name} dies: it runs into empty memory at ${at}`;
-  return `${name} dies: it executes ${at}, which ${count ? `${killer} wrote${when}` : `was loaded with ${killer}`}`;
+  return `${name} dies: it executes ${at}, which ${count ? `${killer} changed${when}` : `was loaded with ${killer}`}`;
 }
 
 /**
