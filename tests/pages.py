@@ -492,6 +492,15 @@ def test_replies_are_those_of_the_terminal(page: Browser) -> None:
             assert comparable(line, reply) == comparable(line, own), line
 
 
+def test_a_warrior_may_be_called_as_a_word_of_conditions(page: Browser) -> None:
+    """As in `corewar debug`."""
+    sources = [{"name": f"{name}.red", "text": f";name {name}\nJMP 0\n"} for name in ("of", "Stay")]
+    page.run("await corewar.fight(given[0], false)", sources)
+    for words in ("dies of", "dies of was MOV", "dies of and splits of", "splits of Stay", "dies Stay of of"):
+        assert answer(page, f"find {words.lower()}") == f"{words}: never"
+    assert answer(page, "find dies by") == answer(page, "find")
+
+
 def test_labels_of_several_warriors(page: Browser) -> None:
     """They require the number of their warrior, as in `corewar debug`, also in the list beside the core."""
     fight(page, "dwarf", "scanner")

@@ -284,6 +284,9 @@ def test_names_may_have_words_of_conditions() -> None:
     assert execute(session, "break dies wrath and reads 3 of wrath of and and was mov")[1] == (
         "breakpoint 1: dies Wrath and reads 3 of Wrath of and was MOV"
     )
+    for words in ("dies of", "dies of was MOV", "dies of and splits of", "dies of of Wrath", "splits of Wrath"):
+        assert execute(session, f"find {words.lower()}") == [f"{words}: never"]
+    assert refused(session, "find dies by") == refused(session, "find")
 
 
 def test_find_looks_at_all_rounds() -> None:

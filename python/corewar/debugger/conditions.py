@@ -28,7 +28,7 @@ def read_conditions(session: Session, text: str) -> Joined:
             found[-1] = with_more(session, found[-1], word, rest)
         elif word in (*WORDS["cells"], *WORDS["warriors"]) and is_joined:
             found.append(Condition(word))
-            if rest and rest[0] not in FOLLOWING:
+            if has_argument(session, word, rest):
                 found[-1] = with_more(session, found[-1], "cells" if word in WORDS["cells"] else "by", rest)
         else:
             raise CorewarError(WORDS["expected"])
@@ -36,6 +36,14 @@ def read_conditions(session: Session, text: str) -> Joined:
     if not found:
         raise CorewarError(WORDS["expected"])
     return found
+
+
+def has_argument(session: Session, word: str, rest: list[str]) -> bool:
+    """Returns whether an argument follows a condition's first word. The warrior of `dies of` is called `of`."""
+    if not rest or rest[0] not in FOLLOWING:
+        return bool(rest)
+    is_name = word in WORDS["warriors"] and rest[0] in map(str.lower, session.names)
+    return is_name and (len(rest) == 1 or (len(rest) > 2 and rest[1] in FOLLOWING))
 
 
 def with_more(session: Session, condition: Condition, word: str, rest: list[str]) -> Condition:

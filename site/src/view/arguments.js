@@ -106,12 +106,24 @@ export function readCondition(session, text) {
     else if (isJoined && (WORDS.cells.includes(word) || WORDS.warriors.includes(word))) {
       found.push({ word });
       const more = WORDS.cells.includes(word) ? "cells" : "by";
-      if (rest.length && !FOLLOWING.includes(rest[0])) addMore(session, found[found.length - 1], more, rest);
+      if (hasArgument(session, word, rest)) addMore(session, found[found.length - 1], more, rest);
     } else throw new CommandError(WORDS.expected);
     isJoined = false;
   }
   if (!found.length) throw new CommandError(WORDS.expected);
   return found.reduceRight((after, one) => ({ ...one, and: after }));
+}
+
+/**
+ * Returns whether an argument follows a condition's first word. The warrior of `dies of` is called `of`.
+ * @param {Session} session
+ * @param {string} word
+ * @param {string[]} rest
+ */
+function hasArgument({ known }, word, rest) {
+  if (!rest.length || !FOLLOWING.includes(rest[0])) return rest.length > 0;
+  const isName = WORDS.warriors.includes(word) && known.names.some((name) => name.toLowerCase() === rest[0]);
+  return isName && (rest.length === 1 || (rest.length > 2 && FOLLOWING.includes(rest[1])));
 }
 
 /**
