@@ -305,7 +305,10 @@ def test_find_looks_at_all_rounds() -> None:
     for line in ("find -r reads bomb by dwarf", f"find -r reads {session.names.index('Dwarf')}.bomb by dwarf"):
         first, *rows = execute(session, line)
         assert first.endswith(" in 30 of 30 rounds") and len(rows) == 21 and rows[-1] == "and in 10 more rounds"
+    told = list[str]()
+    session.tell = told.append
     assert execute(session, "find -r splits") == ["splits: never in 30 rounds"]
+    assert told == [f"searched {number} of 30 rounds" for number in range(30)]
     assert refused(session, "find -r at .").startswith("`.` is the cell to execute next")
 
 

@@ -39,6 +39,7 @@ def find_in_rounds(session: Session, rest: str) -> Iterator[str]:
     match, here, total, rows = session.history.match, session.history.round, 0, list[str]()
     joined, names = read_conditions(session, rest), session.names
     for number in range(match.rounds):
+        session.tell(f"searched {number} of {pluralize(match.rounds, 'round')}")
         history = History(match, number)
         history.names = [names[(place + number - here) % len(names)] for place in range(len(names))]
         # At the end no cell is the next one.

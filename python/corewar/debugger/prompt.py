@@ -129,6 +129,13 @@ def run_prompt(session: Session, coloured: bool) -> None:
     """Reads lines at a prompt until the user quits."""
     session.paint = paint if coloured else session.paint
     session.width = lambda: get_terminal_size().columns
+    # It replaces what was told before.
+    session.tell = lambda text: print(f"\r\x1b[K{text}", end="", flush=True)
+
+    def show(text: str) -> None:
+        session.tell("")
+        print(lines_for(sys.stdout, text.split("\n")), flush=True)
+
     file = state_file()
     prompt: PromptSession[str] = PromptSession(
         history=LineHistory(str(file)) if file else InMemoryHistory(),
@@ -138,7 +145,7 @@ def run_prompt(session: Session, coloured: bool) -> None:
         auto_suggest=AutoSuggestFromHistory(),
         bottom_toolbar=lambda: ANSI(status_bar(session)),
     )
-    runner, last = Runner(session, lambda text: print(lines_for(sys.stdout, text.split("\n")), flush=True)), ""
+    runner, last = Runner(session, show), ""
     while True:
         try:
             line = as_utf8(prompt.prompt(f"turn {session.turn}> ")).strip() or last
@@ -146,7 +153,7 @@ def run_prompt(session: Session, coloured: bool) -> None:
             command = command_of(line)
             last = line if command and command.repeats else ""
         except KeyboardInterrupt:
-            continue
+            session.tell("")
         except (EOFError, QuitDebugger):
             return
 

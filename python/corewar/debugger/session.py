@@ -30,13 +30,14 @@ def without_separators(text: str) -> str:
 @dataclass
 class Session:
     """A place in a history, the places where undo and redo lead, breakpoints, and all futures that edits made. `width`
-    returns the columns of the terminal, or 0 without one.
+    returns the columns of the terminal, or 0 without one; `tell` shows how far a command is.
     """
 
     history: History
     sources: Sources
     paint: Callable[[int, str], str] = lambda _, text: text
     width: Callable[[], int] = lambda: 0
+    tell: Callable[[str], None] = lambda _: None
     turn: int = 0
     past: list[tuple[History, int]] = field(default_factory=list)
     undone: list[tuple[History, int]] = field(default_factory=list)
