@@ -17,7 +17,6 @@ SCRIPT = r"(?!(\} )?(if|for|while|switch|else|catch|with)\b).*(\)|=>) \{$"
 # What a script writes, and the files that are still too long.
 GENERATED = ("site/src/model/layout.js",)
 TOO_LONG = {
-    "python/corewar/debugger/commands.py",
     "tests/library/test_library.py",
     "tests/pages.py",
     "tests/program/test_first_start.py",
