@@ -24,7 +24,7 @@ from ..model.errors import CorewarError
 from ..model.printing import make_distinct
 from ..model.settings import whole
 from .blocks import Block
-from .runs import BY_HAND, NOBODY, Run
+from .runs import NOBODY, Run
 
 if TYPE_CHECKING:
     # These describe histories, and are loaded when they are called.
@@ -292,11 +292,6 @@ class History:
         """Returns the address at which a warrior was loaded, and its length."""
         start, loaded = self.segments[0].run.at(0), self.warriors[warrior]
         return (int(start.queues[warrior][0]) - loaded.start) % self.core, len(loaded)
-
-    def changed_by_hand(self, turn: int) -> NDArray[np.intp]:
-        """Returns the addresses of the cells that the edits after a turn changed."""
-        owners, turns = self.written(turn)
-        return np.flatnonzero((owners == BY_HAND) & (turns == turn))
 
     def by_hand(self, address: int, turn: int) -> tuple[int, np.void, np.void] | None:
         """Returns the last change of a cell by an edit up to a turn, or None: the turn after which it was made, and the
