@@ -25,6 +25,7 @@ turn 7798: Imp at 5203: DAT.F #0, #-2800
 Cell 5203 was last changed in turn 7797:
 turn 7797: Dwarf at 1: MOV.I $2, @2; reads 3 (bomb)
     5203: MOV.I $0, $1 -> DAT.F #0, #-2800
+    line 10 of Dwarf: MOV bomb, @bomb
 Its turns before that:
 turn 7796: Imp at 5202: MOV.I $0, $1
     5203: DAT.F $0, $0 -> MOV.I $0, $1
@@ -56,13 +57,15 @@ def test_why_finds_the_bomb_on_an_equal_opcode(run: Run, tmp_path: Path) -> None
     (tmp_path / "bomber.red").write_text(";name Bomber\nMOV 2, 60\nJMP 0\nDAT #1, #1\n")
     (tmp_path / "victim.red").write_text(";name Victim\nSUB #1, -40\nJMP -41\n")
     lines = run("why", "-F", 100, "bomber.red", "victim.red").stdout.splitlines()
-    assert lines[3:9] == [
+    assert lines[3:11] == [
         "Cell 60 was last changed in turn 2:",
         "turn 2: Victim at 100: SUB.AB #1, $-40",
         "    60: DAT.F #1, #1 -> DAT.F #1, #0",
+        "    line 2 of Victim: SUB #1, -40",
         "Its instruction was copied there in turn 1:",
         "turn 1: Bomber at 0: MOV.I $2, $60; reads 2",
         "    60: DAT.F $0, $0 -> DAT.F #1, #1",
+        "    line 2 of Bomber: MOV 2, 60",
     ]
     rounds = run("why", "-r", 2, "-F", 100, "bomber.red", "victim.red").stdout
     assert re.search(r" 0  empty core +Bomber, by line 2: MOV 2, 60$", rounds, re.M)

@@ -30,14 +30,14 @@ def describe_change(formatter: BattleFormatter, address: int, turn: int) -> list
     found = last_change(history, address, turn)
     if found is None:
         return [f"Cell {address} has not changed since the start."]
-    return [f"Cell {address} was last changed in turn {found}:", *formatter.lines(found)]
+    return [f"Cell {address} was last changed in turn {found}:", *formatter.lines_with_source(found)]
 
 
 def describe_cause(formatter: BattleFormatter, address: int, turn: int) -> list[str]:
     """Describes how a cell got its value up to a turn: its last change, and the copy of its instruction."""
     lines = describe_change(formatter, address, turn)
     for copied in causes_of(formatter.history, address, turn)[1:]:
-        lines += [f"Its instruction was copied there in turn {copied}:", *formatter.lines(copied)]
+        lines += [f"Its instruction was copied there in turn {copied}:", *formatter.lines_with_source(copied)]
     return lines
 
 
@@ -98,10 +98,7 @@ def describe_death(formatter: BattleFormatter, warrior: int, count: int) -> Iter
         yield f"{name} was killed by an edit after turn {death}."
         return
     yield f"{name} died in turn {death}:"
-    yield from formatter.lines(death)
-    line = formatter.line(death)
-    if line:
-        yield f"    {line}"
+    yield from formatter.lines_with_source(death)
     yield from describe_cause(formatter, int(history.record(death)["address"]), death - 1)
     turns = [*islice(own_turns(history, warrior, death - 1), count + EXTRA_TURNS)]
     if turns:
@@ -123,7 +120,7 @@ def describe_hit(formatter: BattleFormatter, warrior: int) -> Iterator[str]:
     found = first_hit(formatter.history, warrior)
     if found:
         yield "The first hit of another warrior on its loaded code was:"
-        yield from formatter.lines(found)
+        yield from formatter.lines_with_source(found)
 
 
 def first_hit(history: History, warrior: int) -> int | None:

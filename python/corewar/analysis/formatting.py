@@ -95,11 +95,6 @@ class BattleFormatter:
         known, found = [record["address"], *record["process"][: record["queued"]]], reads.addresses[reads.of(turn)]
         return [address for address in dict.fromkeys(found.tolist()) if address not in known]
 
-    def line(self, turn: int) -> str:
-        """Returns the source line of the instruction that a turn executed, with the name of its warrior, or ""."""
-        line = self.sources.line(self.history, int(self.history.record(turn)["address"]), turn - 1)
-        return f"line {line.number} of {self.names[line.warrior]}: {line.text}" if line else ""
-
     def writes(self, turn: int) -> list[Write]:
         """Returns the writes of a turn, last those that changed nothing."""
         block = self.history.block_of(turn)
@@ -150,6 +145,12 @@ class BattleFormatter:
     def lines(self, turn: int) -> list[str]:
         """Describes a turn, and each change in a line of its own."""
         return [self.head(turn), *(f"    {change}" for change in self.changes(turn))]
+
+    def lines_with_source(self, turn: int) -> list[str]:
+        """Describes a turn as `lines`, also by the line of source of its instruction and the warrior that has it."""
+        line = self.sources.line(self.history, int(self.history.record(turn)["address"]), turn - 1)
+        source = [f"    line {line.number} of {self.names[line.warrior]}: {line.text}"] if line else []
+        return [*self.lines(turn), *source]
 
     def next_turn(self, turn: int) -> str:
         """Describes what the next turn will execute, or how the battle ended."""

@@ -160,19 +160,32 @@ export function show({ view, known, opened, end }) {
 }
 
 /**
+ * Returns a turn, each of its writes, and the line of source of its instruction.
+ * @param {Session} session
+ * @param {number} turn
+ */
+async function linesOf(session, turn) {
+  const move = await session.desk.move(session.future, turn);
+  const line = session.lineOf(move.origin);
+  const source = line ? [`    line ${line.line} of ${session.known.names[line.warrior]}: ${line.text}`] : [];
+  return [...words.turnLines(move, session.known), ...source];
+}
+
+/**
  * Returns the last change of a cell, by a turn or by an edit.
  * @param {Session} session
  * @param {number} address
  */
-async function changeLines({ desk, future, turn, known }, address) {
+async function changeLines(session, address) {
+  const { desk, future, turn, known } = session;
   const { changes, edited } = await desk.cell(future, address, turn);
   const text = (/** @type {Uint32Array} */ cell) => cellText(readCell(cell, 0), known.core);
   if (edited) {
     return [`Cell ${address} was edited after turn ${edited.turn}: ${text(edited.before)} -> ${text(edited.after)}`];
   }
   if (!changes.length) return [`Cell ${address} has not changed since the start.`];
-  const move = await desk.move(future, changes[0].turn);
-  return [`Cell ${address} was last changed in turn ${changes[0].turn}:`, ...words.turnLines(move, known)];
+  const found = changes[0].turn;
+  return [`Cell ${address} was last changed in turn ${found}:`, ...(await linesOf(session, found))];
 }
 
 /**
@@ -181,12 +194,10 @@ async function changeLines({ desk, future, turn, known }, address) {
  * @param {number} address
  */
 async function causeLines(session, address) {
-  const { desk, future, turn, known } = session;
   const lines = await changeLines(session, address);
-  const copied = await desk.copied(future, address, turn);
+  const copied = await session.desk.copied(session.future, address, session.turn);
   if (!copied || lines[0].endsWith(` in turn ${copied}:`)) return lines;
-  const move = await desk.move(future, copied);
-  return [...lines, `Its instruction was copied there in turn ${copied}:`, ...words.turnLines(move, known)];
+  return [...lines, `Its instruction was copied there in turn ${copied}:`, ...(await linesOf(session, copied))];
 }
 
 /**

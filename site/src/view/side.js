@@ -173,16 +173,8 @@ export class Side {
    * @param {number} address
    */
   lineOf(address) {
-    const { origins } = this.session;
-    return origins && this.lineOfOrigin(origins[address]);
-  }
-
-  /**
-   * Returns the line of source of a loaded cell, or null.
-   * @param {number} origin
-   */
-  lineOfOrigin(origin) {
-    return this.session.lineOf(origin);
+    const { session } = this;
+    return session.origins && session.lineOf(session.origins[address]);
   }
 
   /**

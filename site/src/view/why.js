@@ -61,7 +61,7 @@ export class Why {
     refill(element("chain-others"), ...others.map(({ warrior }) => make("button", ask(warrior), known.names[warrior])));
     element("chain-others").hidden = others.length === 0;
     const marked = links.flatMap((link) => {
-      const found = this.side.lineOfOrigin(link.origin);
+      const found = session.lineOf(link.origin);
       const className = link.kind === "arrival" || link.kind === "death" ? "dies" : "kills";
       return found ? [{ name: found.name, line: found.line, className }] : [];
     });
@@ -77,7 +77,7 @@ export class Why {
       if (!isNarrow()) session.pin(link.kind === "aim" || link.kind === "arrival" ? link.address : link.target);
       session.jump(link.turn);
     };
-    const found = side.lineOfOrigin(link.origin);
+    const found = session.lineOf(link.origin);
     const code = cellText(readCell(link.executed, 0), known.core);
     const by = `${place(link.address, known)}: ${found ? found.text : code}`;
     const source = make("code", { className: "source" }, by, " ", found && side.lineButton(found));

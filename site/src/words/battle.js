@@ -9,13 +9,14 @@ import { BY_HAND, NOBODY, cellText, readCell } from "../model/cells.js";
  */
 /** @typedef {{address: number, name: string, warrior: number}} Label */
 /**
- * What a turn did. Cells are three words; `owner` is the owner of the cell before; `left` is the number of processes
- * that the warrior has left.
+ * What a turn did. Cells are three words; `origin` is the loaded cell of which the instruction is a copy, `owner` the
+ * owner of a cell before, and `left` the number of processes that the warrior has left.
  * @typedef {object} Move
  * @property {number} turn
  * @property {number} warrior
  * @property {number} address
  * @property {Uint32Array} executed
+ * @property {number} origin
  * @property {{address: number, before: Uint32Array, after: Uint32Array, owner: number}[]} writes
  * @property {number[]} reads
  * @property {number[]} queued

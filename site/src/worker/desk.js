@@ -191,7 +191,8 @@ export class Desk {
     const writes = changes.map((change) => ({ ...change, owner: place.owner(change.address) }));
     const known = new Set([address, ...queued, ...changes.map((change) => change.address)]);
     const reads = [...new Set(touched.filter((one) => !known.has(one)))];
-    return { ...deed, turn, executed: place.cell(address), writes, reads, left };
+    const origin = history.origin(address, turn - 1);
+    return { ...deed, turn, executed: place.cell(address), origin, writes, reads, left };
   }
 
   /**
