@@ -166,35 +166,35 @@ def fill(session: Session, rest: str) -> Iterator[str]:
     yield f"{first} to {last}: {session.formatter.cell(cell)}"
 
 
+def warrior_and(session: Session, rest: str, count: int, expected: str) -> tuple[int, list[str]]:
+    """Returns the warrior that a text names, and some words after it. Raises CorewarError with what was expected."""
+    words = rest.rsplit(None, count)
+    if len(words) <= count:
+        raise CorewarError(expected)
+    return session.warrior(words[0]), words[1:]
+
+
 @command("move")
 def move(session: Session, rest: str) -> Iterator[str]:
-    words = rest.rsplit(None, 2)
-    if len(words) != 3:
-        raise CorewarError("expected a warrior, the index of a process and an address")
-    warrior = session.warrior(words[0])
-    process = session.process(warrior, words[1])
-    session.edit(Edit.move(warrior, process, session.address(words[2])))
+    expected = "expected a warrior, the index of a process and an address"
+    warrior, (index, address) = warrior_and(session, rest, 2, expected)
+    process = session.process(warrior, index)
+    session.edit(Edit.move(warrior, process, session.address(address)))
     yield session.formatter.queue_around(session.turn, warrior, process)
 
 
 @command("kill")
 def kill(session: Session, rest: str) -> Iterator[str]:
-    words = rest.rsplit(None, 1)
-    if len(words) != 2:
-        raise CorewarError("expected a warrior and the index of a process")
-    warrior = session.warrior(words[0])
-    process = session.process(warrior, words[1])
+    warrior, (index,) = warrior_and(session, rest, 1, "expected a warrior and the index of a process")
+    process = session.process(warrior, index)
     session.edit(Edit.kill(warrior, process))
     yield session.formatter.queue_around(session.turn, warrior, process)
 
 
 @command("spawn")
 def spawn(session: Session, rest: str) -> Iterator[str]:
-    words = rest.rsplit(None, 1)
-    if len(words) != 2:
-        raise CorewarError("expected a warrior and an address")
-    warrior, address = session.warrior(words[0]), session.address(words[1])
-    count = len(session.history.block(session.turn).queue(warrior, session.turn))
+    warrior, (named,) = warrior_and(session, rest, 1, "expected a warrior and an address")
+    address, count = session.address(named), len(session.history.block(session.turn).queue(warrior, session.turn))
     if not 0 < count < session.history.match.settings.processes:
         why = f"has {pluralize(count, 'process')}, the maximum" if count else "is dead"
         raise CorewarError(f"cannot add a process: {session.names[warrior]} {why}")

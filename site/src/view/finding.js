@@ -19,11 +19,7 @@ function timesOf({ count, first }) {
   return `${counted(count, "time")}, after turn ${first.join(", ")}${more}`;
 }
 
-/**
- * @param {Session} session
- * @param {string} rest
- * @param {(progress: string) => void} tell
- */
+/** @type {import("./acts.js").Act} */
 export async function find(session, rest, tell) {
   const [word, ...more] = rest.split(/\s+/);
   if (word === "-r") return findInRounds(session, more.join(" "), tell);

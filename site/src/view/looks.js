@@ -7,6 +7,7 @@ import { linkWords } from "../words/why.js";
 import { readAddress, readNumber, readProcess, readWarrior } from "./arguments.js";
 import { standingOn } from "./standing.js";
 
+/** @typedef {import("./acts.js").Act} Act */
 /** @typedef {import("./session.js").Session} Session */
 
 /** The number of cells that `list` shows, around each warrior's next process, and of processes that are listed. */
@@ -87,10 +88,7 @@ function cellLines(session, first, count) {
   );
 }
 
-/**
- * @param {Session} session
- * @param {string} rest
- */
+/** @type {Act} */
 export function list(session, rest) {
   const { view, known } = session;
   if (!view) return [];
@@ -133,10 +131,7 @@ export function queueAround(session, warrior, process) {
   return queueLines(session, warrior, Math.max(0, Math.min(process - LISTED / 2, others)));
 }
 
-/**
- * @param {Session} session
- * @param {string} rest
- */
+/** @type {Act} */
 export function queue(session, rest) {
   const { view, known } = session;
   // The name of a warrior may end in a number.
@@ -200,10 +195,7 @@ async function causeLines(session, address) {
   return [...lines, `Its instruction was copied there in turn ${copied}:`, ...(await linesOf(session, copied))];
 }
 
-/**
- * @param {Session} session
- * @param {string} rest
- */
+/** @type {Act} */
 export async function why(session, rest) {
   const { desk, future, known, turn, view } = session;
   const died = known.deaths.find((one) => one.turn === turn)?.warrior;
@@ -219,10 +211,7 @@ export async function why(session, rest) {
   return [`${known.names[warrior]} died in turn ${death.turn}:`, ...turns];
 }
 
-/**
- * @param {Session} session
- * @param {string} rest
- */
+/** @type {Act} */
 export function explain(session, rest) {
   const { view, known } = session;
   const address = readAddress(session, rest || ".");
@@ -232,8 +221,5 @@ export function explain(session, rest) {
   return [`${where(address, known)}: ${cellAt(session, address)}`, sentence];
 }
 
-/**
- * @param {Session} session
- * @param {string} rest
- */
+/** @type {Act} */
 export const changed = (session, rest) => changeLines(session, readAddress(session, rest));
