@@ -11,9 +11,9 @@ import { CHANGES, EXECUTES, NUMBER_ADDRESS, NUMBER_ORIGIN, NUMBER_QUEUED } from 
 const INDIRECT = "*@{<}>";
 
 /**
- * Returns the turns that led to a death, in the order of time: those that aimed, wrote and changed the cell in which the
- * warrior died, the one that led its process there, those that wrote the instruction of that if another warrior did, and the
- * death.
+ * Returns the turns that led to a death, in the order of time: those that aimed, wrote and changed the cell in which
+ * the warrior died, the one that led its process there, those that wrote the instruction of that if another warrior
+ * did, and the death.
  * @param {History} history
  * @param {Event} death
  * @returns {Link[]}
@@ -25,7 +25,7 @@ export function chainOf(history, death) {
   const arrival = arrivalOf(history, death);
   const lead = arrival ? writesOf(history, arrival.address, arrival.turn) : [];
   // How a warrior came to write its own instructions leads away from its death.
-  const isTrapped = lead.some(({ kind, warrior: who }) => (kind === "write" || kind === "change") && who !== warrior);
+  const isTrapped = lead.some((link) => link.kind !== "aim" && link.warrior !== warrior);
   const links = [...(isTrapped ? lead : []), ...writesOf(history, address, turn), ...(arrival ? [arrival] : [])];
   const order = links.map((link, index) => ({ link, index }));
   order.sort((one, other) => one.link.turn - other.link.turn || one.index - other.index);

@@ -7,8 +7,10 @@ import { Jobs } from "./jobs.js";
 /** @typedef {{id: number, call: string, given: unknown[]}} CallMessage */
 /** @typedef {Record<string, (...given: unknown[]) => unknown>} Calls */
 
-const DESK_CALLS =
-  "open show edit turn origins move overview story paint search count starts countIn hits why copied until cell cellOf memory";
+const DESK_CALLS = [
+  ..."open show edit turn origins move overview story paint search count starts countIn hits".split(" "),
+  ..."why copied until cell cellOf memory".split(" "),
+];
 const JOB_CALLS = "assemble warriors match scores round sweep positions checkFormula".split(" ");
 
 /**
@@ -28,7 +30,7 @@ async function start(module) {
   const bound = (/** @type {any} */ object, /** @type {string[]} */ names) =>
     names.map((name) => [name, object[name].bind(object)]);
   return Object.fromEntries([
-    ...bound(new Desk(mars), DESK_CALLS.split(" ")),
+    ...bound(new Desk(mars), DESK_CALLS),
     ...bound(new Jobs(mars), JOB_CALLS),
     ["start", () => true],
   ]);
