@@ -68,7 +68,8 @@ def test_why_finds_the_bomb_on_an_equal_opcode(run: Run, tmp_path: Path) -> None
         "    line 2 of Bomber: MOV 2, 60",
     ]
     rounds = run("why", "-r", 2, "-F", 100, "bomber.red", "victim.red").stdout
-    assert re.search(r" 0  empty core +Bomber, by line 2: MOV 2, 60$", rounds, re.M)
+    # In the second round the victim counts before the bomb falls.
+    assert "     2     0  empty core  Bomber, by line 2: MOV 2, 60\n" in rounds
 
 
 def test_why_shows_what_another_wrote(run: Run) -> None:

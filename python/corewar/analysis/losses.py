@@ -106,7 +106,8 @@ def cause_of_death(history: History, sources: Sources, names: Sequence[str], war
         owner = "its line" if line.warrior == warrior else f"{names[line.warrior]}'s line"
         cell = f"{owner} {line}"
     else:
-        cell = "empty core" if history.owners(before)[address] == NOBODY else "an unknown line"
+        origin = history.pasts(before)["origin"][address]
+        cell = "empty core" if history.owners(0)[origin] == NOBODY else "an unknown line"
     if hit is None:
         return cell, "nothing: the cell has not changed"
     record = history.record(hit)
