@@ -185,11 +185,14 @@ export class Turns {
       this.desk.turn(future, turn),
       other === null ? null : this.desk.turn(other, turn),
     ]);
+    const shown = { view, beside: other === null ? null : { future: other, view: beside } };
     // What the turn did is needed only if the battle stops there.
-    const isStopped = this.way === 0;
-    const move = isStopped && turn > 0 ? await this.desk.move(future, turn) : null;
-    const origins = isStopped ? await this.desk.origins(future, turn) : null;
-    return { view, move, origins, beside: other === null ? null : { future: other, view: beside } };
+    if (this.way !== 0) return { ...shown, move: null, origins: null };
+    const [move, origins] = await Promise.all([
+      turn > 0 ? this.desk.move(future, turn) : null,
+      this.desk.origins(future, turn),
+    ]);
+    return { ...shown, move, origins };
   }
 
   /**
