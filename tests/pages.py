@@ -409,6 +409,7 @@ def test_the_debugger_has_a_line(page: Browser) -> None:
     page.run("corewar.session.stop()")
     ask = functools.partial(answer, page)
     assert ask("c dies imp") == "the battle is over: Dwarf survives" and page.value("corewar.session.turn") == 7798
+    assert ask("why") == "    line 12 of Dwarf: bomb DAT #0, #0"
     ask("rc changes 5203")
     assert page.value("corewar.session.turn") == 7797
     assert ask("until 100") == "cycle 100 is already completed in turn 7797; use goto with an earlier turn"

@@ -155,15 +155,23 @@ export function show({ view, known, opened, end }) {
 }
 
 /**
+ * Returns the line of source of a loaded cell, and its warrior; nothing if there is none.
+ * @param {Session} session
+ * @param {number} origin
+ */
+function sourceLines(session, origin) {
+  const found = session.lineOf(origin);
+  return found ? [`    line ${found.line} of ${session.known.names[found.warrior]}: ${found.text}`] : [];
+}
+
+/**
  * Returns a turn, each of its writes, and the line of source of its instruction.
  * @param {Session} session
  * @param {number} turn
  */
 async function linesOf(session, turn) {
   const move = await session.desk.move(session.future, turn);
-  const line = session.lineOf(move.origin);
-  const source = line ? [`    line ${line.line} of ${session.known.names[line.warrior]}: ${line.text}`] : [];
-  return [...words.turnLines(move, session.known), ...source];
+  return [...words.turnLines(move, session.known), ...sourceLines(session, move.origin)];
 }
 
 /**
@@ -207,7 +215,9 @@ export async function why(session, rest) {
   if (!death) return [`${known.names[warrior]} survives`];
   const links = await desk.why(future, warrior);
   if (death.address < 0) return [`${known.names[warrior]} was killed by an edit after turn ${death.turn}.`];
-  const turns = links.map((link) => `turn ${link.turn}: ${linkWords(link, known)}`);
+  const turns = links.flatMap((link) => {
+    return [`turn ${link.turn}: ${linkWords(link, known)}`, ...sourceLines(session, link.origin)];
+  });
   return [`${known.names[warrior]} died in turn ${death.turn}:`, ...turns];
 }
 
