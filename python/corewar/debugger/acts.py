@@ -168,6 +168,7 @@ def fill(session: Session, rest: str) -> Iterator[str]:
 
 def warrior_and(session: Session, rest: str, count: int, expected: str) -> tuple[int, list[str]]:
     """Returns the warrior that a text names, and some words after it. Raises CorewarError with what was expected."""
+    # From the right, since the name of a warrior may have spaces.
     words = rest.rsplit(None, count)
     if len(words) <= count:
         raise CorewarError(expected)

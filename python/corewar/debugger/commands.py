@@ -44,6 +44,7 @@ def split_line(line: str) -> tuple[str, str]:
 
 def find_command(word: str) -> Command:
     """Finds a command by its name, a short name, or the first letters of its name. Raises CorewarError."""
+    # Short names come before the first letters of others: `s` also begins `show`.
     found = [one for one in COMMANDS.values() if word == one.name or word in one.short]
     found = found or [one for one in COMMANDS.values() if one.name.startswith(word)]
     if len(found) != 1:
@@ -76,4 +77,5 @@ for name in ("source", "log"):
 def execute(session: Session, line: str) -> list[str]:
     """Executes the command of a line and returns the lines to show. Raises CorewarError, and QuitDebugger."""
     word, rest = split_line(line)
+    # Most commands are generators, which act and raise errors only while their lines are taken.
     return list(ACTS[find_command(word).name](session, rest))
