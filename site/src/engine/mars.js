@@ -28,7 +28,7 @@ export { MarsError } from "../model/errors.js";
 
 const encoder = new TextEncoder();
 /**
- * Returns the bytes of a name. The library refuses one of more than 60, or with a control character; but 0 would end it.
+ * Returns the bytes of a name. The library refuses one of more than 60 or with a control character, but 0 would end it.
  * @param {string} name
  */
 const nameBytes = (name) => encoder.encode(name.replaceAll("\0", "\n")).subarray(0, 64);

@@ -284,9 +284,7 @@ export class Desk {
    * @param {number} warrior
    */
   why(future, warrior) {
-    const history = this.#history(future);
-    const death = history.deaths.find((one) => one.warrior === warrior);
-    return death ? chainOf(history, death) : [];
+    return chainOf(this.#history(future), warrior);
   }
 
   /**

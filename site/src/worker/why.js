@@ -11,17 +11,18 @@ import { CHANGES, EXECUTES, NUMBER_ADDRESS, NUMBER_ORIGIN, NUMBER_QUEUED } from 
 const INDIRECT = "*@{<}>";
 
 /**
- * Returns the turns that led to a death, in the order of time: those that aimed, wrote and changed the cell in which
- * the warrior died, the one that led its process there, those that wrote the instruction of that if another warrior
- * did, and the death.
+ * Returns the turns that led to the death of a warrior, in the order of time: those that aimed, wrote and changed the
+ * cell in which it died, the one that led its process there, those that wrote the instruction of that if another warrior
+ * did, and the death; none if it lives or an edit killed it.
  * @param {History} history
- * @param {Event} death
+ * @param {number} warrior
  * @returns {Link[]}
  */
-export function chainOf(history, death) {
-  const { turn, address, warrior } = death;
+export function chainOf(history, warrior) {
+  const death = history.deaths.find((one) => one.warrior === warrior);
   // A warrior that an edit killed died on no cell.
-  if (address < 0) return [];
+  if (!death || death.address < 0) return [];
+  const { turn, address } = death;
   const arrival = arrivalOf(history, death);
   const lead = arrival ? writesOf(history, arrival.address, arrival.turn) : [];
   // How a warrior came to write its own instructions leads away from its death.
