@@ -5,7 +5,7 @@
 import { MODES, MODIFIERS, NOBODY, OPCODES, isEmpty, readCell, signed } from "../model/cells.js";
 import { drawArrow } from "./arrow.js";
 import { READABLE, bestColumns } from "./columns.js";
-import { BETWEEN, SHADES } from "./palette.js";
+import { BETWEEN, DARK, SHADES } from "./palette.js";
 
 /** @typedef {import("../worker/desk.js").View} View */
 /** @typedef {import("./marks.js").Marks} Marks */
@@ -27,6 +27,8 @@ export class Core {
   size = 1;
   columns = 1;
   rows = 1;
+  /** How strongly cells glow, 0 to 1. */
+  shine = 0;
   /** Pixels of a cell, and without its gap. */
   cell = 1;
   #inner = 1;
@@ -40,7 +42,7 @@ export class Core {
   #image = new ImageData(1, 1);
   #pixels = new Uint32Array(1);
   #processOwners = new Uint8Array(1);
-  /** What cells add to those around them: a pixel for each cell, which the browser shows large and smooth. */
+  /** What cells show below them: a pixel for each, which the browser shows large and smooth. */
   #glow = document.createElement("canvas");
   #glowImage = new ImageData(1, 1);
   #glows = new Uint32Array(1);
@@ -93,11 +95,10 @@ export class Core {
     this.#processOwners = new Uint8Array(size);
     this.#glow.width = columns;
     this.#glow.height = rows;
-    this.#glow.hidden = this.#isReadable;
     // Small cells are bright enough beside each other.
-    this.#glow.style.opacity = String(Math.min(1, this.cell / (8 * ratio)));
+    this.shine = this.#isReadable ? 0 : Math.min(1, this.cell / (8 * ratio));
     this.#glowImage = new ImageData(columns, rows);
-    this.#glows = new Uint32Array(this.#glowImage.data.buffer);
+    this.#glows = new Uint32Array(this.#glowImage.data.buffer).fill(DARK);
   }
 
   /**
@@ -123,8 +124,8 @@ export class Core {
     const few = this.#drawProcesses(view, palette);
     context.putImageData(this.#image, 0, 0);
     context.setTransform(1, 0, 0, 1, 0, 0);
+    this.#glow.getContext("2d")?.putImageData(this.#glowImage, 0, 0);
     if (this.#isReadable) this.#drawTexts(view);
-    else this.#glow.getContext("2d")?.putImageData(this.#glowImage, 0, 0);
     this.#drawMarks(palette, marks, this.cell < LARGE * devicePixelRatio ? few : []);
   }
 

@@ -13,6 +13,9 @@ const BACK = [6, 8, 12];
 /** The shades that glow, and how strongly the first one does. */
 const GLOWING = 9;
 const GLOW = 0.45;
+/** How strongly processes glow, and the part of its own glow that a cell has: it is brightest in the middle. */
+const PROCESS_GLOW = 0.6;
+const OWN = 0.7;
 const WHITE = [255, 255, 255];
 const EDITED = [235, 235, 235];
 
@@ -37,8 +40,19 @@ function pixel(colour) {
   return ((255 << 24) | (blue << 16) | (green << 8) | red) >>> 0;
 }
 
-/** The pixels between cells. */
-export const BETWEEN = pixel(BACK);
+/**
+ * Returns a pixel that adds a colour to the glow below it: as clear as the colour allows.
+ * @param {Colour} colour
+ */
+function clear(colour) {
+  const most = Math.min(255, Math.max(...colour));
+  const pure = pixel(colour.map((value) => Math.min(255, (value * 255) / most)));
+  return ((Math.round(most) << 24) | (pure & 0xffffff)) >>> 0;
+}
+
+/** The pixels between cells, and below those that do not glow. */
+export const BETWEEN = clear(BACK);
+export const DARK = pixel([0, 0, 0]);
 
 /** @param {Colour} colour */
 const css = (colour) => `rgb(${colour.map(Math.round)})`;
@@ -46,23 +60,28 @@ const css = (colour) => `rgb(${colour.map(Math.round)})`;
 /** The colours of a battle, by the order of turns. */
 export class Palette {
   backText = css(BACK);
-  /** What each shade of each owner adds to the cells around it. */
-  glows = new Uint32Array((NOBODY + 1) * (SHADES + 1));
+  /** What each shade of each owner shows below the cells, also below those around it. */
+  glows = new Uint32Array((NOBODY + 1) * (SHADES + 1)).fill(DARK);
   /** The shades of each owner, from fresh to old. */
-  shades = new Uint32Array((NOBODY + 1) * (SHADES + 1)).fill(pixel(GROUND));
+  shades = new Uint32Array((NOBODY + 1) * (SHADES + 1));
 
   /**
    * @param {number[]} order which source each warrior is; it has the same colour in all rounds
    * @param {number} chosen the warrior that is shown chosen, or -1
+   * @param {number} shine how strongly cells glow, 0 to 1
    */
-  constructor(order, chosen) {
+  constructor(order, chosen, shine) {
+    this.shine = shine;
+    this.shades.fill(this.#own(GROUND, GROUND, 0));
     const own = order.map((source) => channels(COLOURS[source % COLOURS.length]));
     const isShown = (/** @type {number} */ who) => chosen < 0 || chosen === who;
     const shown = own.map((colour, who) => (isShown(who) ? colour : mixed(colour, GROUND, 0.86)));
     this.text = own.map(css);
     this.mark = own.map((colour, who) => css(isShown(who) ? mixed(colour, WHITE, 0.25) : shown[who]));
-    this.processGlow = shown.map((colour) => pixel(mixed([0, 0, 0], colour, 0.6)));
-    this.process = own.map((colour, who) => pixel(isShown(who) ? mixed(colour, WHITE, 0.72) : shown[who]));
+    this.processGlow = shown.map((colour) => this.#glow(colour, PROCESS_GLOW));
+    this.process = own.map((colour, who) => {
+      return this.#own(isShown(who) ? mixed(colour, WHITE, 0.72) : shown[who], shown[who], PROCESS_GLOW);
+    });
     shown.forEach((colour, who) => this.#shade(who, colour));
     this.#shade(BY_HAND, EDITED);
     this.colours = shown;
@@ -87,10 +106,29 @@ export class Palette {
     for (let age = 0; age <= SHADES; age++) {
       const part = 0.46 + 0.54 * (1 - age / SHADES) ** 1.7;
       const bright = age < 2 ? mixed(colour, WHITE, 0.09 * (2 - age)) : colour;
-      this.shades[owner * (SHADES + 1) + age] = pixel(mixed(GROUND, bright, part));
       const glow = GLOW * Math.max(0, 1 - age / GLOWING) ** 1.6;
-      this.glows[owner * (SHADES + 1) + age] = pixel(mixed([0, 0, 0], colour, glow));
+      this.shades[owner * (SHADES + 1) + age] = this.#own(mixed(GROUND, bright, part), colour, glow);
+      this.glows[owner * (SHADES + 1) + age] = this.#glow(colour, glow);
     }
+  }
+
+  /**
+   * @param {Colour} colour
+   * @param {number} glow
+   */
+  #glow(colour, glow) {
+    return pixel(colour.map((value) => value * glow * this.shine));
+  }
+
+  /**
+   * Returns the pixel of a cell, with a part of its glow.
+   * @param {Colour} shade
+   * @param {Colour} colour
+   * @param {number} glow
+   */
+  #own(shade, colour, glow) {
+    if (this.shine === 0) return pixel(shade);
+    return clear(shade.map((value, channel) => value + OWN * colour[channel] * glow * this.shine));
   }
 }
 

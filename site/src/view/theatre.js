@@ -183,7 +183,7 @@ export class Theatre {
   #recolour() {
     const { opened, chosen } = this.session;
     if (!opened) return;
-    this.palette = new Palette(opened.order, chosen);
+    this.palette = new Palette(opened.order, chosen, this.core.shine);
     this.ask();
   }
 
