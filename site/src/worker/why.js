@@ -12,8 +12,8 @@ const INDIRECT = "*@{<}>";
 
 /**
  * Returns the turns that led to the death of a warrior, in the order of time: those that aimed, wrote and changed the
- * cell in which it died, the one that led its process there, those that wrote the instruction of that if another warrior
- * did, and the death; none if it lives or an edit killed it.
+ * cell in which it died, the one that led its process there, those that wrote the instruction of that if another
+ * warrior did, and the death; none if it lives or an edit killed it.
  * @param {History} history
  * @param {number} warrior
  * @returns {Link[]}
