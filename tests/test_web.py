@@ -341,13 +341,13 @@ def test_a_file_is_saved_under_its_own_name(browser: Browser, tmp_path: Path) ->
 
 
 def test_the_page_runs_leagues_by_the_server(page: Browser, site: Site) -> None:
-    page.run("rounds.value = '5'; corewar.views.show('league'); await corewar.league.hold()")
+    page.run("rounds.value = '5'; corewar.views.show('league'); await corewar.league.runAll()")
     total = page.value("corewar.league.total")
     assert page.value("corewar.league.done") == total and (site.folder / "kept").stat().st_size > 0
-    page.run("await corewar.league.hold()")
+    page.run("await corewar.league.runAll()")
     assert page.value("corewar.league.done") == total
     # An error of the server is not one of a source.
-    page.run('fetch = async () => new Response(\'{"fault": "no room"}\', {status: 400}); await corewar.league.hold()')
+    page.run('fetch = async () => new Response(\'{"fault": "no room"}\', {status: 400}); await corewar.league.runAll()')
     assert page.text("league-note") == f"0 of {total} matches, 5 rounds each, in 0.0 s; error: no room"
 
 
