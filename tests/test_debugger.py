@@ -235,6 +235,11 @@ def test_find_counts_places() -> None:
     assert [*map(int, first.split(", "))][:3] == found and int(count) > 20
     # A cell is executed next after the turn before its own.
     assert execute(session, "find at 1305") == ["at 1305: 1 time, after turn 1"]
+    # Whose death it was is only said if the condition does not say it.
+    assert execute(session, "find dies") == ["dies: 1 time, after turn 7798 (Imp)"]
+    assert execute(session, "find dies by imp") == ["dies Imp: 1 time, after turn 7798"]
+    (line,) = execute(session, "find at from bomb and dies")
+    assert line == "at from 3 (bomb) and dies: 1 time, after turn 7797 (Imp)"
     assert refused(session, "find") == refused(session, "break at 3 or 4")
 
 

@@ -66,7 +66,7 @@ def foreign_turns(history: History, warrior: int, turns: Sequence[int]) -> Itera
     rows = [by_warrior(warrior), others, (EXECUTES, TURN, 1, MAX_UINT32)]
     for found in find(history, rows, turns[-1] - 1, turns[0], False) if turns else []:
         # An edit is no warrior.
-        yield from (turn for turn in reversed(found.tolist()) if foreign_write(history, turn) is not None)
+        yield from (turn for turn in reversed(found["turn"].tolist()) if foreign_write(history, turn) is not None)
 
 
 def describe_turn(formatter: BattleFormatter, turn: int, shown: set[tuple[int, int]]) -> Iterator[str]:

@@ -21,8 +21,8 @@ MIN_SHARE = 0.01
 
 def own_turns(history: History, warrior: int, turn: int) -> Iterator[int]:
     """The turns of a warrior up to a turn, the latest first."""
-    for turns in find(history, [by_warrior(warrior)], 0, turn, False):
-        yield from reversed(turns.tolist())
+    for found in find(history, [by_warrior(warrior)], 0, turn, False):
+        yield from reversed(found["turn"].tolist())
 
 
 def last_executed(history: History, warrior: int) -> Records:

@@ -6,7 +6,6 @@ from dataclasses import dataclass
 from operator import itemgetter
 
 import numpy as np
-from numpy.typing import NDArray
 
 from ..engine.binding import MAX_UINT32, array
 from ..model.cells import OPCODES
@@ -25,7 +24,6 @@ WARRIOR_CONDITIONS = {"splits": (QUEUED, 2), "ends": (QUEUED, 0), "dies": (DIED,
 Row = tuple[int, int, int, int]
 # The condition that all turns meet.
 ALL: Row = (EXECUTES, ADDRESS, 0, MAX_UINT32)
-Turns = NDArray[np.uint32]
 
 
 @dataclass(frozen=True)
@@ -92,9 +90,10 @@ def by_warrior(warrior: int) -> Row:
 
 def find(
     history: History, rows: Sequence[Row], first: int = 0, last: int | None = None, forward: bool = True
-) -> Iterator[Turns]:
+) -> Iterator[Records]:
     """Yields the turns after `first`, up to `last` or the end, that meet all conditions of the library: some at
-    once, in order, the latest ones first if it is not `forward`.
+    once, in order, the latest ones first if it is not `forward`. They are arrays with the fields of `MarsFound`, whose
+    pasts are known only if a condition is about one.
     """
     parts = spans(history, first, history.end if last is None else last)
     is_past_asked = any(OWNER <= number <= ORIGIN for _, number, *_ in rows)
@@ -104,20 +103,21 @@ def find(
             battle, pasts = history.followed(start)
         else:
             battle, pasts = history.state(start), array("MarsPast", history.core)
-        yield battle.follow(pasts, end - start, rows)["turn"]
+        yield battle.follow(pasts, end - start, rows)
 
 
 def places_in(
     history: History, joined: Joined, first: int = 0, last: int | None = None, forward: bool = True
-) -> Iterator[NDArray[np.int64]]:
+) -> Iterator[Records]:
     """Yields the places at which conditions hold, as `find` yields turns: numbers of executed turns."""
-    # `at` is about the turn after the place.
-    shift = any(one.word == "at" for one in joined)
     rows = [row for one in joined for row in one.rows(history.core)]
-    yield from (turns.astype(np.int64) - shift for turns in find(history, rows, first, last, forward))
+    for found in find(history, rows, first, last, forward):
+        # `at` is about the turn after the place.
+        found["turn"] -= any(one.word == "at" for one in joined)
+        yield found
 
 
-def places(history: History, joined: Joined) -> NDArray[np.int64]:
+def places(history: History, joined: Joined) -> Records:
     """Returns all places at which conditions hold, in order."""
     return np.concatenate([*places_in(history, joined)])
 
@@ -129,7 +129,7 @@ def search(
     span = (turn, history.end) if forward else (0, turn)
     for parts in zip(*(places_in(history, joined, *span, forward) for joined in conditions)):
         found = []
-        for joined, held in zip(conditions, parts):
+        for joined, held in zip(conditions, (part["turn"] for part in parts)):
             near = held[held > turn][:1] if forward else held[held < turn][-1:]
             found += [(int(place), joined) for place in near]
         if found:
@@ -148,7 +148,7 @@ def last_copy(history: History, address: int, turn: int) -> int | None:
     origin = int(history.pasts(turn)[address]["origin"])
     # A range whose end is below its start goes around.
     rows = [(CHANGES, ADDRESS, address, address), (CHANGES, ORIGIN, origin + 1, (origin - 1) & MAX_UINT32)]
-    return next((int(turns[-1]) for turns in find(history, rows, 0, turn, False) if len(turns)), None)
+    return next((int(found["turn"][-1]) for found in find(history, rows, 0, turn, False) if len(found)), None)
 
 
 def executed(history: History, first: int, last: int, rows: Sequence[Row] = (ALL,)) -> Records:

@@ -127,8 +127,8 @@ class History:
         """
         if not conditions:
             raise CorewarError("expected a condition")
-        found: NDArray[np.int64] = self._load("battle.conditions").places(self, conditions)
-        return found
+        found: Records = self._load("battle.conditions").places(self, conditions)
+        return found["turn"].astype(np.int64)
 
     def _load(self, module: str) -> Any:
         """Returns a module of a higher folder, which itself imports this one."""

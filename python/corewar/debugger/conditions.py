@@ -77,6 +77,11 @@ def read_warrior(session: Session, rest: list[str]) -> int:
     return session.warrior(" ".join(rest[:named]))
 
 
+def is_of_any_warrior(joined: Joined) -> bool:
+    """Returns whether conditions ask what happened to a warrior, but not to which one."""
+    return any(one.word in WORDS["warriors"] for one in joined) and all(one.by is None for one in joined)
+
+
 def describe_conditions(session: Session, joined: Joined) -> str:
     """Returns conditions as text."""
 

@@ -3,14 +3,11 @@ from __future__ import annotations
 
 from collections.abc import Iterator
 
-import numpy as np
-from numpy.typing import NDArray
-
 from ..analysis.formatting import pluralize
-from ..battle.conditions import places
+from ..battle.conditions import Joined, places
 from ..battle.history import History
 from ..battle.labels import Sources
-from .conditions import describe_conditions, read_conditions, renumbered
+from .conditions import describe_conditions, is_of_any_warrior, read_conditions, renumbered
 from .session import Session
 
 # How many turns or rounds are listed, and how many turns of each of several rounds.
@@ -24,14 +21,19 @@ def find_turns(session: Session, rest: str) -> Iterator[str]:
         yield from find_in_rounds(session, " ".join(words[1:]))
         return
     joined = read_conditions(session, rest)
-    found = places(session.history, joined)
-    yield f"{describe_conditions(session, joined)}: {times(found, LISTED) if len(found) else 'never'}"
+    yield f"{describe_conditions(session, joined)}: {times(session.history, joined, LISTED)[1] or 'never'}"
 
 
-def times(found: NDArray[np.int64], count: int) -> str:
-    """Returns how often something was found, and the first places, at most `count`."""
-    more = f" and {len(found) - count} more" if len(found) > count else ""
-    return f"{pluralize(len(found), 'time')}, after turn {', '.join(map(str, found[:count]))}{more}"
+def times(history: History, joined: Joined, most: int) -> tuple[int, str]:
+    """Returns how often conditions hold, and that as text, or "", with the first places, at most `most`. If they don't
+    say which warrior is meant, the text does.
+    """
+    found = places(history, joined)
+    count, is_open = len(found), is_of_any_warrior(joined)
+    names = [f" ({history.names[one]})" if is_open else "" for one in found["warrior"][:most].tolist()]
+    listed = ", ".join(f"{turn}{name}" for turn, name in zip(found["turn"].tolist(), names))
+    more = f" and {count - most} more" if count > most else ""
+    return count, f"{pluralize(count, 'time')}, after turn {listed}{more}" if count else ""
 
 
 def find_in_rounds(session: Session, rest: str) -> Iterator[str]:
@@ -44,9 +46,10 @@ def find_in_rounds(session: Session, rest: str) -> Iterator[str]:
         history.names = [names[(place + number - here) % len(names)] for place in range(len(names))]
         # At the end no cell is the next one.
         other = Session(history, Sources(history), turn=history.end)
-        found = places(history, read_conditions(other, renumbered(rest, here - number, len(match.warriors))))
-        total += len(found)
-        rows += [f"round {number}: {times(found, LISTED_IN_ROUND)}"] if len(found) else []
+        wanted = read_conditions(other, renumbered(rest, here - number, len(match.warriors)))
+        count, text = times(history, wanted, LISTED_IN_ROUND)
+        total += count
+        rows += [f"round {number}: {text}"] if count else []
     head, all_rounds = describe_conditions(session, joined), pluralize(match.rounds, "round")
     if not rows:
         yield f"{head}: never in {all_rounds}"

@@ -23,6 +23,7 @@ const { NUMBER_OWNER, NUMBER_WARRIOR, OPCODES, READS } = layout;
  *   and?: Condition}} Condition
  */
 /** @typedef {"at" | "changes" | "reads" | "splits" | "ends" | "dies" | "moves"} Word */
+/** @typedef {{turn: number, warrior: number}} Held a place where a condition holds, and the warrior of its turn */
 
 /**
  * How a turn uses the cells of a condition.
@@ -69,16 +70,17 @@ function rowsOf({ word, cells, of, origin, was, becomes, by, and }, core) {
 const isBefore = ({ word, and }) => word === "at" || (and !== undefined && isBefore(and));
 
 /**
- * Yields the places from one to another at which a condition holds, some at once, in order or the latest first.
+ * Yields the places from one to another at which a condition holds, as `turn`, and the warriors: some at once, in order
+ * or the latest first.
  * @param {History} history
  * @param {Condition} condition
  * @param {{first: number, last: number, isForward: boolean}} span
- * @returns {Generator<number[]>}
+ * @returns {Generator<Held[]>}
  */
 function* placesOf(history, condition, { first, last, isForward }) {
   const shift = isBefore(condition) ? 1 : 0;
-  for (const turns of history.find(rowsOf(condition, history.core), first - 1 + shift, last + shift, isForward)) {
-    yield turns.map((turn) => turn - shift);
+  for (const found of history.find(rowsOf(condition, history.core), first - 1 + shift, last + shift, isForward)) {
+    yield found.map(({ turn, warrior }) => ({ turn: turn - shift, warrior }));
   }
 }
 
@@ -90,7 +92,7 @@ function* placesOf(history, condition, { first, last, isForward }) {
  */
 function nearest(history, condition, span) {
   for (const places of placesOf(history, condition, span)) {
-    if (places.length) return places[span.isForward ? 0 : places.length - 1];
+    if (places.length) return places[span.isForward ? 0 : places.length - 1].turn;
   }
   return null;
 }
@@ -124,7 +126,7 @@ export function search(history, conditions, turn, isForward) {
  * @param {number} most
  */
 export function count(history, condition, most) {
-  const found = { count: 0, first: /** @type {number[]} */ ([]) };
+  const found = { count: 0, first: /** @type {Held[]} */ ([]) };
   for (const places of placesOf(history, condition, { first: 0, last: history.end, isForward: true })) {
     found.count += places.length;
     if (found.first.length < most) found.first.push(...places.slice(0, most - found.first.length));
@@ -143,7 +145,7 @@ export function hits(history, conditions, most) {
     /** @type {number[]} */
     const own = [];
     for (const places of placesOf(history, condition, { first: 0, last: history.end, isForward: true })) {
-      own.push(...places);
+      own.push(...places.map(({ turn }) => turn));
       if (own.length >= most) break;
     }
     return own;

@@ -8,7 +8,7 @@ import { writeCell } from "../model/cells.js";
 import { describe } from "../engine/warrior.js";
 import { Sampler } from "./overview.js";
 import { Place } from "./place.js";
-import { deedOf, isChanged, turnsOf } from "./records.js";
+import { deedOf, foundIn, isChanged } from "./records.js";
 import { Run } from "./run.js";
 import { EVENT } from "./story.js";
 
@@ -176,13 +176,13 @@ export class History {
    * @param {number} first
    * @param {number} last
    * @param {boolean} isForward
-   * @returns {Generator<number[]>}
+   * @returns {Generator<import("./records.js").Found[]>}
    */
   *find(conditions, first, last, isForward) {
     const parts = this.segments.flatMap((segment) => segment.run.parts(first, Math.min(segment.last, last)));
     for (const part of isForward ? parts : parts.reverse()) {
       const turns = part.last - part.mark.turn;
-      yield turnsOf(this.mars.find(part.mark, turns, conditions, turns)).filter((turn) => turn > first);
+      yield [...foundIn(this.mars.find(part.mark, turns, conditions, turns))].filter(({ turn }) => turn > first);
     }
   }
 
@@ -202,7 +202,7 @@ export class History {
       const [from, to] = [places[index - 1], places[index]].map((place) => place.turn);
       const condition = /** @type {const} */ ([CHANGES, NUMBER_ADDRESS, address, address]);
       for (const [found] of this.find([condition], Math.max(turn, from), Math.min(to, last), true)) {
-        if (found) return found;
+        if (found) return found.turn;
       }
     }
     return null;

@@ -38,13 +38,6 @@ export const EVENTS = {
 export const by = (warrior, way = EXECUTES) => [way, NUMBER_WARRIOR, warrior, warrior];
 
 /**
- * Returns the numbers of turns that were found.
- * @param {Uint32Array} rows
- */
-export const turnsOf = (rows) =>
-  Array.from({ length: rows.length / FOUND_WORDS }, (_, index) => rows[FOUND_WORDS * index + MarsFound.turn / 4]);
-
-/**
  * Yields turns that were found.
  * @param {Uint32Array} rows
  * @returns {Generator<Found>}

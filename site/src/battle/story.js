@@ -1,6 +1,6 @@
 /** The story of a battle: what happens first in it, and the most processes of each warrior. */
 import { CHANGES, EXECUTES, NUMBER_OWNER, NUMBER_QUEUED } from "../model/layout.js";
-import { by, deedOf, foundIn, isChanged, turnsOf } from "./records.js";
+import { by, deedOf, foundIn, isChanged } from "./records.js";
 
 /** @typedef {import("./place.js").Place} Place */
 /** @typedef {import("./run.js").Run} Run */
@@ -80,7 +80,7 @@ export class Story {
     const found = new Set();
     for (const { who, other } of this.pairs) {
       const hit = [by(who, CHANGES), /** @type {const} */ ([CHANGES, NUMBER_OWNER, other, other])];
-      for (const turn of turnsOf(this.run.mars.find(mark, turns, hit, 1))) found.add(turn);
+      for (const { turn } of foundIn(this.run.mars.find(mark, turns, hit, 1))) found.add(turn);
     }
     return [...found].sort((one, other) => one - other).flatMap((turn) => this.#hitsOf(mark, turn));
   }

@@ -1,10 +1,11 @@
 /** `find`: how often a condition holds in the battle, or in each round of the match. */
 import TABLE from "../../../python/corewar/debugger/commands.json";
 import { addressesOf } from "../words/battle.js";
-import { conditionWords } from "../words/conditions.js";
+import { conditionWords, isOfAnyWarrior } from "../words/conditions.js";
 import { counted } from "../words/replies.js";
 import { CommandError, readCondition } from "./arguments.js";
 
+/** @typedef {import("../battle/conditions.js").Condition} Condition */
 /** @typedef {import("./session.js").Session} Session */
 
 /** How many turns or rounds are listed, and how many turns of each of several rounds. */
@@ -13,19 +14,27 @@ const NUMBERED = ["of", "by", ...TABLE.conditions.warriors].map((word) => `(?<= 
 /** The numbers of warriors in a condition. */
 const WARRIORS = new RegExp(`\\b\\d+(?=\\.[A-Za-z_])|(?:${NUMBERED})\\d+(?!\\S)`, "g");
 
-/** @param {{count: number, first: number[]}} found */
-function timesOf({ count, first }) {
+/**
+ * Returns how often a condition holds, and the first places. If it does not say which warrior is meant, they do.
+ * @param {{count: number, first: import("../battle/conditions.js").Held[]}} found
+ * @param {Condition} condition
+ * @param {string[]} names
+ */
+function timesOf({ count, first }, condition, names) {
+  const isOpen = isOfAnyWarrior(condition);
+  const turns = first.map(({ turn, warrior }) => (isOpen ? `${turn} (${names[warrior]})` : turn));
   const more = count > first.length ? ` and ${count - first.length} more` : "";
-  return `${counted(count, "time")}, after turn ${first.join(", ")}${more}`;
+  return `${counted(count, "time")}, after turn ${turns.join(", ")}${more}`;
 }
 
 /** @type {import("./acts.js").Act} */
 export async function find(session, rest, tell) {
   const [word, ...more] = rest.split(/\s+/);
   if (word === "-r") return findInRounds(session, more.join(" "), tell);
+  const { known } = session;
   const condition = readCondition(session, rest);
   const found = await session.desk.count(session.future, condition, LISTED);
-  return [`${conditionWords(condition, session.known)}: ${found.count ? timesOf(found) : "never"}`];
+  return [`${conditionWords(condition, known)}: ${found.count ? timesOf(found, condition, known.names) : "never"}`];
 }
 
 /**
@@ -47,7 +56,7 @@ async function findInRounds(session, rest, tell) {
     const found = await desk.countIn(round, condition, LISTED_IN_ROUND);
     if (session.fight !== fight) throw new CommandError("another battle has been opened");
     total += found.count;
-    if (found.count) rows.push(`round ${round}: ${timesOf(found)}`);
+    if (found.count) rows.push(`round ${round}: ${timesOf(found, condition, other.known.names)}`);
   }
   const all = counted(rounds, "round");
   if (!rows.length) return [`${words}: never in ${all}`];

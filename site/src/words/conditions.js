@@ -8,6 +8,16 @@ import { place, where } from "./battle.js";
 const EVENTS = ["splits", "ends", "dies"];
 
 /**
+ * Returns whether conditions ask what happened to a warrior, but not to which one.
+ * @param {Condition} condition
+ */
+export function isOfAnyWarrior(condition) {
+  const all = [];
+  for (let one = /** @type {Condition | undefined} */ (condition); one; one = one.and) all.push(one);
+  return all.some(({ word }) => EVENTS.includes(word)) && all.every(({ by }) => by === undefined);
+}
+
+/**
  * Returns conditions as text.
  * @param {Condition} condition
  * @param {Known} known

@@ -76,7 +76,7 @@ export function copiedIn(history, address, turn) {
     // A range whose end is below its start goes around.
     [CHANGES, NUMBER_ORIGIN, origin + 1, (origin - 1) >>> 0],
   ];
-  for (const turns of history.find(rows, edited, turn, false)) if (turns.length) return turns[turns.length - 1];
+  for (const found of history.find(rows, edited, turn, false)) if (found.length) return found[found.length - 1].turn;
   return 0;
 }
 
@@ -117,10 +117,11 @@ function aimOf(history, { turn, address, target, executed }) {
  */
 function arrivalOf(history, { turn, warrior, address }) {
   const queues = /** @type {const} */ ([EXECUTES, NUMBER_QUEUED, 1, 2]);
-  for (const turns of history.find([queues, by(warrior)], 0, turn - 1, false)) {
-    const last = turns[turns.length - 1];
+  for (const found of history.find([queues, by(warrior)], 0, turn - 1, false)) {
+    if (!found.length) continue;
+    const last = found[found.length - 1].turn;
     // An edit may have moved the process.
-    if (last) return history.deed(last).queued.includes(address) ? linkOf(history, "arrival", last, address) : null;
+    return history.deed(last).queued.includes(address) ? linkOf(history, "arrival", last, address) : null;
   }
   return null;
 }
