@@ -9,12 +9,13 @@ import path from "node:path";
 import { after, test } from "node:test";
 
 import { Battle } from "../src/engine/battle.js";
-import { ASSEMBLY, BLOCK, EDIT, LOAD, OUT_OF_MEMORY, WARRIOR } from "../src/model/layout.js";
-import { EXECUTES, MarsRow, NUMBER_DIED } from "../src/model/layout.js";
+import { deedOf } from "../src/battle/records.js";
+import * as layout from "../src/model/layout.js";
 import { Mars, MarsError } from "../src/engine/mars.js";
 import { MODES, MODIFIERS, OPCODES, cellText } from "../src/model/cells.js";
 import { DEFAULTS, HILLS } from "../src/model/settings.js";
 
+const { ASSEMBLY, BLOCK, EDIT, EXECUTES, LOAD, MarsRow, NUMBER_DIED, OUT_OF_MEMORY, WARRIOR } = layout;
 const EXAMPLES = new URL("../../examples/", import.meta.url);
 const BATTLES = Number(process.env.BATTLES ?? 40);
 const code = fs.readFileSync(process.env.MARS_WASM);
@@ -76,6 +77,31 @@ function errorOf(act) {
 test("a row has each column of the header", () => {
   const [row] = mars.match([mars.assemble("MOV 0, 1")]);
   assert.deepEqual(["size", ...Object.keys(row)], Object.keys(MarsRow));
+});
+
+test("rows are read by the positions of their fields, not by their order", () => {
+  const warriors = ["dwarf", "imp"].map((name) => mars.assemble(example(name)));
+  const read = () => {
+    const battle = mars.start(warriors);
+    const { changes } = deedOf(mars.play(battle, 1, { records: 1, touched: 1 }));
+    mars.play(battle, 80_000);
+    return { changes, deaths: battle.deaths, outcome: mars.outcomes(warriors, [[0, 1]])[0][0][1] };
+  };
+  const swap = (struct, one, other) => {
+    [struct[one], struct[other]] = [struct[other], struct[one]];
+  };
+  const swapAll = () => {
+    swap(layout.MarsChange, "before", "after");
+    swap(layout.MarsDeath, "warrior", "turns");
+    swap(layout.MarsOutcome, "turns", "start");
+  };
+  const { changes: [change], deaths: [death], outcome } = read();
+  swapAll();
+  const other = read();
+  swapAll();
+  assert.deepEqual(other.changes, [{ ...change, before: change.after, after: change.before }]);
+  assert.deepEqual(other.deaths, [{ warrior: death.turns, turns: death.warrior }]);
+  assert.deepEqual(other.outcome, { ...outcome, turns: outcome.start, start: outcome.turns });
 });
 
 test("the outcomes of many matches are those of each, and counted if that is wanted", () => {

@@ -15,8 +15,8 @@ import { CELL_WORDS } from "../model/cells.js";
  * @typedef {{turn: number, warrior: number, queued: number, address: number, owner: number, written: number}} Found
  */
 
-const { EXECUTES, MarsFound, MarsPast, MarsRecord, NUMBER_DIED, NUMBER_QUEUED, NUMBER_WARRIOR } = layout;
-const CHANGE_WORDS = 1 + 2 * CELL_WORDS;
+const { EXECUTES, MarsChange, MarsFound, MarsPast, MarsRecord, MarsTouched } = layout;
+const { NUMBER_DIED, NUMBER_QUEUED, NUMBER_WARRIOR } = layout;
 const FOUND_WORDS = MarsFound.size / 4;
 
 /**
@@ -64,23 +64,24 @@ export function* foundIn(rows) {
  */
 export function deedOf({ records, touched }) {
   const field = (/** @type {number} */ offset) => records[offset / 4];
-  const cell = (/** @type {number} */ at) => records.slice(at, at + CELL_WORDS);
+  const cell = (/** @type {number} */ offset) => records.slice(offset / 4, offset / 4 + CELL_WORDS);
   /** @type {Change[]} */
   const changes = [];
   for (let index = 0; index < field(MarsRecord.changes); index++) {
-    const at = MarsRecord.change / 4 + CHANGE_WORDS * index;
-    const [address, before, after] = [records[at], cell(at + 1), cell(at + 1 + CELL_WORDS)];
+    const at = MarsRecord.change + MarsChange.size * index;
+    const address = field(at + MarsChange.address);
+    const [before, after] = [cell(at + MarsChange.before), cell(at + MarsChange.after)];
     const earlier = changes.find((change) => change.address === address);
     if (earlier) earlier.after = after;
     else changes.push({ address, before, after });
   }
-  const first = MarsRecord.process / 4;
+  const [first, read] = [MarsRecord.process / 4, MarsTouched.address / 4];
   return {
     warrior: field(MarsRecord.warrior),
     address: field(MarsRecord.address),
     died: field(MarsRecord.died) === 1,
     queued: [...records.subarray(first, first + field(MarsRecord.queued))],
-    touched: [...touched.subarray(1, 1 + touched[0])],
+    touched: [...touched.subarray(read, read + touched[MarsTouched.count / 4])],
     changes,
   };
 }

@@ -1,5 +1,5 @@
 /** A battle as a value: a block of 32-bit words, read in place. */
-import { MARK, MarsBattle } from "../model/layout.js";
+import { MARK, MarsBattle, MarsDeath } from "../model/layout.js";
 import { CELL_WORDS, readCell } from "../model/cells.js";
 
 const WORD = 4;
@@ -58,11 +58,10 @@ export class Battle {
 
   /** The deaths in order: the warrior, and the number of turns that were made by then. */
   get deaths() {
-    const first = MarsBattle.death / WORD;
-    return Array.from({ length: this.field(MarsBattle.deaths) }, (_, index) => ({
-      warrior: this.words[first + 2 * index],
-      turns: this.words[first + 2 * index + 1],
-    }));
+    return Array.from({ length: this.field(MarsBattle.deaths) }, (_, index) => {
+      const death = MarsBattle.death + MarsDeath.size * index;
+      return { warrior: this.field(death + MarsDeath.warrior), turns: this.field(death + MarsDeath.turns) };
+    });
   }
 
   /** The words of the cells, three to a cell. */

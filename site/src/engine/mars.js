@@ -34,9 +34,6 @@ const encoder = new TextEncoder();
 const nameBytes = (name) => encoder.encode(name.replaceAll("\0", "\n")).subarray(0, 64);
 // The bytes of lines for which a buffer is made first.
 const LINES = 1024;
-// The fields of an outcome, in the order of its words.
-const [, ...OUTCOME] = Object.keys(MarsOutcome);
-
 export class Mars extends Machine {
   /** @param {WebAssembly.Instance} instance */
   constructor(instance) {
@@ -157,17 +154,25 @@ export class Mars extends Machine {
       const size = MarsLineup.size / 4;
       const numbers = call.words(table, size * lineups.length).fill(0);
       lineups.forEach((lineup, index) => {
+        const own = numbers.subarray(size * index, size * (index + 1));
+        own[MarsLineup.seed / 4] = seeds[index] ?? seed;
+        own[MarsLineup.count / 4] = lineup.length;
         // A row has no more places; the library refuses the length of a longer lineup.
-        numbers.set([seeds[index] ?? seed, lineup.length, ...lineup.slice(0, MAX_WARRIORS)], size * index);
-        numbers[size * index + MarsLineup.counting / 4] = Number(counts);
+        own.set(lineup.slice(0, MAX_WARRIORS), MarsLineup.warrior / 4);
+        own[MarsLineup.counting / 4] = Number(counts);
       });
       const count = rounds * lineups.flat().length;
       const rows = call.allocate(MarsOutcome.size * count);
       const given = [call.settings(settings, { rounds, seed, position }), ...call.fighters(warriors)];
       call.make("mars_outcomes", [...given, table, BigInt(lineups.length), rows, BigInt(count)]);
-      const words = call.words(rows, (MarsOutcome.size / 4) * count);
-      let at = 0;
-      const row = () => /** @type {Outcome} */ (Object.fromEntries(OUTCOME.map((name) => [name, words[at++]])));
+      const [[, bytes], ...fields] = Object.entries(MarsOutcome);
+      const words = call.words(rows, (bytes / 4) * count);
+      let at = -bytes;
+      const row = () => {
+        at += bytes;
+        const values = fields.map(([name, offset]) => [name, words[(at + offset) / 4]]);
+        return /** @type {Outcome} */ (Object.fromEntries(values));
+      };
       return lineups.map((lineup) => Array.from({ length: rounds }, () => lineup.map(row)));
     });
   }
