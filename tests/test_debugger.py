@@ -485,7 +485,7 @@ def test_labels_of_several_warriors() -> None:
     assert execute(session, "edit 0 jmp bomb")[0].endswith("-> JMP.B $3, $0")
     there = session.sources.addresses["1.bomb"]
     assert execute(session, "edit 2 mov 0.bomb, @1.bomb+1")[0].endswith(f"-> MOV.I $1, @{there - 1}")
-    assert "incomplete" in refused(session, "edit 2 jmp 2.bomb")
+    assert "Something is missing" in refused(session, "edit 2 jmp 2.bomb")
 
 
 def test_the_status_of_a_script(run: Run) -> None:

@@ -19,7 +19,7 @@ from corewar.engine.calls import assemble
 from corewar.explain.errors import errors_of
 from corewar.explain.fixes import fix
 from corewar.explain.instructions import describe_instruction
-from corewar.explain.meanings import EXPRESSION, KINDS, explain_error, explain_kind, read_faults
+from corewar.explain.meanings import KINDS, explain_error, explain_kind, read_faults
 from corewar.explain.pmars import CHECKED_ROWS, pmars_differences
 from corewar.explain.source import MODIFIERS, OPERATIONS, PREDEFINED
 from corewar.model.errors import ASSEMBLY, FORMULA, LINEUP, WARRIOR, MarsError
@@ -111,9 +111,9 @@ SOURCES = [
         "shorten the warrior, or, unless it is for a hill, increase `-l`",
     ),
     # Errors without a cause in the text are explained by their meaning.
-    ("mov 0, 1.5\n", "line 1: 4 Expression 1 Syntax", "The expression is incomplete"),
+    ("mov 0, 1.5\n", "line 1: 4 Expression 1 Syntax", "Something is missing or superfluous"),
     ("i FOR 2\nx&j dat 0\nROF\n", "line 2: 1 Text 2 BadToken", "`x&j`: `j` is not the counter of a loop"),
-    ("FOR 1/0\ndat 0\nROF\n", "line 1: 1 Text 10 Expression 3 DivideByZero", "A division or remainder by zero."),
+    ("FOR 1/0\ndat 0\nROF\n", "line 1: 1 Text 10 Expression 3 DivideByZero", "There is a division or remainder"),
     ("; nothing\n", "line 0: 7 Empty", "No line that is read has an opcode"),
 ]
 
@@ -226,14 +226,12 @@ def test_all_errors_of_a_file(run: Run, tmp_path: Path) -> None:
 
 
 def test_each_error_has_a_meaning() -> None:
-    """Each error of the documents has one, and is found in a line after any text."""
+    """Each error of the documents has one, with the same words, and is found in a line after any text."""
     document = (TOP / "docs" / "user" / "LANGUAGE.md").read_text()
     table = document[document.index("## Errors") : document.index("## Differences")]
-    names = [line.split("`")[1] for line in table.splitlines() if line.startswith("| `")]
-    kinds = {
-        kind for name in names for kind in ([name] if name[-2:] != " F" else [name[:-1] + one for one in EXPRESSION])
-    }
-    assert len(kinds) > 20 and kinds <= {*KINDS}
+    rows = dict(re.findall(r"^\| `(.*?)` \| (.*) \|$", table, re.M))
+    assert rows.pop("1 Text 10 Expression F")
+    assert rows == {kind: text for kind, text in KINDS.items() if kind[0].isdecimal() and "10 Expression" not in kind}
     for kind in KINDS:
         assert explain_kind(kind, 0, b"") == [KINDS[kind]]
         assert [*read_faults([f"bench: mars: a b.red: line 7: {kind}"])][0][1:] == ("a b.red", 7, kind)
@@ -276,7 +274,7 @@ def test_standard_input(run: Run, tmp_path: Path) -> None:
     )
     gone = "mars: none.red: line 7: 4 Expression 2 Unknown"
     assert run("explain", input=gone).stdout == (
-        f"{gone}\nA name is undefined: it is not a label, an EQU name or a predefined name.\n"
+        f"{gone}\nNo label, EQU name or predefined name is written like this; case matters.\n"
     )
     nothing = run("explain", input="no error\n")
     assert (nothing.returncode, nothing.stderr) == (1, "corewar: no error message found in the input\n")
