@@ -14,7 +14,7 @@ from numpy.typing import NDArray
 
 from ..engine.calls import fits
 from ..engine.outcomes import BLOCK
-from ..engine.rewards import scores_of, survivals
+from ..engine.rewards import survivals, values_of
 from ..engine.warriors import Warrior
 from ..model.types import Indices, Numbers, Rates
 from ..model.errors import SCORE, CorewarError, MarsError
@@ -91,7 +91,8 @@ class Lineups(Schedule):
         of_rounds = found.sum(axis=1) % np.maximum(survivors, 1) == 0
         if (found < 0).any() or (found.sum(axis=2) != rounds).any() or not of_rounds.all():
             raise CorewarError(f"a match of {rounds} rounds cannot have these survivors")
-        self.points[rows], self._lives = found @ np.array(scores_of(self.contest.formula, found), float), found
+        values = values_of(self.contest.formula, *np.moveaxis(found, -1, 0)[1:])
+        self.points[rows], self._lives = found[..., 1:] @ np.array(values, float), found
         np.add.at(self.sums, self.lineups[rows], found)
         self.is_fought[rows] = True
 
@@ -125,8 +126,8 @@ class Lineups(Schedule):
 def melee_of(matches: Lineups) -> Melee:
     """Returns the results of melees. Raises `MarsError`."""
     contest, sums, count = matches.contest, matches.sums, len(matches.warriors)
-    values = scores_of(contest.formula, sums)
-    points = [sum(value * times for value, times in zip(values, own)) for own in sums.tolist()]
+    values = values_of(contest.formula, *sums.T[1:])
+    points = [sum(value * times for value, times in zip(values, own)) for own in sums[:, 1:].tolist()]
     if not all(map(fits, points)):
         raise MarsError(SCORE, 4)
     errors = errors_of(matches.lineups.ravel(), matches.points.ravel(), count) / contest.rounds

@@ -21,18 +21,12 @@ def score_of(formula: str, warriors: int, survivors: int) -> int:
     return int(points[0])
 
 
-def scores_of(formula: str, counts: NDArray[Any]) -> list[int]:
-    """Returns the points of each of 0, 1, 2 .. survivors of a round; 0 for those that do not occur, for which a formula
-    needs no value. The last axis of `counts` has in how many rounds a warrior was one of each number of survivors.
-    Raises `MarsError`.
+def values_of(formula: str, *counts: NDArray[Any]) -> list[int]:
+    """Returns the points of each of 1, 2 .. survivors of a round; 0 for those that do not occur, for which a formula
+    needs no value. `counts` has for each number of survivors in how many rounds warriors were such; for two warriors
+    these are wins and ties. Raises `MarsError`.
     """
-    size = counts.shape[-1] - 1
-    return [score_of(formula, size, left) if left and counts[..., left].any() else 0 for left in range(size + 1)]
-
-
-def values_of(formula: str, wins: NDArray[Any], ties: NDArray[Any]) -> list[int]:
-    """Returns the points of a win and of a tie of two; 0 if there are none, for which a formula needs no value."""
-    return [score_of(formula, 2, left) if many.any() else 0 for left, many in ((1, wins), (2, ties))]
+    return [score_of(formula, len(counts), left) if many.any() else 0 for left, many in enumerate(counts, 1)]
 
 
 def points(made: NDArray[Any], formula: str = FORMULA) -> NDArray[np.int64]:

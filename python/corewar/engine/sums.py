@@ -12,7 +12,7 @@ from ..model.settings import FORMULA, Settings, settings_of
 from .calls import Row, check_numbers, fits, rows
 from .outcomes import BLOCK, Run, run_lineups, table_of
 from .parts import TURNS
-from .rewards import score_of, scores_of, survivals
+from .rewards import score_of, survivals, values_of
 from .warriors import Warrior
 
 
@@ -84,7 +84,7 @@ def sums(
             numbers = pairs[part].ravel()
             columns = [np.bincount(numbers, column, len(warriors)) for column in found.T]
             counts += np.stack(columns, axis=-1).astype(np.int64)
-    _, win, tie = scores_of(formula, counts)
+    win, tie = values_of(formula, *counts.T[1:])
     made = [Row(wins * win + ties * tie, wins, ties, losses) for losses, wins, ties in counts.tolist()]
     if not all(fits(row.points) for row in made):
         raise MarsError(SCORE, 4)

@@ -15,7 +15,6 @@ MAX_CAUSES = 2
 GREATER = (
     "shorten the warrior, or, unless it is for a hill, increase `-l`, and `-d` with it, which must be at least as large"
 )
-EXPRESSION = SENTENCES["expressions"]
 MEANINGS = {
     "bad words": "An argument of the program is wrong; `corewar explain mars ARGUMENTS` finds out which.",
     "out of memory": "A memory allocation failed.",
@@ -49,7 +48,10 @@ MEANINGS = {
 
 # What precedes the error of an expression: of an operand or an assert, of the count of a FOR, of a formula.
 OF_EXPRESSIONS = ("4 Expression ", "1 Text 10 Expression ", "formula 1 Expression ")
-KINDS = {**{head + kind: text for head in OF_EXPRESSIONS for kind, text in EXPRESSION.items()}, **MEANINGS}
+KINDS = {
+    **{head + kind: text for head in OF_EXPRESSIONS for kind, text in SENTENCES["expressions"].items()},
+    **MEANINGS,
+}
 # An error message, after the names of programs and of a file.
 MESSAGE = re.compile(rf"(?:(.*?): )?(?:(?:line|index) (\d{{1,9}}): )?({'|'.join(map(re.escape, KINDS))})$")
 

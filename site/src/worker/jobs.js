@@ -26,6 +26,17 @@ import { ASSEMBLY, FORMULA } from "../model/layout.js";
 
 const EVERYTHING = 0xffffffff;
 
+/**
+ * Returns for each round of a match of two what `survivors` says of it: 0 if the first warrior lost, 1 if it won, 2 if
+ * both survived.
+ * @param {Uint8Array} survived
+ */
+const endsOf = (survived) =>
+  Array.from({ length: survived.length / 2 }, (_, round) => {
+    const [own, other] = survived.subarray(2 * round);
+    return own ? own + other : 0;
+  });
+
 export class Jobs {
   /** @param {Mars} mars */
   constructor(mars) {
@@ -70,11 +81,7 @@ export class Jobs {
    * @returns {Scored}
    */
   scores(warriors, terms) {
-    const survived = this.mars.survivors(warriors, terms);
-    const ends = Array.from({ length: survived.length / 2 }, (_, round) => {
-      const [own, other] = survived.subarray(2 * round);
-      return own ? own + other : 0;
-    });
+    const ends = endsOf(this.mars.survivors(warriors, terms));
     const counts = [0, 1, 2].map((left) => ends.filter((end) => end === left).length);
     const [losses, wins, ties] = counts;
     const values = counts.map((count, left) => this.#scoreOf(left, terms.formula, count > 0));
@@ -128,11 +135,7 @@ export class Jobs {
   positions(pair, positions, { settings, seed }) {
     return Uint8Array.from(
       positions.flatMap((position) => {
-        const survived = this.mars.survivors(pair, { settings, seed, rounds: 2, position });
-        return [0, 1].map((round) => {
-          const [own, other] = survived.subarray(2 * round);
-          return own ? (other ? 3 : 2) : 1;
-        });
+        return endsOf(this.mars.survivors(pair, { settings, seed, rounds: 2, position })).map((end) => end + 1);
       }),
     );
   }
