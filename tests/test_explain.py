@@ -108,7 +108,7 @@ SOURCES = [
     (
         "dat 0\n" * 101,
         "line 101: 8 TooLong",
-        "shorten the warrior, or, unless it is for a hill, increase `-l`",
+        "shorten the warrior or, unless it is for a hill, increase `-l`",
     ),
     # Errors without a cause in the text are explained by their meaning.
     ("mov 0, 1.5\n", "line 1: 4 Expression 1 Syntax", "Something is missing or superfluous"),
@@ -286,7 +286,7 @@ def test_files(run: Run, tmp_path: Path) -> None:
     (tmp_path / "long.red").write_text("dat 0\n" * 101)
     (tmp_path / "bad.load").write_text("MOV 0\n")
     assert run("explain", "@dwarf", "@imp").stdout.count(": no error\n") == 2
-    assert "shorten the warrior, or, unless it is for a hill" in run("explain", "long.red").stdout
+    assert "shorten the warrior or, unless it is for a hill" in run("explain", "long.red").stdout
     assert run("explain", "-l", 101, "-d", 101, "long.red").stdout == "long.red: no error\n"
     assert run("explain", "bad.load").stdout.startswith(
         "bad.load: line 1: load 1 Syntax\n>    1 | MOV 0\nThis line is not valid in a load file"

@@ -12,9 +12,7 @@ from .source import read_source
 
 # The maximum number of causes that are reported for an error.
 MAX_CAUSES = 2
-GREATER = (
-    "shorten the warrior, or, unless it is for a hill, increase `-l`, and `-d` with it, which must be at least as large"
-)
+GREATER = "shorten the warrior or, unless it is for a hill, increase `-l`, and `-d` to at least that"
 MEANINGS = {
     "bad words": "An argument of the program is wrong; `corewar explain mars ARGUMENTS` finds out which.",
     "out of memory": "A memory allocation failed.",
