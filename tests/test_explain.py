@@ -21,7 +21,6 @@ from corewar.explain.fixes import fix
 from corewar.explain.instructions import describe_instruction
 from corewar.explain.meanings import KINDS, explain_error, explain_kind, read_faults
 from corewar.explain.pmars import CHECKED_ROWS, pmars_differences
-from corewar.explain.source import MODIFIERS, OPERATIONS, PREDEFINED
 from corewar.model.errors import ASSEMBLY, FORMULA, LINEUP, WARRIOR, MarsError
 from corewar.model.header import names
 from corewar.model.settings import Settings
@@ -249,13 +248,6 @@ def test_each_error_of_the_library_is_known() -> None:
     for number in range(1, 6):
         faults = [MarsError(ASSEMBLY, 4, 0, number), MarsError(ASSEMBLY, 1, 10, number), MarsError(FORMULA, number)]
         assert all(explain_error(fault, b"") for fault in faults)
-
-
-def test_words_are_those_of_the_language() -> None:
-    document = (TOP / "docs" / "user" / "LANGUAGE.md").read_text()
-    assert all(word in document for word in [*OPERATIONS, *PREDEFINED]) and all(
-        f"`{word}`" in document for word in MODIFIERS
-    )
 
 
 def test_standard_input(run: Run, tmp_path: Path) -> None:

@@ -1,11 +1,12 @@
 /** Conditions in words. */
+import TABLE from "../../../python/corewar/debugger/commands.json";
 import { place, where } from "./battle.js";
 
 /** @typedef {import("../battle/conditions.js").Condition} Condition */
 /** @typedef {import("./battle.js").Known} Known */
 
 /** Words of conditions on a warrior. */
-const EVENTS = ["splits", "ends", "dies"];
+const EVENTS = TABLE.conditions.warriors;
 
 /**
  * Returns whether conditions ask what happened to a warrior, but not to which one.
