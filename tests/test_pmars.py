@@ -143,3 +143,12 @@ def test_the_options(pmars: Path, run: Run) -> None:
     ):
         assert run(*refused).returncode == 2
     assert run("challenge", "--pmars-fixed", "--results=x.sqlite", *files).returncode == 1
+
+
+def test_every_position(pmars: Path, run: Run) -> None:
+    """All positions in both orders are those of `pmars -P`."""
+    for names in (("dwarf", "scanner"), ("imp", "bomber")):
+        files = [EXAMPLES / f"{name}.red" for name in names]
+        done = run("fight", "--hill", "tiny", "--positions", "all", *files)
+        rows = [tuple(map(int, line.split()[1:3])) for line in done.stdout.splitlines()[1:3]]
+        assert rows == fought(pmars, HILLS["tiny"], files, "-P")
