@@ -214,6 +214,11 @@ def test_a_label_of_another_line_is_not_lost() -> None:
     assert str(fault) == "line 1: 2 Operation" and "`top`" not in sentences[0]
 
 
+def test_errors_after_a_second_equ_are_found() -> None:
+    found = [str(fault) for fault, _ in errors_of(b"x equ 3\nx equ 4\nmov x, 0\nfor 2\nnop\n", assemble)]
+    assert found == ["line 2: 1 Text 7 Duplicate", "line 4: 1 Text 3 UnclosedFor"]
+
+
 def test_all_errors_of_a_file(run: Run, tmp_path: Path) -> None:
     (tmp_path / "three.red").write_text("go mvo 0, 1\n jmp og\n mov.q 0, 1\n")
     done = run("explain", "three.red")

@@ -156,7 +156,8 @@ def replaced(line: Line, source: Source, misspelt: str) -> str:
     if line.word == "FOR":
         return " ".join([*line.labels[-1:], "FOR 1"])
     if line.word == "EQU":
-        return " ".join([*line.labels[-1:], "EQU 1"])
+        # A name of another line would be an error again.
+        return " ".join([*own[-1:], "EQU 1"]) if own[-1:] == line.labels[-1:] else ""
     if line.word in ("ROF", "ORG") or not line.code.strip():
         return ""
     return "END" if line.word == "END" else " ".join([*own, "DAT 0, 0"])

@@ -146,6 +146,8 @@ function replaced(line, source, misspelt) {
   const labels = line.labels.slice(0, at >= 0 ? at : end);
   const own = labels.filter((name) => (known.get(name) ?? line) === line);
   const word = wordOf(line);
+  // A name of another line would be an error again.
+  if (word === "EQU" && own.at(-1) !== line.labels.at(-1)) return "";
   if (word === "FOR" || word === "EQU") return [...line.labels.slice(-1), word, "1"].join(" ");
   if (word === "ROF" || word === "ORG" || !codeOf(line.text).trim()) return "";
   return word === "END" ? "END" : [...own, "DAT 0, 0"].join(" ");
