@@ -124,7 +124,7 @@ def test_searches(history: History, rows: list[Row], part: float, forward: bool)
     # Origins of edited cells are numbered here in another way.
     rows = [row for row in rows if row[1] != ORIGIN or max(row[2:]) < history.core]
     facts, first = read(history, history.end)[1], int(part * part * history.end)
-    spans = [turns.tolist() for turns in find(history, rows, first, None, forward)]
+    spans = [found["turn"].tolist() for found in find(history, rows, first, None, forward)]
     expected = [turn for turn in range(first + 1, history.end + 1) if rows and meets(rows, facts[turn - 1])]
     assert sum(spans if forward else reversed(spans), []) == expected
 
