@@ -4,7 +4,7 @@ use Rattle.std.specs.Prelude.{codes}
 use Rattle.std.specs.List.{starts_with}
 use Rattle.std.specs.Str.{str_to_ascii_lowercase}
 use Rattle.redcode_text.specs.declared.fault.TextProblem.{TextProblem}
-use Rattle.redcode_text.specs.Code.Comments.{Said, assert_at, assert_or_nothing, author_or, author_said, name_or, said, said_line, text_found}
+use Rattle.redcode_text.specs.Code.Comments.{Meaning, after_comment, assert_at, assert_or_other, author_meaning, author_or, meaning, name_or, text_found}
 use Rattle.redcode_text.specs.Lines.{Reading, assert_line, comment_line, directive_value, unless_empty}
 use Rattle.redcode_text.specs.Source.{SourceRow, blank_len, directive_text, directive_text_at, ends_word, has_directive_word, without_blanks}
 
@@ -34,30 +34,30 @@ module _ (row : SourceRow) (st : Reading) where
   abbrev assert_else : ℕ → Bool → Result Reading TextProblem
   assert_else at t = elim t as (λ _. Result Reading TextProblem) [ true ↦ assert_at row at st | false ↦ Ok st ]
 
-  by-assert : (at : ℕ) (t : Bool) → assert_else at t ≡ said_line (assert_or_nothing (cond t (Some at) None)) row st
+  by-assert : (at : ℕ) (t : Bool) → assert_else at t ≡ after_comment (assert_or_other (cond t (Some at) None)) row st
   by-assert at true = refl
   by-assert at false = refl
 
-  by-author : (at : ℕ) (t : Bool) (other : Said) → no_author row st ≡ said_line other row st → author_else at t ≡ said_line (author_or row.bytes other (cond t (Some at) None)) row st
+  by-author : (at : ℕ) (t : Bool) (other : Meaning) → no_author row st ≡ after_comment other row st → author_else at t ≡ after_comment (author_or row.bytes other (cond t (Some at) None)) row st
   by-author at true other e = refl
   by-author at false other e = e
 
-  by-name : (at : ℕ) (t : Bool) (other : Said) → no_name row st ≡ said_line other row st → name_else at t ≡ said_line (name_or row.bytes other (cond t (Some at) None)) row st
+  by-name : (at : ℕ) (t : Bool) (other : Meaning) → no_name row st ≡ after_comment other row st → name_else at t ≡ after_comment (name_or row.bytes other (cond t (Some at) None)) row st
   by-name at true other e = refl
   by-name at false other e = e
 
   -- The effect of a comment line is given by its meaning.
-  pub comment-said : comment_line row st ≡ said_line (said row.bytes) row st
-  comment-said =
+  pub comment-meaning : comment_line row st ≡ after_comment (meaning row.bytes) row st
+  comment-meaning =
       let name_place : directive_text_at (codes "name") row.bytes ≡ blank_len row.bytes + 5 = omega arith in
       let author_place : directive_text_at (codes "author") row.bytes ≡ blank_len row.bytes + 7 = omega arith in
       let assert_place : directive_text_at (codes "assert") row.bytes ≡ blank_len row.bytes + 7 = omega arith in
-      let assert_said : no_author row st ≡ said_line (assert_or_nothing (text_found (59 ∷ codes "assert") row.bytes)) row st =
+      let assert_is : no_author row st ≡ after_comment (assert_or_other (text_found (59 ∷ codes "assert") row.bytes)) row st =
       ap (λ m. assert_else m (begins (codes "assert") row.bytes m)) assert_place ∙ by-assert (blank_len row.bytes + 7) (begins (codes "assert") row.bytes (blank_len row.bytes + 7)) in
-      let author_is : no_name row st ≡ said_line (author_said row.bytes) row st =
-      ap (λ m. author_else m (begins (codes "author") row.bytes m)) author_place ∙ by-author (blank_len row.bytes + 7) (begins (codes "author") row.bytes (blank_len row.bytes + 7)) _ assert_said in
+      let author_is : no_name row st ≡ after_comment (author_meaning row.bytes) row st =
+      ap (λ m. author_else m (begins (codes "author") row.bytes m)) author_place ∙ by-author (blank_len row.bytes + 7) (begins (codes "author") row.bytes (blank_len row.bytes + 7)) _ assert_is in
       ap (λ m. name_else m (begins (codes "name") row.bytes m)) name_place ∙ by-name (blank_len row.bytes + 5) (begins (codes "name") row.bytes (blank_len row.bytes + 5)) _ author_is
 
 -- The effect of a comment line is given by the meaning that the code found.
-pub as-said : (what : Said) (row : SourceRow) (st : Reading) → what ≡ said row.bytes → comment_line row st ≡ said_line what row st
-as-said what row st e = comment-said row st ∙ ap (λ s. said_line s row st) (sym e)
+pub as-meant : (what : Meaning) (row : SourceRow) (st : Reading) → what ≡ meaning row.bytes → comment_line row st ≡ after_comment what row st
+as-meant what row st e = comment-meaning row st ∙ ap (λ s. after_comment s row st) (sym e)

@@ -54,7 +54,8 @@ pub struct Reading {
     ghost printed_author: { IsPrinted (string_bytes author) },
 }
 
-/// The words that are operations in themselves, in either case.
+/// The words that are operations in themselves, in either case. LDP, STP and PIN, which belong to the P-space of pMARS, are no
+/// opcodes here, but what pMARS reads as an operation can't be a label either.
 const OPERATIONS: [&str; 25] = [
     "dat", "mov", "add", "sub", "mul", "div", "mod", "jmp", "jmz", "jmn", "djn", "seq", "sne",
     "slt", "spl", "nop", "cmp", "org", "end", "equ", "for", "rof", "ldp", "stp", "pin",
@@ -183,6 +184,7 @@ impl Reading {
     pub fn is_predefined(&self, names: &PredefinedNames, name: usize) -> bool
         ensures { result ≡ is_predefined (predefined_of names.now) (reading_of self.now) name }
     {
+        // Any value of CURLINE would do: it is asked only whether there is one.
         names.value_at(0, self.names.table.name(name)).is_some()
     }
 

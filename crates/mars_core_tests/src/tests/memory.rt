@@ -29,7 +29,7 @@ pub fn start(alloc: Global, params: &Params) -> Result<Battle, BattleFault> {
 }
 
 /// Checks that the battle continues for three turns, after which both warriors live.
-fn check_goes_on(rt: &impl Abort, battle: &mut Battle) {
+fn check_three_turns(rt: &impl Abort, battle: &mut Battle) {
     for _turn in 0..3 {
         assert!(rt; battle.turn().is_ok());
     }
@@ -48,7 +48,7 @@ fn a_battle_starts(rt: HostRuntime) -> Result<(), Fail> {
         }
         Ok(battle) => battle,
     };
-    check_goes_on(&rt, &mut battle);
+    check_three_turns(&rt, &mut battle);
     Ok(())
 }
 
@@ -70,7 +70,7 @@ fn a_battle_is_copied(rt: HostRuntime) -> Result<(), Fail> {
         Ok(copy) => copy,
     };
     check_same(&rt, &copy, &battle);
-    check_goes_on(&rt, &mut copy);
+    check_three_turns(&rt, &mut copy);
     check_same(&rt, &battle, &twin);
     Ok(())
 }
@@ -99,6 +99,6 @@ fn a_block_is_read(rt: HostRuntime) -> Result<(), Fail> {
         Ok(copy) => copy,
     };
     check_same(&rt, &copy, &battle);
-    check_goes_on(&rt, &mut copy);
+    check_three_turns(&rt, &mut copy);
     Ok(())
 }

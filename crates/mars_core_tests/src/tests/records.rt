@@ -137,7 +137,8 @@ fn make_two(rt: &impl Abort, alloc: Global, battle: &mut Battle, edit: Edit) -> 
     })
 }
 
-fn two_back(rt: &impl Abort, battle: &mut Battle, two: &Two)
+/// Reverts the edit, then the turn.
+fn revert_both(rt: &impl Abort, battle: &mut Battle, two: &Two)
     requires turn { Leads two.now.before two.now.turn two.now.between }
     requires edit { Leads two.now.between two.now.edit two.now.after }
     requires from { battle.old ≡ two.now.after }
@@ -147,7 +148,8 @@ fn two_back(rt: &impl Abort, battle: &mut Battle, two: &Two)
     go_back(rt, battle, &two.turn, &two.before);
 }
 
-fn two_forth(rt: &impl Abort, battle: &mut Battle, two: &Two)
+/// Applies the turn again, then the edit.
+fn apply_both(rt: &impl Abort, battle: &mut Battle, two: &Two)
     requires turn { Leads two.now.before two.now.turn two.now.between }
     requires edit { Leads two.now.between two.now.edit two.now.after }
     requires from { battle.old ≡ two.now.before }
@@ -166,12 +168,12 @@ fn four_back_and_forth(rt: &impl Abort, battle: &mut Battle, first: &Two, second
     requires joined { second.now.before ≡ first.now.after }
     requires from { battle.old ≡ second.now.after }
 {
-    two_back(rt, battle, second);
-    two_back(rt, battle, first);
-    two_forth(rt, battle, first);
+    revert_both(rt, battle, second);
+    revert_both(rt, battle, first);
+    apply_both(rt, battle, first);
     go_back(rt, battle, &first.edit, &first.between);
     go_forth(rt, battle, &first.edit, &first.after);
-    two_forth(rt, battle, second);
+    apply_both(rt, battle, second);
 }
 
 #[test]
@@ -214,7 +216,7 @@ fn check_three_steps(rt: &impl Abort, alloc: Global, battle: &mut Battle) -> Res
     let two = make_two(rt, alloc, battle, Edit::KillProcess(0, 0))?;
     check_queue(rt, &two.between, 0, &[1, 5, 0]);
     check_queue(rt, battle, 0, &[5, 0]);
-    two_back(rt, battle, &two);
+    revert_both(rt, battle, &two);
     go_back(rt, battle, &moved, &three);
     check_queue(rt, battle, 0, &[0, 1, 2]);
     Ok(())

@@ -38,44 +38,46 @@ text_found directive bytes =
     then Some (blank_len bytes + length directive) else None
 
 -- The meaning of a comment: a name or an author, without whitespace at both ends, or the offset of an assert's expression.
-pub data Said : Type 0 where
-  NameSaid : List ℕ → Said
-  AuthorSaid : List ℕ → Said
-  AssertSaid : ℕ → Said
-  NothingSaid : Said
+pub data Meaning : Type 0 where
+  IsName : List ℕ → Meaning
+  IsAuthor : List ℕ → Meaning
+  IsAssert : ℕ → Meaning
+  IsOther : Meaning
 
-abbrev pub said_of : Comment → Said
-said_of (Name text) = NameSaid text.now
-said_of (Author text) = AuthorSaid text.now
-said_of (Assert at) = AssertSaid at
-said_of Other = NothingSaid
+-- The meaning that the code found.
+abbrev pub meaning_of : Comment → Meaning
+meaning_of (Name text) = IsName text.now
+meaning_of (Author text) = IsAuthor text.now
+meaning_of (Assert at) = IsAssert at
+meaning_of Other = IsOther
 
 -- The offset of an assert's expression.
 abbrev pub assert_place : Comment → ℕ
 assert_place (Assert at) = at
 assert_place comment = 0
 
-abbrev pub assert_or_nothing : Option ℕ → Said
-assert_or_nothing (Some at) = AssertSaid at
-assert_or_nothing None = NothingSaid
+abbrev pub assert_or_other : Option ℕ → Meaning
+assert_or_other (Some at) = IsAssert at
+assert_or_other None = IsOther
 
-abbrev pub author_or : List ℕ → Said → Option ℕ → Said
-author_or bytes other (Some at) = AuthorSaid (trimmed (drop at bytes))
+abbrev pub author_or : List ℕ → Meaning → Option ℕ → Meaning
+author_or bytes other (Some at) = IsAuthor (trimmed (drop at bytes))
 author_or bytes other None = other
 
-abbrev pub name_or : List ℕ → Said → Option ℕ → Said
-name_or bytes other (Some at) = NameSaid (trimmed (drop at bytes))
+abbrev pub name_or : List ℕ → Meaning → Option ℕ → Meaning
+name_or bytes other (Some at) = IsName (trimmed (drop at bytes))
 name_or bytes other None = other
 
-abbrev pub author_said : List ℕ → Said
-author_said bytes = author_or bytes (assert_or_nothing (text_found (semicolon ∷ codes "assert") bytes)) (text_found (semicolon ∷ codes "author") bytes)
+abbrev pub author_meaning : List ℕ → Meaning
+author_meaning bytes = author_or bytes (assert_or_other (text_found (semicolon ∷ codes "assert") bytes)) (text_found (semicolon ∷ codes "author") bytes)
 
 -- The meaning of a line.
-abbrev pub said : List ℕ → Said
-said bytes = name_or bytes (author_said bytes) (text_found (semicolon ∷ codes "name") bytes)
+abbrev pub meaning : List ℕ → Meaning
+meaning bytes = name_or bytes (author_meaning bytes) (text_found (semicolon ∷ codes "name") bytes)
 
-abbrev pub said_line : Said → SourceRow → Reading → Result Reading TextProblem
-said_line (NameSaid text) row st = Ok (with_name_text text st)
-said_line (AuthorSaid text) row st = Ok (with_author_text text st)
-said_line (AssertSaid at) row st = assert_at row at st
-said_line NothingSaid row st = Ok st
+-- What is read after a comment line with this meaning.
+abbrev pub after_comment : Meaning → SourceRow → Reading → Result Reading TextProblem
+after_comment (IsName text) row st = Ok (with_name_text text st)
+after_comment (IsAuthor text) row st = Ok (with_author_text text st)
+after_comment (IsAssert at) row st = assert_at row at st
+after_comment IsOther row st = Ok st

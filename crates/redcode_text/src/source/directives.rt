@@ -3,7 +3,7 @@ ghost use Rattle.std.specs.Prelude.{◌≡◌, ◌≤◌, ◌<◌, ◌+◌, leng
 ghost use Rattle.std.specs.List.{starts_with};
 ghost use Rattle.std.specs.Str.{str_to_ascii_lowercase};
 ghost use Rattle.redcode_text.specs.Lines.{printable};
-ghost use Rattle.redcode_text.specs.Code.Comments.{assert_place, printed_value, said, said_of, text_found, trimmed};
+ghost use Rattle.redcode_text.specs.Code.Comments.{assert_place, meaning, meaning_of, printed_value, text_found, trimmed};
 ghost use Rattle.redcode_text.specs.Code.Problems.{Gives};
 ghost use Rattle.redcode_text.specs.Programs.{IsPrinted};
 ghost use Rattle.redcode_text.specs.Source.{blank_len, without_blanks};
@@ -112,7 +112,7 @@ pub enum Comment<'a> {
 
 /// Returns the meaning of a line as a comment.
 pub fn comment_of(bytes: &[u8]) -> Comment<'_>
-    ensures value { said_of result ≡ said bytes.now }
+    ensures value { meaning_of result ≡ meaning bytes.now }
     ensures inside { assert_place result ≤ length bytes.now }
 {
     if let Some(at) = directive_text_at(b";name", bytes) {
