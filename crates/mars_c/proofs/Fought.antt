@@ -1,5 +1,5 @@
 -- The fates of one more lineup.
-use Rattle.std.proofs.Common.{◌≡◌, ◌∙◌, ◌⊎◌, ap, ℕ, ◌+◌, ◌<◌, ◌≤◌, All, List, [], ◌∷◌, ◌++◌, Err, Ok, Some, append_assoc, codes, get_or, inl, inr, length, map, pos, refl, subst, sym, take, arith}
+use Rattle.std.proofs.Common.{◌≡◌, ◌∙◌, ◌⊎◌, ap, ℕ, ◌+◌, ◌<◌, ◌≤◌, All, List, [], ◌∷◌, ◌++◌, Err, Ok, Some, append_assoc, get_or, inl, inr, length, map, refl, subst, sym, take, arith}
 use Rattle.std.specs.Prelude.{slice_get}
 use Rattle.std.proofs.lemmas.Option.{slice_get-get_or}
 use Rattle.std.proofs.lemmas.List.{append-nil, get_or-take, length-take-le, map-append, map_more, take_more}
@@ -12,13 +12,9 @@ use Rattle.mars_match.specs.declared.fates.Fate.{Fate}
 use Rattle.mars_match.specs.declared.fault.MatchFault.{MatchFault}
 use Rattle.mars_match.specs.declared.fault.MatchFault.TheVariants as fight
 use Rattle.mars_match.specs.declared.setup.Plan.{Plan}
-use Rattle.mars_match.specs.declared.setup.Setup.{Setup}
 use Rattle.mars_c.specs.Outcomes.{AreChosen, AreFought, IsFirstFailure, IsFought, RefusesLineup, indices_of, is_counting, plain_fate, seeded}
 use Rattle.mars_c.specs.Refusals.{fight_refusal}
-use Rattle.mars_c.specs.Settings.{IsPlan, IsSetup, parameters_in}
-use Rattle.redcode_asm.specs.Formula.{formula_of}
-use Rattle.redcode_text.specs.Tokens.{Scanned, scanned}
-use Rattle.redcode_text.specs.declared.token.TokenKind.TheVariants.{Number}
+use Rattle.mars_c.specs.Settings.{IsPlan, parameters_in}
 use Rattle.mars_c.specs.declared.faults.CallRefusal.{CallRefusal}
 use Rattle.mars_c.specs.declared.faults.CallRefusal.TheVariants.{OutOfMemory}
 use Rattle.mars_c.specs.declared.outcomes.MarsLineup.{MarsLineup}
@@ -57,28 +53,13 @@ pub lineup_fails : (s : MarsSettings) (ws : List WarriorValue) (ls : List MarsLi
     → AreFought s ws (take i ls) fates → RefusesLineup s ws (get_or ls i d) refusal → IsFirstFailure s ws ls refusal
 lineup_fails s ws ls i d fates refusal inside fought refused = (i, get_or ls i d, fates, fought, slice_get-get_or ls i d inside, refused)
 
--- ---- A setup for a plan, which needs no formula
-
-abbrev zero : Scanned
-zero = record { tokens = record { kind = Number (pos 0); line = 1; from = 0; to = 1 } ∷ []; names = [] }
-
-zero_is : formula_of (codes "0") ≡ Ok zero
-unfolding scanned
-zero_is = refl
-
-abbrev with_zero : Parameters → Plan → Setup
-with_zero p plan = record { params = p; plan = plan; formula = zero }
-
 module _ (s : MarsSettings) (ws : List WarriorValue) (lineup : MarsLineup) (p : Parameters) (plan : Plan) (chosen : List WarriorValue)
     (allowed : checked_parameters (parameters_in s) ≡ Ok p) (planned : IsPlan (seeded s lineup.seed) plan) (are : AreChosen ws (indices_of lineup) chosen) where
-  made : IsSetup (seeded s lineup.seed) (codes "0") (with_zero p plan)
-  made = record { params = allowed; plan = planned; formula = zero_is }
-
   pub is_fought : (fates : List Fate) → FitsTwo p (length chosen) plan.fixed
       → fates_of (is_counting lineup) p chosen plan.fixed plan.rounds plan.seed ≡ Ok fates → IsFought s ws lineup fates
-  is_fought fates fits is = (with_zero p plan, chosen, made, are, fits, is)
+  is_fought fates fits is = (p, plan, chosen, allowed, planned, are, fits, is)
 
   pub is_refused : (fault : MatchFault) (refusal : CallRefusal) → (fault ≡ fight.OutOfMemory) ⊎ (fates_of (is_counting lineup) p chosen plan.fixed plan.rounds plan.seed ≡ Err fault)
       → refusal ≡ fight_refusal fault → RefusesLineup s ws lineup refusal
   is_refused fault refusal (inl none) is = memory_lineup s ws lineup refusal (rw none at is)
-  is_refused fault refusal (inr fails) is = inr (with_zero p plan, chosen, fault, made, are, fails, is)
+  is_refused fault refusal (inr fails) is = inr (p, plan, chosen, fault, allowed, planned, are, fails, is)

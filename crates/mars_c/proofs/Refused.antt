@@ -16,10 +16,11 @@ use Rattle.mars_c.specs.declared.warriors.EntrantFault.{EntrantFault}
 use Rattle.mars_c.specs.declared.warriors.EntrantFault.TheVariants as entrant
 use Rattle.mars_c.specs.declared.cells.MarsCell.{MarsCell}
 use Rattle.mars_c.specs.declared.warriors.MarsWarrior.{MarsWarrior}
-use Rattle.mars_c.specs.Refusals.{Fails, IsWrong, RefusesEntry, RefusesWarriors, fight_refusal}
+use Rattle.mars_c.specs.Refusals.{Fails, IsOutside, IsWrong, RefusesEntry, RefusesWarriors, fight_refusal}
 use Rattle.mars_c.specs.declared.faults.CallRefusal.{CallRefusal}
 use Rattle.mars_c.specs.declared.faults.CallRefusal.TheVariants as call
 use Rattle.mars_c.specs.declared.faults.CallRefusal.TheVariants.{OutOfMemory}
+use Rattle.mars_c.specs.declared.ranges.SettingsFault.{SettingsFault}
 use Rattle.mars_c.specs.declared.ranges.SettingsFault.TheVariants as settings
 use Rattle.mars_c.specs.declared.settings.MarsSettings.{MarsSettings}
 
@@ -67,6 +68,12 @@ entry_of s text count cells entrants (call.Settings settings.Lengths) refuses = 
 entry_of s text count cells entrants (call.Settings other) refuses = absurd refuses
 entry_of s text count cells entrants (call.Formula fault) refuses = absurd refuses
 entry_of s text count cells entrants other refuses = refuses
+
+-- An error of the plan is a refusal of the call.
+pub plan_of : (s : MarsSettings) (text : List ℕ) (count : ℕ) (cells : List MarsCell) (entrants : List MarsWarrior) (fault : SettingsFault)
+    → IsOutside s count fault → RefusesEntry s text count cells entrants (call.Settings fault)
+plan_of s text count cells entrants settings.Lengths outside = absurd outside
+plan_of s text count cells entrants other outside = outside
 
 -- A failed allocation in a match is a refusal of every call.
 pub memory : (s : MarsSettings) (text : List ℕ) (count : ℕ) (cells : List MarsCell) (entrants : List MarsWarrior) (fault : MatchFault) (refusal : CallRefusal)

@@ -53,7 +53,7 @@ use Rattle.mars_c.specs.Entrants.{AreEntrants, IsEntrant, is_name, named, plain_
 use Rattle.mars_c.specs.Records.{change_of, turn_row}
 use Rattle.mars_c.specs.Touches.{touched_row}
 use Rattle.mars_c.specs.Outcomes.{IsLineup, indices_of, is_counting, plain_fate, rows_for, seeded}
-use Rattle.mars_c.specs.Refusals.{IsOutside, fight_refusal}
+use Rattle.mars_c.specs.Refusals.{IsOutside, LengthsDiffer, fight_refusal}
 use Rattle.mars_c.specs.declared.faults.BlockRefusal.TheVariants as blocks
 use Rattle.mars_c.specs.declared.faults.CallRefusal.TheVariants.{Assembly, Battle, Lineup, Load, OutOfMemory, Placement, Score, Warrior}
 use Rattle.mars_c.specs.declared.ranges.SettingsFault.TheVariants.{Lengths, Position, Rounds, Seed}
@@ -261,12 +261,12 @@ nano rounds seed position = record {
 }
 
 -- A match of no rounds or of 100,001 is out of range; one of 1 or 100,000 is not.
-pub rounds_are_judged : IsOutside (nano 0 1 0) 2 [] [] Rounds × IsOutside (nano 100001 1 0) 2 [] [] Rounds
-    × (IsOutside (nano 1 1 0) 2 [] [] Rounds → ⊥) × (IsOutside (nano 100000 1 0) 2 [] [] Rounds → ⊥)
+pub rounds_are_judged : IsOutside (nano 0 1 0) 2 Rounds × IsOutside (nano 100001 1 0) 2 Rounds
+    × (IsOutside (nano 1 1 0) 2 Rounds → ⊥) × (IsOutside (nano 100000 1 0) 2 Rounds → ⊥)
 rounds_are_judged = (λ r. omega (arith, r), λ r. omega (arith, r), λ outside. outside (omega arith, omega arith), λ outside. outside (omega arith, omega arith))
 
-pub seeds_are_judged : IsOutside (nano 1 0 0) 2 [] [] Seed × IsOutside (nano 1 2147483647 0) 2 [] [] Seed
-    × (IsOutside (nano 1 1 0) 2 [] [] Seed → ⊥) × (IsOutside (nano 1 2147483646 0) 2 [] [] Seed → ⊥)
+pub seeds_are_judged : IsOutside (nano 1 0 0) 2 Seed × IsOutside (nano 1 2147483647 0) 2 Seed
+    × (IsOutside (nano 1 1 0) 2 Seed → ⊥) × (IsOutside (nano 1 2147483646 0) 2 Seed → ⊥)
 seeds_are_judged = (λ s. omega (arith, s), λ s. omega (arith, s), λ outside. outside (omega arith, omega arith), λ outside. outside (omega arith, omega arith))
 
 -- A position that fits these settings fits the parameters that they make.
@@ -274,8 +274,8 @@ fits_two : (position : ℕ) (p : Parameters) → checked_parameters (parameters_
 fits_two position p checked fixed = let same : parameters_in (nano 1 1 position) ≡ p = cc in subst (λ p. FitsTwo p 2 (Some position)) same fixed
 
 -- The second of two warriors may start at 5 to 75, and three warriors may have no position. Position 0 stands for none.
-pub positions_are_judged : IsOutside (nano 1 1 4) 2 [] [] Position × IsOutside (nano 1 1 76) 2 [] [] Position × IsOutside (nano 1 1 5) 3 [] [] Position
-    × (IsOutside (nano 1 1 5) 2 [] [] Position → ⊥) × (IsOutside (nano 1 1 75) 2 [] [] Position → ⊥) × (IsOutside (nano 1 1 0) 3 [] [] Position → ⊥)
+pub positions_are_judged : IsOutside (nano 1 1 4) 2 Position × IsOutside (nano 1 1 76) 2 Position × IsOutside (nano 1 1 5) 3 Position
+    × (IsOutside (nano 1 1 5) 2 Position → ⊥) × (IsOutside (nano 1 1 75) 2 Position → ⊥) × (IsOutside (nano 1 1 0) 3 Position → ⊥)
 positions_are_judged = (
   (parameters_in (nano 1 1 4), refl, λ fixed. omega (arith, fixed.1)),
   (parameters_in (nano 1 1 76), refl, λ fixed. omega (arith, fixed.2)),
@@ -297,8 +297,8 @@ abbrev of_length : ℕ → ℕ → MarsWarrior
 of_length length start = record { length = length; start = start }
 
 -- Warriors of 2 and 1 cells need three cells; four cells are an error.
-pub lengths_are_judged : IsOutside (nano 1 1 0) 2 (numbers ∷ numbers ∷ numbers ∷ numbers ∷ []) (of_length 2 0 ∷ of_length 1 0 ∷ []) Lengths
-    × (IsOutside (nano 1 1 0) 2 (numbers ∷ numbers ∷ numbers ∷ []) (of_length 2 0 ∷ of_length 1 0 ∷ []) Lengths → ⊥)
+pub lengths_are_judged : LengthsDiffer (numbers ∷ numbers ∷ numbers ∷ numbers ∷ []) (of_length 2 0 ∷ of_length 1 0 ∷ [])
+    × (LengthsDiffer (numbers ∷ numbers ∷ numbers ∷ []) (of_length 2 0 ∷ of_length 1 0 ∷ []) → ⊥)
 lengths_are_judged = (λ same. cc, λ outside. outside refl)
 
 -- A warrior that consists of imps.

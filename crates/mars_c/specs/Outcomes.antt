@@ -1,5 +1,5 @@
 -- How each warrior fares in each round of many matches.
-use Rattle.std.specs.Prelude.{◌≡◌, ◌*◌, ◌++◌, ◌==◌, ◌<◌, ◌⊎◌, ℕ, All, Bool, List, [], ◌∷◌, Some, Ok, Err, codes, if◌then◌else◌, length, map, not, slice_get, sum_by, take}
+use Rattle.std.specs.Prelude.{◌≡◌, ◌*◌, ◌++◌, ◌==◌, ◌<◌, ◌⊎◌, ℕ, All, Bool, List, [], ◌∷◌, Some, Ok, Err, if◌then◌else◌, length, map, not, slice_get, sum_by, take}
 use Rattle.mars_cell.specs.Parameters.{Parameters}
 use Rattle.mars_cell.specs.ParameterFaults.{checked_parameters}
 use Rattle.mars_cell.specs.Warriors.{WarriorValue}
@@ -7,10 +7,10 @@ use Rattle.mars_match.specs.Fates.{fates_of}
 use Rattle.mars_match.specs.Placement.{FitsTwo}
 use Rattle.mars_match.specs.declared.fates.Fate.{Fate}
 use Rattle.mars_match.specs.declared.fault.MatchFault.{MatchFault}
-use Rattle.mars_match.specs.declared.setup.Setup.{Setup}
+use Rattle.mars_match.specs.declared.setup.Plan.{Plan}
 use Rattle.mars_c.specs.Entrants.{AreEntrants}
-use Rattle.mars_c.specs.Refusals.{AreWarriors, IsOutOfRange, RefusesEntry, RefusesWarriors, fight_refusal}
-use Rattle.mars_c.specs.Settings.{IsSetup, parameters_in}
+use Rattle.mars_c.specs.Refusals.{AreWarriors, IsOutOfRange, RefusesPlan, RefusesWarriors, fight_refusal}
+use Rattle.mars_c.specs.Settings.{IsPlan, parameters_in}
 use Rattle.mars_c.specs.declared.cells.MarsCell.{MarsCell}
 use Rattle.mars_c.specs.declared.faults.CallRefusal.{CallRefusal}
 use Rattle.mars_c.specs.declared.faults.CallRefusal.TheVariants.{Lineup}
@@ -80,9 +80,9 @@ AreChosen ws indices chosen = map (λ i. slice_get ws i) indices ≡ map (λ w. 
 
 -- `fates` are the fates of all rounds of a lineup's match.
 abbrev pub IsFought : MarsSettings → List WarriorValue → MarsLineup → List Fate → Type 0
-IsFought s ws lineup fates = (setup : Setup) × (chosen : List WarriorValue)
-    × IsSetup (seeded s lineup.seed) (codes "0") setup × AreChosen ws (indices_of lineup) chosen × FitsTwo setup.params (length chosen) setup.plan.fixed
-    × (fates_of (is_counting lineup) setup.params chosen setup.plan.fixed setup.plan.rounds setup.plan.seed ≡ Ok fates)
+IsFought s ws lineup fates = (p : Parameters) × (plan : Plan) × (chosen : List WarriorValue)
+    × (checked_parameters (parameters_in s) ≡ Ok p) × IsPlan (seeded s lineup.seed) plan × AreChosen ws (indices_of lineup) chosen × FitsTwo p (length chosen) plan.fixed
+    × (fates_of (is_counting lineup) p chosen plan.fixed plan.rounds plan.seed ≡ Ok fates)
 
 -- `fates` are the fates of the matches of all lineups, one match after another.
 abbrev pub AreFought : MarsSettings → List WarriorValue → List MarsLineup → List Fate → Type 0
@@ -98,14 +98,13 @@ HoldsOutcomes s cells entrants lineups places = (p : Parameters) × (ws : List W
 abbrev pub rows_for : MarsSettings → List MarsLineup → ℕ
 rows_for s lineups = sum_by (λ (lineup : MarsLineup). s.rounds * lineup.count) lineups
 
--- `refusal` is a reason for which a lineup's match has no fates: the error of its settings, or of its first round with an
--- error.
+-- `refusal` is a reason for which a lineup's match has no fates: the error of its plan, or of its first round with an error.
 abbrev pub RefusesLineup : MarsSettings → List WarriorValue → MarsLineup → CallRefusal → Type 0
 RefusesLineup s ws lineup refusal =
-    RefusesEntry (seeded s lineup.seed) (codes "0") lineup.count [] [] refusal
-    ⊎ ((setup : Setup) × (chosen : List WarriorValue) × (fault : MatchFault)
-    × IsSetup (seeded s lineup.seed) (codes "0") setup × AreChosen ws (indices_of lineup) chosen
-    × (fates_of (is_counting lineup) setup.params chosen setup.plan.fixed setup.plan.rounds setup.plan.seed ≡ Err fault) × (refusal ≡ fight_refusal fault))
+    RefusesPlan (seeded s lineup.seed) lineup.count refusal
+    ⊎ ((p : Parameters) × (plan : Plan) × (chosen : List WarriorValue) × (fault : MatchFault)
+    × (checked_parameters (parameters_in s) ≡ Ok p) × IsPlan (seeded s lineup.seed) plan × AreChosen ws (indices_of lineup) chosen
+    × (fates_of (is_counting lineup) p chosen plan.fixed plan.rounds plan.seed ≡ Err fault) × (refusal ≡ fight_refusal fault))
 
 -- `refusal` is a reason for which the match of the first lineup with an error has no fates. Those before it are fought.
 abbrev pub IsFirstFailure : MarsSettings → List WarriorValue → List MarsLineup → CallRefusal → Type 0

@@ -86,14 +86,18 @@ IsWrong p cells entrants index fault = (ws : List WarriorValue) × (rest : List 
 abbrev pub LengthsDiffer : List MarsCell → List MarsWarrior → Type 0
 LengthsDiffer cells entrants = sum_by (λ (one : MarsWarrior). one.length) entrants ≢ length cells
 
--- A setting is out of its range, or the lengths of the warriors do not add up to the number of cells. The position must fit
--- battles of `warriors` warriors.
-abbrev pub IsOutside : MarsSettings → ℕ → List MarsCell → List MarsWarrior → SettingsFault → Type 0
-IsOutside s warriors cells entrants Rounds = AreRounds s.rounds → ⊥
-IsOutside s warriors cells entrants Seed = IsSeed s.seed → ⊥
-IsOutside s warriors cells entrants Position = (p : Parameters) × (checked_parameters (parameters_in s) ≡ Ok p) × (FitsTwo p warriors (position_of s.position) → ⊥)
-IsOutside s warriors cells entrants Lengths = LengthsDiffer cells entrants
-IsOutside s warriors cells entrants other = ⊥
+-- A setting of the plan is out of its range. The position must fit battles of `warriors` warriors.
+abbrev pub IsOutside : MarsSettings → ℕ → SettingsFault → Type 0
+IsOutside s warriors Rounds = AreRounds s.rounds → ⊥
+IsOutside s warriors Seed = IsSeed s.seed → ⊥
+IsOutside s warriors Position = (p : Parameters) × (checked_parameters (parameters_in s) ≡ Ok p) × (FitsTwo p warriors (position_of s.position) → ⊥)
+IsOutside s warriors other = ⊥
+
+-- `refusal` is the error of the plan. The position must fit battles of `warriors` warriors.
+abbrev pub RefusesPlan : MarsSettings → ℕ → CallRefusal → Type 0
+RefusesPlan s warriors OutOfMemory = ⊤
+RefusesPlan s warriors (Settings fault) = IsOutside s warriors fault
+RefusesPlan s warriors other = ⊥
 
 -- `refusal` is the error of the parameters or the warriors.
 abbrev pub RefusesWarriors : MarsSettings → List MarsCell → List MarsWarrior → CallRefusal → Type 0
@@ -106,7 +110,8 @@ RefusesWarriors s cells entrants other = ⊥
 -- `refusal` is the error of the settings, the formula `text` or the warriors. The position must fit battles of `warriors`
 -- warriors.
 abbrev pub RefusesEntry : MarsSettings → List ℕ → ℕ → List MarsCell → List MarsWarrior → CallRefusal → Type 0
-RefusesEntry s text warriors cells entrants (Settings fault) = IsOutside s warriors cells entrants fault
+RefusesEntry s text warriors cells entrants (Settings Lengths) = LengthsDiffer cells entrants
+RefusesEntry s text warriors cells entrants (Settings fault) = IsOutside s warriors fault
 RefusesEntry s text warriors cells entrants (Formula fault) = formula_of text ≡ Err fault
 RefusesEntry s text warriors cells entrants other = RefusesWarriors s cells entrants other
 

@@ -83,7 +83,7 @@ pub fn warriors_fault(warriors: usize) -> Option<SettingsFault>
 fn numbers_fault(settings: &MarsSettings) -> Option<SettingsFault>
     ensures rounds { result ≡ None → AreRounds settings.now.rounds }
     ensures seed { result ≡ None → IsSeed settings.now.seed }
-    ensures outside { (warriors : ℕ) (cells : List CellNumbers) (entrants : List WarriorNumbers) → IfSome result (IsOutside settings.now warriors cells entrants) }
+    ensures outside { (warriors : ℕ) → IfSome result (IsOutside settings.now warriors) }
 {
     if settings.rounds < 1 || settings.rounds > MAX_ROUNDS {
         return Some(SettingsFault::Rounds);
@@ -102,8 +102,7 @@ fn position(
 ) -> Result<Option<u32>, SettingsFault>
     ensures fits { IfOk result (λ fixed. FitsTwo params.now warriors fixed) }
     ensures value { IfOk result (λ fixed. fixed ≡ position_of settings.now.position) }
-    ensures outside { (cells : List CellNumbers) (entrants : List WarriorNumbers) → checked_parameters (parameters_in settings.now) ≡ Ok params.now
-        → IfErr result (IsOutside settings.now warriors cells entrants) }
+    ensures outside { checked_parameters (parameters_in settings.now) ≡ Ok params.now → IfErr result (IsOutside settings.now warriors) }
 {
     let position = settings.position;
     if position == 0 {
@@ -126,8 +125,7 @@ pub fn make_plan(
 ) -> Result<Plan, SettingsFault>
     ensures fits { IfOk result (λ plan. FitsTwo params.now warriors plan.fixed) }
     ensures plan { IfOk result (IsPlan settings.now) }
-    ensures outside { (cells : List CellNumbers) (entrants : List WarriorNumbers) → checked_parameters (parameters_in settings.now) ≡ Ok params.now
-        → IfErr result (IsOutside settings.now warriors cells entrants) }
+    ensures outside { checked_parameters (parameters_in settings.now) ≡ Ok params.now → IfErr result (IsOutside settings.now warriors) }
 {
     if let Some(fault) = numbers_fault(settings) {
         return Err(fault);

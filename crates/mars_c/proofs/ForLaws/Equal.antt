@@ -5,6 +5,7 @@ use Rattle.std.proofs.lemmas.Option.{same_Some}
 use denote.Enum.Bare.{Bare, tag_one}
 use denote.Enum.Declared.{Declared, tag_of}
 use Rattle.mars_cell.specs.Cells.{mode_index, modifier_index, op_index}
+use Rattle.mars_cell.specs.ParameterFaults.{checked_parameters}
 use Rattle.mars_cell.specs.Parameters.{Parameters}
 use Rattle.mars_cell.specs.Warriors.{WarriorValue}
 use Rattle.mars_cell.specs.contracts.instruction.Mode.{the_type as the_mode}
@@ -24,6 +25,7 @@ use Rattle.mars_match.specs.Rounds.{table_of}
 use Rattle.mars_match.specs.Tables.{RowValue}
 use Rattle.mars_match.specs.declared.fates.Fate.{Fate}
 use Rattle.mars_match.specs.declared.fault.MatchFault.{MatchFault}
+use Rattle.mars_match.specs.declared.setup.Plan.{Plan}
 use Rattle.mars_match.specs.declared.setup.Setup.{Setup}
 use Rattle.mars_c.specs.Battles.{IsRound, round_start_state}
 use Rattle.mars_c.specs.Cells.{plain_cell}
@@ -31,7 +33,7 @@ use Rattle.mars_c.specs.Contests.{plain_row, plain_sum, population}
 use Rattle.mars_c.specs.Entrants.{AreEntrants, IsEntrant, Reads}
 use Rattle.mars_c.specs.Laws.{EqualLeagues, EqualMatches, EqualOutcomes, EqualPopulations, EqualStarts}
 use Rattle.mars_c.specs.Outcomes.{AreChosen, AreFought, IsFought, indices_of, is_counting, plain_fate, seeded}
-use Rattle.mars_c.specs.Settings.{IsSetup}
+use Rattle.mars_c.specs.Settings.{IsPlan, IsSetup, parameters_in}
 use Rattle.mars_c.specs.declared.cells.MarsCell.{MarsCell}
 use Rattle.mars_c.specs.declared.outcomes.MarsLineup.{MarsLineup}
 use Rattle.mars_c.specs.declared.settings.MarsSettings.{MarsSettings}
@@ -111,15 +113,20 @@ module _ (p : Parameters) where
 
 -- ---- Setups
 
+one_plan : (s : MarsSettings) (a b : Plan) → IsPlan s a → IsPlan s b → a ≡ b
+one_plan s a b first second =
+    let rounds : a.rounds ≡ b.rounds = first.rounds ∙ sym second.rounds in
+    let seed : a.seed ≡ b.seed = first.seed ∙ sym second.seed in
+    let fixed : a.fixed ≡ b.fixed = first.fixed ∙ sym second.fixed in
+    let whole : ◌≡◌ {A = Plan} (record { rounds = a.rounds; seed = a.seed; fixed = a.fixed }) b = rw (rounds, seed, fixed) refl in
+    whole
+
 one_setup : (s : MarsSettings) (text : List ℕ) (a b : Setup) → IsSetup s text a → IsSetup s text b → a ≡ b
 one_setup s text a b first second =
     let params = ok_injective a.params b.params (sym first.params ∙ second.params) in
     let formula = ok_injective a.formula b.formula (sym first.formula ∙ second.formula) in
-    let rounds : a.plan.rounds ≡ b.plan.rounds = first.plan.rounds ∙ sym second.plan.rounds in
-    let seed : a.plan.seed ≡ b.plan.seed = first.plan.seed ∙ sym second.plan.seed in
-    let fixed : a.plan.fixed ≡ b.plan.fixed = first.plan.fixed ∙ sym second.plan.fixed in
-    let whole : ◌≡◌ {A = Setup} (record { params = a.params; plan = record { rounds = a.plan.rounds; seed = a.plan.seed; fixed = a.plan.fixed }; formula = a.formula }) b =
-    rw (params, formula, rounds, seed, fixed) refl in
+    let plan = one_plan s a.plan b.plan first.plan second.plan in
+    let whole : ◌≡◌ {A = Setup} (record { params = a.params; plan = a.plan; formula = a.formula }) b = rw (params, plan, formula) refl in
     whole
 
 module _ (s : MarsSettings) (text : List ℕ) (cells : List MarsCell) (entrants : List MarsWarrior) (a b : Setup) (vs ws : List WarriorValue)
@@ -166,21 +173,23 @@ equal_starts s cells entrants round one other (a, vs, first, are, fits, inside, 
     ok_injective one other (sym (round_starts a vs round one begins) ∙ same ∙ round_starts b ws round other starts)
 
 -- The fates of a lineup's match.
-abbrev pub fates_in : MarsLineup → Setup → List WarriorValue → Result (List Fate) MatchFault
-fates_in lineup a us = fates_of (is_counting lineup) a.params us a.plan.fixed a.plan.rounds a.plan.seed
+abbrev pub fates_in : MarsLineup → Parameters → Plan → List WarriorValue → Result (List Fate) MatchFault
+fates_in lineup p plan us = fates_of (is_counting lineup) p us plan.fixed plan.rounds plan.seed
 
 module _ (s : MarsSettings) (ws : List WarriorValue) where
-  pub same_fates : (lineup : MarsLineup) (a b : Setup) (us vs : List WarriorValue)
-      → IsSetup (seeded s lineup.seed) (codes "0") a → IsSetup (seeded s lineup.seed) (codes "0") b
-      → AreChosen ws (indices_of lineup) us → AreChosen ws (indices_of lineup) vs → fates_in lineup a us ≡ fates_in lineup b vs
-  same_fates lineup a b us vs first second are too =
-      let setup = one_setup (seeded s lineup.seed) (codes "0") a b first second in
+  pub same_fates : (lineup : MarsLineup) (p q : Parameters) (a b : Plan) (us vs : List WarriorValue)
+      → checked_parameters (parameters_in s) ≡ Ok p → checked_parameters (parameters_in s) ≡ Ok q
+      → IsPlan (seeded s lineup.seed) a → IsPlan (seeded s lineup.seed) b
+      → AreChosen ws (indices_of lineup) us → AreChosen ws (indices_of lineup) vs → fates_in lineup p a us ≡ fates_in lineup q b vs
+  same_fates lineup p q a b us vs allowed allowed_too first second are too =
+      let params = ok_injective p q (sym allowed ∙ allowed_too) in
+      let plan = one_plan (seeded s lineup.seed) a b first second in
       let chosen = one_list {B = Option WarriorValue} (λ w. Some w) same_Some us vs (sym are ∙ too) in
-      ap (λ a. fates_in lineup a us) setup ∙ ap (fates_in lineup b) chosen
+      ap (λ p. fates_in lineup p a us) params ∙ ap (λ a. fates_in lineup q a us) plan ∙ ap (fates_in lineup q b) chosen
 
   one_fought : (lineup : MarsLineup) (xs ys : List Fate) → IsFought s ws lineup xs → IsFought s ws lineup ys → xs ≡ ys
-  one_fought lineup xs ys (a, us, first, are, fits, is) (b, vs, second, too, fitting, too_is) =
-      ok_injective xs ys (sym is ∙ same_fates lineup a b us vs first second are too ∙ too_is)
+  one_fought lineup xs ys (p, a, us, allowed, first, are, fits, is) (q, b, vs, allowed_too, second, too, fitting, too_is) =
+      ok_injective xs ys (sym is ∙ same_fates lineup p q a b us vs allowed allowed_too first second are too ∙ too_is)
 
   all_fought : (lineups : List MarsLineup) (xs ys : List Fate) → AreFought s ws lineups xs → AreFought s ws lineups ys → xs ≡ ys
   all_fought [] xs ys first second = first ∙ sym second

@@ -13,6 +13,7 @@ use Rattle.mars_core.specs.Limits.{max_warriors}
 use Rattle.mars_match.specs.Placement.{FitsTwo}
 use Rattle.mars_match.specs.declared.fates.Fate.{Fate}
 use Rattle.mars_match.specs.declared.fault.MatchFault.{MatchFault}
+use Rattle.mars_match.specs.declared.setup.Plan.{Plan}
 use Rattle.mars_match.specs.declared.setup.Setup.{Setup}
 use Rattle.mars_c.specs.Battles.{round_start_state}
 use Rattle.mars_c.specs.Blocks.{capacity_of}
@@ -21,8 +22,8 @@ use Rattle.mars_c.specs.Contests.{population}
 use Rattle.mars_c.specs.Entrants.{AreEntrants, IsEntrant, IsNoEntrant, Reads}
 use Rattle.mars_c.specs.Laws.{LeagueErrorsRecur, MatchErrorsRecur, OutcomeErrorsRecur, PopulationErrorsRecur, StartErrorsRecur, StartsFitAgain}
 use Rattle.mars_c.specs.Outcomes.{AreChosen, AreFought, IsFought, IsLineup, IsNoLineup, RefusesLineup, indices_of, seeded}
-use Rattle.mars_c.specs.Refusals.{Fails, IsOutside, IsWrong, RefusesEntry, RefusesWarriors}
-use Rattle.mars_c.specs.Settings.{IsSetup, parameters_in, position_of}
+use Rattle.mars_c.specs.Refusals.{Fails, IsOutside, IsWrong, RefusesEntry, RefusesPlan, RefusesWarriors}
+use Rattle.mars_c.specs.Settings.{IsPlan, IsSetup, parameters_in, position_of}
 use Rattle.mars_c.specs.declared.cells.MarsCell.{MarsCell}
 use Rattle.mars_c.specs.declared.faults.CallRefusal.{CallRefusal}
 use Rattle.mars_c.specs.declared.faults.CallRefusal.TheVariants as call
@@ -110,25 +111,30 @@ module _ (s : MarsSettings) (cells : List MarsCell) (entrants : List MarsWarrior
 
 -- ---- A call without an error
 
+module _ (s : MarsSettings) (p : Parameters) (plan : Plan) (count : ℕ)
+    (allowed : checked_parameters (parameters_in s) ≡ Ok p) (made : IsPlan s plan) (fits : FitsTwo p count plan.fixed) where
+  inside : (f : SettingsFault) → IsOutside s count f → ⊥
+  inside settings.Rounds outside = outside made.rounds_allowed
+  inside settings.Seed outside = outside made.seed_allowed
+  inside settings.Position (q, allowed_too, outside) =
+      let same = ok_injective p q (sym allowed ∙ allowed_too) in
+      outside (subst (λ p. FitsTwo p count (position_of s.position)) same (subst (FitsTwo p count) made.fixed fits))
+  inside other outside = outside
+
+  planned : (refusal : CallRefusal) → RefusesPlan s count refusal → refusal ≡ call.OutOfMemory
+  planned call.OutOfMemory h = refl
+  planned (call.Settings f) h = absurd (inside f h)
+  planned other h = absurd h
+
 module _ (s : MarsSettings) (text : List ℕ) (cells : List MarsCell) (entrants : List MarsWarrior) (a : Setup) (ws : List WarriorValue)
     (made : IsSetup s text a) (are : AreEntrants a.params cells entrants ws) where
-  same_params : (p : Parameters) → checked_parameters (parameters_in s) ≡ Ok p → p ≡ a.params
-  same_params p allowed = ok_injective p a.params (sym allowed ∙ made.params)
-
   pub fits_all : FitsTwo a.params (length ws) a.plan.fixed → FitsTwo a.params (length entrants) a.plan.fixed
   fits_all fits = subst (λ n. FitsTwo a.params n a.plan.fixed) (as_many a.params cells entrants ws [] are) fits
 
   module _ (count : ℕ) (fits : FitsTwo a.params count a.plan.fixed) where
-    inside : (f : SettingsFault) → IsOutside s count cells entrants f → ⊥
-    inside settings.Rounds outside = outside made.plan.rounds_allowed
-    inside settings.Seed outside = outside made.plan.seed_allowed
-    inside settings.Position (p, allowed, outside) =
-        outside (subst (λ p. FitsTwo p count (position_of s.position)) (sym (same_params p allowed)) (subst (FitsTwo a.params count) made.plan.fixed fits))
-    inside settings.Lengths outside = outside (lengths_add_up a.params cells entrants ws are)
-    inside other outside = outside
-
     pub entered : (refusal : CallRefusal) → RefusesEntry s text count cells entrants refusal → refusal ≡ call.OutOfMemory
-    entered (call.Settings f) h = absurd (inside f h)
+    entered (call.Settings settings.Lengths) h = absurd (h (lengths_add_up a.params cells entrants ws are))
+    entered (call.Settings f) h = absurd (inside s a.params a.plan count made.params made.plan fits f h)
     entered (call.Formula f) h = absurd (not_both _ a.formula f made.formula h)
     entered other h = warriors_read s cells entrants a.params ws made.params are other h
 
@@ -168,11 +174,11 @@ module _ (s : MarsSettings) (ws : List WarriorValue) where
   -- A lineup with fates is refused only because memory ran out.
   fought_lineup : (lineup : MarsLineup) (fates : List Fate) (refusal : CallRefusal) → lineup.count ≤ length lineup.warrior
       → IsFought s ws lineup fates → RefusesLineup s ws lineup refusal → refusal ≡ call.OutOfMemory
-  fought_lineup lineup fates refusal few (a, us, made, are, fits, is) (inl entry) =
-      let fit = subst (λ n. FitsTwo a.params n a.plan.fixed) (all_chosen ws us lineup are few) fits in
-      entered (seeded s lineup.seed) (codes "0") [] [] a [] made refl lineup.count fit refusal entry
-  fought_lineup lineup fates refusal few (a, us, made, are, fits, is) (inr (b, vs, fault, too, chosen, fails, refused)) =
-      absurd (not_both (fates_in lineup b vs) fates fault (sym (same_fates s ws lineup a b us vs made too are chosen) ∙ is) fails)
+  fought_lineup lineup fates refusal few (p, a, us, allowed, made, are, fits, is) (inl unplanned) =
+      let fit = subst (λ n. FitsTwo p n a.fixed) (all_chosen ws us lineup are few) fits in
+      planned (seeded s lineup.seed) p a lineup.count allowed made fit refusal unplanned
+  fought_lineup lineup fates refusal few (p, a, us, allowed, made, are, fits, is) (inr (q, b, vs, fault, allowed_too, too, chosen, fails, refused)) =
+      absurd (not_both (fates_in lineup q b vs) fates fault (sym (same_fates s ws lineup p q a b us vs allowed allowed_too made too are chosen) ∙ is) fails)
 
 -- ---- The laws
 

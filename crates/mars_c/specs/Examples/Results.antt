@@ -10,7 +10,7 @@ use Rattle.mars_cell.specs.Warriors.{WarriorValue}
 use Rattle.mars_cell.specs.declared.fault.LoadFault.{LoadFault}
 use Rattle.mars_cell.specs.declared.instruction.Cell.{Cell}
 use Rattle.mars_cell.specs.declared.parameters.ParamFault.{ParamFault}
-use Rattle.mars_core.specs.Block.{Spells, block_mark, block_of, field_words, head_of, head_words}
+use Rattle.mars_core.specs.Block.{Spells, block_mark, block_of, field_words, head_of}
 use Rattle.mars_core.specs.Edit.{edit_fault}
 use Rattle.mars_core.specs.State.{State}
 use Rattle.mars_core.specs.declared.battle.block.BlockFault.TheVariants as block
@@ -307,7 +307,7 @@ no_failing_match s ws f e = (without_core, without_warrior, of_a_file)
     without_core : RefusesLineup no_core ws first (call.Score f) → ⊥
     without_core (inl entry) = entry
     without_core (inr fails) =
-        let same : ◌≡◌ {A = Result Parameters ParamFault} (Ok fails.0.params) (checked_parameters (parameters_in no_core)) = sym fails.3.params in cc
+        let same : ◌≡◌ {A = Result Parameters ParamFault} (Ok fails.0) (checked_parameters (parameters_in no_core)) = sym fails.4 in cc
 
     chosen : (ws : List WarriorValue) → AreChosen [] (0 ∷ []) ws → ⊥
     chosen [] are = cc
@@ -315,11 +315,11 @@ no_failing_match s ws f e = (without_core, without_warrior, of_a_file)
 
     without_warrior : RefusesLineup (nano 1 1 0) [] first (call.Score f) → ⊥
     without_warrior (inl entry) = entry
-    without_warrior (inr fails) = chosen fails.1 fails.4
+    without_warrior (inr fails) = chosen fails.2 fails.6
 
     of_a_file : RefusesLineup s ws first (call.Load e) → ⊥
     of_a_file (inl entry) = entry
-    of_a_file (inr fails) = no_load e fails.2 fails.6
+    of_a_file (inr fails) = no_load e fails.3 fails.8
 
 -- A lineup that is not there does not fail, nor one of no core, nor one with cells of no warrior.
 pub no_failing_lineup : (one : MarsCell) (lineups : List MarsLineup) (refusal : CallRefusal)

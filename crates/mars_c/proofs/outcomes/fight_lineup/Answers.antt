@@ -1,11 +1,11 @@
-use Rattle.std.proofs.Common.{◌≡◌, [], inl, length}
+use Rattle.std.proofs.Common.{inl, length}
 use Rattle.mars_match.specs.Placement.{FitsTwo}
 use Rattle.mars_c.proofs.Fought.{is_fought, is_refused}
 use Rattle.mars_c.proofs.outcomes.fight_lineup.Goals as goal
 
 pub returns-in-Err-clause-refused : goal.returns-in-Err-clause-refused
 returns-in-Err-clause-refused c =
-    let outside = rw c.seeded.ensures at (c.in-Err.ensures.outside [] []) in
+    let outside = rw c.seeded.ensures at c.in-Err.ensures.outside in
     inl (outside c.requires.params)
 
 pub returns-in-Ok-fight_rounds-clause-fought : goal.returns-in-Ok-fight_rounds-clause-fought
