@@ -41,7 +41,7 @@ def definitions(file: str) -> str:
 def cases(file: str, name: str) -> dict[str, str]:
     """The value of a definition for each constructor: a name, a number, or the code of an error."""
     head = rf"^{name} (?:numbers )?\(?(?:\w+\.)?(\w+)[^=\n]*=\s+"
-    value = r'(?:codes "|numbered |record \{\s*code = |\(numbers\.what ≡ )?([^\s";)]+)'
+    value = r'(?:codes "|numbered |record \(numbered |\(numbers\.what ≡ )?([^\s";)]+)'
     return dict(re.findall(head + value, definitions(file), re.M))
 
 

@@ -71,6 +71,8 @@ static void add_fault(uint32_t result)
     add_words(&fault.code, 4);
     add(fault.line, 8);
     add(fault.warrior, 8);
+    add(fault.begin, 8);
+    add(fault.end, 8);
 }
 
 static void clear(void)

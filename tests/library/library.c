@@ -166,6 +166,19 @@ static int are_nulls_taken(void) {
         && mars_check(NULL, 0, &got.fault) == MARS_BLOCK && got.fault.number == MARS_BLOCK_SHORT;
 }
 
+/* Whether the error of a source has the bytes from `begin` up to `end`. */
+static int is_error_at(const char *source, uint64_t begin, uint64_t end) {
+    Left got;
+    uint32_t answer = mars_assemble(&SETTINGS, 2, (const uint8_t *)source, strlen(source), got.cells, 20, &got.program, NULL, 0, &got.length, &got.fault);
+    return answer == MARS_ASSEMBLY && got.fault.begin == begin && got.fault.end == end;
+}
+
+/* A name in the text of an EQU, a word in a loop, an opcode, and errors without a word. */
+static int are_places_reported(void) {
+    return is_error_at("x EQU 1+yy\nNOP 7, x", 8, 10) && is_error_at("i FOR 2\nNOP z&i\nROF", 12, 15)
+        && is_error_at("here MVO 1, 2", 5, 8) && is_error_at("NOP 1x", 0, 0) && is_error_at("", 0, 0);
+}
+
 /* A program is what its load file says, and the other way round. */
 static int are_loads_read(void) {
     Left got;
@@ -364,10 +377,10 @@ int main(void) {
             passed += is_so, failed += !is_so;
             if (!is_so) printf("call %d, %s refused\n", which, each ? "all from one on" : "one");
         }
-    int others[] = {mars_version() == MARS_VERSION, are_faults_cleared(), are_nulls_taken(), are_lines_reported(), are_loads_read(), are_outcomes_rows(), are_mistakes_reported_in_order(), are_battles_values(), are_turns_found(), are_moments_true(), are_edits_all_or_none(), are_scores_points()};
+    int others[] = {mars_version() == MARS_VERSION, are_faults_cleared(), are_nulls_taken(), are_lines_reported(), are_places_reported(), are_loads_read(), are_outcomes_rows(), are_mistakes_reported_in_order(), are_battles_values(), are_turns_found(), are_moments_true(), are_edits_all_or_none(), are_scores_points()};
     for (size_t i = 0; i < sizeof others / sizeof *others; i++) {
         passed += others[i], failed += !others[i];
-        if (!others[i]) printf("%s\n", (const char *[]){"the version", "errors of calls that succeed", "null pointers", "the lines of a source", "load files", "outcomes", "the order of mistakes", "battles as values", "turns that are found", "moments", "several edits", "scores"}[i]);
+        if (!others[i]) printf("%s\n", (const char *[]){"the version", "errors of calls that succeed", "null pointers", "the lines of a source", "the places of errors", "load files", "outcomes", "the order of mistakes", "battles as values", "turns that are found", "moments", "several edits", "scores"}[i]);
     }
     printf("%d passed, %d failed\n", passed, failed);
     return failed != 0;

@@ -69,7 +69,7 @@ enum {
     MARS_SETTINGS = 2,   /* a number is out of its range: MARS_SETTINGS_.. */
     MARS_PARAMETERS = 3, /* a parameter of the core is out of its range: MARS_PARAMETERS_.. */
     MARS_FORMULA = 4,    /* the formula is wrong: MARS_EXPRESSION_.. */
-    MARS_ASSEMBLY = 5,   /* the source is wrong: MARS_ASSEMBLY_.., at `fault->line` */
+    MARS_ASSEMBLY = 5,   /* the source is wrong: MARS_ASSEMBLY_.., at `fault->line` and `fault->begin` */
     MARS_LOAD = 6,       /* the load file is wrong: MARS_LOAD_.., at `fault->line` */
     MARS_PLACEMENT = 7,  /* the warriors cannot be placed: MARS_PLACEMENT_.. */
     MARS_BATTLE = 8,     /* the battle cannot start: MARS_BATTLE_.. */
@@ -344,6 +344,8 @@ typedef struct {
                             MARS_WARRIOR_CELL and MARS_WARRIOR_FIELD: index of the first wrong cell */
     uint64_t warrior;    /* of MARS_WARRIOR, MARS_LINEUP, MARS_CONDITION and MARS_EDIT: index, from 0; of MARS_BLOCK_QUEUE: first
                             warrior whose queue is wrong */
+    uint64_t begin;      /* of MARS_ASSEMBLY: first byte, in the source, of the word or sign at which the error arises; in the text */
+    uint64_t end;        /* of an EQU it is there, not at its use. Byte after the last one. Both are 0 if there is no such word */
 } MarsFault;
 
 /* A battle: a block of 32-bit words that the caller owns. The block has the whole state of the battle, without pointers or padding,

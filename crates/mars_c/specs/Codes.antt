@@ -1,5 +1,5 @@
 -- The error that the caller gets for each refusal: its code, and its numbers as the program prints them.
-use Rattle.std.specs.Prelude.{ℕ}
+use Rattle.std.specs.Prelude.{ℕ, Option, Some, None}
 use Rattle.mars_cell.specs.declared.fault.LoadFault.{LoadFault}
 use Rattle.mars_cell.specs.declared.fault.LoadFault.TheVariants as load
 use Rattle.mars_cell.specs.declared.parameters.ParamFault.{ParamFault}
@@ -16,6 +16,7 @@ use Rattle.redcode_asm.specs.declared.fault.AsmProblem.{AsmProblem}
 use Rattle.redcode_asm.specs.declared.fault.AsmProblem.TheVariants as assembly
 use Rattle.redcode_text.specs.declared.fault.ExprFault.{ExprFault}
 use Rattle.redcode_text.specs.declared.fault.ExprFault.TheVariants as expression
+use Rattle.redcode_text.specs.declared.token.Span.{Span}
 use Rattle.redcode_text.specs.declared.fault.TextProblem.{TextProblem}
 use Rattle.redcode_text.specs.declared.fault.TextProblem.TheVariants as text
 use Rattle.mars_c.specs.declared.faults.MarsFault.{MarsFault}
@@ -182,9 +183,14 @@ problem_numbers (assembly.Text problem) = (text_number problem, text_expression 
 problem_numbers (assembly.Expression fault) = (0, expression_number fault)
 problem_numbers problem = (0, 0)
 
+-- The first byte of a token and the byte after its last one; 0 and 0 if there is no token.
+abbrev pub token_bytes : Option Span → ℕ × ℕ
+token_bytes (Some token) = (token.from, token.to)
+token_bytes None = (0, 0)
+
 -- The error with this code and number. The other fields do not apply and are 0.
 abbrev pub numbered : ℕ → ℕ → MarsFault
-numbered code number = record { code = code; number = number; problem = 0; expression = 0; line = 0; warrior = 0 }
+numbered code number = record { code = code; number = number; problem = 0; expression = 0; line = 0; warrior = 0; begin = 0; end = 0 }
 
 -- The error that the caller gets for this refusal.
 abbrev pub fault_of : CallRefusal → MarsFault
@@ -192,35 +198,31 @@ fault_of OutOfMemory = numbered 1 0
 fault_of (Settings fault) = numbered 2 (settings_number fault)
 fault_of (Parameters fault) = numbered 3 (parameter_number fault)
 fault_of (Formula fault) = numbered 4 (expression_number fault)
-fault_of (Assembly fault) = record {
-  code = 5;
-  number = assembly_number fault.problem;
+fault_of (Assembly fault) = record (numbered 5 (assembly_number fault.problem)) {
   problem = (problem_numbers fault.problem).0;
   expression = (problem_numbers fault.problem).1;
   line = fault.line;
-  warrior = 0;
+  begin = (token_bytes fault.token).0;
+  end = (token_bytes fault.token).1;
 }
-fault_of (Load fault) = record { code = 6; number = load_number fault; problem = 0; expression = 0; line = load_line fault; warrior = 0 }
+fault_of (Load fault) = record (numbered 6 (load_number fault)) { line = load_line fault }
 fault_of (Placement fault) = numbered 7 (placement_number fault)
 fault_of (Battle fault) = numbered 8 (battle_number fault)
 fault_of (Score fault) = numbered 9 (expression_number fault)
-fault_of (Warrior index fault) = record { code = 13; number = entrant_number fault; problem = 0; expression = 0; line = entrant_line fault; warrior = index }
-fault_of (Lineup index fault) = record { code = 14; number = lineup_number fault; problem = 0; expression = 0; line = 0; warrior = index }
+fault_of (Warrior index fault) = record (numbered 13 (entrant_number fault)) { line = entrant_line fault; warrior = index }
+fault_of (Lineup index fault) = record (numbered 14 (lineup_number fault)) { warrior = index }
 
 -- The error that the caller of a function on blocks gets for this refusal.
 abbrev pub block_fault_of : BlockRefusal → MarsFault
 block_fault_of refused.OutOfMemory = numbered 1 0
-block_fault_of (refused.Block fault) = record {
-  code = 11;
-  number = block_number fault;
+block_fault_of (refused.Block fault) = record (numbered 11 (block_number fault)) {
   problem = block_problem fault;
-  expression = 0;
   line = block_line fault;
   warrior = block_warrior fault;
 }
 block_fault_of refused.Capacity = numbered 10 0
-block_fault_of (refused.NoSuchEdit index) = record { code = 12; number = 1; problem = 0; expression = 0; line = 0; warrior = index }
-block_fault_of (refused.Edit index fault) = record { code = 12; number = edit_number fault; problem = 0; expression = 0; line = 0; warrior = index }
+block_fault_of (refused.NoSuchEdit index) = record (numbered 12 1) { warrior = index }
+block_fault_of (refused.Edit index fault) = record (numbered 12 (edit_number fault)) { warrior = index }
 block_fault_of refused.History = numbered 2 6
-block_fault_of (refused.Condition index) = record { code = 15; number = 0; problem = 0; expression = 0; line = 0; warrior = index }
+block_fault_of (refused.Condition index) = record (numbered 15 0) { warrior = index }
 block_fault_of refused.Pasts = numbered 2 7

@@ -70,12 +70,12 @@ pub settings_are_parameters : parameters_in (record { core = 8000; processes = 6
 settings_are_parameters = refl
 
 -- The caller gets the number of the wrong line of a load file, here 3.
-pub load_file_is_reported : fault_of (Load (Syntax 3)) ≡ record { code = 6; number = 1; problem = 0; expression = 0; line = 3; warrior = 0 }
+pub load_file_is_reported : fault_of (Load (Syntax 3)) ≡ record { code = 6; number = 1; problem = 0; expression = 0; line = 3; warrior = 0; begin = 0; end = 0 }
 load_file_is_reported = refl
 
 -- Cell 4 of the second warrior has a number outside the core; the third warrior has a wrong start.
-pub warriors_are_reported : (fault_of (Warrior 1 (entrant.Field 4)) ≡ record { code = 13; number = 4; problem = 0; expression = 0; line = 4; warrior = 1 })
-    × (fault_of (Warrior 2 entrant.Start) ≡ record { code = 13; number = 2; problem = 0; expression = 0; line = 0; warrior = 2 })
+pub warriors_are_reported : (fault_of (Warrior 1 (entrant.Field 4)) ≡ record { code = 13; number = 4; problem = 0; expression = 0; line = 4; warrior = 1; begin = 0; end = 0 })
+    × (fault_of (Warrior 2 entrant.Start) ≡ record { code = 13; number = 2; problem = 0; expression = 0; line = 0; warrior = 2; begin = 0; end = 0 })
 warriors_are_reported = (refl, refl)
 
 -- A name has at most 60 bytes, all of them printable.
@@ -83,7 +83,7 @@ pub names_are_short : (is_name (replicate 60 126) ≡ true) × (is_name (replica
 names_are_short = (refl, refl, refl)
 
 -- The third lineup has an index that no warrior has.
-pub lineup_is_reported : fault_of (Lineup 2 lineup.Index) ≡ record { code = 14; number = 2; problem = 0; expression = 0; line = 0; warrior = 2 }
+pub lineup_is_reported : fault_of (Lineup 2 lineup.Index) ≡ record { code = 14; number = 2; problem = 0; expression = 0; line = 0; warrior = 2; begin = 0; end = 0 }
 lineup_is_reported = refl
 
 -- The debugger's history is setting number 6.
@@ -91,17 +91,18 @@ pub history_is_reported : block_fault_of blocks.History ≡ numbered 2 6
 history_is_reported = refl
 
 -- The count of a loop in line 2 divides by zero.
-pub source_is_reported : fault_of (Assembly (record { line = 2; problem = Text (Expression DivideByZero) })) ≡ record { code = 5; number = 1; problem = 10; expression = 3; line = 2; warrior = 0 }
+pub source_is_reported : fault_of (Assembly (record { line = 2; problem = Text (Expression DivideByZero); token = None })) ≡ record { code = 5; number = 1; problem = 10; expression = 3; line = 2; warrior = 0; begin = 0; end = 0 }
 source_is_reported = refl
 
--- A number in an operand of line 4 exceeds 32 bits.
-pub operand_is_reported : fault_of (Assembly (record { line = 4; problem = assembly.Expression Range })) ≡ record { code = 5; number = 4; problem = 0; expression = 4; line = 4; warrior = 0 }
+-- A number in an operand of line 4 exceeds 64 bits. The expression begins with the bytes 30 and 31 of the source.
+pub operand_is_reported : fault_of (Assembly (record { line = 4; problem = assembly.Expression Range; token = Some (record { from = 30; to = 32 }) }))
+    ≡ record { code = 5; number = 4; problem = 0; expression = 4; line = 4; warrior = 0; begin = 30; end = 32 }
 operand_is_reported = refl
 
 -- The cell at address 7, the queue of warrior 2 and the minimum distance are wrong in a block.
-pub blocks_are_reported : (block_fault_of (blocks.Block (block.Cell 7)) ≡ record { code = 11; number = 5; problem = 0; expression = 0; line = 7; warrior = 0 })
-    × (block_fault_of (blocks.Block (block.Queue 2)) ≡ record { code = 11; number = 6; problem = 0; expression = 0; line = 0; warrior = 2 })
-    × (block_fault_of (blocks.Block (block.Parameters Distance)) ≡ record { code = 11; number = 3; problem = 6; expression = 0; line = 0; warrior = 0 })
+pub blocks_are_reported : (block_fault_of (blocks.Block (block.Cell 7)) ≡ record { code = 11; number = 5; problem = 0; expression = 0; line = 7; warrior = 0; begin = 0; end = 0 })
+    × (block_fault_of (blocks.Block (block.Queue 2)) ≡ record { code = 11; number = 6; problem = 0; expression = 0; line = 0; warrior = 2; begin = 0; end = 0 })
+    × (block_fault_of (blocks.Block (block.Parameters Distance)) ≡ record { code = 11; number = 3; problem = 6; expression = 0; line = 0; warrior = 0; begin = 0; end = 0 })
 blocks_are_reported = (refl, refl, refl)
 
 -- The error has the first and the last number of an edit.

@@ -8,7 +8,7 @@ ghost use Rattle.mars_c.specs.declared.faults.CallRefusal.TheVariants as variant
 use crate::numbers::{
     assembly_number, battle_number, block_line, block_number, block_problem, block_warrior,
     edit_number, expression_number, lineup_number, load_line, load_number, parameter_number,
-    placement_number, problem_numbers,
+    placement_number, problem_numbers, token_bytes,
 };
 use crate::ranges::{LineupFault, SettingsFault};
 use crate::warriors::EntrantFault;
@@ -72,6 +72,9 @@ pub struct MarsFault {
     pub line: u64,
     /// Index of a warrior, a lineup, a condition or an edit, from 0.
     pub warrior: u64,
+    /// First byte, in the source, of the token at which an assembly fails; byte after its last one.
+    pub begin: u64,
+    pub end: u64,
 }
 
 /// Returns the error with this code and number; the other fields are 0.
@@ -85,6 +88,8 @@ fn numbered(code: u32, number: u32) -> MarsFault
         expression: 0,
         line: 0,
         warrior: 0,
+        begin: 0,
+        end: 0,
     }
 }
 
@@ -103,10 +108,13 @@ fn assembly(fault: AsmFault) -> MarsFault
     ensures { result ≡ fault_of (variant.Assembly fault) }
 {
     let (problem, expression) = problem_numbers(fault.problem);
+    let (begin, end) = token_bytes(fault.token);
     MarsFault {
         problem,
         expression,
         line: fault.line as u64,
+        begin,
+        end,
         ..numbered(5, assembly_number(fault.problem))
     }
 }

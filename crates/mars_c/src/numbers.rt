@@ -7,7 +7,7 @@ use mars_cell::{LoadFault, ParamFault};
 use mars_core::{BattleFault, BlockFault, EditFault};
 use mars_match::PlaceFault;
 use redcode_asm::AsmProblem;
-use redcode_text::{ExprFault, TextProblem};
+use redcode_text::{ExprFault, Span, TextProblem};
 
 pub fn parameter_number(fault: ParamFault) -> u32
     ensures { result ≡ codes.parameter_number fault }
@@ -139,6 +139,16 @@ pub fn problem_numbers(problem: AsmProblem) -> (u32, u32)
         AsmProblem::Text(problem) => (text_number(problem), text_expression(problem)),
         AsmProblem::Expression(fault) => (0, expression_number(fault)),
         _ => (0, 0),
+    }
+}
+
+/// Returns the first byte of a token and the byte after its last one; 0 and 0 if there is no token.
+pub fn token_bytes(token: Option<Span>) -> (u64, u64)
+    ensures { result ≡ codes.token_bytes token }
+{
+    match token {
+        Some(token) => (token.from as u64, token.to as u64),
+        None => (0, 0),
     }
 }
 

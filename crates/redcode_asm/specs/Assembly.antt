@@ -1,6 +1,6 @@
 -- The assembler: the warrior that a source is assembled to. In this file, `ps` is the list of predefined names with their
 -- values, `source` the program that was read, `names` its table of names, and `m` the core size.
-use Rattle.std.specs.Prelude.{ℕ, zero, ◌+◌, List, [], ◌∷◌, length, drop, filter, Bool, true, false, ◌==◌, ℤ, pos, negsuc, ◌-ℤ◌, Option, Some, None, unwrap_or, option_map, Result, Ok, Err, if◌then◌else◌, nat_lt, codes}
+use Rattle.std.specs.Prelude.{ℕ, zero, ◌+◌, List, [], ◌∷◌, length, drop, take, filter, Bool, true, false, ◌==◌, ℤ, pos, negsuc, ◌-ℤ◌, Option, Some, None, unwrap_or, option_map, Result, Ok, Err, if◌then◌else◌, nat_lt, codes}
 use Rattle.std.specs.List.{list_any, onto_first, last_or}
 use Rattle.mars_cell.specs.declared.instruction.Cell.{Cell}
 use Rattle.mars_cell.specs.declared.instruction.Mode.{Mode}
@@ -19,26 +19,34 @@ use Rattle.redcode_text.specs.declared.fault.TextFault.{TextFault}
 use Rattle.redcode_text.specs.declared.fault.TextProblem.{TextProblem}
 use Rattle.redcode_text.specs.declared.token.Sign.{Sign}
 use Rattle.redcode_text.specs.declared.token.Sign.TheVariants as sign
+use Rattle.redcode_text.specs.declared.token.Span.{Span}
 use Rattle.redcode_text.specs.declared.token.Token.{Token}
 use Rattle.redcode_text.specs.declared.token.TokenKind.{TokenKind}
 use Rattle.redcode_text.specs.declared.token.TokenKind.TheVariants.{Number, Name}
 use Rattle.redcode_text.specs.declared.token.TokenKind.TheVariants as token
 use Rattle.redcode_text.specs.Equates.{substitution}
+use Rattle.redcode_text.specs.Spans.{first_span, last_span}
 use Rattle.redcode_text.specs.Tokens.{without_line}
 use Rattle.redcode_text.specs.Expansion.{ProgramValue, expansion}
-use Rattle.redcode_text.specs.Expression.{kinds, value_of}
+use Rattle.redcode_text.specs.Expression.{fault_span, found_or, kinds, value_of}
 use Rattle.redcode_text.specs.Lines.{Line, Assert, Predefined, predefined_value, with_current_line, name_at, is_instruction, is_org, is_end}
 use Rattle.redcode_asm.specs.declared.fault.AsmFault.{AsmFault}
 use Rattle.redcode_asm.specs.declared.fault.AsmProblem.{AsmProblem}
+use Rattle.redcode_asm.specs.declared.fault.TokenProblem.{TokenProblem}
 use Rattle.redcode_asm.specs.declared.fault.AsmProblem.TheVariants.{Text, Operation, Operand, Expression, AssertFailed, BadOrigin, Empty, TooLong}
 
 abbrev pub ok_or : {A : Type 0} → AsmProblem → Option A → Result A AsmProblem
 ok_or problem (Some x) = Ok x
 ok_or problem None = Err problem
 
-abbrev pub at_line : {A : Type 0} → ℕ → Result A AsmProblem → Result A AsmFault
+-- A result whose error gets the bytes of the token at which it arises.
+abbrev pub at_token : {A : Type 0} → Option Span → Result A AsmProblem → Result A TokenProblem
+at_token span (Ok x) = Ok x
+at_token span (Err e) = Err (record { problem = e; token = span })
+
+abbrev pub at_line : {A : Type 0} → ℕ → Result A TokenProblem → Result A AsmFault
 at_line line (Ok x) = Ok x
-at_line line (Err e) = Err (record { line = line; problem = e })
+at_line line (Err e) = Err (record { line = line; problem = e.problem; token = e.token })
 
 -- ---- Names
 
@@ -85,20 +93,21 @@ known_value ps source index n = predefined_value (with_current_line ps index) (n
 abbrev pub name_value : Predefined → ProgramValue → ℕ → ℕ → ℕ → Option ℤ
 name_value ps source origin index n = value_or (option_map (λ i. pos i -ℤ pos origin) (label_among (placed source) n)) (known_value ps source index n)
 
-abbrev pub expressed : Result ℤ ExprFault → Result ℤ AsmProblem
-expressed (Ok v) = Ok v
-expressed (Err e) = Err (Expression e)
+abbrev pub expressed : (ExprFault → Option Span) → Result ℤ ExprFault → Result ℤ TokenProblem
+expressed span (Ok v) = Ok v
+expressed span (Err e) = Err (record { problem = Expression e; token = span e })
 
-abbrev pub value_in : (ℕ → Option ℤ) → List Token → Result ℤ AsmProblem
-value_in names ts = expressed (value_of names (kinds ts))
+-- The value of the expression `ts`. An expression without tokens has its error at the token `before`.
+abbrev pub value_in : (ℕ → Option ℤ) → Option Span → List Token → Result ℤ TokenProblem
+value_in names before ts = expressed (fault_span names before ts) (value_of names (kinds ts))
 
-abbrev pub texted : {A : Type 0} → Result A TextProblem → Result A AsmProblem
+abbrev pub texted : {A : Type 0} → Result A TextProblem → Result A TokenProblem
 texted (Ok x) = Ok x
-texted (Err e) = Err (Text e)
+texted (Err e) = Err (record { problem = Text e; token = None })
 
 -- The tokens `ts` with each EQU name replaced by its definition. The error has no line yet: it gets the line on which the
--- names are used.
-abbrev pub replaced : ProgramValue → List Token → Result (List Token) AsmProblem
+-- names are used. It has no token.
+abbrev pub replaced : ProgramValue → List Token → Result (List Token) TokenProblem
 replaced source ts = texted (without_line (substitution source.equates ts))
 
 -- ---- Instructions
@@ -161,14 +170,25 @@ abbrev pub given_operands : Op → List Token → Result Operands AsmProblem
 given_operands o [] = no_operand o
 given_operands o (t ∷ ts) = full_operands o (parts_at_commas (t ∷ ts))
 
+abbrev pub commas : List Token → List Token
+commas ts = filter (λ t. is_comma t.kind) ts
+
+-- The token of an error of the operands in `ts`: the second comma, or else the first one, or else the operation.
+abbrev pub operands_span : Option Span → List Token → Option Span
+operands_span operation ts = last_span operation (take 2 (commas ts))
+
 -- The mode and the number of an operand in a core of `m` cells, `$0` if the operand is not written.
-abbrev pub operand_value : ℕ → (ℕ → Option ℤ) → Option (List Token) → Result (Mode × ℕ) AsmProblem
+abbrev pub operand_value : ℕ → (ℕ → Option ℤ) → Option (List Token) → Result (Mode × ℕ) TokenProblem
 operand_value m names None = Ok (mode.Direct, 0)
-operand_value m names (Some ts) = value_in names (split_mode ts).1 >>= λ v. Ok ((split_mode ts).0, residue m v)
+operand_value m names (Some ts) = value_in names (first_span ts) (split_mode ts).1 >>= λ v. Ok ((split_mode ts).0, residue m v)
 
 abbrev pub opcode_of : List (List ℕ) → Option ℕ → Result Op AsmProblem
 opcode_of names None = Err Operation
 opcode_of names (Some n) = ok_or Operation (op_of (name_at names n))
+
+-- The token of an unknown operation: the operation, or else the last token before it would be, or else the first token.
+abbrev pub opcode_span : Line → Option Span
+opcode_span l = found_or l.operation_span (first_span l.rest)
 
 abbrev pub modifier_in : List (List ℕ) → TokenKind → Result Modifier AsmProblem
 modifier_in names (Name n) = ok_or Operation (modifier_of (name_at names n))
@@ -187,24 +207,28 @@ abbrev pub split_modifier : List (List ℕ) → List Token → Result (Option Mo
 split_modifier names [] = Ok (None, [])
 split_modifier names (t ∷ ts) = elim (is_dot t.kind) [ true ↦ modifier_first names ts | false ↦ Ok (None, t ∷ ts) ]
 
+-- The token of an unknown modifier: the one after the `.`, or else the `.`.
+abbrev pub modifier_span : List Token → Option Span
+modifier_span ts = last_span None (take 2 ts)
+
 abbrev pub cell_with : Op → Option Modifier → Mode × ℕ → Mode × ℕ → Cell
 cell_with o given a b = record { op = o; modifier = unwrap_or given (default_modifier o a.0 b.0); a_mode = a.0; a = a.1; b_mode = b.0; b = b.1 }
 
 -- The cell with the opcode `o`, the modifier `given` if one is written, and the operands in `ts`, in a core of `m` cells.
--- `names` has the values of the names.
-abbrev pub cell_from : ℕ → (ℕ → Option ℤ) → Op → Option Modifier → List Token → Result Cell AsmProblem
-cell_from m names o given ts =
-    given_operands o ts >>= λ operands.
+-- `names` has the values of the names, and `operation` the bytes of the operation.
+abbrev pub cell_from : ℕ → (ℕ → Option ℤ) → Option Span → Op → Option Modifier → List Token → Result Cell TokenProblem
+cell_from m names operation o given ts =
+    at_token (operands_span operation ts) (given_operands o ts) >>= λ operands.
     operand_value m names operands.a >>= λ a.
     operand_value m names operands.b >>= λ b.
     Ok (cell_with o given a b)
 
 -- The cell of the instruction `p`. Labels are relative to the instruction.
-abbrev pub cell_of : Predefined → ℕ → ProgramValue → Placed → Result Cell AsmProblem
+abbrev pub cell_of : Predefined → ℕ → ProgramValue → Placed → Result Cell TokenProblem
 cell_of ps m source p =
-    opcode_of source.names p.line.operation >>= λ o.
-    split_modifier source.names p.line.rest >>= λ rest.
-    replaced source rest.1 >>= cell_from m (name_value ps source p.index p.index) o rest.0
+    at_token (opcode_span p.line) (opcode_of source.names p.line.operation) >>= λ o.
+    at_token (modifier_span p.line.rest) (split_modifier source.names p.line.rest) >>= λ rest.
+    replaced source rest.1 >>= cell_from m (name_value ps source p.index p.index) p.line.operation_span o rest.0
 
 -- The cells of the given instructions, or the error of the first one that has an error.
 abbrev pub cells_of : Predefined → ℕ → ProgramValue → List Placed → Result (List Cell) AsmFault
@@ -215,10 +239,10 @@ cells_of ps m source (p ∷ rest) = at_line p.line.number (cell_of ps m source p
 
 abbrev pub none_past : List Placed → Result (Unit {0}) AsmFault
 none_past [] = Ok tt
-none_past (p ∷ rest) = Err (record { line = p.line.number; problem = TooLong })
+none_past (p ∷ rest) = Err (record { line = p.line.number; problem = TooLong; token = p.line.operation_span })
 
 abbrev pub not_empty : List Placed → Result (Unit {0}) AsmFault
-not_empty [] = Err (record { line = 0; problem = Empty })
+not_empty [] = Err (record { line = 0; problem = Empty; token = None })
 not_empty (p ∷ rest) = Ok tt
 
 abbrev pub length_checked : ℕ → List Placed → Result (Unit {0}) AsmFault
@@ -230,17 +254,18 @@ as_start count (negsuc n) = Err BadOrigin
 
 -- The start, given by the expression `ts` on the ORG or END line `p`. Labels are relative to the first instruction, and
 -- there are `count` instructions.
-abbrev pub start_at : Predefined → ProgramValue → ℕ → Placed → List Token → Result ℕ AsmProblem
-start_at ps source count p ts = value_in (name_value ps source 0 p.index) ts >>= as_start count
+abbrev pub start_at : Predefined → ProgramValue → ℕ → Placed → List Token → Result ℕ TokenProblem
+start_at ps source count p ts =
+    value_in (name_value ps source 0 p.index) p.line.operation_span ts >>= λ v. at_token (first_span ts) (as_start count v)
 
-abbrev pub org_start : Predefined → ProgramValue → ℕ → Placed → Result ℕ AsmProblem
+abbrev pub org_start : Predefined → ProgramValue → ℕ → Placed → Result ℕ TokenProblem
 org_start ps source count p = replaced source p.line.rest >>= start_at ps source count p
 
-abbrev pub end_operand : Predefined → ProgramValue → ℕ → Placed → List Token → Result ℕ AsmProblem
+abbrev pub end_operand : Predefined → ProgramValue → ℕ → Placed → List Token → Result ℕ TokenProblem
 end_operand ps source count p [] = Ok 0
 end_operand ps source count p (t ∷ ts) = start_at ps source count p (t ∷ ts)
 
-abbrev pub end_start : Predefined → ProgramValue → ℕ → Placed → Result ℕ AsmProblem
+abbrev pub end_start : Predefined → ProgramValue → ℕ → Placed → Result ℕ TokenProblem
 end_start ps source count p = replaced source p.line.rest >>= end_operand ps source count p
 
 abbrev pub last_where : (Line → Bool) → List Placed → Option Placed
@@ -260,8 +285,12 @@ abbrev pub holds : ℤ → Result (Unit {0}) AsmProblem
 holds (pos zero) = Err AssertFailed
 holds _ = Ok tt
 
-abbrev pub assert_holds : Predefined → ProgramValue → Assert → Result (Unit {0}) AsmProblem
-assert_holds ps source a = replaced source a.tokens >>= λ ts. value_in (known_value ps source a.current_line) ts >>= holds
+-- The assert `ts` holds, with these values of names.
+abbrev pub tokens_hold : (ℕ → Option ℤ) → List Token → Result (Unit {0}) TokenProblem
+tokens_hold names ts = value_in names None ts >>= λ v. at_token (first_span ts) (holds v)
+
+abbrev pub assert_holds : Predefined → ProgramValue → Assert → Result (Unit {0}) TokenProblem
+assert_holds ps source a = replaced source a.tokens >>= tokens_hold (known_value ps source a.current_line)
 
 abbrev pub asserts_hold : Predefined → ProgramValue → List Assert → Result (Unit {0}) AsmFault
 asserts_hold ps source [] = Ok tt
@@ -281,7 +310,7 @@ warrior_of ps p source =
 
 abbrev pub text_read : Result ProgramValue TextFault → Result ProgramValue AsmFault
 text_read (Ok source) = Ok source
-text_read (Err e) = Err (record { line = e.line; problem = Text e.problem })
+text_read (Err e) = Err (record { line = e.line; problem = Text e.problem; token = None })
 
 -- The warrior of a source text for the parameters `p`, or its first error. `rounds` and `warriors` are the values of ROUNDS
 -- and WARRIORS.

@@ -1,12 +1,12 @@
 -- How the result of a call that allocates is related to its definition: it is the defined one, or memory ran out.
-use Rattle.std.specs.Prelude.{◌≡◌, Result, Ok, Err}
+use Rattle.std.specs.Prelude.{◌≡◌, None, Result, Ok, Err}
 use Rattle.redcode_asm.specs.declared.fault.AsmFault.{AsmFault}
 use Rattle.redcode_asm.specs.declared.fault.AsmProblem.{AsmProblem}
 use Rattle.redcode_asm.specs.declared.fault.AsmProblem.TheVariants.{OutOfMemory}
 
--- An error is the defined one, or memory ran out, which is reported without a line.
+-- An error is the defined one, or memory ran out, which is reported without a line and a token.
 abbrev pub FailsAt : {X : Type 0} → AsmProblem → AsmFault → Result X AsmFault → Type 0
-FailsAt OutOfMemory fault defined = fault.line ≡ 0
+FailsAt OutOfMemory fault defined = (fault.line ≡ 0) × (fault.token ≡ None)
 FailsAt problem fault defined = defined ≡ Err fault
 
 -- The result, mapped by `f`, is the defined one, or memory ran out.

@@ -1,37 +1,44 @@
 //! The asserts of a source.
 ghost use Rattle.std.specs.Prelude.{◌≡◌, map};
+ghost use Rattle.redcode_text.specs.Spans.{first_span};
 ghost use Rattle.redcode_text.specs.Views.{assert_of, predefined_of};
-ghost use Rattle.redcode_asm.specs.Assembly.{assert_holds, asserts_hold, at_line, holds};
+ghost use Rattle.redcode_asm.specs.Assembly.{assert_holds, asserts_hold, at_line, at_token, holds, tokens_hold};
 ghost use Rattle.redcode_asm.specs.Outcomes.{IsResult};
 ghost use Rattle.redcode_asm.specs.Code.Problems.{Gives};
 
-use crate::fault::{AsmFault, AsmProblem};
+use crate::expressions::value_in;
+use crate::fault::{AsmFault, AsmProblem, TokenProblem};
 use crate::sources::Source;
-use redcode_text::{Assert, eval};
+use redcode_text::{Assert, Env, Token, first_span};
 use std::alloc::Global;
 
 /// Checks the value of an assert, which holds if the value isn't 0.
-fn check_value(value: i64) -> Result<(), AsmProblem>
-    ensures { result ≡ holds value }
+fn check_value(value: i64, tokens: &[Token]) -> Result<(), TokenProblem>
+    ensures { result ≡ at_token (first_span tokens.now) (holds value) }
 {
     if value == 0 {
-        Err(AsmProblem::AssertFailed)
+        Err(AsmProblem::AssertFailed.at_token(first_span(tokens)))
     } else {
         Ok(())
     }
 }
 
+/// Checks the expression of an assert.
+fn check_tokens<E: Env>(names: &E, tokens: &[Token]) -> Result<(), TokenProblem>
+    ensures { result ≡ tokens_hold (E.value_of names.now) tokens.now }
+{
+    let value = value_in(names, None, tokens)?;
+    check_value(value, tokens)
+}
+
 impl<'a> Source<'a> {
     /// Checks one assert.
-    fn check_assert(&self, alloc: Global, assert: &Assert) -> Result<(), AsmProblem>
+    fn check_assert(&self, alloc: Global, assert: &Assert) -> Result<(), TokenProblem>
         ensures { Gives (λ done. done) result
             (assert_holds (predefined_of self.now.predefined.now) self.now.program.now (assert_of assert.now)) }
     {
         let tokens = self.replace(alloc, &assert.tokens)?;
-        match eval(&tokens, &self.assert_names(assert.current_line)) {
-            Ok(value) => check_value(value),
-            Err(fault) => Err(AsmProblem::Expression(fault)),
-        }
+        check_tokens(&self.assert_names(assert.current_line), &tokens)
     }
 
     /// Checks one assert, and adds its line to an error.

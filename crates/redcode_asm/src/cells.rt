@@ -9,8 +9,8 @@ ghost use Rattle.redcode_asm.specs.Outcomes.{IsResult};
 ghost use Rattle.redcode_asm.specs.Code.Problems.{Gives};
 ghost use Rattle.redcode_asm.specs.Code.Sources.{cells_among, placed_of};
 
-use crate::fault::{AsmFault, AsmProblem};
-use crate::instruction::{make_cell, read_opcode, take_modifier};
+use crate::fault::{AsmFault, TokenProblem};
+use crate::instruction::{Operation, line_modifier, line_opcode, make_cell};
 use crate::places::Place;
 use crate::sources::Source;
 use mars_cell::Cell;
@@ -26,18 +26,23 @@ impl<'a> Source<'a> {
     }
 
     /// Assembles one instruction to its cell.
-    fn cell_of(&self, alloc: Global, core_size: u32, place: Place<'_>) -> Result<Cell, AsmProblem>
+    fn cell_of(&self, alloc: Global, core_size: u32, place: Place<'_>) -> Result<Cell, TokenProblem>
         requires { 0 < core_size }
         ensures value { Gives (λ cell. cell) result
             (cell_of (predefined_of self.now.predefined.now) core_size self.now.program.now (placed_of place.entry)) }
         ensures fits { IfOk result (FitsCore core_size) }
     {
         let names = self.program.names();
-        let op = read_opcode(names, place.line.operation)?;
-        let (modifier, rest) = take_modifier(names, &place.line.rest)?;
+        let op = line_opcode(names, place.line)?;
+        let (modifier, rest) = line_modifier(names, &place.line.rest)?;
         let operands = self.replace(alloc, rest)?;
         let line_names = self.instruction_names(place.index);
-        make_cell(op, modifier, &operands, &line_names, core_size)
+        let operation = Operation {
+            op,
+            modifier,
+            span: place.line.operation_span,
+        };
+        make_cell(operation, &operands, &line_names, core_size)
     }
 
     /// Assembles one instruction to its cell, and adds its line to an error.

@@ -1,8 +1,8 @@
 //! The errors of sources and of score formulas.
-ghost use Rattle.std.specs.Prelude.{◌≡◌};
-ghost use Rattle.redcode_asm.specs.Code.Problems.{fault_line, problem_of_text};
+ghost use Rattle.std.specs.Prelude.{◌≡◌, None};
+ghost use Rattle.redcode_asm.specs.Code.Problems.{fault_line, fault_token, problem_of_text};
 
-use redcode_text::{ExprFault, TextFault, TextProblem};
+use redcode_text::{ExprFault, Span, TextFault, TextProblem};
 use std::alloc::{AllocError, AllocFailed};
 use thiserror::Error;
 
@@ -45,23 +45,47 @@ pub struct AsmFault {
     /// The line number, from 1; 0 if the source has no instruction or memory ran out.
     pub line: usize,
     pub problem: AsmProblem,
+    /// The bytes, in the source, of the token at which the error arises: the unknown word, the comma, the token that can't
+    /// continue an expression. `Empty`, `Text` and `OutOfMemory` have none.
+    ///
+    /// A token that comes from EQU has its bytes in the definition, while `line` is that of the use.
+    pub token: Option<Span>,
+}
+
+/// An error that has no line yet.
+#[derive(Clone, Copy, Drop)]
+pub struct TokenProblem {
+    pub problem: AsmProblem,
+    /// The bytes of the token at which the error arises.
+    pub token: Option<Span>,
+}
+
+impl TokenProblem {
+    /// Adds a line number to an error; `OutOfMemory` gets the line 0 and no token.
+    pub fn at_line(self, line: usize) -> AsmFault
+        ensures problem { result.problem ≡ self.problem }
+        ensures line { result.line ≡ fault_line line self.problem }
+        ensures token { result.token ≡ fault_token self.token self.problem }
+    {
+        match self.problem {
+            AsmProblem::OutOfMemory => AsmFault::from(AllocError),
+            problem => AsmFault {
+                line,
+                problem,
+                token: self.token,
+            },
+        }
+    }
 }
 
 impl AsmProblem {
-    /// Adds a line number to an error; `OutOfMemory` gets the line 0.
-    pub(crate) fn at_line(self, line: usize) -> AsmFault
-        ensures problem { result.problem ≡ self }
-        ensures line { result.line ≡ fault_line line self }
+    /// Adds the bytes of the token at which an error arises.
+    pub(crate) fn at_token(self, token: Option<Span>) -> TokenProblem
+        ensures { result ≡ record { problem = self; token = token } }
     {
-        match self {
-            AsmProblem::OutOfMemory => AsmFault {
-                line: 0,
-                problem: self,
-            },
-            _ => AsmFault {
-                line,
-                problem: self,
-            },
+        TokenProblem {
+            problem: self,
+            token,
         }
     }
 
@@ -81,10 +105,12 @@ impl AsmFault {
     pub(crate) fn of_text(fault: TextFault) -> AsmFault
         ensures problem { result.problem ≡ problem_of_text fault.problem }
         ensures line { result.line ≡ fault.line }
+        ensures token { result.token ≡ None }
     {
         AsmFault {
             line: fault.line,
             problem: AsmProblem::of_text(fault.problem),
+            token: None,
         }
     }
 }
@@ -101,24 +127,25 @@ pub enum FormulaFault {
 }
 
 impl From<AllocError> for AsmFault {
-    ghost use Rattle.std.specs.Prelude.{◌≡◌};
+    ghost use Rattle.std.specs.Prelude.{◌≡◌, None};
     ghost use Rattle.redcode_asm.specs.declared.fault.AsmProblem.TheVariants.{OutOfMemory};
 
-    ghost from_gives = { λ _ to. to ≡ record { line = 0; problem = OutOfMemory } };
+    ghost from_gives = { λ _ to. to ≡ record { line = 0; problem = OutOfMemory; token = None } };
 
     fn from(_error: AllocError) -> AsmFault {
         AsmFault {
             line: 0,
             problem: AsmProblem::OutOfMemory,
+            token: None,
         }
     }
 }
 
 impl<T: Drop> From<AllocFailed<T>> for AsmFault {
-    ghost use Rattle.std.specs.Prelude.{◌≡◌};
+    ghost use Rattle.std.specs.Prelude.{◌≡◌, None};
     ghost use Rattle.redcode_asm.specs.declared.fault.AsmProblem.TheVariants.{OutOfMemory};
 
-    ghost from_gives = { λ _ to. to ≡ record { line = 0; problem = OutOfMemory } };
+    ghost from_gives = { λ _ to. to ≡ record { line = 0; problem = OutOfMemory; token = None } };
 
     fn from(_failed: AllocFailed<T>) -> AsmFault {
         AsmFault::from(AllocError)

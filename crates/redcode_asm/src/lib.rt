@@ -1,8 +1,8 @@
 //! The assembler, and score formulas.
 //!
 //! The crates above this one may use:
-//! - `assemble` returns the warrior of a source, with all numbers below the core size, or its first error, with its line,
-//!   as `specs/Assembly` defines them. If memory runs out, the line is 0.
+//! - `assemble` returns the warrior of a source, with all numbers below the core size, or its first error, with its line
+//!   and its token, as `specs/Assembly` defines them. If memory runs out, the line is 0 and there is no token.
 //! - `assemble_with_lines` returns that warrior with the line and the labels of each of its instructions
 //!   (`specs/SourceLines`), and `assemble_load` its load file. Both have the same errors as `assemble`.
 //! - `Formula::new` returns the formula of a text, or its first error, and `Formula::score` its value for given numbers of
@@ -13,6 +13,7 @@
 mod assembler;
 mod asserts;
 mod cells;
+mod expressions;
 mod fault;
 mod formula;
 mod instruction;

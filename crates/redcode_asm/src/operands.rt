@@ -1,11 +1,12 @@
 //! The operands of an instruction.
 ghost use Rattle.std.specs.Prelude.{◌≡◌, ◌<◌, ◌∷◌, [], Ok, Err, None, Some, MatchOption, MatchResult, IfOk, option_map};
-ghost use Rattle.redcode_asm.specs.Assembly.{mode_sign, mode_of, split_mode, is_comma, parts_at_commas, given_operands, operand_value as spec_operand_value};
+ghost use Rattle.redcode_asm.specs.Assembly.{commas, mode_sign, mode_of, split_mode, is_comma, parts_at_commas, given_operands, operand_value as spec_operand_value, operands_span};
 ghost use Rattle.redcode_asm.specs.Code.Sources.{operands_in};
 
-use crate::fault::AsmProblem;
+use crate::expressions::value_in;
+use crate::fault::{AsmProblem, TokenProblem};
 use mars_cell::{Mode, Op, residue};
-use redcode_text::{Env, Sign, Token, TokenKind, eval};
+use redcode_text::{Env, Sign, Span, Token, TokenKind, first_span};
 
 fn mode_sign(sign: Sign) -> Option<Mode>
     ensures { result ≡ mode_sign sign }
@@ -110,12 +111,37 @@ pub fn split_operands(op: Op, tokens: &[Token]) -> Result<Operands<'_>, AsmProbl
     }
 }
 
+/// Returns the first comma, and the tokens after it.
+fn next_comma(tokens: &[Token]) -> Option<(Token, &[Token])>
+    ensures { MatchOption result (commas tokens.now ≡ []) (λ r. commas tokens.now ≡ r.0 ∷ commas r.1.now) }
+{
+    for at in 0..tokens.len() {
+        if is_comma(tokens[at]) {
+            return Some((tokens[at], &tokens[at + 1..]));
+        }
+    }
+    None
+}
+
+/// Returns the bytes of the second comma, or else of the first one, or else of the operation.
+pub fn operands_span(operation: Option<Span>, tokens: &[Token]) -> Option<Span>
+    ensures { result ≡ operands_span operation tokens.now }
+{
+    let Some((first, rest)) = next_comma(tokens) else {
+        return operation;
+    };
+    match next_comma(rest) {
+        Some((second, _)) => Some(second.span()),
+        None => Some(first.span()),
+    }
+}
+
 /// Returns the mode and the number of an operand, `$0` if it isn't written.
 pub fn operand_value<E: Env>(
     tokens: Option<&[Token]>,
     names: &E,
     core_size: u32,
-) -> Result<(Mode, u32), AsmProblem>
+) -> Result<(Mode, u32), TokenProblem>
     requires { 0 < core_size }
     ensures value { result ≡ spec_operand_value core_size (E.value_of names.now) (option_map (λ ts. ts.now) tokens.entry) }
     ensures below { IfOk result (λ operand. operand.1 < core_size) }
@@ -124,8 +150,6 @@ pub fn operand_value<E: Env>(
         return Ok((Mode::Direct, 0));
     };
     let (mode, expression) = split_mode(tokens);
-    match eval(expression, names) {
-        Ok(value) => Ok((mode, residue(value, core_size))),
-        Err(fault) => Err(AsmProblem::Expression(fault)),
-    }
+    let value = value_in(names, first_span(tokens), expression)?;
+    Ok((mode, residue(value, core_size)))
 }

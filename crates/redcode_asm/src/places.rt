@@ -64,6 +64,7 @@ pub fn check_length(names: &NameTable, lines: &[Line], longest: u32) -> Result<(
                 return Err(AsmFault {
                     line: line.number,
                     problem: AsmProblem::TooLong,
+                    token: line.operation_span,
                 });
             }
             index += 1;

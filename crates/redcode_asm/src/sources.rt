@@ -7,7 +7,7 @@ ghost use Rattle.redcode_asm.specs.Code.Labels.{table_with};
 ghost use Rattle.redcode_asm.specs.Code.Problems.{Gives};
 ghost use Rattle.redcode_asm.specs.Code.Sources.{placed_of};
 
-use crate::fault::AsmProblem;
+use crate::fault::{AsmProblem, TokenProblem};
 use crate::places::{Labels, Place, last_line};
 use redcode_text::{Env, NameTable, PredefinedNames, Program, Token};
 use std::alloc::Global;
@@ -93,12 +93,12 @@ impl<'a> Env for AssertNames<'a> {
 
 impl<'a> Source<'a> {
     /// Replaces the EQU names among tokens.
-    pub fn replace(&self, alloc: Global, tokens: &[Token]) -> Result<Vec<Token>, AsmProblem>
+    pub fn replace(&self, alloc: Global, tokens: &[Token]) -> Result<Vec<Token>, TokenProblem>
         ensures { Gives (λ made. made.items) result (replaced self.now.program.now tokens.now) }
     {
         match self.program.substitute(alloc, tokens) {
             Ok(made) => Ok(made),
-            Err(fault) => Err(AsmProblem::of_text(fault.problem)),
+            Err(fault) => Err(AsmProblem::of_text(fault.problem).at_token(None)),
         }
     }
 

@@ -1,15 +1,17 @@
 //! The start of a warrior.
 ghost use Rattle.std.specs.Prelude.{◌≡◌, ◌<◌, IfOk, option_map};
+ghost use Rattle.redcode_text.specs.Spans.{first_span};
 ghost use Rattle.redcode_text.specs.Views.{predefined_of};
-ghost use Rattle.redcode_asm.specs.Assembly.{as_start, at_line, end_start, org_start, start_at, start_by, start_of};
+ghost use Rattle.redcode_asm.specs.Assembly.{as_start, at_line, at_token, end_start, org_start, start_at, start_by, start_of};
 ghost use Rattle.redcode_asm.specs.Outcomes.{IsResult};
 ghost use Rattle.redcode_asm.specs.Code.Problems.{Gives};
 ghost use Rattle.redcode_asm.specs.Code.Sources.{placed_of};
 
-use crate::fault::{AsmFault, AsmProblem};
+use crate::expressions::value_in;
+use crate::fault::{AsmFault, AsmProblem, TokenProblem};
 use crate::places::Place;
 use crate::sources::Source;
-use redcode_text::{Token, eval};
+use redcode_text::{Token, first_span};
 use std::alloc::Global;
 
 /// Converts the value of an expression to a start, which is below `count`, the number of instructions.
@@ -24,22 +26,31 @@ fn as_start(value: i64, count: u32) -> Result<u32, AsmProblem>
     }
 }
 
+/// Converts the value of an expression to a start, and adds the first token to an error.
+fn start_from(value: i64, count: u32, tokens: &[Token]) -> Result<u32, TokenProblem>
+    ensures value { result ≡ at_token (first_span tokens.now) (as_start count value) }
+    ensures below { IfOk result (λ start. start < count) }
+{
+    match as_start(value, count) {
+        Ok(start) => Ok(start),
+        Err(problem) => Err(problem.at_token(first_span(tokens))),
+    }
+}
+
 impl<'a> Source<'a> {
     /// Evaluates the expression of an ORG or END to a start below `count`, the number of instructions.
-    fn start_at(&self, count: u32, place: Place<'_>, tokens: &[Token]) -> Result<u32, AsmProblem>
+    fn start_at(&self, count: u32, place: Place<'_>, tokens: &[Token]) -> Result<u32, TokenProblem>
         ensures value { result ≡ start_at (predefined_of self.now.predefined.now) self.now.program.now count
             (placed_of place.entry) tokens.now }
         ensures below { IfOk result (λ start. start < count) }
     {
         let line_names = self.start_names(place.index);
-        match eval(tokens, &line_names) {
-            Ok(value) => as_start(value, count),
-            Err(fault) => Err(AsmProblem::Expression(fault)),
-        }
+        let value = value_in(&line_names, place.line.operation_span, tokens)?;
+        start_from(value, count, tokens)
     }
 
     /// Returns the start that an ORG sets.
-    fn org_start(&self, alloc: Global, count: u32, place: Place<'_>) -> Result<u32, AsmProblem>
+    fn org_start(&self, alloc: Global, count: u32, place: Place<'_>) -> Result<u32, TokenProblem>
         ensures value { Gives (λ start. start) result
             (org_start (predefined_of self.now.predefined.now) self.now.program.now count (placed_of place.entry)) }
         ensures below { IfOk result (λ start. start < count) }
@@ -49,7 +60,7 @@ impl<'a> Source<'a> {
     }
 
     /// Returns the start that an END sets: 0 if it has no operand.
-    fn end_start(&self, alloc: Global, count: u32, place: Place<'_>) -> Result<u32, AsmProblem>
+    fn end_start(&self, alloc: Global, count: u32, place: Place<'_>) -> Result<u32, TokenProblem>
         ensures value { Gives (λ start. start) result
             (end_start (predefined_of self.now.predefined.now) self.now.program.now count (placed_of place.entry)) }
         ensures below { 0 < count → IfOk result (λ start. start < count) }

@@ -44,6 +44,7 @@ impl<'a> Source<'a> {
             return Err(AsmFault {
                 line: 0,
                 problem: AsmProblem::Empty,
+                token: None,
             });
         }
         Ok(())

@@ -68,8 +68,10 @@ fn faults_of_sources(rt: HostRuntime) -> Result<(), Fail> {
         ),
     ];
     for (source, line, problem) in rows {
-        let found = assemble_with_lines(rt.alloc(), source, &params, 1, 2).err();
-        assert_eq!(rt; found, Some(AsmFault { line, problem }));
+        let found = assemble_with_lines(rt.alloc(), source, &params, 1, 2)
+            .err()
+            .ok_or("fault")?;
+        assert_eq!(rt; (found.line, found.problem), (line, problem));
     }
     Ok(())
 }
@@ -85,6 +87,7 @@ fn lines_are_made(rt: HostRuntime) -> Result<(), Fail> {
             let of_memory = AsmFault {
                 line: 0,
                 problem: AsmProblem::OutOfMemory,
+                token: None,
             };
             assert_eq!(rt; fault, of_memory);
             assemble_with_lines(rt.alloc(), source, &params, 1, 1)?

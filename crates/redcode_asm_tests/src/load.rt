@@ -80,8 +80,10 @@ fn faults_of_sources(rt: HostRuntime) -> Result<(), Fail> {
         (b";assert 0\nNOP".as_slice(), 1, AsmProblem::AssertFailed),
     ];
     for (source, line, problem) in rows {
-        let found = assemble_load(alloc, source, &params, 1, 1).err();
-        assert_eq!(rt; found, Some(AsmFault { line, problem }));
+        let found = assemble_load(alloc, source, &params, 1, 1)
+            .err()
+            .ok_or("fault")?;
+        assert_eq!(rt; (found.line, found.problem), (line, problem));
     }
     Ok(())
 }

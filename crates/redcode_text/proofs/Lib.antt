@@ -11,6 +11,7 @@ pub mod Failing
 pub mod ForLaws
 pub mod Joins
 pub mod Kept
+pub mod LastTokens
 pub mod Linking
 pub mod LoneSteps
 pub mod LoopSteps

@@ -3,10 +3,12 @@ use Rattle.std.proofs.Common.{◌≡◌, ℕ, zero, suc, ◌+◌, ◌<◌, ◌�
 use Rattle.std.proofs.Math.Seq.{drop-cons}
 use Rattle.redcode_text.specs.declared.fault.TextProblem.{TextProblem}
 use Rattle.redcode_text.specs.declared.fault.TextProblem.TheVariants.{Duplicate}
+use Rattle.redcode_text.specs.declared.token.Span.{Span}
 use Rattle.redcode_text.specs.declared.token.Token.{Token}
 use Rattle.redcode_text.specs.declared.token.TokenKind.{TokenKind}
 use Rattle.redcode_text.specs.declared.token.TokenKind.TheVariants.{Number, Name}
 use Rattle.redcode_text.specs.declared.token.TokenKind.TheVariants as token
+use Rattle.redcode_text.specs.Spans.{last_span, span_of}
 use Rattle.redcode_text.specs.Lines.{Parts, Reading, Predefined, is_operation, may_label, parts_within, split_colon}
 
 -- The first `i` tokens, the next one and `p` tokens after it are the first `i + 1 + p` tokens.
@@ -17,27 +19,36 @@ take-more (x ∷ xs) (suc i) p d h =
     let e : suc (i + suc p) ≡ suc i + suc p = omega arith in
     ap (λ l. x ∷ l) (take-more xs i p d (omega arith)) ∙ ap (λ n. take n (x ∷ xs)) e
 
+-- The last of the first `i + 1` tokens is the token `i`.
+pub last-taken : (before : Option Span) (ts : List Token) (i : ℕ) (d : Token) → i < length ts → last_span before (take (suc i) ts) ≡ Some (span_of (get_or ts i d))
+last-taken before [] i d h = absurd (omega arith)
+last-taken before (x ∷ xs) zero d h = refl
+last-taken before (x ∷ xs) (suc i) d h = last-taken (Some (span_of x)) xs i d (omega arith)
+
 module _ (ps : Predefined) (st : Reading) where
   abbrev parted : ℕ → List ℕ → List Token → List Token → Result Parts TextProblem
   parted k labels before ts = parts_within ps st k labels before ts
 
-  abbrev found : List ℕ → List Token → Option ℕ → List Token → Result Parts TextProblem
-  found labels before operation rest = Ok (record { labels = labels; label_tokens = before; operation = operation; rest = rest })
+  abbrev found : List ℕ → List Token → Option ℕ → Option Span → List Token → Result Parts TextProblem
+  found labels before operation span rest = Ok (record { labels = labels; label_tokens = before; operation = operation; operation_span = span; rest = rest })
+
+  abbrev found_none : List ℕ → List Token → List Token → Result Parts TextProblem
+  found_none labels before rest = found labels before None (last_span None before) rest
 
   abbrev at_kind : ℕ → List ℕ → List Token → Token → List Token → TokenKind → Result Parts TextProblem
   at_kind k labels before t ts kind =
       elim kind as (λ _. Result Parts TextProblem) [
         | Name n ↦ elim (is_operation st n) as (λ _. Result Parts TextProblem) [
-          | true ↦ found labels before (Some n) ts
+          | true ↦ found labels before (Some n) (Some (span_of t)) ts
           | false ↦ elim (may_label ps st labels n) as (λ _. Result Parts TextProblem) [
             | true ↦ parted k (labels ++ n ∷ []) (before ++ t ∷ (split_colon ts).0) (split_colon ts).1
             | false ↦ Err Duplicate
           ]
         ]
-        | _ ↦ found labels before None (t ∷ ts)
+        | _ ↦ found_none labels before (t ∷ ts)
       ]
 
-  head-operation : (k n : ℕ) (labels : List ℕ) (before : List Token) (t : Token) (ts : List Token) → t.kind ≡ Name n → is_operation st n ≡ true → parted (suc k) labels before (t ∷ ts) ≡ found labels before (Some n) ts
+  head-operation : (k n : ℕ) (labels : List ℕ) (before : List Token) (t : Token) (ts : List Token) → t.kind ≡ Name n → is_operation st n ≡ true → parted (suc k) labels before (t ∷ ts) ≡ found labels before (Some n) (Some (span_of t)) ts
   head-operation k n labels before t ts e o = rw (e, o) refl
 
   head-duplicate : (k n : ℕ) (labels : List ℕ) (before : List Token) (t : Token) (ts : List Token) → t.kind ≡ Name n → is_operation st n ≡ false → may_label ps st labels n ≡ false → parted (suc k) labels before (t ∷ ts) ≡ Err Duplicate
@@ -48,7 +59,7 @@ module _ (ps : Predefined) (st : Reading) where
   head-label k n labels before t ts e o m =
       ap (at_kind k labels before t ts) e
       ∙ ap (λ (b : Bool). elim b as (λ _. Result Parts TextProblem) [
-        | true ↦ found labels before (Some n) ts
+        | true ↦ found labels before (Some n) (Some (span_of t)) ts
         | false ↦ elim (may_label ps st labels n) as (λ _. Result Parts TextProblem) [
           | true ↦ parted k (labels ++ n ∷ []) (before ++ t ∷ (split_colon ts).0) (split_colon ts).1
           | false ↦ Err Duplicate
@@ -59,7 +70,7 @@ module _ (ps : Predefined) (st : Reading) where
         | false ↦ Err Duplicate
       ]) m
 
-  head-other : (k : ℕ) (labels : List ℕ) (before : List Token) (t : Token) (ts : List Token) (kind : TokenKind) → t.kind ≡ kind → ((n : ℕ) → kind ≡ Name n → ⊥) → parted (suc k) labels before (t ∷ ts) ≡ found labels before None (t ∷ ts)
+  head-other : (k : ℕ) (labels : List ℕ) (before : List Token) (t : Token) (ts : List Token) (kind : TokenKind) → t.kind ≡ kind → ((n : ℕ) → kind ≡ Name n → ⊥) → parted (suc k) labels before (t ∷ ts) ≡ found_none labels before (t ∷ ts)
   head-other k labels before t ts (Name n) e h = absurd (h n refl)
   head-other k labels before t ts (Number z) e h = ap (at_kind k labels before t ts) e
   head-other k labels before t ts (token.Sign s) e h = ap (at_kind k labels before t ts) e
@@ -67,13 +78,14 @@ module _ (ps : Predefined) (st : Reading) where
   -- ---- At an index
 
   pub operation-at : (ts : List Token) (i k n : ℕ) (d : Token) (labels : List ℕ) → i < length ts → length (drop i ts) ≤ k → (get_or ts i d).kind ≡ Name n → is_operation st n ≡ true
-      → parted k labels (take i ts) (drop i ts) ≡ found labels (take i ts) (Some n) (drop (i + 1) ts)
+      → parted k labels (take i ts) (drop i ts) ≡ found labels (take i ts) (Some n) (last_span None (take (i + 1) ts)) (drop (i + 1) ts)
   operation-at ts i zero n d labels h fuel e o = absurd (omega (arith, length-drop i ts))
   operation-at ts i (suc k) n d labels h fuel e o =
       let s : suc i ≡ i + 1 = omega arith in
       ap (parted (suc k) labels (take i ts)) (drop-cons ts i d h)
       ∙ head-operation k n labels (take i ts) (get_or ts i d) (drop (suc i) ts) e o
-      ∙ ap (λ m. found labels (take i ts) (Some n) (drop m ts)) s
+      ∙ ap (λ span. found labels (take i ts) (Some n) span (drop (suc i) ts)) (sym (last-taken None ts i d h))
+      ∙ ap (λ m. found labels (take i ts) (Some n) (last_span None (take m ts)) (drop m ts)) s
 
   pub duplicate-at : (ts : List Token) (i k n : ℕ) (d : Token) (labels : List ℕ) → i < length ts → length (drop i ts) ≤ k → (get_or ts i d).kind ≡ Name n → is_operation st n ≡ false → may_label ps st labels n ≡ false
       → parted k labels (take i ts) (drop i ts) ≡ Err Duplicate
@@ -83,17 +95,17 @@ module _ (ps : Predefined) (st : Reading) where
       ∙ head-duplicate k n labels (take i ts) (get_or ts i d) (drop (suc i) ts) e o m
 
   pub other-at : (ts : List Token) (i k : ℕ) (d : Token) (labels : List ℕ) → i < length ts → length (drop i ts) ≤ k → ((n : ℕ) → (get_or ts i d).kind ≡ Name n → ⊥)
-      → parted k labels (take i ts) (drop i ts) ≡ found labels (take i ts) None (drop i ts)
+      → parted k labels (take i ts) (drop i ts) ≡ found_none labels (take i ts) (drop i ts)
   other-at ts i zero d labels h fuel e = absurd (omega (arith, length-drop i ts))
   other-at ts i (suc k) d labels h fuel e =
       ap (parted (suc k) labels (take i ts)) (drop-cons ts i d h)
       ∙ head-other k labels (take i ts) (get_or ts i d) (drop (suc i) ts) (get_or ts i d).kind refl e
-      ∙ ap (found labels (take i ts) None) (sym (drop-cons ts i d h))
+      ∙ ap (found_none labels (take i ts)) (sym (drop-cons ts i d h))
 
-  pub end-at : (ts : List Token) (i k : ℕ) (labels : List ℕ) → length ts ≤ i → parted k labels (take i ts) (drop i ts) ≡ found labels (take i ts) None (drop i ts)
+  pub end-at : (ts : List Token) (i k : ℕ) (labels : List ℕ) → length ts ≤ i → parted k labels (take i ts) (drop i ts) ≡ found_none labels (take i ts) (drop i ts)
   end-at ts i k labels h = go k (drop i ts) (omega (arith, length-drop i ts))
     where
-      go : (k : ℕ) (rest : List Token) → length rest ≤ 0 → parted k labels (take i ts) rest ≡ found labels (take i ts) None rest
+      go : (k : ℕ) (rest : List Token) → length rest ≤ 0 → parted k labels (take i ts) rest ≡ found_none labels (take i ts) rest
       go zero rest none = refl
       go (suc k) [] none = refl
       go (suc k) (x ∷ rest) none = absurd (omega arith)

@@ -1,5 +1,6 @@
 -- The shape and the value of an expression.
-use Rattle.std.specs.Prelude.{ℕ, ◌+◌, ◌-◌, ◌^◌, List, [], ◌∷◌, Bool, true, false, not, ◌&&◌, ◌||◌, ℤ, pos, negsuc, ◌+ℤ◌, ◌-ℤ◌, ◌*ℤ◌, neg_ℤ, int_lt, int_div, int_rem, Option, Some, None, Result, Ok, Err, if◌then◌else◌, zero, suc, length, nat_lt, nat_le, ◌==◌, map}
+use Rattle.std.specs.Prelude.{ℕ, ◌+◌, ◌-◌, ◌^◌, List, [], ◌∷◌, Bool, true, false, not, ◌&&◌, ◌||◌, ℤ, pos, negsuc, ◌+ℤ◌, ◌-ℤ◌, ◌*ℤ◌, neg_ℤ, int_lt, int_div, int_rem, Option, Some, None, Result, Ok, Err, if◌then◌else◌, zero, suc, length, nat_lt, nat_le, ◌==◌, map, is_none, option_map}
+use Rattle.std.specs.List.{find}
 use Rattle.std.specs.Ordering.{int_eq}
 use Rattle.redcode_text.specs.Results.{◌>>=◌}
 use Rattle.redcode_text.specs.declared.token.Token.{Token}
@@ -10,6 +11,8 @@ use Rattle.redcode_text.specs.declared.token.Sign.{Sign}
 use Rattle.redcode_text.specs.declared.token.Sign.TheVariants.{Equal, NotEqual, LessEqual, GreaterEqual, And, Or, Plus, Minus, Star, Slash, Percent, Bang, Less, Greater, OpenParen, CloseParen}
 use Rattle.redcode_text.specs.declared.fault.ExprFault.{ExprFault}
 use Rattle.redcode_text.specs.declared.fault.ExprFault.TheVariants.{Syntax, Unknown, DivideByZero, Range, Depth}
+use Rattle.redcode_text.specs.declared.token.Span.{Span}
+use Rattle.redcode_text.specs.Spans.{first_span, last_span, span_of}
 use Rattle.redcode_text.specs.declared.expression.shape.ShapeState.{ShapeState}
 
 -- The kinds of tokens, without their positions.
@@ -73,6 +76,11 @@ shape p (x ∷ xs) = next_state p x >>= λ q. shape q xs
 
 abbrev pub start : ShapeState
 start = record { opened = 0; signs = 0; after_operand = false }
+
+-- The bytes of the first token that cannot continue an expression.
+abbrev pub misfit : ShapeState → List Token → Option Span
+misfit p [] = None
+misfit p (t ∷ ts) = elim (next_state p t.kind) [ Ok q ↦ misfit q ts | Err e ↦ Some (span_of t) ]
 
 -- ---- Values
 
@@ -195,3 +203,26 @@ value names Missing = Err Syntax
 -- The value of an expression, or its first error: the shape is checked before any value is computed.
 unfoldable pub value_of : (ℕ → Option ℤ) → List TokenKind → Result ℤ ExprFault
 value_of names xs = shape start xs >>= λ _. value names (tree_within (length xs) 5 xs)
+
+-- ---- Positions of errors
+
+abbrev pub is_unknown : (ℕ → Option ℤ) → TokenKind → Bool
+is_unknown names (Name n) = is_none (names n)
+is_unknown names _ = false
+
+-- The bytes of the first name without a value.
+abbrev pub unknown_name : (ℕ → Option ℤ) → List Token → Option Span
+unknown_name names ts = option_map span_of (find (λ t. is_unknown names t.kind) ts)
+
+abbrev pub found_or : Option Span → Option Span → Option Span
+found_or (Some s) other = Some s
+found_or None other = other
+
+-- The bytes of the token at which the expression `ts` has the error: the token that cannot continue it, or its
+-- last token if it ends too early; the first name without a value; or its first token, if it divides by zero or a value is
+-- out of range. An expression without tokens has its error at the token `before`.
+abbrev pub fault_span : (ℕ → Option ℤ) → Option Span → List Token → ExprFault → Option Span
+fault_span names before ts Unknown = unknown_name names ts
+fault_span names before ts DivideByZero = first_span ts
+fault_span names before ts Range = first_span ts
+fault_span names before ts _ = found_or (misfit start ts) (last_span before ts)

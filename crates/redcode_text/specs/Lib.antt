@@ -1,6 +1,7 @@
 -- The specification of how a source is read, in this order; with its laws and examples. It is part of the trusted base.
 pub mod Bytes
 pub mod Results
+pub mod Spans
 pub mod Tokens
 pub mod Expression
 pub mod Trees

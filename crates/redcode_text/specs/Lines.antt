@@ -11,6 +11,8 @@ use Rattle.redcode_text.specs.declared.token.Sign.TheVariants.{Colon}
 use Rattle.redcode_text.specs.declared.fault.TextProblem.{TextProblem}
 use Rattle.redcode_text.specs.declared.fault.TextProblem.TheVariants.{BadToken, Duplicate, EquDepth, TooLong}
 use Rattle.redcode_text.specs.Bytes.{first_printed, last_printed, question_mark, semicolon}
+use Rattle.redcode_text.specs.declared.token.Span.{Span}
+use Rattle.redcode_text.specs.Spans.{last_span, span_of}
 use Rattle.redcode_text.specs.Expression.{kinds}
 use Rattle.redcode_text.specs.Tokens.{OpenLoop, tokens}
 use Rattle.redcode_text.specs.Source.{SourceRow, LineKind, EquLine, line_kind, is_comment, has_directive_word, directive_text, directive_text_at, without_blanks}
@@ -19,11 +21,13 @@ use Rattle.redcode_text.specs.Equates.{Equate, depth_limit, equate_lines, limit}
 -- ---- Everything that has been read
 
 -- A line that was read: its line number, its labels and its operation, as indices into the names, and the tokens after
--- them.
+-- them. `operation_span` has the bytes of the operation; without one, those of the last token before `rest`, because an
+-- unknown operation is read as a label.
 pub record Line : Type 0 where
   pub number : ℕ
   pub labels : List ℕ
   pub operation : Option ℕ
+  pub operation_span : Option Span
   pub rest : List Token
 
 -- An assert: its line number, the number of instructions before it, and its expression.
@@ -135,11 +139,13 @@ equ_line ps at ts st = name_in_front (kinds (tokens_before at ts)) >>= λ name. 
 
 -- ---- Ordinary lines
 
--- The parts of a line: its labels, the tokens of the labels with their colons, the operation, and the remaining tokens.
+-- The parts of a line: its labels, the tokens of the labels with their colons, the operation, the bytes of the last token
+-- up to the operation, and the remaining tokens.
 pub record Parts : Type 0 where
   pub labels : List ℕ
   pub label_tokens : List Token
   pub operation : Option ℕ
+  pub operation_span : Option Span
   pub rest : List Token
 
 abbrev pub operations : List (List ℕ)
@@ -159,21 +165,26 @@ abbrev pub split_colon : List Token → List Token × List Token
 split_colon [] = ([], [])
 split_colon (t ∷ ts) = elim t.kind [ token.Sign s ↦ elim s [ Colon ↦ (t ∷ [], ts) | _ ↦ ([], t ∷ ts) ] | _ ↦ ([], t ∷ ts) ]
 
+-- The parts of a line that has only labels before the tokens `ts`.
+abbrev pub without_operation : List ℕ → List Token → List Token → Parts
+without_operation labels before ts =
+    record { labels = labels; label_tokens = before; operation = None; operation_span = last_span None before; rest = ts }
+
 -- The parts of a line whose first labels are `labels`, with the tokens `before`. At most `k` labels more are read from
 -- `ts`.
 abbrev pub parts_within : Predefined → Reading → ℕ → List ℕ → List Token → List Token → Result Parts TextProblem
-parts_within ps st zero labels before ts = Ok (record { labels = labels; label_tokens = before; operation = None; rest = ts })
-parts_within ps st (suc k) labels before [] = Ok (record { labels = labels; label_tokens = before; operation = None; rest = [] })
+parts_within ps st zero labels before ts = Ok (without_operation labels before ts)
+parts_within ps st (suc k) labels before [] = Ok (without_operation labels before [])
 parts_within ps st (suc k) labels before (t ∷ ts) =
     elim t.kind [
       | Name n ↦ elim (is_operation st n) [
-        | true ↦ Ok (record { labels = labels; label_tokens = before; operation = Some n; rest = ts })
+        | true ↦ Ok (record { labels = labels; label_tokens = before; operation = Some n; operation_span = Some (span_of t); rest = ts })
         | false ↦ elim (may_label ps st labels n) [
           | true ↦ parts_within ps st k (labels ++ n ∷ []) (before ++ t ∷ (split_colon ts).0) (split_colon ts).1
           | false ↦ Err Duplicate
         ]
       ]
-      | _ ↦ Ok (record { labels = labels; label_tokens = before; operation = None; rest = t ∷ ts })
+      | _ ↦ Ok (without_operation labels before (t ∷ ts))
     ]
 
 abbrev pub parts_of : Predefined → Reading → List Token → Result Parts TextProblem
@@ -198,7 +209,7 @@ is_instruction names operation rest = (is_some operation || nat_lt 0 (length res
 abbrev pub line_added : ℕ → Parts → Reading → Reading
 line_added number p st =
     record st {
-      lines = st.lines ++ record { number = number; labels = p.labels; operation = p.operation; rest = p.rest } ∷ [];
+      lines = st.lines ++ record { number = number; labels = p.labels; operation = p.operation; operation_span = p.operation_span; rest = p.rest } ∷ [];
       instructions = elim (is_instruction st.names p.operation p.rest) [ true ↦ st.instructions + 1 | false ↦ st.instructions ];
       equate_grows = false;
       ended = is_end st.names p.operation;

@@ -14,7 +14,7 @@ predefined_of n =
     ∷ (codes "MINDISTANCE", n.min_distance) ∷ (codes "ROUNDS", n.rounds) ∷ (codes "WARRIORS", n.warriors) ∷ (codes "VERSION", n.version) ∷ []
 
 abbrev pub line_of : line.Line → Line
-line_of l = record { number = l.number; labels = l.labels.items; operation = l.operation; rest = l.rest.items }
+line_of l = record { number = l.number; labels = l.labels.items; operation = l.operation; operation_span = l.operation_span; rest = l.rest.items }
 
 abbrev pub assert_of : assert.Assert → Assert
 assert_of a = record { number = a.number; current_line = a.current_line; tokens = a.tokens.items }

@@ -5,6 +5,7 @@ ghost use Rattle.redcode_text.specs.declared.limits.TheConstants.{MAX_WAITING};
 
 mod evaluation;
 pub mod operators;
+pub mod positions;
 pub mod shape;
 
 use crate::expression::evaluation::Evaluator;

@@ -39,7 +39,8 @@
 //! - `is_instruction` returns whether a line is an instruction, and `is_keyword` whether an operation is a given word.
 //! - `scan` returns the tokens and the names of a text of one line, or its first error, as `specs/Tokens` defines them.
 //! - `check_shape` checks whether tokens have the shape of an expression, and `eval` returns the value of an expression
-//!   for given values of names, or its first error, as `specs/Expression` defines it. They don't allocate.
+//!   for given values of names, or its first error, as `specs/Expression` defines it; `fault_span` returns the bytes of
+//!   the token at which it has that error. They don't allocate.
 //!
 //! Functions that allocate return `OutOfMemory` if an allocation fails. When that happens isn't specified.
 #![tactic(auto)]
@@ -59,6 +60,7 @@ mod source;
 mod token;
 
 pub use expansion::expand;
+pub use expression::positions::fault_span;
 pub use expression::shape::check_shape;
 pub use expression::{Env, eval};
 pub use fault::{ExprFault, TextFault, TextProblem};
@@ -66,4 +68,4 @@ pub use lexer::{LineTokens, scan};
 pub use names::NameTable;
 pub use names::predefined::PredefinedNames;
 pub use program::{Assert, Line, Program, is_instruction, is_keyword};
-pub use token::{Sign, Token, TokenKind};
+pub use token::{Sign, Span, Token, TokenKind, first_span};

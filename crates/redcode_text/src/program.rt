@@ -5,7 +5,7 @@ ghost use Rattle.redcode_text.specs.Lines.{is_end, is_instruction, is_keyword};
 use crate::equates::Equates;
 use crate::fault::TextFault;
 use crate::names::NameTable;
-use crate::token::Token;
+use crate::token::{Span, Token};
 use std::alloc::Global;
 use std::marker::Model;
 
@@ -18,6 +18,9 @@ pub struct Line {
     pub labels: Vec<usize>,
     /// The operation, as an index into the names, if there is one.
     pub operation: Option<usize>,
+    /// The bytes of the operation in the source. Without an operation, those of the last token before `rest`, because an
+    /// unknown operation is read as a label.
+    pub operation_span: Option<Span>,
     /// The tokens after the operation, or after the labels if there is no operation.
     pub rest: Vec<Token>,
 }

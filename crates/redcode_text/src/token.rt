@@ -1,6 +1,7 @@
 //! The tokens of a line, and the signs that bytes form.
 ghost use Rattle.std.specs.Prelude.{◌≡◌, [], ◌∷◌};
 ghost use Rattle.redcode_text.specs.Tokens.{look_up, one_byte_signs, two_byte_signs};
+ghost use Rattle.redcode_text.specs.Spans.{first_span, last_span, span_of};
 
 /// A sign: an operator or punctuation mark of one or two bytes.
 #[derive(Clone, Copy, Debug, PartialEq, Eq)]
@@ -76,6 +77,45 @@ pub struct Token {
     /// The token's bytes in the source are those from `from` up to, but excluding, `to`.
     pub from: usize,
     pub to: usize,
+}
+
+/// A range of bytes of a source: those from `from` up to, but excluding, `to`.
+#[derive(Clone, Copy, Debug, PartialEq, Eq)]
+pub struct Span {
+    pub from: usize,
+    pub to: usize,
+}
+
+impl Token {
+    /// Returns the token's bytes in the source.
+    pub fn span(&self) -> Span
+        ensures { result ≡ span_of self.now }
+    {
+        Span {
+            from: self.from,
+            to: self.to,
+        }
+    }
+}
+
+/// Returns the bytes of the first token, if there is one.
+pub fn first_span(tokens: &[Token]) -> Option<Span>
+    ensures { result ≡ first_span tokens.now }
+{
+    match tokens {
+        [first, ..] => Some(first.span()),
+        [] => None,
+    }
+}
+
+/// Returns the bytes of the last token, or `before` if there is none.
+pub fn last_span(before: Option<Span>, tokens: &[Token]) -> Option<Span>
+    ensures { result ≡ last_span before tokens.now }
+{
+    match tokens.last() {
+        Some(last) => Some(last.span()),
+        None => before,
+    }
 }
 
 /// The token at the start of a text, and its number of bytes.

@@ -109,7 +109,7 @@ TABLE: list[tuple[str, str, Callable[..., Value], str]] = [
     # statements
     ("All AllByRecursion", "each_holds", lambda p, xs: all(map(p, xs)), "The statement holds for each item."),
     ("IfSome", "holds_if_some", lambda o, p: o == NONE or bool(p(o[1])), "It holds for the value, if there is one."),
-    ("IsNone", "is_none", lambda o: bool(o == NONE), "The option has no value."),
+    ("IsNone is_none", "is_none", lambda o: bool(o == NONE), "The option has no value."),
     ("IfOk", "holds_if_ok", lambda r, p: r[0] != "Ok" or bool(p(r[1])), "It holds for the value, if it is no error."),
     ("IfErr", "holds_if_error", lambda r, p: r[0] != "Err" or bool(p(r[1])), "It holds for the error, if it is one."),
     ("IsTrue", "is_true", lambda b: b, "The truth value is true."),

@@ -193,13 +193,15 @@ export const MarsDeath = {
 };
 
 export const MarsFault = {
-  size: 32,
+  size: 48,
   code: 0,
   number: 4,
   problem: 8,
   expression: 12,
   line: 16,
   warrior: 24,
+  begin: 32,
+  end: 40,
 };
 
 export const MarsBattle = {

@@ -8,11 +8,12 @@ use Rattle.redcode_text.specs.declared.token.Token.{Token}
 use Rattle.redcode_text.specs.declared.token.TokenKind.{TokenKind}
 use Rattle.redcode_text.specs.declared.token.TokenKind.TheVariants.{Number, Name}
 use Rattle.redcode_text.specs.declared.token.TokenKind.TheVariants as token
+use Rattle.redcode_text.specs.Spans.{first_span}
 use Rattle.redcode_text.specs.Expansion.{ProgramValue}
 use Rattle.redcode_text.specs.Lines.{Line, Assert, Predefined, name_at, is_org, is_end, is_instruction}
 use Rattle.redcode_asm.specs.declared.fault.AsmProblem.{AsmProblem}
 use Rattle.redcode_asm.specs.declared.fault.AsmProblem.TheVariants.{Operation}
-use Rattle.redcode_asm.specs.Assembly.{Placed, asserts_hold, as_start, at_line, cell_from, cells_of, cell_of, end_operand, holds, index_after, instructions, is_dot, known_value, label_among, last_where, length_checked, modifier_first, modifier_in, name_value, ok_or, opcode_of, placed, placed_from, replaced, split_modifier, start_at, start_by, start_of, value_in, value_or, warrior_of}
+use Rattle.redcode_asm.specs.Assembly.{Placed, asserts_hold, as_start, at_line, at_token, cell_from, cells_of, cell_of, end_operand, index_after, instructions, is_dot, known_value, label_among, last_where, length_checked, modifier_first, modifier_in, modifier_span, name_value, ok_or, opcode_of, opcode_span, placed, placed_from, replaced, split_modifier, start_at, start_by, start_of, tokens_hold, value_in, value_or, warrior_of}
 use Rattle.redcode_asm.specs.Laws.{SaysTheSame}
 
 module _ (ps : Predefined) (s : ProgramValue) (names : List (List ℕ)) (same : (n : ℕ) → SaysTheSame ps (name_at s.names n) (name_at names n)) where
@@ -73,7 +74,10 @@ module _ (ps : Predefined) (s : ProgramValue) (names : List (List ℕ)) (same : 
   split-same (t ∷ ts) = ap (λ r. elim (is_dot t.kind) as (λ _. Result (Option Modifier × List Token) AsmProblem) [ true ↦ r | false ↦ Ok (None, t ∷ ts) ]) (first-same ts)
 
   cell-same : (m : ℕ) (p : Placed) → cell_of ps m s p ≡ cell_of ps m other p
-  cell-same m p = λ i. opcode-same p.line.operation i >>= λ o. split-same p.line.rest i >>= λ rest. replaced s rest.1 >>= cell_from m (λ n. value-same p.index p.index n i) o rest.0
+  cell-same m p = λ i.
+      at_token (opcode_span p.line) (opcode-same p.line.operation i) >>= λ o.
+      at_token (modifier_span p.line.rest) (split-same p.line.rest i) >>= λ rest.
+      replaced s rest.1 >>= cell_from m (λ n. value-same p.index p.index n i) p.line.operation_span o rest.0
 
   cells-same : (m : ℕ) (is : List Placed) → cells_of ps m s is ≡ cells_of ps m other is
   cells-same m [] = refl
@@ -82,7 +86,7 @@ module _ (ps : Predefined) (s : ProgramValue) (names : List (List ℕ)) (same : 
   -- ---- The start
 
   at-same : (count : ℕ) (p : Placed) (ts : List Token) → start_at ps s count p ts ≡ start_at ps other count p ts
-  at-same count p ts = λ i. value_in (λ n. value-same 0 p.index n i) ts >>= as_start count
+  at-same count p ts = λ i. value_in (λ n. value-same 0 p.index n i) p.line.operation_span ts >>= λ v. at_token (first_span ts) (as_start count v)
 
   operand-same : (count : ℕ) (p : Placed) (ts : List Token) → end_operand ps s count p ts ≡ end_operand ps other count p ts
   operand-same count p [] = refl
@@ -102,7 +106,7 @@ module _ (ps : Predefined) (s : ProgramValue) (names : List (List ℕ)) (same : 
 
   asserts-same : (all : List Assert) → asserts_hold ps s all ≡ asserts_hold ps other all
   asserts-same [] = refl
-  asserts-same (a ∷ rest) = λ i. at_line a.number (replaced s a.tokens >>= λ ts. value_in (λ n. known-same a.current_line n i) ts >>= holds) >>= λ _. asserts-same rest i
+  asserts-same (a ∷ rest) = λ i. at_line a.number (replaced s a.tokens >>= tokens_hold (λ n. known-same a.current_line n i)) >>= λ _. asserts-same rest i
 
   pub warrior-same : (p : Parameters) → warrior_of ps p s ≡ warrior_of ps p other
   warrior-same p =

@@ -8,7 +8,7 @@ use Rattle.std.proofs.lemmas.Slice.Eq.{bytes_eq-Decides}
 use Rattle.redcode_text.specs.Results.{◌>>=◌}
 use Rattle.redcode_text.specs.Expansion.{ProgramValue}
 use Rattle.redcode_text.specs.Lines.{Line, Predefined, name_at, is_instruction, predefined_value}
-use Rattle.redcode_asm.specs.Assembly.{Placed, at_line, cell_from, cell_of, cells_of, index_after, instructions, known_value, label_among, name_value, opcode_of, placed, placed_from, replaced, split_modifier, value_or}
+use Rattle.redcode_asm.specs.Assembly.{Placed, at_line, at_token, cell_from, cell_of, cells_of, index_after, instructions, known_value, label_among, modifier_span, name_value, opcode_of, opcode_span, placed, placed_from, replaced, split_modifier, value_or}
 use Rattle.redcode_asm.specs.Laws.{with_line_in_front}
 
 -- A line whose index is 1 greater.
@@ -105,9 +105,9 @@ module _ (ps : Predefined) (s : ProgramValue) (l : Line) (unlabelled : l.labels 
 
   cell-moved : (m : ℕ) (p : Placed) → cell_of ps m front (moved p) ≡ cell_of ps m s p
   cell-moved m p = λ i.
-      opcode_of s.names p.line.operation >>= λ o.
-      split_modifier s.names p.line.rest >>= λ rest.
-      replaced s rest.1 >>= cell_from m (λ n. value-moved p.index n i) o rest.0
+      at_token (opcode_span p.line) (opcode_of s.names p.line.operation) >>= λ o.
+      at_token (modifier_span p.line.rest) (split_modifier s.names p.line.rest) >>= λ rest.
+      replaced s rest.1 >>= cell_from m (λ n. value-moved p.index n i) p.line.operation_span o rest.0
 
   cells-moved : (m : ℕ) (all : List Placed) → cells_of ps m front (map moved all) ≡ cells_of ps m s all
   cells-moved m [] = refl

@@ -14,7 +14,9 @@ use Rattle.mars_cell.specs.Warriors.{WarriorValue, IsName, IsWarrior}
 use Rattle.mars_cell.specs.Written.{load_text}
 use Rattle.mars_cell.proofs.CallerLemmas.{cells-same, load-written}
 use Rattle.redcode_text.specs.Results.{◌>>=◌}
+use Rattle.redcode_text.specs.declared.token.Span.{Span}
 use Rattle.redcode_text.specs.declared.token.Token.{Token}
+use Rattle.redcode_text.specs.Spans.{first_span}
 use Rattle.redcode_text.specs.declared.fault.TextFault.{TextFault}
 use Rattle.redcode_text.specs.Expansion.{ProgramValue, expansion}
 use Rattle.redcode_text.specs.Lines.{Predefined, is_org, is_end}
@@ -22,8 +24,9 @@ use Rattle.redcode_text.specs.Programs.{IsPrinted}
 use Rattle.redcode_text.proofs.CallerLemmas.{program-printed}
 use Rattle.redcode_asm.specs.declared.fault.AsmFault.{AsmFault}
 use Rattle.redcode_asm.specs.declared.fault.AsmProblem.{AsmProblem}
+use Rattle.redcode_asm.specs.declared.fault.TokenProblem.{TokenProblem}
 use Rattle.redcode_asm.specs.declared.fault.AsmProblem.TheVariants.{BadOrigin}
-use Rattle.redcode_asm.specs.Assembly.{Placed, as_start, assembly, asserts_hold, at_line, cell_from, cell_of, cell_with, cells_of, end_operand, end_start, given_operands, instructions, last_where, length_checked, name_value, none_past, not_empty, opcode_of, operand_value, org_start, placed, predefined, replaced, split_mode, split_modifier, start_at, start_by, start_of, text_read, value_in, warrior_of}
+use Rattle.redcode_asm.specs.Assembly.{Placed, as_start, assembly, asserts_hold, at_line, at_token, cell_from, cell_of, cell_with, cells_of, end_operand, end_start, given_operands, instructions, last_where, length_checked, modifier_span, name_value, none_past, not_empty, opcode_of, opcode_span, operand_value, operands_span, org_start, placed, predefined, replaced, split_mode, split_modifier, start_at, start_by, start_of, text_read, value_in, warrior_of}
 use Rattle.redcode_asm.proofs.Counts.{cells-counted}
 
 -- If two steps succeed together, each of them succeeds.
@@ -31,9 +34,13 @@ given_by : {A B E : Type 0} (r : Result A E) (f : A → Result B E) (b : B) → 
 given_by (Ok a) f b e = (a, refl, e)
 given_by (Err x) f b e = absurd (cc)
 
-on_line : {A : Type 0} (n : ℕ) (r : Result A AsmProblem) (a : A) → at_line n r ≡ Ok a → r ≡ Ok a
+on_line : {A : Type 0} (n : ℕ) (r : Result A TokenProblem) (a : A) → at_line n r ≡ Ok a → r ≡ Ok a
 on_line n (Ok x) a e = let same : x ≡ a = cc in ap (λ y. Ok y) same
 on_line n (Err x) a e = absurd (cc)
+
+on_token : {A : Type 0} (span : Option Span) (r : Result A AsmProblem) (a : A) → at_token span r ≡ Ok a → r ≡ Ok a
+on_token span (Ok x) a e = let same : x ≡ a = cc in ap (λ y. Ok y) same
+on_token span (Err x) a e = absurd (cc)
 
 -- ---- Cells
 
@@ -41,21 +48,21 @@ residue-below : (m : ℕ) (z : ℤ) → 1 ≤ m → residue m z < m
 residue-below m (pos n) some = omega arith
 residue-below m (negsuc n) some = omega arith
 
-abbrev number_in : Result (Mode × ℕ) AsmProblem → ℕ
+abbrev number_in : Result (Mode × ℕ) TokenProblem → ℕ
 number_in (Ok v) = v.1
 number_in (Err e) = 0
 
 operand-below : (m : ℕ) (names : ℕ → Option ℤ) (o : Option (List Token)) (v : Mode × ℕ) → 1 ≤ m → operand_value m names o ≡ Ok v → v.1 < m
 operand-below m names None v some e = omega (arith, some, ap number_in e)
-operand-below m names (Some ts) v some e = go (value_in names (split_mode ts).1) e
+operand-below m names (Some ts) v some e = go (value_in names (first_span ts) (split_mode ts).1) e
   where
-    go : (r : Result ℤ AsmProblem) → (r >>= λ z. Ok ((split_mode ts).0, residue m z)) ≡ Ok v → v.1 < m
+    go : (r : Result ℤ TokenProblem) → (r >>= λ z. Ok ((split_mode ts).0, residue m z)) ≡ Ok v → v.1 < m
     go (Ok z) e = omega (arith, ap number_in e, residue-below m z some)
     go (Err x) e = absurd (cc)
 
-from-fits : (m : ℕ) (names : ℕ → Option ℤ) (o : Op) (given : Option Modifier) (ts : List Token) (c : Cell) → 1 ≤ m → cell_from m names o given ts ≡ Ok c → FitsCore m c
-from-fits m names o given ts c some e =
-    let is = given_by (given_operands o ts) (λ is. operand_value m names is.a >>= λ a. operand_value m names is.b >>= λ b. Ok (cell_with o given a b)) c e in
+from-fits : (m : ℕ) (names : ℕ → Option ℤ) (operation : Option Span) (o : Op) (given : Option Modifier) (ts : List Token) (c : Cell) → 1 ≤ m → cell_from m names operation o given ts ≡ Ok c → FitsCore m c
+from-fits m names operation o given ts c some e =
+    let is = given_by (at_token (operands_span operation ts) (given_operands o ts)) (λ is. operand_value m names is.a >>= λ a. operand_value m names is.b >>= λ b. Ok (cell_with o given a b)) c e in
     let a = given_by (operand_value m names is.0.a) (λ a. operand_value m names is.0.b >>= λ b. Ok (cell_with o given a b)) c is.2 in
     let b = given_by (operand_value m names is.0.b) (λ b. Ok (cell_with o given a.0 b)) c a.2 in
     let same : cell_with o given a.0 b.0 ≡ c = cc in
@@ -64,10 +71,12 @@ from-fits m names o given ts c some e =
 cell-fits : (ps : Predefined) (m : ℕ) (source : ProgramValue) (p : Placed) (c : Cell) → 1 ≤ m → cell_of ps m source p ≡ Ok c → FitsCore m c
 cell-fits ps m source p c some e =
     let names = name_value ps source p.index p.index in
-    let o = given_by (opcode_of source.names p.line.operation) (λ o. split_modifier source.names p.line.rest >>= λ rest. replaced source rest.1 >>= cell_from m names o rest.0) c e in
-    let rest = given_by (split_modifier source.names p.line.rest) (λ rest. replaced source rest.1 >>= cell_from m names o.0 rest.0) c o.2 in
-    let ts = given_by (replaced source rest.0.1) (cell_from m names o.0 rest.0.0) c rest.2 in
-    from-fits m names o.0 rest.0.0 ts.0 c some ts.2
+    let split = at_token (modifier_span p.line.rest) (split_modifier source.names p.line.rest) in
+    let made : Op → Option Modifier × List Token → Result Cell TokenProblem = λ o rest. replaced source rest.1 >>= cell_from m names p.line.operation_span o rest.0 in
+    let o = given_by (at_token (opcode_span p.line) (opcode_of source.names p.line.operation)) (λ o. split >>= made o) c e in
+    let rest = given_by split (made o.0) c o.2 in
+    let ts = given_by (replaced source rest.0.1) (cell_from m names p.line.operation_span o.0 rest.0.0) c rest.2 in
+    from-fits m names p.line.operation_span o.0 rest.0.0 ts.0 c some ts.2
 
 cells-fit : (ps : Predefined) (m : ℕ) (source : ProgramValue) (is : List Placed) (cells : List Cell) → 1 ≤ m → cells_of ps m source is ≡ Ok cells → All (FitsCore m) cells
 cells-fit ps m source [] cells some e = let same : [] ≡ cells = cc in subst (All (FitsCore m)) same (All-nil (FitsCore m))
@@ -97,8 +106,8 @@ start-below count (negsuc k) n e = absurd (cc)
 
 at-below : (ps : Predefined) (source : ProgramValue) (count : ℕ) (p : Placed) (ts : List Token) (n : ℕ) → start_at ps source count p ts ≡ Ok n → n < count
 at-below ps source count p ts n e =
-    let z = given_by (value_in (name_value ps source 0 p.index) ts) (as_start count) n e in
-    start-below count z.0 n z.2
+    let z = given_by (value_in (name_value ps source 0 p.index) p.line.operation_span ts) (λ v. at_token (first_span ts) (as_start count v)) n e in
+    start-below count z.0 n (on_token (first_span ts) (as_start count z.0) n z.2)
 
 end-below : (ps : Predefined) (source : ProgramValue) (count : ℕ) (p : Placed) (ts : List Token) (n : ℕ) → 0 < count → end_operand ps source count p ts ≡ Ok n → n < count
 end-below ps source count p [] n some e = let same : 0 ≡ n = cc in omega (arith, some, same)

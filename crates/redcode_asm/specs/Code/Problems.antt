@@ -1,24 +1,31 @@
 -- The relations of `Outcomes` for an error without a line.
-use Rattle.std.specs.Prelude.{◌≡◌, ⊤, ℕ, Result, Ok, Err}
+use Rattle.std.specs.Prelude.{◌≡◌, ⊤, ℕ, Option, None, Result, Ok, Err}
 use Rattle.redcode_text.specs.declared.fault.TextProblem.{TextProblem}
 use Rattle.redcode_text.specs.declared.fault.TextProblem.TheVariants as text
+use Rattle.redcode_text.specs.declared.token.Span.{Span}
 use Rattle.redcode_asm.specs.declared.fault.AsmProblem.{AsmProblem}
+use Rattle.redcode_asm.specs.declared.fault.TokenProblem.{TokenProblem}
 use Rattle.redcode_asm.specs.declared.fault.AsmProblem.TheVariants.{Text, OutOfMemory}
 
--- The error `problem` is the one of the definition, or memory ran out.
-abbrev pub Fails : {X : Type 0} → AsmProblem → Result X AsmProblem → Type 0
-Fails OutOfMemory defined = ⊤
-Fails problem defined = defined ≡ Err problem
+-- The error `e`, which has this problem, is the one of the definition, or memory ran out.
+abbrev pub Fails : {X : Type 0} → AsmProblem → TokenProblem → Result X TokenProblem → Type 0
+Fails OutOfMemory e defined = ⊤
+Fails problem e defined = defined ≡ Err e
 
 -- The result, mapped by `f`, is the defined one, or memory ran out.
-abbrev pub Gives : {X Y : Type 0} → (Y → X) → Result Y AsmProblem → Result X AsmProblem → Type 0
+abbrev pub Gives : {X Y : Type 0} → (Y → X) → Result Y TokenProblem → Result X TokenProblem → Type 0
 Gives f (Ok y) defined = defined ≡ Ok (f y)
-Gives f (Err problem) defined = Fails problem defined
+Gives f (Err e) defined = Fails e.problem e defined
 
 -- The line number that an error on line `n` is reported with. Running out of memory has no line.
 abbrev pub fault_line : ℕ → AsmProblem → ℕ
 fault_line n OutOfMemory = 0
 fault_line n problem = n
+
+-- The token that an error is reported with. Running out of memory has none.
+abbrev pub fault_token : Option Span → AsmProblem → Option Span
+fault_token span OutOfMemory = None
+fault_token span problem = span
 
 -- The assembler's error for an error of the text. If the text ran out of memory, so did the assembler.
 abbrev pub problem_of_text : TextProblem → AsmProblem

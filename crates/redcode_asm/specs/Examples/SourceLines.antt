@@ -1,5 +1,5 @@
 -- Examples: sources, with the line and the labels of each instruction.
-use Rattle.std.specs.Prelude.{◌≡◌, ℕ, List, Result, Ok, Err, codes, refl}
+use Rattle.std.specs.Prelude.{◌≡◌, ℕ, List, Some, Result, Ok, Err, codes, refl}
 use Rattle.std.specs.Fmt.{digits}
 use Rattle.mars_cell.specs.Grammar.{default_modifier}
 use Rattle.mars_cell.specs.Words.{op_of, modifier_of}
@@ -20,6 +20,6 @@ pub lines_of_instructions :
     (lines (codes ";name x\ni FOR 2\nx&i DAT i, 0\nROF\n") ≡ Ok (codes "3 x01\n3 x02\n"))
     × (lines (codes "a ORG 1\n\nb:\nc: D NOP\nNOP\nlast") ≡ Ok (codes "4 a b c D\n5\n"))
     × (lines (codes "two EQU NOP 1\n EQU e NOP 2\nz two\nEND") ≡ Ok (codes "3 z\n3 e\n"))
-    × (lines (codes "NOP\nSTP 1, 2") ≡ Err (record { line = 2; problem = Operation }))
+    × (lines (codes "NOP\nSTP 1, 2") ≡ Err (record { line = 2; problem = Operation; token = Some (record { from = 4; to = 7 }) }))
 unfolding expansion value_of tree_within digits default_modifier op_of modifier_of
 lines_of_instructions = (refl, refl, refl, refl)

@@ -22,20 +22,20 @@ text (l ∷ ls) = l ++ 10 ∷ text ls
 abbrev pub parameters : ℕ → Parameters
 parameters m = record { core_size = m; processes = 8; cycles = 10; read_limit = m; write_limit = m; max_length = 4; distance = 4 }
 
--- The start of a warrior and the text of each of its cells, or the error.
+-- The start of a warrior and the text of each of its cells, or the error with its line.
 abbrev pub Listing : Type 0
-Listing = Result (ℕ × List (List ℕ)) AsmFault
+Listing = Result (ℕ × List (List ℕ)) (ℕ × AsmProblem)
 
 abbrev pub listed : ℕ → Result WarriorValue AsmFault → Listing
 listed m (Ok w) = Ok (w.start, map (cell_text m) w.cells)
-listed m (Err e) = Err e
+listed m (Err e) = Err (e.line, e.problem)
 
 abbrev pub assembled : List (List ℕ) → Listing
 unfolding assembly
 assembled ls = listed 8000 (assembly (parameters 8000) 2 3 (text ls))
 
 abbrev pub fault : ℕ → AsmProblem → Listing
-fault n p = Err (record { line = n; problem = p })
+fault n p = Err (n, p)
 
 -- Default modifiers and modes.
 pub row_defaults :

@@ -1,21 +1,18 @@
 //! Errors and their order for every prefix of a source, and how errors are displayed.
 use super::{
     Beginnings, COPIES, Faulty, LOOPS, SYNTAX, UNKNOWN, check_faults, check_listing, core_of,
-    fault_of, short_warriors,
+    fault_of, problem_of, short_warriors,
 };
 use mars_cell::Params;
 use redcode_asm::{AsmFault, AsmProblem};
-use redcode_text::{ExprFault, TextProblem};
+use redcode_text::{ExprFault, Span, TextProblem};
 use std::alloc::Global;
 use std::process::Abort;
 use std::test::Fail;
 
 macro_rules! fault {
     ($line:expr, $problem:expr) => {
-        Some(AsmFault {
-            line: $line,
-            problem: $problem,
-        })
+        Some(($line, $problem))
     };
 }
 
@@ -104,12 +101,54 @@ const ORDER_OF_FAULTS: [Faulty; 8] = [
     ("m EQU\nJMP m", 2, AsmProblem::Operand),
 ];
 
+/// Checks the token of each error: `from` up to, but excluding, `to`; 0 and 0 if there is none.
+#[test]
+fn tokens_of_faults(rt: HostRuntime) -> Result<(), Fail> {
+    let params = short_warriors()?;
+    for (source, from, to) in TOKENS_OF_FAULTS {
+        let fault = fault_of(rt.alloc(), &params, source.as_bytes()).ok_or("fault")?;
+        let expected = if to == 0 {
+            None
+        } else {
+            Some(Span { from, to })
+        };
+        assert_eq!(rt; fault.token, expected, "{source}");
+    }
+    Ok(())
+}
+
+const TOKENS_OF_FAULTS: [(&str, usize, usize); 22] = [
+    ("here: MVO 1, 2", 6, 9),
+    ("NOP\n5", 4, 5),
+    ("MOV.ab.ba 1, 2", 6, 7),
+    ("MOV .", 4, 5),
+    ("m EQU\nJMP m ; to m", 6, 9),
+    ("JMP , 1, 2, 3", 7, 8),
+    ("c EQU ,\nNOP c", 6, 7),
+    ("NOP 1 2", 6, 7),
+    ("NOP -", 4, 5),
+    ("NOP 1, @", 7, 8),
+    ("NOP 1)", 5, 6),
+    ("NOP 0, 5+(n-m)", 10, 11),
+    ("NOP 0, #3%0", 8, 9),
+    ("NOP\nORG $0", 8, 9),
+    ("NOP\nEND m\n m EQU 3", 8, 9),
+    ("m EQU 3 + 4\nNOP\nORG m", 6, 7),
+    (";assert MAXLENGTH-MAXLENGTH\nNOP", 8, 17),
+    (";assert\nNOP", 0, 0),
+    ("i FOR 3\nj FOR 2\nNOP 1, k&i&j\nROF\nROF", 23, 28),
+    ("a EQU b\nb EQU c-1\nNOP a", 14, 15),
+    ("i FOR 9\nNOP\nROF", 8, 11),
+    ("\n\n", 0, 0),
+];
+
 #[test]
 fn bytes_outside_ascii(rt: HostRuntime) -> Result<(), Fail> {
     let params = core_of(8000)?;
     let expected = AsmFault {
         line: 1,
         problem: AsmProblem::Text(TextProblem::NotAscii),
+        token: None,
     };
     assert_eq!(rt; fault_of(rt.alloc(), &params, b"NOP \xC8"), Some(expected));
     for source in [
@@ -163,7 +202,11 @@ fn check_beginnings(
         if let Some((_, fault)) = beginnings.iter().find(|(from, _)| *from == end) {
             expected = *fault;
         }
-        assert_eq!(rt; fault_of(alloc, params, &source[..end]), expected, "{end}");
+        assert_eq!(rt;
+            problem_of(alloc, params, &source[..end]),
+            expected,
+            "{end}"
+        );
     }
 }
 
@@ -195,7 +238,11 @@ fn faults_as_they_are_displayed(rt: HostRuntime) -> Result<(), Fail> {
         (AsmProblem::OutOfMemory, "9 OutOfMemory"),
     ];
     for (problem, text) in cases {
-        let fault = AsmFault { line: 7, problem };
+        let fault = AsmFault {
+            line: 7,
+            problem,
+            token: None,
+        };
         assert_eq!(rt; format!(in rt.alloc(); "{fault}")?.as_str(), text);
     }
     Ok(())

@@ -71,6 +71,7 @@ fn doubled_names(rt: HostRuntime) -> Result<(), Fail> {
     let expected = AsmFault {
         line: 18,
         problem: TOO_LONG,
+        token: None,
     };
     assert_eq!(rt; fault, Some(expected));
     Ok(())
@@ -89,6 +90,7 @@ fn nested_names(rt: HostRuntime) -> Result<(), Fail> {
     let expected = AsmFault {
         line: 34,
         problem: DEPTH_OF_EQU,
+        token: None,
     };
     assert_eq!(rt; fault, Some(expected));
     Ok(())

@@ -29,6 +29,7 @@ fn a_source_is_assembled(rt: HostRuntime) -> Result<(), Fail> {
             let of_memory = AsmFault {
                 line: 0,
                 problem: AsmProblem::OutOfMemory,
+                token: None,
             };
             assert_eq!(rt; fault, of_memory);
             assemble(rt.alloc(), SOURCE, &params, 1, 1)?
@@ -51,6 +52,7 @@ fn a_load_file_is_made(rt: HostRuntime) -> Result<(), Fail> {
             let of_memory = AsmFault {
                 line: 0,
                 problem: AsmProblem::OutOfMemory,
+                token: None,
             };
             assert_eq!(rt; fault, of_memory);
             assemble_load(rt.alloc(), SOURCE, &params, 1, 1)?

@@ -1,9 +1,10 @@
 -- Everything that has been read, as the code represents it.
-use Rattle.std.specs.Prelude.{List, drop, map, string_bytes, take}
+use Rattle.std.specs.Prelude.{List, None, drop, map, string_bytes, take}
 use Rattle.redcode_text.specs.declared.reader.ordinary.Parts as parts
 use Rattle.redcode_text.specs.declared.reader.Reading as code
 use Rattle.redcode_text.specs.declared.token.Token.{Token}
 use Rattle.redcode_text.specs.Lines.{Parts, Reading}
+use Rattle.redcode_text.specs.Spans.{last_span}
 use Rattle.redcode_text.specs.Code.SourceLoops.{loops_of}
 use Rattle.redcode_text.specs.Views.{assert_of, line_of}
 
@@ -26,4 +27,4 @@ reading_of r =
 
 -- The parts of a line, which the code represents by indices of its tokens.
 abbrev pub parts_at : List Token → parts.Parts → Parts
-parts_at ts p = record { labels = p.labels.items; label_tokens = take p.labels_end ts; operation = p.operation; rest = drop p.rest_at ts }
+parts_at ts p = record { labels = p.labels.items; label_tokens = take p.labels_end ts; operation = p.operation; operation_span = last_span None (take p.rest_at ts); rest = drop p.rest_at ts }

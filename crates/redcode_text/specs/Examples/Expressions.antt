@@ -1,5 +1,5 @@
 -- Examples: the values of expressions.
-use Rattle.std.specs.Prelude.{◌≡◌, ℕ, zero, suc, List, [], ◌∷◌, ◌++◌, ℤ, pos, negsuc, Option, None, Some, Result, Ok, Err, refl}
+use Rattle.std.specs.Prelude.{◌≡◌, ℕ, zero, suc, List, [], ◌∷◌, ◌++◌, ℤ, pos, negsuc, Option, None, Some, Result, Ok, Err, codes, refl}
 use Rattle.redcode_text.specs.declared.token.TokenKind.{TokenKind}
 use Rattle.redcode_text.specs.declared.token.TokenKind.TheVariants.{Number, Name}
 use Rattle.redcode_text.specs.declared.token.TokenKind.TheVariants as token
@@ -7,7 +7,9 @@ use Rattle.redcode_text.specs.declared.token.Sign.{Sign}
 use Rattle.redcode_text.specs.declared.token.Sign.TheVariants.{Equal, NotEqual, LessEqual, GreaterEqual, Or, And, Plus, Minus, Star, Slash, Percent, Bang, Less, Greater, OpenParen, CloseParen, Comma}
 use Rattle.redcode_text.specs.declared.fault.ExprFault.{ExprFault}
 use Rattle.redcode_text.specs.declared.fault.ExprFault.TheVariants.{Syntax, Unknown, DivideByZero, Range, Depth}
-use Rattle.redcode_text.specs.Expression.{value_of, tree_within}
+use Rattle.redcode_text.specs.declared.token.Span.{Span}
+use Rattle.redcode_text.specs.Tokens.{scanned}
+use Rattle.redcode_text.specs.Expression.{fault_span, value_of, tree_within}
 
 abbrev n : ℕ → TokenKind
 n k = Number (pos k)
@@ -91,3 +93,22 @@ pub row_limits :
     × (eval (times 64 (s Minus) ++ s OpenParen ∷ times 64 (s Minus) ++ n 1 ∷ s CloseParen ∷ []) ≡ Ok (pos 1))
 unfolding value_of tree_within
 row_limits = (refl, refl, refl, refl, refl)
+
+abbrev at : ℕ → ℕ → Option Span
+at from to = Some (record { from = from; to = to })
+
+-- The bytes of the token at which the expression `text` has this error. The token before it has the bytes from 90 to 91.
+abbrev place : List ℕ → ExprFault → Option Span
+place text fault = elim (scanned text) [ Ok f ↦ fault_span names (at 90 91) f.tokens fault | Err e ↦ None ]
+
+-- The first token that does not fit, the last one if the expression ends too early, the token before it if it is empty, the
+-- first name without a value, and the first token if a value is wrong.
+pub places_of_errors :
+    (place (codes "2*3 4 5") Syntax ≡ at 4 5)
+    × (place (codes "2*(3+4") Syntax ≡ at 5 6)
+    × (place (codes "") Syntax ≡ at 90 91)
+    × (place (codes "a+bb*c") Unknown ≡ at 2 4)
+    × (place (codes "2*(3/0)") DivideByZero ≡ at 0 1)
+    × (place (codes "22*(3-4)") Range ≡ at 0 2)
+unfolding scanned
+places_of_errors = (refl, refl, refl, refl, refl, refl)

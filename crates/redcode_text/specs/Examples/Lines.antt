@@ -1,5 +1,5 @@
 -- Examples: EQU names and their lines, what counts as an instruction or a line, and the limits of loops and names.
-use Rattle.std.specs.Prelude.{◌≡◌, ℕ, zero, suc, ◌+◌, List, [], ◌∷◌, ◌++◌, map, replicate, Ok, Err, codes, decimal, refl}
+use Rattle.std.specs.Prelude.{◌≡◌, ℕ, zero, suc, ◌+◌, List, [], ◌∷◌, ◌++◌, map, replicate, Option, None, Some, Ok, Err, codes, decimal, option_map, refl}
 use Rattle.std.specs.Fmt.{digits}
 use Rattle.redcode_text.specs.declared.fault.TextProblem.TheVariants.{BadToken, Duplicate, EquDepth, TooLong}
 use Rattle.redcode_text.specs.Expression.{value_of, tree_within}
@@ -84,6 +84,16 @@ lines_of_tokens ls = elim (expansion predefined (text ls)) [ Ok st ↦ map (λ l
 pub tokens_are_of_the_line_of_the_use : lines_of_tokens (codes "x EQU NOP 1" ∷ codes "x , 2" ∷ []) ≡ (2 ∷ 2 ∷ 2 ∷ []) ∷ []
 unfolding expansion value_of tree_within digits
 tokens_are_of_the_line_of_the_use = refl
+
+-- For each line, the first and the last byte of its operation, or of what is read in its place.
+abbrev pub operation_spans : List (List ℕ) → List (Option (ℕ × ℕ))
+unfolding expansion
+operation_spans ls = elim (expansion predefined (text ls)) [ Ok st ↦ map (λ l. option_map (λ span. (span.from, span.to)) l.operation_span) st.lines | Err e ↦ [] ]
+
+-- An operation, the last of the labels, nothing before the first token, and an operation that comes from EQU.
+pub operations_have_places : operation_spans (codes "a NOP 1" ∷ codes "b: c 5" ∷ codes "5" ∷ codes "x EQU DAT" ∷ codes "d x" ∷ []) ≡ Some (2, 5) ∷ Some (11, 12) ∷ None ∷ Some (23, 26) ∷ []
+unfolding expansion value_of tree_within digits
+operations_have_places = refl
 
 -- The name that a source gives.
 abbrev pub named : List (List ℕ) → List ℕ

@@ -1,11 +1,11 @@
 //! The shape of an expression: operands and operators alternate, and parentheses are closed.
 ghost use Rattle.std.specs.Prelude.{◌≡◌};
-ghost use Rattle.redcode_text.specs.Expression.{after_sign, before_sign, kinds, next_state, shape, start};
+ghost use Rattle.redcode_text.specs.Expression.{after_sign, before_sign, kinds, misfit, next_state, shape, start};
 
 use crate::expression::operators::precedence;
 use crate::fault::ExprFault;
 use crate::limits::{MAX_PARENS, MAX_SIGNS};
-use crate::token::{Sign, Token, TokenKind};
+use crate::token::{Sign, Span, Token, TokenKind};
 
 /// The state of the check of a shape.
 #[derive(Clone, Copy)]
@@ -116,4 +116,22 @@ pub fn check_shape(tokens: &[Token]) -> Result<(), ExprFault>
         return Err(ExprFault::Syntax);
     }
     Ok(())
+}
+
+/// Returns the bytes of the first token that can't continue an expression, if there is one.
+pub fn misfit(tokens: &[Token]) -> Option<Span>
+    ensures { result ≡ misfit start tokens.now }
+{
+    let mut state = ShapeState {
+        opened: 0,
+        signs: 0,
+        after_operand: false,
+    };
+    for token in tokens {
+        let Ok(next) = step(state, token.kind) else {
+            return Some(token.span());
+        };
+        state = next;
+    }
+    None
 }

@@ -13,7 +13,7 @@ use crate::names::set::NameSet;
 use crate::program::{Line, is_end, is_instruction};
 use crate::reader::Reading;
 use crate::reader::used_lines::used_line;
-use crate::token::{Sign, Token, TokenKind};
+use crate::token::{Sign, Span, Token, TokenKind, last_span};
 use std::alloc::{AllocError, Global};
 
 /// The parts of a line, as indices of its tokens.
@@ -131,7 +131,7 @@ impl Reading {
         ensures equates { self.new.equates ≡ self.old.equates }
         ensures value { Gives (λ _. reading_of self.new) result
             (Ok (line_added line.number
-            (record { labels = line.labels.items; label_tokens = []; operation = line.operation; rest = line.rest.items })
+            (record { labels = line.labels.items; label_tokens = []; operation = line.operation; operation_span = line.operation_span; rest = line.rest.items })
             (reading_of self.old))) }
     {
         let counts = is_instruction(&self.names.table, line.operation, &line.rest);
@@ -197,12 +197,13 @@ impl Reading {
         alloc: Global,
         number: usize,
         parts: Parts,
+        operation_span: Option<Span>,
         rest: &[Token],
     ) -> Result<(), TextProblem>
         requires { vec_len self.old.lines < self.old.lines_read }
         ensures equates { self.new.equates ≡ self.old.equates }
         ensures value { Gives (λ _. reading_of self.new) result
-            (Ok (line_added number (record { labels = parts.labels.items; label_tokens = []; operation = parts.operation; rest = on_line number rest.now }) (reading_of self.old))) }
+            (Ok (line_added number (record { labels = parts.labels.items; label_tokens = []; operation = parts.operation; operation_span = operation_span; rest = on_line number rest.now }) (reading_of self.old))) }
     {
         let rest = on_line(alloc, number, rest)?;
         let Parts {
@@ -214,6 +215,7 @@ impl Reading {
             number,
             labels,
             operation,
+            operation_span,
             rest,
         })
     }
@@ -241,7 +243,8 @@ impl Reading {
         };
         let rest = &tokens[parts.rest_at..];
         let Some(lines) = self.operation_lines(parts.operation) else {
-            return self.add_ordinary(alloc, number, parts, rest);
+            let operation_span = last_span(None, &tokens[..parts.rest_at]);
+            return self.add_ordinary(alloc, number, parts, operation_span, rest);
         };
         if depth == 0 {
             return Err(TextProblem::EquDepth);

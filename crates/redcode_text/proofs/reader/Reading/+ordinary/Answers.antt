@@ -15,7 +15,7 @@ read_ordinary-returns-in-Err-clause-value t c = ordinary-fails (predefined_of c.
 pub read_ordinary-returns-in_default-clause-value : goal.read_ordinary-returns-in_default-clause-value
 read_ordinary-returns-in_default-clause-value t c =
     rw (ordinary-plain (predefined_of c.args.names.now) c.args.number c.args.tokens.now (reading_of c.args.self.now) c.args.depth (parts_at c.args.tokens.now c.in-Ok.parts) c.in-Ok.ensures.value (sym c.in_default.ensures))
-    (simp take_rest at c.add_ordinary.ensures.value)
+    (simp take_rest at (rw c.last_span-operation_span.ensures at c.add_ordinary.ensures.value))
 
 pub read_ordinary-returns-clause-value : goal.read_ordinary-returns-clause-value
 read_ordinary-returns-clause-value t c =

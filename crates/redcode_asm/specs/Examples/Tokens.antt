@@ -1,0 +1,71 @@
+-- Examples: the token at which a source has its error.
+use Rattle.std.specs.Prelude.{◌≡◌, ℕ, ◌-◌, List, [], ◌∷◌, Option, Some, None, Ok, Err, codes, drop, option_map, refl, take}
+use Rattle.std.specs.Fmt.{digits}
+use Rattle.mars_cell.specs.Grammar.{default_modifier}
+use Rattle.mars_cell.specs.Words.{op_of, modifier_of}
+use Rattle.redcode_text.specs.declared.token.Span.{Span}
+use Rattle.redcode_text.specs.Expansion.{expansion}
+use Rattle.redcode_text.specs.Expression.{value_of, tree_within}
+use Rattle.redcode_asm.specs.Assembly.{assembly}
+use Rattle.redcode_asm.specs.Examples.Warriors.{parameters, text}
+
+-- The bytes of the token of the error.
+abbrev pub token : List (List ℕ) → Option Span
+unfolding assembly
+token ls = elim (assembly (parameters 8000) 2 3 (text ls)) [ Ok w ↦ None | Err e ↦ e.token ]
+
+-- The text of the token of the error.
+abbrev pub word : List (List ℕ) → Option (List ℕ)
+word ls = option_map (λ span. take (span.to - span.from) (drop span.from (text ls))) (token ls)
+
+abbrev pub at : ℕ → ℕ → Option Span
+at from to = Some (record { from = from; to = to })
+
+-- The opcode, or what is read in its place: an unknown word is read as a label. The modifier, or the dot before it.
+pub words_of_operations :
+    (word (codes "STP 1, 2" ∷ []) ≡ Some (codes "STP"))
+    × (word (codes "here MVO 1, 2" ∷ []) ≡ Some (codes "MVO"))
+    × (word (codes "5 NOP" ∷ []) ≡ Some (codes "5"))
+    × (word (codes "MOV.Q 1, 2" ∷ []) ≡ Some (codes "Q"))
+    × (word (codes "MOV." ∷ []) ≡ Some (codes "."))
+unfolding assembly expansion value_of tree_within digits default_modifier op_of modifier_of
+words_of_operations = (refl, refl, refl, refl, refl)
+
+-- The second comma, or else the first one, or else the opcode.
+pub words_of_operands :
+    (token (codes "JMP" ∷ []) ≡ at 0 3)
+    × (token (codes "NOP 1," ∷ []) ≡ at 5 6)
+    × (token (codes "NOP ,1" ∷ []) ≡ at 4 5)
+    × (token (codes "NOP ,1," ∷ []) ≡ at 6 7)
+    × (token (codes "NOP 1, 2, 3" ∷ []) ≡ at 8 9)
+unfolding assembly expansion value_of tree_within digits default_modifier op_of modifier_of
+words_of_operands = (refl, refl, refl, refl, refl)
+
+-- The token that does not fit, the last token, the mode, the unknown name, and the first token of the expression.
+pub words_of_expressions :
+    (token (codes "NOP 3 + + 3 3" ∷ []) ≡ at 12 13)
+    × (token (codes "NOP 3 +, 3" ∷ []) ≡ at 6 7)
+    × (word (codes "NOP 1, #" ∷ []) ≡ Some (codes "#"))
+    × (word (codes "NOP 1, 2+x+y" ∷ []) ≡ Some (codes "x"))
+    × (token (codes "NOP 2, 1*(3/0)" ∷ []) ≡ at 7 8)
+    × (word (codes "NOP" ∷ codes "ORG" ∷ []) ≡ Some (codes "ORG"))
+    × (word (codes "NOP" ∷ codes "END 1+1" ∷ []) ≡ Some (codes "1"))
+    × (word (codes "NOP" ∷ codes ";assert 5-5" ∷ []) ≡ Some (codes "5"))
+unfolding assembly expansion value_of tree_within digits default_modifier op_of modifier_of
+words_of_expressions = (refl, refl, refl, refl, refl, refl, refl, refl)
+
+-- A token of an EQU name has its bytes in the definition, and a token in a loop has those in the loop.
+pub words_of_definitions :
+    (token (codes "x EQU 1+y" ∷ codes "NOP 7, x" ∷ []) ≡ at 8 9)
+    × (token (codes "x EQU NOP" ∷ codes " EQU JMP" ∷ codes "x" ∷ []) ≡ at 15 18)
+    × (token (codes "i FOR 2" ∷ codes "NOP y&i" ∷ codes "ROF" ∷ []) ≡ at 12 15)
+unfolding assembly expansion value_of tree_within digits default_modifier op_of modifier_of
+words_of_definitions = (refl, refl, refl)
+
+-- The first instruction that is too many. A source without instructions has no token, nor has an error of the text.
+pub words_of_sources :
+    (token (codes "NOP" ∷ codes "NOP" ∷ codes "NOP" ∷ codes "NOP" ∷ codes "a NOP" ∷ codes "NOP" ∷ []) ≡ at 18 21)
+    × (token ([] ∷ []) ≡ None)
+    × (token (codes "NOP 1x" ∷ []) ≡ None)
+unfolding assembly expansion value_of tree_within digits default_modifier op_of modifier_of
+words_of_sources = (refl, refl, refl)
