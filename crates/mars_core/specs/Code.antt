@@ -2,6 +2,7 @@
 pub mod Operands
 pub mod Opcodes
 pub mod Turns
+pub mod Marks
 pub mod Runs
 pub mod Records
 pub mod Distances

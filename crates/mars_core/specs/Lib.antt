@@ -17,6 +17,7 @@ pub mod Leads
 pub mod Record
 pub mod Past
 pub mod Touched
+pub mod Marks
 pub mod Search
 pub mod Moments
 -- Definitions that only the laws use, and no contract of a call.

@@ -3,16 +3,18 @@ use Rattle.std.proofs.Common.{◌≡◌, ◌⊎◌, refl, sym, ◌∙◌, ap, �
 use Rattle.std.specs.Prelude.{count_by, if◌then◌else◌}
 use Rattle.std.specs.List.{list_any}
 use Rattle.std.proofs.lemmas.Bool.{cases_eq, cases_lt}
-use Rattle.std.proofs.lemmas.List.{length-set, length-replicate, get_or-replicate, get_or_default, get_or-set_same, get_or-set_other, get_or-map, set_past}
+use Rattle.std.proofs.lemmas.List.{length-map, length-set, length-replicate, get_or-replicate, get_or_default, get_or-set_same, get_or-set_other, get_or-map, set_past}
 use Rattle.std.proofs.lemmas.List.Elements.{All-set}
 use Rattle.std.proofs.lemmas.List.Sums.{sum_by-cons}
+use Rattle.mars_core.specs.Marks.{marked, marks_of, written_at}
 use Rattle.mars_core.specs.State.{State, is_over_of, queue_of}
 use Rattle.mars_core.specs.Touched.{touched_in_turn}
 use Rattle.mars_core.specs.Turn.{after_turns, front_of, turn_of, turn_record}
+use Rattle.mars_core.specs.declared.machine.marks.Mark.{Mark}
 use Rattle.mars_core.specs.declared.machine.writes.CellChange.{CellChange}
 use Rattle.mars_match.specs.Battles.{end_of}
 use Rattle.mars_match.specs.Counts.{counts_of, executes, how_many_below, splits, touches, turns_at, turns_from, turns_to_end, writes}
-use Rattle.mars_match.specs.Code.Deeds.{DeedsValue, HasMarks, counts_in, executed_at, marked, no_deeds, noted, with_turn, with_turns, written_at}
+use Rattle.mars_match.specs.Code.Deeds.{DeedsValue, HasMarks, counts_in, no_deeds, noted, with_turn, with_turns}
 use Rattle.mars_match.specs.declared.counts.Counts.{Counts}
 
 -- ---- One more turn
@@ -99,17 +101,19 @@ written_by : (changes : List CellChange) (a : ℕ) → list_any (λ b. nat_eq b 
 written_by [] a = refl
 written_by (change ∷ changes) a = ap (λ t. nat_eq change.address a || t) (written_by changes a)
 
-executed_by : (t : State) (a : ℕ) → list_any (λ b. nat_eq b a) (executed_at (turn_record t).work) ≡ executes a t
-unfolding turn_record
+executed_by : (t : State) (a : ℕ) → list_any (λ b. nat_eq b a) (front_of (queue_of t.queues t.next) ∷ []) ≡ executes a t
 executed_by t a = or_false (nat_eq (front_of (queue_of t.queues t.next)) a)
+
+marks-with_turn : (m : ℕ) (t : State) (d : DeedsValue) → HasMarks m d → HasMarks m (with_turn t d)
+marks-with_turn m t d h = record {
+  executed = length-marked (front_of (queue_of t.queues t.next) ∷ []) d.marks.executed ∙ h.executed;
+  written = length-marked (written_at (turn_record t).cells.items) d.marks.written ∙ h.written;
+  touched = length-marked (touched_in_turn t) d.marks.touched ∙ h.touched;
+}
 
 pub marks-with_turns : (m : ℕ) (turns : List State) (d : DeedsValue) → HasMarks m d → HasMarks m (with_turns turns d)
 marks-with_turns m [] d h = h
-marks-with_turns m (t ∷ turns) d h = marks-with_turns m turns (with_turn t d) (record {
-  executed = length-marked (executed_at (turn_record t).work) d.executed ∙ h.executed;
-  written = length-marked (written_at (turn_record t).cells.items) d.written ∙ h.written;
-  touched = length-marked (touched_in_turn t) d.touched ∙ h.touched;
-})
+marks-with_turns m (t ∷ turns) d h = marks-with_turns m turns (with_turn t d) (marks-with_turn m t d h)
 
 turns-with_turns : (turns : List State) (d : DeedsValue) → (with_turns turns d).turns ≡ d.turns + length turns
 turns-with_turns [] d = omega arith
@@ -121,33 +125,59 @@ spawned-with_turns (t ∷ turns) d =
     let more = sum_by-cons (λ (u : State). cond (splits u) 1 0) t turns in
     spawned-with_turns turns (with_turn t d) ∙ omega (arith, more)
 
-executed-with_turns : (turns : List State) (d : DeedsValue) (a : ℕ) → a < length d.executed → get_or (with_turns turns d).executed a false ≡ (get_or d.executed a false || list_any (executes a) turns)
-executed-with_turns [] d a inside = sym (or_false (get_or d.executed a false))
+executed-with_turns : (turns : List State) (d : DeedsValue) (a : ℕ) → a < length d.marks.executed → get_or (with_turns turns d).marks.executed a false ≡ (get_or d.marks.executed a false || list_any (executes a) turns)
+executed-with_turns [] d a inside = sym (or_false (get_or d.marks.executed a false))
 executed-with_turns (t ∷ turns) d a inside =
-    let at = executed_at (turn_record t).work in
-    let long = length-marked at d.executed in
+    let at = front_of (queue_of t.queues t.next) ∷ [] in
+    let long = length-marked at d.marks.executed in
     executed-with_turns turns (with_turn t d) a (omega (arith, long, inside))
-    ∙ ap (λ x. x || list_any (executes a) turns) (marked_at at d.executed a inside ∙ ap (λ x. get_or d.executed a false || x) (executed_by t a))
-    ∙ or_assoc (get_or d.executed a false) (executes a t) (list_any (executes a) turns)
+    ∙ ap (λ x. x || list_any (executes a) turns) (marked_at at d.marks.executed a inside ∙ ap (λ x. get_or d.marks.executed a false || x) (executed_by t a))
+    ∙ or_assoc (get_or d.marks.executed a false) (executes a t) (list_any (executes a) turns)
 
-written-with_turns : (turns : List State) (d : DeedsValue) (a : ℕ) → a < length d.written → get_or (with_turns turns d).written a false ≡ (get_or d.written a false || list_any (writes a) turns)
-written-with_turns [] d a inside = sym (or_false (get_or d.written a false))
+written-with_turns : (turns : List State) (d : DeedsValue) (a : ℕ) → a < length d.marks.written → get_or (with_turns turns d).marks.written a false ≡ (get_or d.marks.written a false || list_any (writes a) turns)
+written-with_turns [] d a inside = sym (or_false (get_or d.marks.written a false))
 written-with_turns (t ∷ turns) d a inside =
     let changes = (turn_record t).cells.items in
-    let long = length-marked (written_at changes) d.written in
+    let long = length-marked (written_at changes) d.marks.written in
     written-with_turns turns (with_turn t d) a (omega (arith, long, inside))
-    ∙ ap (λ x. x || list_any (writes a) turns) (marked_at (written_at changes) d.written a inside ∙ ap (λ x. get_or d.written a false || x) (written_by changes a))
-    ∙ or_assoc (get_or d.written a false) (writes a t) (list_any (writes a) turns)
+    ∙ ap (λ x. x || list_any (writes a) turns) (marked_at (written_at changes) d.marks.written a inside ∙ ap (λ x. get_or d.marks.written a false || x) (written_by changes a))
+    ∙ or_assoc (get_or d.marks.written a false) (writes a t) (list_any (writes a) turns)
 
-touched-with_turns : (turns : List State) (d : DeedsValue) (a : ℕ) → a < length d.touched → get_or (with_turns turns d).touched a false ≡ (get_or d.touched a false || list_any (touches a) turns)
-touched-with_turns [] d a inside = sym (or_false (get_or d.touched a false))
+touched-with_turns : (turns : List State) (d : DeedsValue) (a : ℕ) → a < length d.marks.touched → get_or (with_turns turns d).marks.touched a false ≡ (get_or d.marks.touched a false || list_any (touches a) turns)
+touched-with_turns [] d a inside = sym (or_false (get_or d.marks.touched a false))
 touched-with_turns (t ∷ turns) d a inside =
-    let long = length-marked (touched_in_turn t) d.touched in
+    let long = length-marked (touched_in_turn t) d.marks.touched in
     touched-with_turns turns (with_turn t d) a (omega (arith, long, inside))
-    ∙ ap (λ x. x || list_any (touches a) turns) (marked_at (touched_in_turn t) d.touched a inside)
-    ∙ or_assoc (get_or d.touched a false) (touches a t) (list_any (touches a) turns)
+    ∙ ap (λ x. x || list_any (touches a) turns) (marked_at (touched_in_turn t) d.marks.touched a inside)
+    ∙ or_assoc (get_or d.marks.touched a false) (touches a t) (list_any (touches a) turns)
 
 -- ---- The numbers of what a warrior did
+
+map_replicate : (kind : Mark → Bool) (m : ℕ) (mark : Mark) → map kind (replicate m mark) ≡ replicate m (kind mark)
+map_replicate kind zero mark = refl
+map_replicate kind (suc m) mark = ap (λ l. kind mark ∷ l) (map_replicate kind m mark)
+
+-- The deeds of a warrior without turns, with these marks.
+abbrev pub deeds_with : List Mark → DeedsValue
+deeds_with marks = record { turns = 0; spawned = 0; marks = marks_of marks }
+
+pub fresh_deeds : (m : ℕ) → deeds_with (replicate m (record { executed = false; written = false; touched = false })) ≡ no_deeds m
+fresh_deeds m =
+    let none : Mark = record { executed = false; written = false; touched = false } in
+    rw (map_replicate (λ (k : Mark). k.executed) m none, map_replicate (λ (k : Mark). k.written) m none, map_replicate (λ (k : Mark). k.touched) m none) refl
+
+-- The numbers that the code counts in its marks.
+pub counts_are : (turns spawned executed written touched : ℕ) (marks : List Mark) →
+    executed ≡ how_many_below (length marks) (λ a. get_or (marks_of marks).executed a false) →
+    written ≡ how_many_below (length marks) (λ a. get_or (marks_of marks).written a false) →
+    touched ≡ how_many_below (length marks) (λ a. get_or (marks_of marks).touched a false) →
+    ◌≡◌ {A = Counts} (record { turns = turns; spawned = spawned; executed = executed; written = written; touched = touched }) (counts_in (record { turns = turns; spawned = spawned; marks = marks_of marks }))
+counts_are turns spawned executed written touched marks e w t =
+    let below = λ (kind : Mark → Bool). ap (λ n. how_many_below n (λ a. get_or (map kind marks) a false)) (sym (length-map marks kind)) in
+    let executed_is = e ∙ below (λ (k : Mark). k.executed) in
+    let written_is = w ∙ below (λ (k : Mark). k.written) in
+    let touched_is = t ∙ below (λ (k : Mark). k.touched) in
+    rw (executed_is, written_is, touched_is) refl
 
 below_same : (m : ℕ) (f g : ℕ → Bool) → ((a : ℕ) → a < m → f a ≡ g a) → how_many_below m f ≡ how_many_below m g
 below_same zero f g same = refl
@@ -179,9 +209,9 @@ module _ (m : ℕ) (turns : List State) where
       let d = with_turns turns (no_deeds m) in
       let many : d.turns ≡ length turns = turns-with_turns turns (no_deeds m) ∙ omega arith in
       let splitting : d.spawned ≡ count_by splits turns = spawned-with_turns turns (no_deeds m) ∙ omega arith in
-      let executed = fresh_marks m d.executed (λ a. list_any (executes a) turns) sizes.executed (λ a h. executed-with_turns turns (no_deeds m) a (inside_all a h)) in
-      let written = fresh_marks m d.written (λ a. list_any (writes a) turns) sizes.written (λ a h. written-with_turns turns (no_deeds m) a (inside_all a h)) in
-      let touched = fresh_marks m d.touched (λ a. list_any (touches a) turns) sizes.touched (λ a h. touched-with_turns turns (no_deeds m) a (inside_all a h)) in
+      let executed = fresh_marks m d.marks.executed (λ a. list_any (executes a) turns) sizes.executed (λ a h. executed-with_turns turns (no_deeds m) a (inside_all a h)) in
+      let written = fresh_marks m d.marks.written (λ a. list_any (writes a) turns) sizes.written (λ a h. written-with_turns turns (no_deeds m) a (inside_all a h)) in
+      let touched = fresh_marks m d.marks.touched (λ a. list_any (touches a) turns) sizes.touched (λ a h. touched-with_turns turns (no_deeds m) a (inside_all a h)) in
       rw (many, splitting, executed, written, touched) refl
 
 -- ---- The deeds of all warriors
@@ -207,6 +237,11 @@ noted_at (t ∷ turns) all place d inside =
           let test : nat_eq t.next place ≡ false = grind (arith, apart) in
           rest ∙ ap (λ e. with_turns (turns_at place turns) e) (get_or-set_other all t.next place x d (λ e. apart (sym e))) ∙ rw test refl
     ]
+
+-- After one more turn of a warrior, there still is a mark for each cell.
+pub marks_more : (m : ℕ) (t : State) (all : List DeedsValue) → t.next < length all → All (HasMarks m) all → All (HasMarks m) (set all t.next (with_turn t (get_or all t.next (no_deeds 0))))
+marks_more m t all inside marks =
+    All-set (HasMarks m) all t.next (with_turn t (get_or all t.next (no_deeds 0))) (marks-with_turn m t (get_or all t.next (no_deeds 0)) (marks t.next (no_deeds 0) inside)) marks
 
 one_more : (test : Bool) (n bound : ℕ) → n ≤ bound → n + (if test then 1 else 0) ≤ bound + 1
 one_more true n bound h = omega (arith, h)

@@ -1,16 +1,17 @@
 //! What each warrior does in a battle, counted while the battle runs.
-ghost use Rattle.std.specs.Prelude.{◌≡◌, ◌+◌, ◌*◌, ◌-◌, ◌<◌, ◌≤◌, ◌==◌, ℕ, All, IfOk, Vec, false, true, if◌then◌else◌, length, map, replicate, slice_index_or, slice_set};
+ghost use Rattle.std.specs.Prelude.{◌≡◌, ◌+◌, ◌*◌, ◌-◌, ◌<◌, ◌≤◌, ℕ, All, IfOk, false, length, map, replicate, slice_index_or};
 ghost use Rattle.mars_cell.specs.Limits.{max_core_size};
 ghost use Rattle.mars_core.specs.Limits.{turns_bound};
+ghost use Rattle.mars_core.specs.Marks.{marks_of};
 ghost use Rattle.mars_core.specs.State.{is_over_of};
 ghost use Rattle.mars_core.specs.Turn.{turn_of};
 ghost use Rattle.mars_match.specs.Battles.{end_of};
 ghost use Rattle.mars_match.specs.Counts.{counts_of, how_many_below, turns_to_end};
-ghost use Rattle.mars_match.specs.Code.Deeds.{DeedsValue, HasMarks, counts_in as spec_counts_in, executed_at, marked, no_deeds, noted, with_record, with_turn, written_at};
+ghost use Rattle.mars_match.specs.Code.Deeds.{DeedsValue, HasMarks, counts_in as spec_counts_in, no_deeds, noted, with_turn};
 ghost use Rattle.mars_match.specs.Fates.{no_counts};
 ghost use Rattle.mars_match.specs.declared.counts.Counts.{Counts as CountsValue};
 
-use mars_core::{Atom, Battle, CellChange, Work};
+use mars_core::{Battle, Mark};
 use std::alloc::{AllocError, Global};
 use std::marker::Model;
 
@@ -49,18 +50,23 @@ impl Counts {
 struct Deeds {
     turns: u32,
     spawned: u32,
-    executed: Vec<bool>,
-    written: Vec<bool>,
-    touched: Vec<bool>,
+    marks: Vec<Mark>,
 }
 
 impl Model for Deeds {
     ghost use Rattle.mars_match.specs.Code.Deeds.{DeedsValue};
+    ghost use Rattle.mars_core.specs.Marks.{marks_of};
 
     ghost Value = { DeedsValue };
 
-    ghost view = { λ d. record { turns = d.turns; spawned = d.spawned; executed = d.executed.items; written = d.written.items; touched = d.touched.items } };
+    ghost view = { λ d. record { turns = d.turns; spawned = d.spawned; marks = marks_of d.marks.items } };
 }
+
+const UNMARKED: Mark = Mark {
+    executed: false,
+    written: false,
+    touched: false,
+};
 
 impl Deeds {
     /// Returns the deeds of a warrior that has done nothing.
@@ -70,23 +76,21 @@ impl Deeds {
         Ok(Deeds {
             turns: 0,
             spawned: 0,
-            executed: vec![in alloc; false; core_size]?,
-            written: vec![in alloc; false; core_size]?,
-            touched: vec![in alloc; false; core_size]?,
+            marks: vec![in alloc; UNMARKED; core_size]?,
         })
     }
 
-    /// Notes a turn with this record, which touched these addresses.
-    fn note(&mut self, atom: &Atom, touched: &[u32])
+    /// Executes a turn of the warrior in a battle that is not over, and notes it.
+    fn note_turn(&mut self, battle: &mut Battle)
+        requires running { is_over_of battle.old ≡ false }
         requires turns { self.old.turns < turns_bound }
         requires spawned { self.old.spawned < turns_bound }
-        ensures { self.new ≡ with_record atom.now touched.now self.old }
+        requires marks { HasMarks battle.old.params.core_size self.old }
+        ensures deeds { self.new ≡ with_turn battle.old self.old }
+        ensures battle { battle.new ≡ turn_of battle.old }
     {
         self.turns += 1;
-        self.spawned += if atom.queued.len() == 2 { 1 } else { 0 };
-        mark_executed(&mut self.executed, atom.work);
-        mark_written(&mut self.written, atom.cells.as_slice());
-        mark_all(&mut self.touched, touched);
+        self.spawned += u32::from(battle.turn_marking(&mut self.marks));
     }
 
     /// Returns the numbers of what the warrior did.
@@ -94,85 +98,53 @@ impl Deeds {
         requires { (m : ℕ) × (m ≤ max_core_size) × HasMarks m self.now }
         ensures { result ≡ spec_counts_in self.now }
     {
+        let marked = count_marked(&self.marks);
         Counts {
             turns: self.turns,
             spawned: self.spawned,
-            executed: count_marked(&self.executed),
-            written: count_marked(&self.written),
-            touched: count_marked(&self.touched),
+            executed: marked.executed,
+            written: marked.written,
+            touched: marked.touched,
         }
     }
 }
 
-/// Marks the cell at an address. An address after the last cell, which no battle has, changes nothing.
-fn mark(marks: &mut [bool], address: u32)
-    ensures { marks.new ≡ slice_set marks.old address true }
-{
-    if (address as usize) < marks.len() {
-        marks[address as usize] = true;
-    }
+/// The number of marked cells, of each kind of mark.
+#[derive(Clone, Copy)]
+struct Marked {
+    executed: u32,
+    written: u32,
+    touched: u32,
 }
 
-/// Marks the cells at these addresses.
-fn mark_all(marks: &mut [bool], addresses: &[u32])
-    ensures { marks.new ≡ marked addresses.now marks.old }
-{
-    for address in addresses {
-        mark(marks, *address);
-    }
-}
-
-/// Marks the cell that a turn executed.
-fn mark_executed(marks: &mut [bool], work: Work)
-    ensures { marks.new ≡ marked (executed_at work) marks.old }
-{
-    if let Work::Turn(_, address) = work {
-        mark(marks, address);
-    }
-}
-
-/// Marks the cells that were written.
-fn mark_written(marks: &mut [bool], changes: &[CellChange])
-    ensures { marks.new ≡ marked (written_at changes.now) marks.old }
-{
-    for change in changes {
-        mark(marks, change.address);
-    }
-}
-
-/// Returns the number of marked cells.
-fn count_marked(marks: &[bool]) -> u32
+/// Returns the number of marked cells, for each kind of mark.
+fn count_marked(marks: &[Mark]) -> Marked
     requires { length marks.now ≤ max_core_size }
-    ensures { result ≡ how_many_below (length marks.now) (λ a. slice_index_or marks.now a false) }
+    ensures executed { result.executed ≡ how_many_below (length marks.now) (λ a. slice_index_or (marks_of marks.now).executed a false) }
+    ensures written { result.written ≡ how_many_below (length marks.now) (λ a. slice_index_or (marks_of marks.now).written a false) }
+    ensures touched { result.touched ≡ how_many_below (length marks.now) (λ a. slice_index_or (marks_of marks.now).touched a false) }
 {
-    let mut count = 0;
+    let mut executed = 0;
+    let mut written = 0;
+    let mut touched = 0;
     for address in 0..marks.len() {
-        if marks[address] {
-            count += 1;
-        }
+        let mark = marks[address];
+        executed += u32::from(mark.executed);
+        written += u32::from(mark.written);
+        touched += u32::from(mark.touched);
     }
-    count
-}
-
-/// Executes a turn of a battle that is not over, and notes it for its warrior.
-fn note_turn(battle: &mut Battle, deeds: &mut [Deeds])
-    requires running { is_over_of battle.old ≡ false }
-    requires turns { All (λ (d : DeedsValue). d.turns < turns_bound) deeds.old }
-    requires spawned { All (λ (d : DeedsValue). d.spawned < turns_bound) deeds.old }
-    ensures deeds { deeds.new ≡ slice_set deeds.old battle.old.next (with_turn battle.old (slice_index_or deeds.old battle.old.next (no_deeds 0))) }
-    ensures battle { battle.new ≡ turn_of battle.old }
-{
-    let warrior = battle.next() as usize;
-    let mut atom = Atom::default();
-    let touched = battle.turn_touching(&mut atom);
-    if warrior < deeds.len() {
-        deeds[warrior].note(&atom, touched.as_slice());
+    Marked {
+        executed,
+        written,
+        touched,
     }
 }
 
 /// Executes turns until a battle is over, and notes each for its warrior.
 fn note_turns(battle: &mut Battle, deeds: &mut [Deeds])
     requires fresh { All (λ (d : DeedsValue). (d.turns ≡ 0) × (d.spawned ≡ 0)) deeds.old }
+    requires marks { All (HasMarks battle.old.params.core_size) deeds.old }
+    requires many { length deeds.old ≡ length battle.old.queues }
     ensures deeds { deeds.new ≡ noted (turns_to_end battle.old) deeds.old }
     ensures battle { battle.new ≡ end_of battle.old }
 {
@@ -181,7 +153,8 @@ fn note_turns(battle: &mut Battle, deeds: &mut [Deeds])
         if battle.is_over() {
             return;
         }
-        note_turn(battle, deeds);
+        let warrior = battle.next() as usize;
+        deeds[warrior].note_turn(battle);
     }
 }
 

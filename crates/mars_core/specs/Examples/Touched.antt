@@ -1,5 +1,5 @@
 -- The cells that instructions read and write, in the order in which they do.
-use Rattle.std.specs.Prelude.{◌≡◌, List, [], ◌∷◌, refl}
+use Rattle.std.specs.Prelude.{◌≡◌, List, [], ◌∷◌, ◌++◌, false, true, refl}
 use Rattle.std.proofs.Common.{replicate}
 use Rattle.mars_cell.specs.declared.instruction.Cell.{Cell}
 use Rattle.mars_cell.specs.declared.instruction.Op.TheVariants.{Mov, Add}
@@ -7,8 +7,9 @@ use Rattle.mars_cell.specs.declared.instruction.Modifier.TheVariants.{Ab, I}
 use Rattle.mars_cell.specs.declared.instruction.Mode.TheVariants.{Immediate, Direct, AIndirect, BIndirect, BPredecrement, BPostincrement}
 use Rattle.mars_cell.specs.Cells.{empty_cell}
 use Rattle.mars_cell.specs.Parameters.{Parameters}
+use Rattle.mars_core.specs.Marks.{marks_after}
 use Rattle.mars_core.specs.Touched.{touched}
-use Rattle.mars_core.specs.Examples.{the_machine, cell_of, numbers, sizes, of_eight, eight}
+use Rattle.mars_core.specs.Examples.{the_machine, cell_of, numbers, sizes, of_eight, eight, lone}
 
 -- A core of sixteen cells, where reads reach three cells forward and two back, and writes five and four.
 abbrev limited : Parameters
@@ -44,3 +45,15 @@ lowered_number_leads_the_b_operand = refl
 pub raised_number_leads_the_b_operand : touched of_eight (eight (cell_of Mov I BPostincrement 1 BIndirect 1 ∷ numbers 0 4 ∷ [])) 0 ≡ 0 ∷ 1 ∷ 1 ∷ 5 ∷ 1 ∷ 1 ∷ 6 ∷ 6 ∷ []
 unfolding the_machine
 raised_number_leads_the_b_operand = refl
+
+-- The turn of `MOV.I <1, $2` executes the cell 0, writes the cells 1 and 2, and also touches the cell 4, which it copies. The marks of the
+-- cell 7 remain.
+pub marks_are_added : marks_after (lone of_eight (eight (cell_of Mov I BPredecrement 1 Direct 2 ∷ numbers 0 4 ∷ [])) (0 ∷ []))
+    (record { executed = replicate 8 false; written = replicate 7 false ++ true ∷ []; touched = replicate 7 false ++ true ∷ [] })
+    ≡ record {
+      executed = true ∷ replicate 7 false;
+      written = false ∷ true ∷ true ∷ replicate 4 false ++ true ∷ [];
+      touched = true ∷ true ∷ true ∷ false ∷ true ∷ replicate 2 false ++ true ∷ [];
+    }
+unfolding the_machine
+marks_are_added = refl

@@ -1,66 +1,37 @@
 -- What the code notes of each warrior while a battle runs: numbers of turns, and a mark for each cell.
-use Rattle.std.specs.Prelude.{◌≡◌, ℕ, ◌+◌, ◌<◌, ◌==◌, Bool, true, false, if◌then◌else◌, List, [], ◌∷◌, length, map, replicate, slice_index_or, slice_set}
+use Rattle.std.specs.Prelude.{◌≡◌, ℕ, ◌+◌, ◌<◌, Bool, true, false, if◌then◌else◌, List, [], ◌∷◌, length, replicate, slice_index_or, slice_set}
+use Rattle.mars_core.specs.Marks.{Marks, marks_after}
 use Rattle.mars_core.specs.State.{State}
-use Rattle.mars_core.specs.Touched.{touched_in_turn}
-use Rattle.mars_core.specs.Turn.{turn_record}
-use Rattle.mars_core.specs.declared.machine.writes.CellChange.{CellChange}
-use Rattle.mars_core.specs.declared.record.Atom.{Atom}
-use Rattle.mars_core.specs.declared.record.Work.{Work}
-use Rattle.mars_core.specs.declared.record.Work.TheVariants.{Turn}
-use Rattle.mars_match.specs.Counts.{counts_of, how_many_below}
+use Rattle.mars_match.specs.Counts.{counts_of, how_many_below, splits}
 use Rattle.mars_match.specs.Fates.{no_counts}
 use Rattle.mars_match.specs.declared.counts.Counts.{Counts}
 
 pub record DeedsValue : Type 0 where
   pub turns : ℕ
   pub spawned : ℕ
-  pub executed : List Bool
-  pub written : List Bool
-  pub touched : List Bool
+  pub marks : Marks
 
 -- Nothing is noted of a core of `m` cells.
 abbrev pub no_deeds : ℕ → DeedsValue
 no_deeds m = record {
   turns = 0;
   spawned = 0;
-  executed = replicate m false;
-  written = replicate m false;
-  touched = replicate m false;
+  marks = record { executed = replicate m false; written = replicate m false; touched = replicate m false };
 }
 
--- There is a mark for each of `m` cells.
+-- There is a mark of each kind for each of `m` cells.
 pub record HasMarks (m : ℕ) (d : DeedsValue) : Type 0 where
-  pub executed : length d.executed ≡ m
-  pub written : length d.written ≡ m
-  pub touched : length d.touched ≡ m
-
--- The marks after those at these addresses are set.
-abbrev pub marked : List ℕ → List Bool → List Bool
-marked [] marks = marks
-marked (a ∷ addresses) marks = marked addresses (slice_set marks a true)
-
--- The addresses of these writes.
-abbrev pub written_at : List CellChange → List ℕ
-written_at changes = map (λ (change : CellChange). change.address) changes
-
--- The address of the instruction, if the work is a turn.
-abbrev pub executed_at : Work → List ℕ
-executed_at (Turn warrior address) = address ∷ []
-executed_at other = []
-
--- The deeds after a turn with this record that touches these addresses.
-abbrev pub with_record : Atom → List ℕ → DeedsValue → DeedsValue
-with_record atom touched d = record {
-  turns = d.turns + 1;
-  spawned = d.spawned + (if length atom.queued.items == 2 then 1 else 0);
-  executed = marked (executed_at atom.work) d.executed;
-  written = marked (written_at atom.cells.items) d.written;
-  touched = marked touched d.touched;
-}
+  pub executed : length d.marks.executed ≡ m
+  pub written : length d.marks.written ≡ m
+  pub touched : length d.marks.touched ≡ m
 
 -- The deeds of a warrior after its turn `t`.
 abbrev pub with_turn : State → DeedsValue → DeedsValue
-with_turn t d = with_record (turn_record t) (touched_in_turn t) d
+with_turn t d = record {
+  turns = d.turns + 1;
+  spawned = d.spawned + (if splits t then 1 else 0);
+  marks = marks_after t d.marks;
+}
 
 -- The deeds of a warrior after its turns.
 abbrev pub with_turns : List State → DeedsValue → DeedsValue
@@ -76,7 +47,7 @@ noted (t ∷ turns) all = noted turns (slice_set all t.next (with_turn t (slice_
 abbrev pub counts_in : DeedsValue → Counts
 counts_in d =
     let marks = λ (marks : List Bool). how_many_below (length marks) (λ a. slice_index_or marks a false) in
-    record { turns = d.turns; spawned = d.spawned; executed = marks d.executed; written = marks d.written; touched = marks d.touched }
+    record { turns = d.turns; spawned = d.spawned; executed = marks d.marks.executed; written = marks d.marks.written; touched = marks d.marks.touched }
 
 -- `counts` are what each warrior did from the state `s` on, in the order of turns, if that is counted; otherwise the list is
 -- empty.
