@@ -344,8 +344,9 @@ typedef struct {
                             MARS_WARRIOR_CELL and MARS_WARRIOR_FIELD: index of the first wrong cell */
     uint64_t warrior;    /* of MARS_WARRIOR, MARS_LINEUP, MARS_CONDITION and MARS_EDIT: index, from 0; of MARS_BLOCK_QUEUE: first
                             warrior whose queue is wrong */
-    uint64_t begin;      /* of MARS_ASSEMBLY: first byte, in the source, of the word or sign at which the error arises; in the text */
-    uint64_t end;        /* of an EQU it is there, not at its use. Byte after the last one. Both are 0 if there is no such word */
+    uint64_t begin;      /* of MARS_ASSEMBLY: offset in the source, in bytes, of the word or sign at which the error arises; of one that
+                            comes from an EQU, that in the text of the EQU. Like `end` 0 if the error has none */
+    uint64_t end;        /* offset of the byte after it */
 } MarsFault;
 
 /* A battle: a block of 32-bit words that the caller owns. The block has the whole state of the battle, without pointers or padding,
