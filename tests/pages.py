@@ -798,8 +798,8 @@ def test_the_editor_helps(page: Browser) -> None:
 def test_the_editor_has_room(page: Browser, site: str) -> None:
     """At least 60 characters of a line are visible in a usual window, and a divider stays where it is put."""
     page.run("corewar.views.showDesk(true)")
-    width = """const {mirror} = corewar.shelf.editor, gutter = mirror.getGutterElement().offsetWidth;
-      return (mirror.getScrollInfo().clientWidth - gutter) / mirror.defaultCharWidth()"""
+    width = """const [editor, gutters] = ["", "-gutters"].map(part => document.querySelector(`.CodeMirror${part}`));
+      return (editor.clientWidth - gutters.offsetWidth) / corewar.shelf.editor.mirror.defaultCharWidth()"""
     assert page.run(width) >= 60
     page.run("document.getElementById('divider').focus()")
     page.press("Left", "Left")
@@ -914,17 +914,18 @@ def test_a_page_shows_a_battle_whatever_is_stored(page: Browser, site: str) -> N
 def test_damaged_storage_is_left_out(page: Browser, site: str, stored: str) -> None:
     """The page starts whatever is stored, names what is damaged, and deletes that and nothing else on request."""
     page.run("localStorage.clear(); localStorage.setItem('corewar', given[0])", stored)
+    page.run("localStorage.setItem('corewar; league', given[0])", stored)
     # Of the second one only the text is sound, and that is what counts.
     for name, kept in (("own", '{"text":7}'), ("other", '{"text":"MOV 0, 1","saved":7,"kind":"x"}')):
         page.run("localStorage.setItem(`corewar: ${given[0]}.red`, given[1])", name, kept)
     page.open(f"{site}?damaged{hash(stored)}")
     page.until("window.corewar?.session.view")
-    start = "Something that this browser had stored is damaged and was left out: settings, own.red."
+    start = "Something that this browser had stored is damaged and was left out: settings, own.red, league."
     assert page.text("complaint").startswith(start)
     page.click("#complaint button")
     page.until("document.getElementById('complaint').hidden")
     kept = "['own', 'other'].map(name => localStorage.getItem(`corewar: ${name}.red`) !== null)"
-    assert page.value(kept) == [False, True]
+    assert page.value(kept) == [False, True] and page.value("localStorage.getItem('corewar; league')") is None
     page.open(f"{site}?mended{hash(stored)}")
     page.until("window.corewar?.session.view")
     assert page.text("complaint") == "" and page.value("corewar.shelf.find('other.red').doc.getValue()") == "MOV 0, 1"
@@ -1127,7 +1128,7 @@ def test_control_and_enter_start_one_battle(page: Browser) -> None:
     )
     page.press("Enter", held="Control")
     page.until("corewar.session.turn > 0")
-    assert page.value("[window.opened, corewar.shelf.shown.doc.isClean()]") == [1, True]
+    assert page.value("[window.opened, corewar.shelf.shown.doc.getValue() === corewar.shelf.shown.saved]") == [1, True]
 
 
 def test_what_is_scrolled_and_opened_keeps_its_keys(page: Browser) -> None:
@@ -1386,6 +1387,40 @@ def test_a_match_of_the_league_is_watched(page: Browser) -> None:
     page.run("document.querySelector('#league-table button').click()")
     page.until("corewar.session.fight.seed === 7 && !document.getElementById('battle').hidden")
     assert page.value("document.getElementById('seed').value") == "7"
+
+
+def test_a_league_is_kept(page: Browser) -> None:
+    """The page that is loaded again shows it, and continues with the matches that are missing."""
+    page.run("corewar.terms.value = {...corewar.terms.value, rounds: 2}; corewar.views.show('league')")
+    page.run("await corewar.league.runAll()")
+    again = "window.isOld = true; location.reload()"
+    loaded = "!window.isOld && window.corewar?.session.view"
+    table, note = (f"document.getElementById('league-{part}').textContent" for part in ("table", "note"))
+    before = page.value(f"[{table}, {note}]")
+    page.run(again)
+    page.until(loaded)
+    page.run("corewar.views.show('league')")
+    assert page.value(f"[{table}, {note}]") == before
+    code = """const kept = JSON.parse(localStorage.getItem("corewar; league"));
+      localStorage.setItem("corewar; league", JSON.stringify({...kept, results: kept.results.slice(3)}));"""
+    page.run(code + again)
+    page.until(loaded)
+    page.run(
+        """const {pool, terms} = corewar, ask = pool.ask.bind(pool);
+        window.matches = 0;
+        pool.ask = (job, ...rest) => {
+            if (job === "match") window.matches++;
+            return ask(job, ...rest);
+        };
+        terms.value = {...terms.value, rounds: 2};
+        corewar.views.show("league");"""
+    )
+    count = page.value("corewar.league.total")
+    assert page.text("league-note").startswith(f"{count - 3} of {count} matches, 2 rounds each, in ")
+    page.run("await corewar.league.runAll()")
+    assert page.value("window.matches") == 3 and page.value(table) == before[0]
+    page.run("document.querySelector('#league-table button').click()")
+    page.until("!document.getElementById('battle').hidden && corewar.session.fight.rounds === 2")
 
 
 def test_fields_show_what_is_used(page: Browser) -> None:

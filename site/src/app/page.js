@@ -22,7 +22,7 @@ import { Lessons } from "./lessons.js";
 import { Places } from "./places.js";
 import { listenToShare } from "./share.js";
 import { Sources } from "./sources.js";
-import { keep, stored } from "./store.js";
+import { keep, keepLeague, keptLeague, stored } from "./store.js";
 import { DEFAULT_TERMS, Terms } from "./terms.js";
 import { Views } from "./views.js";
 
@@ -58,7 +58,7 @@ export class Page {
     this.sources = new Sources(this.shelf, server, examples);
     const host = this.#host();
     this.bench = new Bench(host, () => this.#showBench());
-    this.league = new League(host, server && ((sources, terms) => server.league(sources, terms)));
+    this.league = new League(host, server && server.league.bind(server), keptLeague(), keepLeague);
     this.theatre = new Theatre(this.session);
     this.views = new Views(this, (isShown) => keep({ desk: isShown }));
     const showLine = (/** @type {string} */ name, /** @type {number} */ line) => this.showLine(name, line);

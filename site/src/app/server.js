@@ -1,6 +1,7 @@
 /**
  * The user's folder, if a server on this machine has one: sources are read from it and saved there, leagues run by it.
  */
+import { resultOf } from "../view/league.js";
 
 /** @typedef {import("../model/fight.js").Source} Source */
 /** @typedef {import("../view/league.js").Result} Result */
@@ -123,12 +124,4 @@ export class Server {
       await reader.cancel();
     }
   }
-}
-
-/**
- * @param {number[]} counts two sources; points, wins, ties and losses of the first one; points of the other one
- * @returns {Result}
- */
-function resultOf([one, other, points, wins, ties, losses, theirs]) {
-  return [one, other, { points, wins, ties, losses }, { points: theirs, wins: losses, ties, losses: wins }];
 }

@@ -4,6 +4,7 @@ import { RANGES, SETTINGS } from "../model/settings.js";
 import { folderKey } from "./server.js";
 
 /** @typedef {import("../view/host.js").MatchTerms} MatchTerms */
+/** @typedef {import("../view/league.js").KeptLeague} KeptLeague */
 /** @typedef {import("../view/shelf.js").Kind} Kind */
 /** @typedef {{text: string, saved: string, kind: Kind, made: number}} KeptSource `made` orders them */
 /**
@@ -22,6 +23,9 @@ import { folderKey } from "./server.js";
 const NAME = `corewar ${folderKey}`.trim();
 /** Each source has a key of its own, so that a window never writes over what another one has written. */
 const SOURCE = `${NAME}: `;
+/** So has the league that was run last. Sources need the room of a larger one. */
+const LEAGUE = `${NAME}; league`;
+const MAX_LEAGUE_SIZE = 1_000_000;
 
 /** @typedef {(value: any) => boolean} Check */
 const isText = (/** @type {unknown} */ value) => typeof value === "string";
@@ -67,6 +71,34 @@ const isWhole = (value, checks) =>
 const holds =
   (checks) =>
   (/** @type {[string, unknown]} */ [name, value]) => !Object.hasOwn(checks, name) || checks[name](value);
+
+/** @type {Record<string, Check>} */
+const LEAGUE_PARTS = {
+  sources: (value) => Array.isArray(value) && value.every((one) => isText(one?.name) && isText(one.text)),
+  names: isTexts,
+  errors: isTexts,
+  terms: (value) => isComplete(value, TERMS),
+  took: isNumber,
+  results: (value) => Array.isArray(value) && value.every(areCounts),
+};
+
+/** Two sources, the first one before the other, and five counts; points may be negative. */
+const areCounts = (/** @type {any} */ value) => {
+  if (!Array.isArray(value) || value.length !== 7 || !value.every(Number.isSafeInteger)) return false;
+  return 0 <= value[0] && value[0] < value[1];
+};
+
+/**
+ * @param {any} value
+ * @param {Record<string, Check>} checks
+ */
+const isComplete = (value, checks) => isWhole(value, checks) && Object.keys(checks).every((name) => name in value);
+
+/** @type {Check} */
+const isLeague = (value) =>
+  isComplete(value, LEAGUE_PARTS) &&
+  value.names.length === value.sources.length &&
+  value.results.every((/** @type {number[]} */ [, other]) => other < value.sources.length);
 
 /** What sources can be that are stored. */
 const KINDS = ["own", "example", "lesson"];
@@ -164,6 +196,23 @@ function set(key, text) {
  */
 export const keepSource = (name, source) => set(SOURCE + name, source && JSON.stringify(source));
 
+/**
+ * Keeps a league in place of the one before.
+ * @param {KeptLeague} league
+ */
+export function keepLeague(league) {
+  const text = JSON.stringify(league);
+  set(LEAGUE, text.length <= MAX_LEAGUE_SIZE ? text : null);
+}
+
+/** @returns {KeptLeague | null} */
+export function keptLeague() {
+  const league = parsed(LEAGUE, itemOf(LEAGUE));
+  if (league === undefined || isLeague(league)) return league ?? null;
+  damaged.add(LEAGUE);
+  return null;
+}
+
 renew();
 export const stored = read();
 
@@ -205,7 +254,8 @@ export function keptSources() {
 }
 
 /** Returns the names of what is damaged. */
-export const damagedNames = () => [...damaged].map((key) => (key === NAME ? "settings" : key.slice(SOURCE.length)));
+export const damagedNames = () =>
+  [...damaged].map((key) => (key === NAME ? "settings" : key === LEAGUE ? "league" : key.slice(SOURCE.length)));
 
 /** Deletes what is damaged, and nothing else. */
 export function deleteDamaged() {
@@ -225,6 +275,6 @@ export function listenToSources(changed) {
 /** Forgets everything that is kept for this folder, if the user agrees, and loads the page again. */
 export function startAfresh() {
   if (!confirm("Delete all sources and settings that this browser has stored for this page?")) return;
-  for (const key of keys()) if (key === NAME || key.startsWith(SOURCE)) set(key, null);
+  for (const key of keys()) if ([NAME, LEAGUE].includes(key) || key.startsWith(SOURCE)) set(key, null);
   location.replace(location.pathname + location.search);
 }

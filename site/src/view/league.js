@@ -11,6 +11,11 @@ import { allOf, errorWords, sumOf } from "./host.js";
 /** @typedef {import("./host.js").Source} Source */
 /** @typedef {[number, number, Row, Row]} Result two sources, and their rows */
 /**
+ * A league that outlives the page. `results` has the counts that `resultOf` reads, `took` milliseconds.
+ * @typedef {{sources: Source[], names: string[], errors: string[], terms: MatchTerms, took: number,
+ *   results: number[][]}} KeptLeague
+ */
+/**
  * Runs the matches of a league elsewhere: yields results as they end, first those that were stored.
  * @typedef {(sources: Source[], terms: MatchTerms) => AsyncGenerator<Result[]>} Runner
  */
@@ -47,15 +52,20 @@ export class League {
   #began = 0;
   #took = 0;
   #later = throttle(() => this.draw(), 200);
+  #soon = throttle(() => this.keep(this.#kept), 2000);
 
   /**
    * @param {import("./host.js").Host} host
    * @param {Runner | null} runner
+   * @param {KeptLeague | null} before the league of before the page was loaded
+   * @param {(league: KeptLeague) => void} keep
    */
-  constructor(host, runner) {
+  constructor(host, runner, before, keep) {
     this.host = host;
     this.runner = runner;
+    this.keep = keep;
     this.#terms = host.terms();
+    if (before) this.#resume(before);
     onClick("league-run", () => this.runAll());
     onClick("league-stop", () => this.#stop());
   }
@@ -90,11 +100,46 @@ export class League {
     }
     if (run !== this.#run) return;
     this.#isRunning = false;
+    this.keep(this.#kept);
     this.draw();
   }
 
+  /** @returns {KeptLeague} */
+  get #kept() {
+    const results = this.against.flatMap((line, one) =>
+      line.flatMap((row, other) => {
+        const reverse = this.against[other][one];
+        return row && reverse && one < other ? [countsOf([one, other, row, reverse])] : [];
+      }),
+    );
+    const [sources, names, errors, terms] = [this.#sources, this.#names, this.#faults, this.#terms];
+    return { sources, names, errors, terms, took: Math.round(this.#took), results };
+  }
+
+  /** @param {KeptLeague} kept */
+  #resume({ sources, names, errors, terms, took, results }) {
+    this.#faults = errors;
+    this.#begin(sources, names, terms);
+    this.#enterResults(results.map(resultOf));
+    this.#took = took;
+  }
+
   /**
-   * Assembles the sources. One with an error is left out.
+   * @param {Source[]} sources
+   * @param {string[]} names
+   * @param {MatchTerms} terms
+   */
+  #begin(sources, names, terms) {
+    this.#terms = terms;
+    this.#sources = sources;
+    this.#names = names;
+    this.against = sources.map(() => sources.map(() => null));
+    this.done = this.#took = 0;
+    this.total = (sources.length * (sources.length - 1)) / 2;
+  }
+
+  /**
+   * Assembles the sources. One with an error is left out. The results of the same league that has not ended stay.
    * @param {Source[]} sources
    * @param {MatchTerms} terms
    * @param {number} run
@@ -116,13 +161,11 @@ export class League {
     });
     const entrants = (await Promise.all(pending)).flatMap((entrant) => entrant ?? []);
     if (run !== this.#run) throw new Stopped("stopped");
-    this.#terms = terms;
     this.#faults = [...faults];
-    this.#sources = entrants.map(({ source }) => source);
-    this.#names = entrants.map(({ source, name }) => name || source.name);
-    this.against = entrants.map(() => entrants.map(() => null));
-    this.done = this.#took = 0;
-    this.total = (entrants.length * (entrants.length - 1)) / 2;
+    const entered = entrants.map(({ source }) => source);
+    const isSame = JSON.stringify([entered, terms]) === JSON.stringify([this.#sources, this.#terms]);
+    if (isSame && this.done < this.total) this.#began -= this.#took;
+    else this.#begin(entered, entrants.map(({ source, name }) => name || source.name), terms);
     this.draw();
     return entrants.map(({ warrior }) => warrior);
   }
@@ -134,7 +177,8 @@ export class League {
   async #runHere(warriors, run) {
     const [{ pool }, terms] = [this.host, this.#terms];
     const pairs = warriors.flatMap((_, one) => warriors.slice(one + 1).map((_, index) => [one, one + 1 + index]));
-    const fights = pairs.map(async ([one, other]) => {
+    const pending = pairs.filter(([one, other]) => !this.against[one][other]);
+    const fights = pending.map(async ([one, other]) => {
       const rows = await pool.ask("match", [[warriors[one], warriors[other]], terms], "league");
       if (run === this.#run) this.#addResults([[one, other, rows[0], rows[1]]]);
     });
@@ -154,14 +198,20 @@ export class League {
   }
 
   /** @param {Result[]} results */
-  #addResults(results) {
+  #enterResults(results) {
     for (const [one, other, row, reverse] of results) {
+      if (!this.against[one][other]) this.done++;
       this.against[one][other] = row;
       this.against[other][one] = reverse;
     }
-    this.done += results.length;
+  }
+
+  /** @param {Result[]} results */
+  #addResults(results) {
+    this.#enterResults(results);
     this.#took = performance.now() - this.#began;
     this.#later();
+    this.#soon();
   }
 
   /** Draws the table, the most points per round first. Rows and columns have the ranks of the warriors. */
@@ -255,6 +305,19 @@ export class League {
     };
   }
 }
+
+/**
+ * Returns a result of its counts: two sources; points, wins, ties and losses of the first one; points of the other one.
+ * @param {number[]} counts
+ * @returns {Result}
+ */
+export function resultOf([one, other, points, wins, ties, losses, theirs]) {
+  return [one, other, { points, wins, ties, losses }, { points: theirs, wins: losses, ties, losses: wins }];
+}
+
+/** @param {Result} result */
+const countsOf = ([one, other, { points, wins, ties, losses }, reverse]) =>
+  [one, other, points, wins, ties, losses, reverse.points];
 
 /**
  * Returns the colour of a result: red, green, blue, 0 to 255, and how strong it is, 0 to 1.
