@@ -16,8 +16,11 @@ LAYOUT = "e-m:e-p:64:64-p10:8:8-p20:8:8-i64:64-i128:128-n32:64-S128-ni:1:10:20"
 COMPILE = [f"--target={TARGET}", "-mcpu=lime1", "-mbulk-memory", "-O2", "--no-default-config"]
 # The options of the native library.
 AS_NATIVE = ["-ffunction-sections", "-fno-vectorize", "-fno-slp-vectorize"]
-# The crates that no turn runs through. They are compiled for size.
+# The crates that no turn runs through, and those of the toolchain, whose code in turns is inlined. They are compiled
+# for size, and so are all calls but those that make turns one by one.
 SMALL = "redcode_text|redcode_asm|mars_cell|mars_match|mars_session|mars_app|mars_c"
+SMALL += "|core|std|std_alloc|arrayvec|indexmap|itoa"
+FAST = "follow|moments|outcomes|play"
 # Functions with equal instances for battles with and without limits. They are not inlined, and wasm-opt merges them. No
 # function belongs here that returns a structure: each call of it would clear the result in every turn.
 MERGED = "mars_core::machine::rare::effect_of_number"
@@ -39,7 +42,8 @@ def for_webassembly(text: str) -> str:
     """The text of a module of x86-64 as one of wasm64."""
     text = re.sub(r"^target datalayout = .*", f'target datalayout = "{LAYOUT}"', text, flags=re.M)
     text = re.sub(r"^target triple = .*", f'target triple = "{TARGET}"', text, flags=re.M)
-    text = re.sub(rf'^(define .*@"(?:{SMALL})::.*\)) (#\d+ {{)$', r"\1 minsize optsize \2", text, flags=re.M)
+    small = rf'(?:"(?:{SMALL})::|mars_(?!{FAST})).*'
+    text = re.sub(rf"^(define .*@{small}\)) (#\d+ {{)$", r"\1 minsize optsize \2", text, flags=re.M)
     text = re.sub(rf'^(define .*@"{MERGED}::.*\)) #\d+ {{$', r"\1 noinline nounwind {", text, flags=re.M)
     return re.sub(r' ?"(probe-stack|stack-probe-size|target-cpu)"="[^"]*"', "", text)
 
