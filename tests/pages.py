@@ -716,19 +716,23 @@ def test_the_editor_shows_errors_and_fights(page: Browser, site: str) -> None:
     page.press("e")
     page.run(
         "const {mirror} = corewar.shelf.editor; mirror.setValue(given[0])",
-        "x MVO 0, 1\n MOV 0, bom\n JMP x\nbomb DAT 0\n",
+        "x MVO 0, 1\n MOV 0, bom\n JMP x, 1 1\nbomb DAT 0, 5/0 ; 5\n",
     )
     page.until("document.getElementById('fault').classList.contains('bad')")
     assert "did you mean MOV?" in page.text("fault") and "did you mean bomb (line 4)?" in page.text("fault")
     assert page.value("[...document.querySelectorAll('.CodeMirror .fault')].map(one => one.textContent)") == [
         "MVO",
         "bom",
+        "1",
+        "5",
     ]
     page.click("#fault button:nth-of-type(2)")
     code = (
         "const {mirror} = corewar.shelf.editor, {line, ch} = mirror.getCursor(); return [line, ch, mirror.hasFocus()]"
     )
     assert page.run(code) == [1, 8, True]
+    page.click("#fault button:nth-of-type(3)")
+    assert page.run(code) == [2, 10, True]
     page.run("corewar.shelf.editor.mirror.setValue(given[0]); corewar.shelf.editor.mirror.focus()", "MOV 0, 1 ; mine\n")
     page.until("!document.getElementById('fault').classList.contains('bad')")
     page.press("Enter", held="Control")

@@ -2,6 +2,7 @@
 from __future__ import annotations
 
 import os
+import pickle
 import re
 import signal
 import subprocess
@@ -109,7 +110,9 @@ SOURCES = [
         "line 101: 8 TooLong",
         "shorten the warrior or, unless it is for a hill, increase `-l`",
     ),
-    # Errors without a cause in the text are explained by their meaning.
+    # Errors without a cause in the text are explained by their meaning, also those in the definition of an EQU.
+    ("x EQU 1+\nmov x, 1\n", "line 2: 4 Expression 1 Syntax", "In line 1, something is missing or superfluous"),
+    ("x EQU 1/0\ny EQU x\nmov y, 1\n", "line 3: 4 Expression 3 DivideByZero", "In line 1, there is a division"),
     ("mov 0, 1.5\n", "line 1: 4 Expression 1 Syntax", "Something is missing or superfluous"),
     ("i FOR 2\nx&j dat 0\nROF\n", "line 2: 1 Text 2 BadToken", "`x&j`: `j` is not the counter of a loop"),
     ("FOR 1/0\ndat 0\nROF\n", "line 1: 1 Text 10 Expression 3 DivideByZero", "There is a division or remainder"),
@@ -636,23 +639,51 @@ def test_errors_of_newcomers(source: str, lines: dict[int, str]) -> None:
 @pytest.mark.parametrize(
     "text, mark",
     [
-        ("mov.q 0, 1\n", "       |    ^^"),
+        ("mov.q 0, 1\n", "       |     ^"),
         ("\tmvo 0, 1 ; mvo\n", "       |         ^^^"),
         ("mov 0 1\n", "       |     ^^^"),
         ("mov 0,\n", "       |      ^"),
         ("jmp\n", "       | ^^^"),
-        ("mov 0, 1, 23\n", "       |           ^^"),
-        ("mov 0.5, 1\n", "       |     ^^^"),
-        ("mov 0, 1 // copy\n", "       |          ^^^^^^^"),
-        ("# copy it\n", "       | ^^^^^^^^^"),
+        ("mov 0, 1, 23\n", "       |         ^"),
+        ("mov 0.5, 1\n", "       |      ^"),
+        ("mov 0, 1 // copy\n", "       |           ^"),
+        ("# copy it\n", "       | ^"),
         ("mov 0, nop jmp\n", "       |        ^^^"),
-        ("add 0, (1\n", None),
+        ("add 0, (1\n", "       |         ^"),
+        ("add 1, 1/0\n", "       |        ^"),
+        ("\tadd 12, 1 + 12 12\n", "       |                     ^^^^^"),
+        ("sta x, 1\n", "       | ^^^"),
+        ("[1]\n", "       | ^"),
+        (";assert 0\n", "       |         ^"),
+        ("jmp 2-CORESIZ ; CORESIZ\n", "       |       ^^^^^^^"),
     ],
 )
-def test_the_word_that_is_wrong_is_marked(text: str, mark: str | None, run: Run, tmp_path: Path) -> None:
+def test_the_word_that_is_wrong_is_marked(text: str, mark: str, run: Run, tmp_path: Path) -> None:
     (tmp_path / "x.red").write_text(f"nop\n{text}nop\n")
     lines = run("explain", "x.red").stdout.splitlines()
-    assert lines[3] == (mark or "     3 | nop") and lines[2].startswith(">    2 | ")
+    assert lines[3] == mark and lines[2].startswith(">    2 | ")
+
+
+@pytest.mark.parametrize(
+    "source, word, column",
+    [
+        ("; \u00e4\n  mov x, 1 ; x\n", "x", 6),
+        ("b nop 0\n\tjmp b-(b ; b\n", "b", 8),
+        ("e EQU 5/0\nnop 1, e\n", "5", None),
+        ("i FOR 2\nmov.i 0, i\nROF\n", "i", 4),
+        ("nop 0\nmov 1 mov\njmp off\n", "off", 4),
+        ("; nothing\n", "", None),
+    ],
+)
+def test_the_place_of_an_error(source: str, word: str, column: int | None) -> None:
+    """The library says at which bytes the last error arises; those of an EQU are in its definition."""
+    data = source.encode()
+    fault = [fault for fault, _ in errors_of(data, assemble)][-1]
+    assert data[fault.begin : fault.end] == word.encode()
+    again = pickle.loads(pickle.dumps(fault))
+    assert (again.begin, again.end) == (fault.begin, fault.end)
+    problem = corewar.problems(source)[-1]
+    assert (problem.word, problem.column) == ((word, column) if column is not None else ("", 0))
 
 
 def test_a_number_without_its_sign(run: Run, tmp_path: Path) -> None:

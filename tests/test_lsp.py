@@ -159,6 +159,26 @@ def test_corrections(source: str, title: str, expected: str) -> None:
     assert request(text, "codeAction", 50, 0) == []
 
 
+@pytest.mark.parametrize(
+    "source, line, first, last",
+    [
+        ("\tmov CORESIZ, CORESIZE\n", 0, 5, 12),
+        ("nop 0\nadd 12, 1 + 12 12\n", 1, 12, 17),
+        ("mov 1, 2, 3 ; \U0001f600\n", 0, 8, 9),
+        (";\U0001f600\nnop 1, 4/0\n", 1, 7, 8),
+        ("x nop 0\n;assert 2 == 3\n", 1, 8, 9),
+        ("e EQU 1/0\n nop e\n", 0, 6, 7),
+    ],
+)
+def test_an_error_is_at_its_word(source: str, line: int, first: int, last: int) -> None:
+    """At the word or sign where the library has it, which may be in the definition of an EQU."""
+    (error,) = (text := text_of(source)).errors
+    assert text.error_range(error) == {
+        "start": {"line": line, "character": first},
+        "end": {"line": line, "character": last},
+    }
+
+
 def test_each_correction_removes_an_error() -> None:
     count = 0
     for source, _ in test_explain.mutated(60):

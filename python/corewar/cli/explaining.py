@@ -23,7 +23,7 @@ from ..explain.hints import hints_of
 from ..explain.instructions import describe_line, find_instruction
 from ..explain.meanings import explain_error, explain_kind, read_faults
 from ..explain.pmars import CHECKED_ROWS, pmars_differences
-from ..explain.source import Line, excerpt, parse_line
+from ..explain.source import Line, Place, excerpt, parse_line, place_of
 from ..explain.words import DIRECTIVES, OPCODES
 from ..model.errors import ASSEMBLY, CorewarError, FileError, MarsError
 from ..model.printing import printable
@@ -116,7 +116,7 @@ class Explanations:
             write([*lines])
 
     def add_problem(self, head: str, file: str, problem: Problem, source: bytes) -> None:
-        lines = [head, *excerpt(source, problem.line, problem.word), *problem.advice]
+        lines = [head, *excerpt(source, problem.line, problem.column, problem.word), *problem.advice]
         self.add(lines, **{"file": file, **asdict(problem)})
 
     def end(self) -> None:
@@ -148,7 +148,8 @@ def explain_instruction(options: BattleOptions, line: Line, shown: Explanations)
                 shown.add([f"{line.text}: {MEANINGS[line.word]}"], instruction=line.text, meaning=[MEANINGS[line.word]])
                 return 0
             kind, source = kind_of(fault), encode_source(line.text)
-            problem = problem_of(kind, 1, source, explain_kind(kind, 1, source))
+            place = place_of(source, fault.begin, fault.end)
+            problem = problem_of(kind, 1, source, explain_kind(kind, 1, source, place), place)
             shown.add([f"{line.text}: {kind}", *problem.advice], **{"file": "", **asdict(problem)})
             return 1
     return 0
@@ -160,7 +161,8 @@ def explain_file(options: BattleOptions, path: str, shown: Explanations) -> int:
     try:
         with limited(options, path) as assembler:
             for fault, text, sentences in errors_in(options, path, assembler):
-                problem = problem_of(kind_of(fault), fault.line, text, sentences)
+                place = place_of(text, fault.begin, fault.end)
+                problem = problem_of(kind_of(fault), fault.line, text, sentences, place)
                 shown.add_problem(f"{path}: {fault}", path, problem, text)
                 found = True
     except FileError as unread:
@@ -262,10 +264,21 @@ def explain_input(options: BattleOptions, shown: Explanations) -> int:
         raise CorewarError("no error message found in the input")
     for message, path, number, kind in found:
         source = read_file(path) if os.path.isfile(path) else b""
-        with limited(options, path):
-            problem = problem_of(kind, number, source, explain_kind(kind, number, source))
+        with limited(options, path) as assembler:
+            place = place_in(source, kind, number, loader(options, path, assembler))
+            problem = problem_of(kind, number, source, explain_kind(kind, number, source, place), place)
             shown.add_problem(message, path, problem, source)
     return 0
+
+
+def place_in(source: bytes, kind: str, number: int, load: Callable[[bytes], Warrior]) -> Place | None:
+    """Returns where a source has the error that a message names, if it has that error."""
+    try:
+        load(source)
+    except MarsError as fault:
+        if (kind_of(fault), fault.line) == (kind, number):
+            return place_of(source, fault.begin, fault.end)
+    return None
 
 
 def write(lines: list[str]) -> None:

@@ -8,8 +8,9 @@ from dataclasses import dataclass
 from functools import cached_property
 from itertools import zip_longest
 
-from ..explain.errors import errors_of, kind_of
-from ..explain.source import Advice, Source, read_source
+from ..explain.errors import errors_of, kind_of, wrong_word
+from ..explain.sentences import Advice
+from ..explain.source import Place, Source, place_of, read_source
 from ..model.cells import cell_text
 from ..model.errors import CorewarError
 from ..model.settings import HILLS, MAX_FILE_SIZE, Settings
@@ -29,11 +30,14 @@ Cells = dict[int, list[tuple[int, str]]]
 
 @dataclass
 class Error:
-    """An error of a source: its text and explanation, and the number of the line to correct, or 0."""
+    """An error of a source: its text and explanation, the number of the line to correct, or 0, and where the library
+    has it.
+    """
 
     kind: str
     sentences: list[str]
     number: int = 0
+    place: Place | None = None
 
     @property
     def advice(self) -> Advice | None:
@@ -118,7 +122,7 @@ class Text:
         found: list[Error] = []
         try:
             for fault, sentences in errors_of(self.data, self.load):
-                error = Error(kind_of(fault), sentences)
+                error = Error(kind_of(fault), sentences, place=place_of(self.data, fault.begin, fault.end))
                 error.number = error.advice.line if error.advice and error.advice.line else fault.line
                 found.append(error)
         except CorewarError as refused:
@@ -127,10 +131,8 @@ class Text:
 
     def word_range(self, error: Error) -> Range | None:
         """Returns the range of the word that is to be corrected, or None if there is no such word."""
-        old = error.advice.old if error.advice else ""
-        ends = r"(?![\w&])" if re.search(r"\w$", old, re.ASCII) else ""
-        found = re.search(rf"(?<![\w&]){re.escape(old)}{ends}", self.line(error.number), re.ASCII) if old else None
-        return self.span(error.number, *found.span()) if found else None
+        word, _, column = wrong_word(error.number, self.line(error.number), error.sentences, error.place)
+        return self.span(error.number, column, column + len(word)) if word else None
 
     def error_range(self, error: Error) -> Range:
         """Returns the range of the word to correct, or else of the code of the line."""

@@ -135,7 +135,8 @@ def call(name: str, *given: Any) -> int:
     fault = ffi.new("MarsFault *")
     answer: int = getattr(calls, name)(*given, fault)
     if answer not in (0, ROOM):
-        raise MarsError(fault.code, fault.number, fault.problem, fault.expression, fault.line, fault.warrior)
+        place = fault.line, fault.warrior, fault.begin, fault.end
+        raise MarsError(fault.code, fault.number, fault.problem, fault.expression, *place)
     return answer
 
 

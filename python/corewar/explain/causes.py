@@ -6,7 +6,7 @@ from collections.abc import Callable, Iterator
 from decimal import Decimal
 from unicodedata import name as character_name
 
-from .sentences import cause_sentence
+from .sentences import Advice, Misspelt, cause_sentence, earlier
 from .source import (
     ELSEWHERE,
     GLUED,
@@ -15,16 +15,16 @@ from .source import (
     OPCODES,
     PREDEFINED,
     TOKEN,
-    Advice,
     Line,
     Loop,
-    Misspelt,
+    Place,
     Source,
     misspelt,
     most_similar,
 )
 
-Cause = Callable[[Source, Line], Iterator[str]]
+# A function of the source, the line of the error, and where the library has it.
+Cause = Callable[[Source, Line, Place | None], Iterator[Advice]]
 # A comment of another language.
 COMMENT = re.compile(r"//|/\*|^\s*#|,.*\w\s+#\s")
 ASSIGNED = re.compile(r"\s*([A-Za-z_]\w*)\s*=\s*(\w.*)", re.ASCII)
@@ -37,7 +37,7 @@ MAX_NUMBER = 2**63 - 1
 OPENING = ("#", "$", "@", "{", "}", "(")
 
 
-def not_ascii(source: Source, line: Line) -> Iterator[str]:
+def not_ascii(source: Source, line: Line, _: Place | None) -> Iterator[Advice]:
     raw = source.data.split(b"\n")[line.number - 1].split(b";")[0]
     if line.number == 1 and raw.startswith((b"\xff\xfe", b"\xfe\xff")):
         yield cause_sentence("utf16")
@@ -50,24 +50,23 @@ def not_ascii(source: Source, line: Line) -> Iterator[str]:
             yield cause_sentence("not ascii", column=found.start() + 1, word=found[0], named=named)
 
 
-def bad_token(source: Source, line: Line) -> Iterator[str]:
+def bad_token(source: Source, line: Line, _: Place | None) -> Iterator[Advice]:
     found = FOREIGN.search(line.code)
     if found and found[0] == "\\" and line.is_continued and line.number < len(source.lines):
         yield cause_sentence("backslash")
     elif found:
         yield cause_sentence("foreign", word=found[0])
     elif assigned := ASSIGNED.match(line.code):
-        new = f"{assigned[1]} EQU {assigned[2].rstrip()}"
-        yield Advice(cause_sentence("assign", new=new), line.code.strip(), new)
+        yield cause_sentence("assign", word=line.code.strip(), new=f"{assigned[1]} EQU {assigned[2].rstrip()}")
     elif alone := AMPERSAND.search(line.code):
-        yield Advice(cause_sentence("ampersand", word=alone[1]), alone[1] or "&")
+        yield cause_sentence("ampersand", word=alone[1])
     else:
         counters = {loop.counter for loop in source.loops_around(line.number)}
         for token in TOKEN.findall(line.code):
             yield from wrong_token(source, line, token, counters)
 
 
-def wrong_token(source: Source, line: Line, token: str, counters: set[str]) -> Iterator[str]:
+def wrong_token(source: Source, line: Line, token: str, counters: set[str]) -> Iterator[Advice]:
     """Says why a token is none, or is not allowed in a line."""
     joined_names = [name for name in token.split("&")[1:] if name not in counters]
     if token.isdecimal() and Decimal(token) > MAX_NUMBER:
@@ -82,19 +81,18 @@ def wrong_token(source: Source, line: Line, token: str, counters: set[str]) -> I
             yield cause_sentence("equ lines", word=token, line=first)
 
 
-def bad_count(source: Source, line: Line) -> Iterator[str]:
+def bad_count(source: Source, line: Line, _: Place | None) -> Iterator[Advice]:
     if line.word == "FOR":
         known = cause_sentence("curline") if "CURLINE" in line.rest else ""
         yield cause_sentence("count", word="".join(line.rest), known=known)
 
 
-def operation(source: Source, line: Line) -> Iterator[str]:
+def operation(source: Source, line: Line, _: Place | None) -> Iterator[Advice]:
     dashed, word = DASHED.match(line.code), misspelt(source, line)
     if COMMENT.search(line.code):
         yield cause_sentence("comment")
     elif dashed:
-        name = dashed[1].replace("-", "_")
-        yield Advice(cause_sentence("dashed", new=name), dashed[1], name)
+        yield cause_sentence("dashed", word=dashed[1], new=dashed[1].replace("-", "_"))
     elif word:
         yield word
     elif line.operation in source.equates:
@@ -116,18 +114,17 @@ def opcode_of(line: Line) -> str:
     return labels[-1] if len(labels) == 1 or labels and (first in OPENING or first.isdecimal()) else ""
 
 
-def empty(source: Source, _: Line) -> Iterator[str]:
+def empty(source: Source, _line: Line, _: Place | None) -> Iterator[Advice]:
     """Looks in each line for an opcode that is not read as one, also before a name that the source does not have."""
     for line in source.read_lines():
         word, found = misspelt(source, line), GLUED.match("".join(line.labels[:1]))
         if not word and found:
-            new = f"{found[1]} {found[2]}"
-            word = Misspelt(cause_sentence("misspelt", word=found[0], new=new), found[0], new)
+            word = Misspelt.of("misspelt", word=found[0], new=f"{found[1]} {found[2]}")
         if word:
-            yield Misspelt(cause_sentence("earlier", line=line.number, inner=word), word.old, word.new, line.number)
+            yield earlier(line.number, word)
 
 
-def operand(source: Source, line: Line) -> Iterator[str]:
+def operand(source: Source, line: Line, _: Place | None) -> Iterator[Advice]:
     """An operand is empty if it is the name of an EQU without a text; there are too many in two instructions."""
     for token in line.operands:
         if token.upper() in OPCODES and token not in source.labels():
@@ -136,7 +133,7 @@ def operand(source: Source, line: Line) -> Iterator[str]:
             yield cause_sentence("empty equ", word=token, line=source.equates[token].number)
 
 
-def modifier(source: Source, line: Line, named: str) -> Iterator[str]:
+def modifier(source: Source, line: Line, named: str) -> Iterator[Advice]:
     for loop in source.loops_around(line.number):
         if loop.counter == named:
             yield cause_sentence("counter modifier", word=named, line=loop.head.number, new=named.swapcase())
@@ -144,7 +141,7 @@ def modifier(source: Source, line: Line, named: str) -> Iterator[str]:
         yield cause_sentence("modifier", word=named, all=", ".join(MODIFIERS))
 
 
-def duplicate(source: Source, line: Line) -> Iterator[str]:
+def duplicate(source: Source, line: Line, _: Place | None) -> Iterator[Advice]:
     word, labels, loops = misspelt(source, line), source.labels(), source.loops_around(line.number)
     if word:
         yield word
@@ -160,31 +157,30 @@ def duplicate(source: Source, line: Line) -> Iterator[str]:
             yield joined(name, loops)
 
 
-def joined(name: str, loops: list[Loop]) -> str:
+def joined(name: str, loops: list[Loop]) -> Advice:
     """Returns how a name in loops is made distinct: by the counters of all loops around it, from the outermost one."""
     head = next((loop.head for loop in loops if not loop.counter), None)
     if head is not None:
         return cause_sentence("no counter", word=name, line=head.number)
     missing = [loop.counter for loop in loops if loop.counter not in name.split("&")[1:]]
-    new = "&".join([name, *missing])
-    return Advice(cause_sentence("joined", word=name, new=new), name, new)
+    return cause_sentence("joined", word=name, new="&".join([name, *missing]))
 
 
-def taken(source: Source, line: Line, name: str, other: Line) -> str:
+def taken(source: Source, line: Line, name: str, other: Line) -> Advice:
     """Returns why a name is in an earlier line."""
     word = misspelt(source, other)
     equ = next((one for one in other.labels[1:] if most_similar(one, ["EQU"])), "")
     if not word and equ:
         # The text that it should name has an opcode, so the line is an instruction.
-        word = Misspelt(cause_sentence("misspelt", word=equ, new="EQU"), equ, "EQU")
+        word = Misspelt.of("misspelt", word=equ, new="EQU")
     if word:
-        return Misspelt(cause_sentence("earlier", line=other.number, inner=word), word.old, word.new, other.number)
+        return earlier(other.number, word)
     if line.word == "EQU" and not other.operation:
         return cause_sentence("before equ", word=name, line=other.number)
     return cause_sentence("duplicate", word=name, line=other.number)
 
 
-def syntax(source: Source, line: Line) -> Iterator[str]:
+def syntax(source: Source, line: Line, _: Place | None) -> Iterator[Advice]:
     tokens = line.operands
     if COMMENT.search(line.code):
         yield cause_sentence("comment")
@@ -192,44 +188,33 @@ def syntax(source: Source, line: Line) -> Iterator[str]:
     if line.word in OPCODES and tokens and tokens[0].upper() in OPCODES:
         yield cause_sentence("opcode label", word=line.operation)
         return
-    yield from operand(source, line)
+    yield from operand(source, line, None)
     for before, after in zip(tokens, tokens[1:]):
-        if (before == ")" or re.match(r"\w", before)) and (after in OPENING or re.match(r"\w", after)):
+        if re.match(r"[\w)]", before) and (after in OPENING or re.match(r"\w", after)):
             found = re.search(rf"{re.escape(before)}\s*{re.escape(after)}", line.code)
-            old = found[0] if found else ""
-            yield Advice(cause_sentence("comma", before=before, after=after), old, f"{before}, {after}")
+            pair, new = found[0] if found else "", f"{before}, {after}"
+            yield cause_sentence("comma", word=pair, new=new, before=before, after=after)
     for name in [one for one, after in zip([line.operation, *tokens], tokens) if after == ":" and NAME.match(one)]:
-        yield Advice(cause_sentence("colon", new=name), f"{name}:", name)
+        yield cause_sentence("colon", word=f"{name}:", new=name)
     if tokens.count("(") != tokens.count(")"):
         yield cause_sentence("parentheses", opened=tokens.count("("), closed=tokens.count(")"))
 
 
-def unknown(source: Source, line: Line) -> Iterator[str]:
-    labels, counters = source.labels(), {loop.counter for loop in source.loops_around(line.number)}
-    # Each name with the line that has it: the names of an EQU are looked at, too.
-    names, seen = [(token, line) for token in line.operands if NAME.match(token)], {*PREDEFINED, *counters}
-    if macro := source.equates.get(line.operation):
-        for name in dict.fromkeys(name for one in source.equate(macro) for name in one.rest if name in counters):
-            yield cause_sentence("equ counter", word=name, line=macro.number)
-    for name, user in names:
-        if name in seen or "&" in name:
-            continue
-        seen.add(name)
-        if name in source.equates:
-            head = source.equates[name]
-            names += [(inner, head) for inner in head.operands if NAME.match(inner)]
-        elif name not in labels:
-            why = undefined(source, name, {**labels, **source.equates})
-            if user is line:
-                yield why
-            else:
-                sentence, new = cause_sentence("earlier", line=user.number, inner=why), getattr(why, "new", "")
-                yield Misspelt(sentence, name, new, user.number)
-        elif line.text.lstrip().startswith(";"):
-            yield cause_sentence("assert", word=name)
+def unknown(source: Source, line: Line, place: Place | None) -> Iterator[Advice]:
+    """Says why a name has no value. It may be in the definition of an EQU, which has another line."""
+    if place is None or "&" in place.word:
+        return
+    name, user, labels = place.word, source.lines[place.number - 1], source.labels()
+    if any(loop.counter == name for loop in source.loops_around(line.number)):
+        yield cause_sentence("equ counter", word=name, line=user.number)
+    elif name in labels:
+        yield cause_sentence("assert", word=name)
+    else:
+        why = undefined(source, name, {**labels, **source.equates})
+        yield why if user is line else earlier(user.number, why)
 
 
-def undefined(source: Source, name: str, known: dict[str, Line]) -> str:
+def undefined(source: Source, name: str, known: dict[str, Line]) -> Advice:
     """Returns why a name is undefined."""
     for loop in source.loops:
         if name in loop.head.labels:
@@ -246,7 +231,7 @@ def undefined(source: Source, name: str, known: dict[str, Line]) -> str:
         return cause_sentence("undefined", word=name)
     where = cause_sentence("where", line=known[near].number) if near in known else ""
     case = cause_sentence("case") if near.lower() == name.lower() else ""
-    return Advice(cause_sentence("near", word=name, new=near, case=case, where=where), name, near)
+    return cause_sentence("near", word=name, new=near, case=case, where=where)
 
 
 # The functions that look for the causes of an error, by its text.

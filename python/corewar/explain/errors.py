@@ -12,12 +12,11 @@ from ..engine.sources import Assembler, Limit
 from ..model.errors import ASSEMBLY, MarsError
 from ..model.settings import Settings
 from .meanings import explain_error
-from .source import Advice, Line, Misspelt, Source, column_of, parse_line, read_source
+from .sentences import Advice, Misspelt
+from .source import Line, Place, Source, column_of, place_of, read_source
 
 # The maximum number of errors that are reported for a source.
 MAX_ERRORS = 10
-# Comments of other languages, and numbers with a fraction.
-OTHER_COMMENT, FRACTION = re.compile(r"//.*|/\*.*|^\s*#.*|(?<=\w)\s+#\s.*"), re.compile(r"\d+\.\d+")
 # After these errors the rest of the source cannot be read.
 LAST = ("1 Text 9 TooLong", "7 Empty", "8 TooLong")
 UNCLOSED = "1 Text 3 UnclosedFor"
@@ -33,7 +32,7 @@ def errors_of(data: bytes, load: Callable[[bytes], object]) -> Iterator[tuple[Ma
 
     - `load`: assembles a source; what it raises besides `MarsError` ends the search
     """
-    source, lines, seen = read_source(data), data.split(b"\n"), set[int]()
+    source, given, lines, seen = read_source(data), data.split(b"\n"), data.split(b"\n"), set[int]()
     for _ in range(MAX_ERRORS):
         text = b"\n".join(lines)
         try:
@@ -41,6 +40,11 @@ def errors_of(data: bytes, load: Callable[[bytes], object]) -> Iterator[tuple[Ma
             return
         except MarsError as fault:
             sentences = explain_error(fault, text)
+            if fault.end:
+                # The lines before it were replaced.
+                before = text.count(b"\n", 0, fault.begin)
+                moved = sum(map(len, given[:before])) - sum(map(len, lines[:before]))
+                fault.begin, fault.end = fault.begin + moved, fault.end + moved
             # The cause may be a misspelt word, in this line or in an earlier one.
             advice = next((one for one in sentences[:1] if isinstance(one, Misspelt)), None)
             number = advice.line if advice and advice.line else fault.line
@@ -66,6 +70,7 @@ class Problem:
     - `source`: the text of the line
     - `advice`: sentences on what is wrong and what to do
     - `word`, `replacement`: the wrong word of the line, and what to write in its place, or "" if that is not known
+    - `column`: where the word begins in the line, from 0
     """
 
     line: int
@@ -74,34 +79,28 @@ class Problem:
     advice: tuple[str, ...]
     word: str = ""
     replacement: str = ""
+    column: int = 0
 
     def __str__(self) -> str:
         return "\n".join([f"line {self.line}: {self.error}" if self.line else self.error, *self.advice])
 
 
-def problem_of(kind: str, number: int, source: bytes, sentences: Sequence[str]) -> Problem:
-    """Returns an error with its explanation. The line may be another one than that which the library reports."""
-    advice = next((one for one in sentences if isinstance(one, Advice)), None)
+def problem_of(kind: str, number: int, source: bytes, sentences: Sequence[str], place: Place | None = None) -> Problem:
+    """Returns an error with its explanation; `place` is where the library has it."""
     lines = source.split(b"\n")
     text = lines[number - 1].decode("utf-8", "replace").rstrip("\r") if 0 < number <= len(lines) else ""
-    words = [(advice.old, advice.new)] if advice and advice.line in (0, number) else []
-    # Otherwise it is the first word that the first sentence names.
-    words += [(word, "") for one in sentences[:1] for word in re.findall(r"`([^`]+)`", one)[:1]]
-    words += [(part_of(kind, text), "")]
-    words = [pair for pair in words if pair[0] and column_of(pair[0], text) is not None]
-    return Problem(number, kind, text, tuple(map(str, sentences)), *(words or [("", "")])[0])
+    return Problem(number, kind, text, tuple(map(str, sentences)), *wrong_word(number, text, sentences, place))
 
 
-def part_of(kind: str, text: str) -> str:
-    """Returns the part of a line that an error is about, or "" if the line does not show it."""
-    line, code = parse_line(1, text, {}), text.partition(";")[0]
-    if found := OTHER_COMMENT.search(code):
-        return found[0].strip()
-    operands = re.split(rf"\b{line.operation}\b", code, 1)[-1].split(",") if line.operation else []
-    if kind == "3 Operand" and operands:
-        return operands[2].strip() if len(operands) > 2 else "," if len(operands) == 2 else line.operation
-    found = FRACTION.search(code) if kind == "4 Expression 1 Syntax" else None
-    return found[0] if found else ""
+def wrong_word(number: int, text: str, sentences: Sequence[str], place: Place | None) -> tuple[str, str, int]:
+    """Returns the wrong word of a line, what to write in its place, and the word's column; "" if that is not known."""
+    advice = next((one for one in sentences if isinstance(one, Advice)), None)
+    here = place if place and place.number == number else None
+    if advice and advice.line in (0, number):
+        columns = [column_of(advice.old, text, last) for last in (here.column if here else 0, 0)]
+        if (column := next((one for one in columns if one is not None), None)) is not None:
+            return advice.old, advice.new, column
+    return (here.word, "", here.column) if here else ("", "", 0)
 
 
 def problems(
@@ -125,7 +124,10 @@ def problems(
     for fault, _ in found:
         if fault.code != ASSEMBLY:
             raise fault
-    return [problem_of(kind_of(fault), fault.line, data, sentences) for fault, sentences in found]
+    return [
+        problem_of(kind_of(fault), fault.line, data, sentences, place_of(data, fault.begin, fault.end))
+        for fault, sentences in found
+    ]
 
 
 def correct(lines: list[bytes], source: Source, misspelt: str) -> None:

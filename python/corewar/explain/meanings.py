@@ -7,8 +7,8 @@ from itertools import islice
 
 from ..model.errors import MarsError
 from .causes import CAUSES
-from .sentences import SENTENCES
-from .source import read_source
+from .sentences import SENTENCES, Advice, earlier
+from .source import Place, place_of, read_source
 
 # The maximum number of causes that are reported for an error.
 MAX_CAUSES = 2
@@ -56,18 +56,25 @@ MESSAGE = re.compile(rf"(?:(.*?): )?(?:(?:line|index) (\d{{1,9}}): )?({'|'.join(
 
 def explain_error(fault: MarsError, source: bytes) -> list[str]:
     """Explains an error and what to do, in one or two sentences: by the causes that the source shows, or in general."""
-    return explain_kind(re.sub(r"^(line|index) \d+: ", "", str(fault)), fault.line, source)
+    kind = re.sub(r"^(line|index) \d+: ", "", str(fault))
+    return explain_kind(kind, fault.line, source, place_of(source, fault.begin, fault.end))
 
 
-def explain_kind(kind: str, number: int, source: bytes) -> list[str]:
-    """Explains an error by its text and the number of its line."""
+def explain_kind(kind: str, number: int, source: bytes, place: Place | None = None) -> list[str]:
+    """Explains an error by its text, the number of its line, and where the library has it."""
     causes: list[str] = []
     if kind in CAUSES:
         text = read_source(source)
         # Only a source without instructions has an error in no line.
         if (0 < number or kind == "7 Empty") and number <= len(text.lines):
-            causes = [*islice(CAUSES[kind](text, text.lines[number - 1]), MAX_CAUSES)]
-    return causes or [KINDS[kind]] if kind in KINDS else []
+            causes = [*islice(CAUSES[kind](text, text.lines[number - 1], place), MAX_CAUSES)]
+    if causes or kind not in KINDS:
+        return causes
+    meaning = KINDS[kind]
+    if place is None or place.number == number:
+        return [meaning]
+    # It is in the definition of an EQU.
+    return [earlier(place.number, Advice(meaning[0].lower() + meaning[1:], place.word))]
 
 
 def read_faults(lines: Iterable[str]) -> Iterator[tuple[str, str, int, str]]:

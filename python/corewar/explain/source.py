@@ -6,12 +6,11 @@ from collections.abc import Callable, Sequence
 from dataclasses import dataclass, field
 from difflib import SequenceMatcher, get_close_matches
 from operator import itemgetter
-from typing import Self
 
 from . import words
 from ..engine.warriors import Warrior
 from ..model.printing import printable
-from .sentences import cause_sentence
+from .sentences import Misspelt, cause_sentence
 
 OPCODES, MODIFIERS, PREDEFINED = [*words.OPCODES], [*words.MODIFIERS], [*words.PREDEFINED]
 OPERATIONS = [*words.OPCODES, *words.DIRECTIVES]
@@ -32,25 +31,6 @@ MAX_CHOICES = 1000
 MAX_LOOPS = 32
 # How many words of a line are compared with the names of operations.
 FIRST_WORDS = 20
-
-
-class Advice(str):
-    """A sentence on the word `old` of a line: `new` is the word to write, or "", and `line` is the number of the line,
-    or 0 for the line of the error.
-    """
-
-    old: str
-    new: str
-    line: int
-
-    def __new__(cls, sentence: str, old: str, new: str = "", line: int = 0) -> Self:
-        advice = super().__new__(cls, sentence)
-        advice.old, advice.new, advice.line = old, new, line
-        return advice
-
-
-class Misspelt(Advice):
-    """Advice on a word in place of an operation."""
 
 
 @dataclass
@@ -245,37 +225,53 @@ def misspelt(source: Source, line: Line) -> Misspelt | None:
     """
     for word in [] if line.word in OPERATIONS else line.labels[:FIRST_WORDS]:
         if pair := glued(source, word):
-            return Misspelt(cause_sentence("misspelt", word=word, new=pair), word, pair)
+            return Misspelt.of("misspelt", word=word, new=pair)
     # An EQU name in place of the operation may be the operand of a misspelt one.
     if line.operation.upper() in OPERATIONS or not (line.rest or line.operation or len(line.labels) > 1):
         return None
     labels = [word for word in line.labels[:FIRST_WORDS] if not source.is_operand(word)]
     for word in labels:
         if word.upper() in ELSEWHERE:
-            return Misspelt(cause_sentence("elsewhere", word=word), word)
+            return Misspelt.of("elsewhere", word=word)
     found = [(likeness(word, meant), word, meant) for word in labels if (meant := most_similar(word, OPERATIONS))]
     if not found:
         return None
     _, word, meant = max(found, key=itemgetter(0))
-    return Misspelt(cause_sentence("misspelt", word=word, new=meant), word, meant)
+    return Misspelt.of("misspelt", word=word, new=meant)
 
 
-def column_of(word: str, line: str) -> int | None:
-    """Returns the column of a word in a line, before its comment."""
-    before, after = (r"(?<!\w)" * word[:1].isalnum(), r"(?!\w)" * word[-1:].isalnum())
-    found = re.search(before + re.escape(word) + after, line.partition(";")[0])
-    return found.start() if found else None
+@dataclass(frozen=True)
+class Place:
+    """A word or sign of a source: the number of its line, and its first column, from 0 and in characters."""
+
+    number: int
+    column: int
+    word: str
 
 
-def excerpt(data: bytes, number: int, word: str = "") -> list[str]:
-    """Returns a line of a source with its neighbours and a mark below one of its words, or nothing if there is no such
-    line.
+def place_of(data: bytes, begin: int, end: int) -> Place | None:
+    """Returns the word or sign that consists of some bytes of a source, or None if there are none."""
+    start = data.rfind(b"\n", 0, begin) + 1
+    before, word = (part.decode("utf-8", "replace") for part in (data[start:begin], data[begin:end]))
+    return Place(data.count(b"\n", 0, begin) + 1, len(before), word) if word else None
+
+
+def column_of(word: str, line: str, last: int = 0) -> int | None:
+    """Returns the column of a word in a line, before its comment: the first one that ends after the column `last`."""
+    pattern = rf"(?<![\w&]){word}(?![\w&])" if NAME.match(word) else re.escape(word)
+    found = re.finditer(pattern, line.partition(";")[0]) if word else ()
+    return next((one.start() for one in found if one.end() > last), None)
+
+
+def excerpt(data: bytes, number: int, column: int = 0, word: str = "") -> list[str]:
+    """Returns a line of a source with its neighbours and a mark below a word at one of its columns, or nothing if there
+    is no such line.
     """
-    lines = [line.expandtabs() for line in data.decode("utf-8", "replace").removesuffix("\n").split("\n")]
+    lines = data.decode("utf-8", "replace").removesuffix("\n").split("\n")
     found = list[str]()
     for at in range(max(1, number - 1), min(len(lines), number + 1) + 1) if 0 < number <= len(lines) else ():
-        found.append(f"{'>' if at == number else ' '} {at:4} | {lines[at - 1]}".rstrip())
-        column = column_of(word, lines[at - 1]) if word and at == number else None
-        if column is not None and printable(lines[at - 1]) == lines[at - 1]:
-            found.append(f"       | {' ' * column}{'^' * len(word)}")
+        shown = lines[at - 1].expandtabs()
+        found.append(f"{'>' if at == number else ' '} {at:4} | {shown}".rstrip())
+        if word and at == number and printable(shown) == shown:
+            found.append(f"       | {' ' * len(lines[at - 1][:column].expandtabs())}{'^' * len(word)}")
     return found

@@ -32,15 +32,25 @@ class MarsError(CorewarError):
     - `problem`, `expression`: the numbers of nested errors, or 0
     - `line`: the line of a source or a load file, from 1; or the address or index of a wrong cell; otherwise 0
     - `warrior`: the index of a wrong warrior or lineup, from 0
+    - `begin`, `end`: the bytes of a source, from 0, of the word or sign at which it has its error, up to but excluding
+      `end`; those in the text of an EQU are in its definition; both 0 if the error has no such place
 
     `Fault` is its older name, which the next version removes.
     """
 
     def __init__(
-        self, code: int, number: int = 0, problem: int = 0, expression: int = 0, line: int = 0, warrior: int = 0
+        self,
+        code: int,
+        number: int = 0,
+        problem: int = 0,
+        expression: int = 0,
+        line: int = 0,
+        warrior: int = 0,
+        begin: int = 0,
+        end: int = 0,
     ) -> None:
         self.code, self.number, self.problem, self.expression = code, number, problem, expression
-        self.line, self.warrior = line, warrior
+        self.line, self.warrior, self.begin, self.end = line, warrior, begin, end
         self.kind, enumeration = KINDS[code]
         self.name = names(enumeration).get(number, "") if number else ""
         head = [] if code == ASSEMBLY else [self.kind, "1 Expression"] if code == FORMULA else [self.kind]
@@ -56,7 +66,8 @@ class MarsError(CorewarError):
 
     def __reduce__(self) -> tuple[Any, ...]:
         # A pool of processes hangs if an exception cannot be unpickled.
-        return MarsError, (self.code, self.number, self.problem, self.expression, self.line, self.warrior)
+        numbers = self.code, self.number, self.problem, self.expression, self.line, self.warrior
+        return MarsError, (*numbers, self.begin, self.end)
 
 
 class FileError(CorewarError):

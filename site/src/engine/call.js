@@ -182,12 +182,15 @@ export class Call {
     if (result === DONE || result === allowed) return result;
     const view = this.view(fault);
     const word = (/** @type {number} */ offset) => view.getUint32(offset, true);
+    const long = (/** @type {number} */ offset) => Number(view.getBigUint64(offset, true));
     throw errorOf(result, {
       number: word(MarsFault.number),
       problem: word(MarsFault.problem),
       expression: word(MarsFault.expression),
-      line: Number(view.getBigUint64(MarsFault.line, true)),
-      warrior: Number(view.getBigUint64(MarsFault.warrior, true)),
+      line: long(MarsFault.line),
+      warrior: long(MarsFault.warrior),
+      begin: long(MarsFault.begin),
+      end: long(MarsFault.end),
     });
   }
 

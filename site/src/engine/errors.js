@@ -13,7 +13,7 @@ const NAMES = ERROR_NAMES;
  * @param {Partial<Numbers>} [details]
  */
 export function errorOf(code, details) {
-  const numbers = { code, number: 0, problem: 0, expression: 0, line: 0, warrior: 0, ...details };
+  const numbers = { code, number: 0, problem: 0, expression: 0, line: 0, warrior: 0, begin: 0, end: 0, ...details };
   return new MarsError(errorText(numbers), numbers);
 }
 

@@ -2,7 +2,8 @@
 
 /**
  * The result of a call, one of mars.h, and the fields of its MarsFault; those that do not apply are 0.
- * @typedef {{code: number, number: number, problem: number, expression: number, line: number, warrior: number}} Numbers
+ * @typedef {{code: number, number: number, problem: number, expression: number, line: number, warrior: number,
+ *   begin: number, end: number}} Numbers
  */
 
 export class MarsError extends Error {
@@ -10,7 +11,7 @@ export class MarsError extends Error {
    * @param {string} message the text that `mars` prints after the name of the file
    * @param {Numbers} numbers
    */
-  constructor(message, { code, number, problem, expression, line, warrior }) {
+  constructor(message, { code, number, problem, expression, line, warrior, begin, end }) {
     super(message);
     this.name = "MarsError";
     this.code = code;
@@ -19,6 +20,8 @@ export class MarsError extends Error {
     this.expression = expression;
     this.line = line;
     this.warrior = warrior;
+    this.begin = begin;
+    this.end = end;
   }
 
   /** The text without the line or the index, such as `2 Operation`. */

@@ -21,7 +21,14 @@ import {
  * another line, and `inner` a sentence inside it.
  * @typedef {{cause: string, word?: string, line?: number, inner?: Cause, [name: string]: unknown}} Cause
  */
-/** @typedef {(source: Source, line: Line) => Cause[]} Find */
+/**
+ * A word or sign: the number of its line, and its first column, from 0.
+ * @typedef {{number: number, column: number, word: string}} Place
+ */
+/**
+ * `place` is where the library has the error.
+ * @typedef {(source: Source, line: Line, place: Place | null) => Cause[]} Find
+ */
 
 const PREDEFINED = "CORESIZE MAXPROCESSES MAXCYCLES MAXLENGTH MINDISTANCE ROUNDS WARRIORS CURLINE VERSION".split(" ");
 /** Opcodes of other dialects. */
@@ -164,7 +171,9 @@ function empty(source) {
 
 /**
  * An operand is empty if it is the name of an EQU without a text; there are too many in two instructions.
- * @type {Find}
+ * @param {Source} source
+ * @param {Line} line
+ * @returns {Cause[]}
  */
 function operand(source, line) {
   const labels = labelsOf(source);
@@ -255,33 +264,19 @@ function syntax(source, line) {
   return opened === closed ? found : [...found, { cause: "parentheses", opened, closed }];
 }
 
-/** @type {Find} */
-function unknown(source, line) {
-  const { equates } = source;
-  const labels = labelsOf(source);
-  // Each name with the line that has it: the names of an EQU are looked at, too.
-  const names = operandsOf(line).flatMap((token) => (NAME.test(token) ? [{ name: token, place: line }] : []));
-  const counters = loopsAround(source, line.number).map(({ counter }) => counter);
-  const seen = new Set([...PREDEFINED, ...counters]);
-  const macro = equates.get(line.operation);
-  const inside = macro ? linesOf(source, macro).flatMap(({ rest }) => rest) : [];
-  /** @type {Cause[]} */
-  const found = [...new Set(inside)]
-    .filter((word) => counters.includes(word))
-    .map((word) => ({ cause: "equ counter", word, line: macro?.number }));
-  for (const { name, place } of names) {
-    if (seen.has(name) || name.includes("&")) continue;
-    seen.add(name);
-    const equate = equates.get(name);
-    if (equate) {
-      const inner = operandsOf(equate).filter((token) => NAME.test(token));
-      names.push(...inner.map((token) => ({ name: token, place: equate })));
-    } else if (!labels.has(name)) {
-      const why = undefinedName(source, name, new Map([...labels, ...equates]));
-      found.push(place === line ? why : { cause: "earlier", line: place.number, inner: why });
-    } else if (line.text.trimStart().startsWith(";")) found.push({ cause: "assert", word: name });
+/**
+ * Says why a name has no value. It may be in the definition of an EQU, which has another line.
+ * @type {Find}
+ */
+function unknown(source, { number }, place) {
+  if (!place || place.word.includes("&")) return [];
+  const [labels, { word, number: user }] = [labelsOf(source), place];
+  if (loopsAround(source, number).some(({ counter }) => counter === word)) {
+    return [{ cause: "equ counter", word, line: user }];
   }
-  return found;
+  if (labels.has(word)) return [{ cause: "assert", word }];
+  const why = undefinedName(source, word, new Map([...labels, ...source.equates]));
+  return [user === number ? why : { cause: "earlier", line: user, inner: why }];
 }
 
 /**

@@ -4,6 +4,7 @@ import { NAME, codeOf, labelsOf, readSource, wordOf } from "./source.js";
 
 /** @typedef {import("../model/errors.js").MarsError} MarsError */
 /** @typedef {import("./causes.js").Cause} Cause */
+/** @typedef {import("./causes.js").Place} Place */
 /** @typedef {import("./source.js").Line} Line */
 /** @typedef {import("./source.js").Source} Source */
 /**
@@ -52,30 +53,55 @@ export function explain(error, text, meanings) {
   const name = error.what;
   // Only a source without instructions has an error in no line.
   const line = source.lines[name === "7 Empty" ? 0 : error.line - 1];
-  const causes = line ? (CAUSES[name]?.(source, line) ?? []).slice(0, MAX_CAUSES) : [];
+  const place = placeOf(text, error);
+  const causes = line ? (CAUSES[name]?.(source, line, place) ?? []).slice(0, MAX_CAUSES) : [];
   let number = error.line;
   if (causes[0]?.inner && causes[0].cause === "earlier") {
     // The word is in an earlier line, which is named before the explanation.
     number = Number(causes[0].line);
     causes[0] = causes[0].inner;
   }
-  const meaning = meanings[name] ?? meanings[name.split(" ").slice(-2).join(" ")] ?? name;
+  let meaning = meanings[name] ?? meanings[name.split(" ").slice(-2).join(" ")] ?? name;
+  if (!causes.length && place && place.number !== number) {
+    // It is in the definition of an EQU.
+    number = place.number;
+    meaning = meaning[0].toLowerCase() + meaning.slice(1);
+  }
   const explanation = causes.map((cause) => sentence(cause, meanings)).join(" ") || meaning;
   const misspelt = ["misspelt", "elsewhere"].includes(causes[0]?.cause ?? "") ? causes[0] : undefined;
-  const place = columns(source.lines[number - 1]?.text ?? "", causes[0]?.word);
-  return { line: number, ...place, text: explanation, misspelt };
+  const here = place?.number === number ? place : null;
+  const marked = columns(source.lines[number - 1]?.text ?? "", causes[0]?.word, here);
+  return { line: number, ...marked, text: explanation, misspelt };
 }
 
 /**
- * Returns where a word is in a line; without one, where its code is.
+ * Returns the word or sign at which the library has an error of a source, or null.
+ * @param {string} text
+ * @param {MarsError} error
+ * @returns {Place | null}
+ */
+function placeOf(text, { begin, end }) {
+  if (!end) return null;
+  const [bytes, decoder] = [new TextEncoder().encode(text), new TextDecoder()];
+  const before = decoder.decode(bytes.subarray(0, begin)).split("\n");
+  const column = before[before.length - 1].length;
+  return { number: before.length, column, word: decoder.decode(bytes.subarray(begin, end)) };
+}
+
+/**
+ * Returns where a word is in a line, after a place of it if there is one; without a word the place, or else its code.
  * @param {string} text
  * @param {string | undefined} word
+ * @param {Place | null} place
  */
-function columns(text, word) {
+function columns(text, word, place) {
   const code = codeOf(text);
   const letters = word && NAME.test(word) ? `(?<![\\w&])${word}(?![\\w&])` : word?.replace(/\W/g, "\\$&");
-  const found = letters ? new RegExp(letters).exec(code) : null;
-  if (word && found) return { from: found.index, to: found.index + word.length };
+  const found = letters ? [...code.matchAll(new RegExp(letters, "g"))].map(({ index = 0 }) => index) : [];
+  const length = word?.length ?? 0;
+  const from = found.find((first) => first + length > (place?.column ?? 0)) ?? found[0];
+  if (from !== undefined) return { from, to: from + length };
+  if (place) return { from: place.column, to: place.column + place.word.length };
   return { from: text.length - text.trimStart().length, to: code.trimEnd().length || text.length };
 }
 
