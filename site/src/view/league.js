@@ -57,7 +57,7 @@ export class League {
   /**
    * @param {import("./host.js").Host} host
    * @param {Runner | null} runner
-   * @param {KeptLeague | null} before the league of before the page was loaded
+   * @param {KeptLeague | null} before the league that was run before the page was loaded
    * @param {(league: KeptLeague) => void} keep
    */
   constructor(host, runner, before, keep) {
