@@ -150,10 +150,10 @@ pub record IsFollowed (conditions : List Condition) (turns : ℕ) (first : State
   pub count_is : count ≡ length found
   pub rows_are : rows ≡ filled found rows_first
 
-pub filled-none : (rows : List Found) → filled [] rows ≡ rows
+pub filled-none : {X : Type 0} → (rows : List X) → filled [] rows ≡ rows
 filled-none rows = rw (take-nil (length rows)) refl
 
-filled-push : (found : List Found) (n : Found) (rows : List Found) → set (filled found rows) (length found) n ≡ filled (found ++ n ∷ []) rows
+pub filled-push : {X : Type 0} → (found : List X) (n : X) (rows : List X) → set (filled found rows) (length found) n ≡ filled (found ++ n ∷ []) rows
 filled-push [] n [] = refl
 filled-push [] n (row ∷ rows) = rw (take-nil (length rows)) refl
 filled-push (m ∷ found) n [] = refl
@@ -229,14 +229,14 @@ module _ (conditions : List Condition) (turns : ℕ) (first : State) (pasts_firs
           next [] rows count (rw missed refl) (omega arith) (omega arith) (f.rows_are ∙ ap (λ l. filled l rows_first) (sym (append-nil f.found)))
 
 -- What the code returns of a turn that meets the conditions or not.
-pub given_if : (met : Bool) (turn : Found) → then_some met turn ≡ (if met then Some turn else None)
+pub given_if : {X : Type 0} → (met : Bool) (turn : X) → then_some met turn ≡ (if met then Some turn else None)
 given_if true turn = refl
 given_if false turn = refl
 
-pub given_some : (met : Bool) (turn row : Found) → (if met then Some turn else None) ≡ Some row → (met ≡ true) × (row ≡ turn)
+pub given_some : {X : Type 0} → (met : Bool) (turn row : X) → (if met then Some turn else None) ≡ Some row → (met ≡ true) × (row ≡ turn)
 given_some true turn row e = (refl, cc e)
 given_some false turn row e = cc e
 
-pub given_none : (met : Bool) (turn : Found) → ((row : Found) → (if met then Some turn else None) ≡ Some row → ⊥) → met ≡ false
+pub given_none : {X : Type 0} → (met : Bool) (turn : X) → ((row : X) → (if met then Some turn else None) ≡ Some row → ⊥) → met ≡ false
 given_none true turn none = absurd (none turn refl)
 given_none false turn none = refl

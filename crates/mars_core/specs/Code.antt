@@ -10,5 +10,6 @@ pub mod Tags
 pub mod Words
 pub mod Frequent
 pub mod Searches
+pub mod Ancestors
 pub mod Lanes
 pub mod Blocks

@@ -6,6 +6,7 @@ pub mod Touched
 pub mod Pasts
 pub mod Searches
 pub mod Moments
+pub mod Ancestors
 pub mod Ends
 pub mod Validity
 pub mod BlockFaults

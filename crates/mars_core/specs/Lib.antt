@@ -20,6 +20,7 @@ pub mod Touched
 pub mod Marks
 pub mod Search
 pub mod Moments
+pub mod Ancestors
 -- Definitions that only the laws use, and no contract of a call.
 pub mod Moved
 pub mod Reach

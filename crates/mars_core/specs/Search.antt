@@ -94,6 +94,6 @@ found_in conditions (suc n) s pasts =
     if is_over_of s then []
     else (if meets conditions s pasts then found_turn s pasts ∷ [] else []) ++ found_in conditions n (turn_of s) (pasts_after s pasts)
 
--- The rows with these turns in the first ones, as far as there are rows.
-abbrev pub filled : List Found → List Found → List Found
-filled turns rows = take (length rows) turns ++ drop (length turns) rows
+-- The rows with what was found in the first ones, as far as there are rows.
+abbrev pub filled : {X : Type 0} → List X → List X → List X
+filled found rows = take (length rows) found ++ drop (length found) rows

@@ -112,11 +112,11 @@ fn touched_for(
     }
 }
 
-/// Writes a turn to the place with this index, if there is one.
-fn put(places: &mut [Found], index: u32, turn: Found)
-    ensures { places.new ≡ slice_set places.old index turn }
+/// Writes a value to the place with this index, if there is one.
+pub fn put<T: Copy>(places: &mut [T], index: u32, value: T)
+    ensures { places.new ≡ slice_set places.old index value }
 {
     if (index as usize) < places.len() {
-        places[index as usize] = turn;
+        places[index as usize] = value;
     }
 }

@@ -2,7 +2,7 @@
 //! whichever one fails, since a second try has memory.
 use super::{check_clock, check_same, params};
 use mars_cell::{Params, Warrior, read_cell};
-use mars_core::{Battle, BattleFault, BlockFault};
+use mars_core::{Ancestors, AncestorsFault, Battle, BattleFault, BlockFault};
 use std::alloc::Global;
 use std::process::Abort;
 use std::test::Fail;
@@ -100,5 +100,34 @@ fn a_block_is_read(rt: HostRuntime) -> Result<(), Fail> {
     };
     check_same(&rt, &copy, &battle);
     check_three_turns(&rt, &mut copy);
+    Ok(())
+}
+
+/// Returns a battle of a warrior that splits in its first turn and whose first process then dies.
+fn splitting(alloc: Global, params: &Params) -> Option<Battle> {
+    let warriors = one_cells(alloc, &["SPL.B $0, $0"])?;
+    if warriors.len() != 1 {
+        return None;
+    }
+    Battle::new(alloc, params, &warriors, &[0]).ok()
+}
+
+#[test]
+fn ancestors_are_found(rt: HostRuntime) -> Result<(), Fail> {
+    let params = params(8, 2, 8, 8)?;
+    let battle = splitting(rt.alloc(), &params)
+        .or_else(|| splitting(rt.alloc(), &params))
+        .ok_or("battle")?;
+    let mut births = [0];
+    let answer = match battle.ancestors(rt.alloc(), 2, 0, 0, &mut births) {
+        Err(fault) => {
+            assert_eq!(rt; fault, AncestorsFault::OutOfMemory);
+            assert_eq!(rt; births, [0]);
+            battle.ancestors(rt.alloc(), 2, 0, 0, &mut births)
+        }
+        answer => answer,
+    };
+    assert_eq!(rt; answer, Ok(Ancestors { count: 1, first: 0 }));
+    assert_eq!(rt; births, [1]);
     Ok(())
 }
