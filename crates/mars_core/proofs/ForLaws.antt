@@ -3,6 +3,7 @@ pub mod Alike
 pub mod Apart
 pub mod ApartAlone
 pub mod ApartPairs
+pub mod Births
 pub mod Copied
 pub mod MovedStart
 pub mod Near
