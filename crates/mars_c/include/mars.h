@@ -79,7 +79,8 @@ enum {
     MARS_EDIT = 12,      /* the edit is impossible: MARS_EDIT_.. */
     MARS_WARRIOR = 13,   /* the cells, the start or a name of `fault->warrior` is wrong: MARS_WARRIOR_.. */
     MARS_LINEUP = 14,    /* the lineup with the index `fault->warrior` is wrong: MARS_LINEUP_.. */
-    MARS_CONDITION = 15  /* the condition with the index `fault->warrior` has a way or a number that does not exist */
+    MARS_CONDITION = 15, /* the condition with the index `fault->warrior` has a way or a number that does not exist */
+    MARS_PROCESS = 16    /* the warrior has no process with this index after the turns */
 };
 enum {
     MARS_SETTINGS_ROUNDS = 1,
@@ -508,6 +509,17 @@ uint32_t mars_follow(uint32_t *battle, size_t words, uint32_t turns, MarsPast *p
 uint32_t mars_moments(uint32_t *battle, size_t words, uint32_t step, MarsPast *pasts, size_t past_count,
                       const MarsCondition *conditions, size_t condition_count,
                       MarsMoment *moments, size_t moment_count, MarsFault *fault);
+
+/* Finds the turns in which a process and its ancestors were born. The process is that with the index `place` in the queue of `warrior` after
+ * `turns` turns of a battle, or at its end if that comes before; the battle stays as it is. Of the processes that a turn queues, the first
+ * is the one that the turn executed, which continues; the second is born in this turn. *count is the number of births, and the first ones are
+ * written to the front of `births`, as far as there are places; the other places stay as they were. births[0] is the number of the turn in
+ * which the process was born, births[1] that of the turn in which its parent, which split there, was born, and so on. Like that of MarsFound
+ * it counts all turns of the battle, from 1. *first is the index, in the queue of the battle as given, of the process from which all of them
+ * descend: of the process itself if *count is 0. At most 16 bytes for each turn of the warrior are allocated, besides a copy of the battle.
+ * Returns MARS_BLOCK first, then MARS_PROCESS if there is no such process. */
+uint32_t mars_ancestors(const uint32_t *battle, size_t words, uint32_t turns, uint32_t warrior, uint32_t place,
+                        uint32_t *births, size_t birth_count, uint32_t *count, uint32_t *first, MarsFault *fault);
 
 /* Makes an edit of a battle in place, also if the battle is over. A dead warrior stays dead. Returns MARS_EDIT with
  * MARS_EDIT_NO_SUCH_EDIT first, then MARS_BLOCK and MARS_ROOM as mars_play, then MARS_EDIT with the first of the other numbers that

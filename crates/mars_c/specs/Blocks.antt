@@ -17,7 +17,7 @@ use Rattle.mars_c.specs.Codes.{block_fault_of}
 use Rattle.mars_c.specs.Records.{recorded}
 use Rattle.mars_c.specs.Refusals.{AreWarriors, IsOutOfRange, RefusesRound}
 use Rattle.mars_c.specs.declared.faults.BlockRefusal.{BlockRefusal}
-use Rattle.mars_c.specs.declared.faults.BlockRefusal.TheVariants.{OutOfMemory, Block, Capacity, NoSuchEdit, Edit as OfEdit, History, Condition, Pasts}
+use Rattle.mars_c.specs.declared.faults.BlockRefusal.TheVariants.{OutOfMemory, Block, Capacity, NoSuchEdit, Edit as OfEdit, History, Condition, Pasts, Process}
 use Rattle.mars_c.specs.declared.faults.CallRefusal.{CallRefusal}
 use Rattle.mars_c.specs.declared.faults.MarsFault.{MarsFault}
 use Rattle.mars_c.specs.declared.cells.MarsCell.{MarsCell}
@@ -90,6 +90,7 @@ RefusesWords words (OfEdit index fault) = ⊥
 RefusesWords words History = ⊥
 RefusesWords words (Condition index) = ⊥
 RefusesWords words Pasts = ⊥
+RefusesWords words Process = ⊥
 
 -- `refusal` is a reason for which no turn is executed in the words: they do not begin with a block, or have less capacity than
 -- its battle needs.
@@ -102,6 +103,7 @@ RefusesPlay words (OfEdit index fault) = ⊥
 RefusesPlay words History = ⊥
 RefusesPlay words (Condition index) = ⊥
 RefusesPlay words Pasts = ⊥
+RefusesPlay words Process = ⊥
 
 -- `refusal` is a reason for which an edit of the words is rejected: the numbers mean no edit, the words cannot be played, or
 -- the edit itself has an error.
@@ -115,6 +117,7 @@ RefusesEdit words numbers (OfEdit index fault) = (s : State) × (e : Edit) × Is
 RefusesEdit words numbers History = ⊥
 RefusesEdit words numbers (Condition index) = ⊥
 RefusesEdit words numbers Pasts = ⊥
+RefusesEdit words numbers Process = ⊥
 
 -- The numbers mean edits.
 abbrev pub AreEdits : List MarsEdit → Type 0
@@ -131,6 +134,7 @@ IsNoEdit numbers (OfEdit index fault) = ⊥
 IsNoEdit numbers History = ⊥
 IsNoEdit numbers (Condition index) = ⊥
 IsNoEdit numbers Pasts = ⊥
+IsNoEdit numbers Process = ⊥
 
 -- The edit at this index has this error, after those before it were made in the battle `s`.
 abbrev pub Fails : State → List Edit → ℕ → EditFault → Type 0
@@ -149,6 +153,7 @@ RefusesEdits words numbers (OfEdit index fault) = (s : State) × (edits : List E
 RefusesEdits words numbers History = ⊥
 RefusesEdits words numbers (Condition index) = ⊥
 RefusesEdits words numbers Pasts = ⊥
+RefusesEdits words numbers Process = ⊥
 
 -- The error is that of a refusal for which `Refuses` holds.
 abbrev pub Reports : (BlockRefusal → Type 0) → MarsFault → Type 0

@@ -226,3 +226,4 @@ block_fault_of (refused.Edit index fault) = record (numbered 12 (edit_number fau
 block_fault_of refused.History = numbered 2 6
 block_fault_of (refused.Condition index) = record (numbered 15 0) { warrior = index }
 block_fault_of refused.Pasts = numbered 2 7
+block_fault_of refused.Process = numbered 16 0

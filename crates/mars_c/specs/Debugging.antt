@@ -6,7 +6,7 @@ use Rattle.mars_session.specs.Script.{SessionState}
 use Rattle.mars_c.specs.Battles.{IsDebugged, IsHistory}
 use Rattle.mars_c.specs.Blocks.{RefusesWords}
 use Rattle.mars_c.specs.declared.faults.BlockRefusal.{BlockRefusal}
-use Rattle.mars_c.specs.declared.faults.BlockRefusal.TheVariants.{OutOfMemory, Block, Capacity, NoSuchEdit, Edit, History, Condition, Pasts}
+use Rattle.mars_c.specs.declared.faults.BlockRefusal.TheVariants.{OutOfMemory, Block, Capacity, NoSuchEdit, Edit, History, Condition, Pasts, Process}
 
 -- `text` is what the debugger replies to `lines`, over the battle whose block the words begin with, with a history of `history`
 -- places.
@@ -24,3 +24,4 @@ RefusesDebugging words history (NoSuchEdit index) = ⊥
 RefusesDebugging words history (Edit index fault) = ⊥
 RefusesDebugging words history (Condition index) = ⊥
 RefusesDebugging words history Pasts = ⊥
+RefusesDebugging words history Process = ⊥

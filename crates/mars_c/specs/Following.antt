@@ -16,7 +16,7 @@ use Rattle.mars_core.specs.declared.search.Way.TheVariants as way
 use Rattle.mars_c.specs.Blocks.{IsPlayable, IsWritten, RefusesPlay}
 use Rattle.mars_c.specs.declared.conditions.MarsCondition.{MarsCondition}
 use Rattle.mars_c.specs.declared.faults.BlockRefusal.{BlockRefusal}
-use Rattle.mars_c.specs.declared.faults.BlockRefusal.TheVariants.{OutOfMemory, Block, Capacity, NoSuchEdit, Edit, History, Condition, Pasts}
+use Rattle.mars_c.specs.declared.faults.BlockRefusal.TheVariants.{OutOfMemory, Block, Capacity, NoSuchEdit, Edit, History, Condition, Pasts, Process}
 
 -- The number of a way.
 abbrev pub way_index : Way → ℕ
@@ -85,6 +85,7 @@ IsNoCondition conditions (NoSuchEdit index) = ⊥
 IsNoCondition conditions (Edit index fault) = ⊥
 IsNoCondition conditions History = ⊥
 IsNoCondition conditions Pasts = ⊥
+IsNoCondition conditions Process = ⊥
 
 -- `refusal` is the first reason for which the turns of the battle in the words are not followed: numbers that are no condition, words
 -- that cannot be played, or a number of pasts that is not the size of the core.
@@ -97,3 +98,4 @@ RefusesFollow words conditions pasts Pasts = AreConditions conditions × ((s : S
 RefusesFollow words conditions pasts (NoSuchEdit index) = ⊥
 RefusesFollow words conditions pasts (Edit index fault) = ⊥
 RefusesFollow words conditions pasts History = ⊥
+RefusesFollow words conditions pasts Process = ⊥

@@ -9,6 +9,7 @@ pub mod Records
 pub mod Touches
 pub mod Blocks
 pub mod Following
+pub mod Ancestors
 pub mod Debugging
 pub mod Refusals
 pub mod Outcomes

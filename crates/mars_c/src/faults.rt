@@ -54,6 +54,8 @@ pub enum BlockRefusal {
     Condition(usize),
     /// The number of pasts is not the size of the core.
     Pasts,
+    /// The warrior has no process with this index after the turns.
+    Process,
 }
 
 /// An error as the caller gets it. Fields that do not apply are 0.
@@ -193,6 +195,7 @@ pub fn block_fault(refusal: BlockRefusal) -> MarsFault
         BlockRefusal::History => numbered(2, 6),
         BlockRefusal::Condition(index) => indexed(15, 0, index),
         BlockRefusal::Pasts => numbered(2, 7),
+        BlockRefusal::Process => numbered(16, 0),
     }
 }
 

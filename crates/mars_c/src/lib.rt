@@ -6,6 +6,7 @@
 //! plays, edits and checks it. The header is `include/mars.h`.
 #![tactic(auto)]
 
+mod ancestors;
 mod assembling;
 mod battles;
 mod blocks;

@@ -5,6 +5,7 @@ ghost use Rattle.mars_cell.specs.ParameterFaults.{checked_parameters};
 ghost use Rattle.mars_core.specs.State.{State};
 ghost use Rattle.mars_core.specs.Turn.{after_turns};
 ghost use Rattle.mars_core.specs.Block.{Spells, head_words};
+ghost use Rattle.mars_c.specs.Ancestors.{HasAncestors, RefusesAncestors};
 ghost use Rattle.mars_c.specs.Blocks.{HoldsEdited, HoldsEdits, HoldsStart, IsPlayable, IsWritten, OverflowsStart, RefusesEdit, RefusesEdits, RefusesPlay, RefusesStart, RefusesWords, Reports, played_rows};
 ghost use Rattle.mars_c.specs.Codes.{numbered};
 ghost use Rattle.mars_c.specs.Debugging.{Debugs, RefusesDebugging};
@@ -15,6 +16,7 @@ ghost use Rattle.mars_c.specs.Refusals.{AreWarriors, HasCause};
 ghost use Rattle.mars_c.specs.Settings.{parameters_in};
 ghost use Rattle.mars_c.specs.Touches.{touched_row};
 
+use crate::ancestors::ancestors_in;
 use crate::blocks::{check, edit_in, edits_in, play_in, put_if_fits, started, words_of};
 use crate::cells::MarsCell;
 use crate::conditions::MarsCondition;
@@ -136,6 +138,35 @@ pub extern "C" fn mars_moments(
 {
     match moments_in(alloc, battle, step, pasts, conditions, moments) {
         Ok(()) => answer(fault, given(true)),
+        Err(refusal) => answer(fault, block_fault(refusal)),
+    }
+}
+
+/// Finds the turns in which a process of the battle in a block and its ancestors were born. The battle stays as it is.
+#[unsafe(no_mangle)]
+pub extern "C" fn mars_ancestors(
+    alloc: Global,
+    battle: &[u32],
+    turns: u32,
+    warrior: u32,
+    place: u32,
+    births: &mut [u32],
+    count: &mut u32,
+    first: &mut u32,
+    fault: &mut MarsFault,
+) -> u32
+    ensures code { result ≡ fault.new.code }
+    ensures cleared { result ≡ 0 → fault.new ≡ numbered 0 0 }
+    ensures refused { result ≢ 0 → Reports (RefusesAncestors turns warrior place battle.now) fault.new }
+    ensures done { result ≡ 0 → HasAncestors turns warrior place battle.now births.old births.new count.new first.new }
+    ensures kept { result ≢ 0 → (births.new ≡ births.old) × (count.new ≡ count.old) × (first.new ≡ first.old) }
+{
+    match ancestors_in(alloc, battle, turns, warrior, place, births) {
+        Ok(found) => {
+            *count = found.count;
+            *first = found.first;
+            answer(fault, given(true))
+        }
         Err(refusal) => answer(fault, block_fault(refusal)),
     }
 }

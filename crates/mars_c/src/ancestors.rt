@@ -1,0 +1,38 @@
+//! Where a process of a battle in a block comes from.
+ghost use Rattle.std.specs.Prelude.{◌≡◌, IfErr, IfOk, OnErr};
+ghost use Rattle.mars_c.specs.Ancestors.{HasAncestors, RefusesAncestors};
+
+use crate::blocks::read;
+use crate::faults::BlockRefusal;
+use mars_core::{Ancestors, AncestorsFault};
+use std::alloc::Global;
+
+/// Finds the turns in which a process and its ancestors were born. The process is that with the index `place` in the queue
+/// of the warrior, at most `turns` turns after the battle in a block.
+///
+/// # Errors
+///
+/// Returns `Block` if the words are no battle, then `Process`, and `OutOfMemory` if an allocation fails. `births` is
+/// unchanged then.
+pub fn ancestors_in(
+    alloc: Global,
+    words: &[u32],
+    turns: u32,
+    warrior: u32,
+    place: u32,
+    births: &mut [u32],
+) -> Result<Ancestors, BlockRefusal>
+    ensures done { IfOk result (λ found. HasAncestors turns warrior place words.now births.old births.new found.count found.first) }
+    ensures refused { IfErr result (RefusesAncestors turns warrior place words.now) }
+    ensures kept { OnErr result (births.new ≡ births.old) }
+{
+    let battle = match read(alloc, words) {
+        Ok(battle) => battle,
+        Err(refusal) => return Err(refusal),
+    };
+    match battle.ancestors(alloc, turns, warrior, place, births) {
+        Ok(found) => Ok(found),
+        Err(AncestorsFault::OutOfMemory) => Err(BlockRefusal::OutOfMemory),
+        Err(AncestorsFault::NoSuchProcess) => Err(BlockRefusal::Process),
+    }
+}
