@@ -23,6 +23,8 @@ HEADER = 64
 # The number of turns of a call that returns records, touched cells or the turns that meet conditions, and the types of
 # the first two.
 RECORDED_TURNS, ROWS = 65_536, ("MarsRecord", "MarsTouched")
+# The number of births that the first call for the ancestors of a process has places for.
+BIRTHS = 1000
 # The size of the debugger's history in places, if none is given.
 HISTORY = 200_000
 # The number of an edit's error if an address is outside the core or the first one is above the last.
@@ -171,6 +173,27 @@ class Battle:
             call("mars_follow", *self._slice(), made, *chain(*(slice_of(*one) for one in rows)), count)
             parts.append(found[: count[0]])
         return np.concatenate(parts)
+
+    def ancestors(self, warrior: int, index: int, turns: int | None = 0) -> tuple[list[int], int]:
+        """Finds the turns in which a process and its ancestors were born, as `mars_ancestors`. The battle is unchanged.
+
+        - `warrior`: the warrior of the process
+        - `index`: its index in the queue after the turns; the front has index 0
+        - `turns`: the number of turns to look ahead, or None for all that are left
+
+        Returns the turns, that of its own birth first, then that of the process which split there, and so on; and the
+        index, in the queue of the battle as it is, of the process from which all of them descend. Raises `MarsError` if
+        there is no such process after the turns, and if something that was written to the battle is invalid.
+        """
+        ahead = MAX_UINT32 if turns is None else check_size(turns)
+        count, first = (library()[0].new("uint32_t *") for _ in range(2))
+        given = [*self._slice(), ahead, clamp(warrior), clamp(index)]
+        births = array("uint32_t", BIRTHS)
+        call("mars_ancestors", *given, *slice_of("uint32_t", births), count, first)
+        if count[0] > len(births):
+            births = array("uint32_t", count[0])
+            call("mars_ancestors", *given, *slice_of("uint32_t", births), count, first)
+        return births[: count[0]].tolist(), first[0]
 
     def edit(self, edit: Edit) -> None:
         """Makes an edit, also if the battle is over.

@@ -22,6 +22,8 @@ const RECORD_WORDS = MarsRecord.size / 4;
 const TOUCHED_WORDS = MarsTouched.size / 4;
 const FOUND_WORDS = MarsFound.size / 4;
 const MOMENT_WORDS = MarsMoment.size / 4;
+/** The number of births for which `ancestors` has places at first. */
+const BIRTHS = 1000;
 const KINDS = { cell: SET_CELL, move: MOVE_PROCESS, kill: KILL_PROCESS, add: ADD_PROCESS };
 
 export class Machine {
@@ -110,6 +112,32 @@ export class Machine {
       call.make("mars_moments", [...given, ...call.conditions(conditions), rows, BigInt(count)]);
       call.takeFollowed(followed, given);
       return call.words(rows, MOMENT_WORDS * count).slice();
+    });
+  }
+
+  /**
+   * Finds the turns in which a process and its ancestors were born; the battle stays as it is. The process is given by
+   * its warrior and its place in the queue after `turns` turns, or at the end of the battle. Returns the turns, that of
+   * its own birth first, and the place, in the queue of the battle, of the process from which all of them descend.
+   * Throws a MarsError if there is no such process.
+   * @param {Battle} battle
+   * @param {number} turns
+   * @param {number} warrior
+   * @param {number} place
+   */
+  ancestors(battle, turns, warrior, place) {
+    return this.within((call) => {
+      const given = [...call.block(battle), turns, warrior, place];
+      const [count, first] = [call.allocate(4), call.allocate(4)];
+      const find = (/** @type {number} */ most) => {
+        const rows = call.allocate(4 * most);
+        call.make("mars_ancestors", [...given, rows, BigInt(most), count, first]);
+        return rows;
+      };
+      let rows = find(BIRTHS);
+      const [births] = call.words(count, 1);
+      if (births > BIRTHS) rows = find(births);
+      return { births: call.words(rows, births).slice(), first: call.words(first, 1)[0] };
     });
   }
 
