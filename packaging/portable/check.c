@@ -282,6 +282,16 @@ static void follow(void)
     for (i = 0; i < core; i++) add_words(&pasts[i].owner, 3);
 }
 
+static void ancestors(void)
+{
+    uint32_t births[FOUND], count = 77, first = 77, turns = below(400), warrior = below(3), place = below(4);
+    memset(births, 0x55, sizeof births);
+    add_fault(mars_ancestors(battle, words, turns, warrior, place, births, below(FOUND), &count, &first, &fault));
+    add(count, 4);
+    add(first, 4);
+    add_words(births, FOUND);
+}
+
 static uint32_t debug(void)
 {
     size_t size = commands();
@@ -302,6 +312,7 @@ static uint32_t fight(void)
         edit();
         add_battle();
         if (chance(2)) follow();
+        if (chance(2)) ancestors();
         add_fault(mars_check(battle, words, &fault));
     }
     result = debug();

@@ -15,7 +15,7 @@ import { Mars, MarsError } from "../src/engine/mars.js";
 import { MODES, MODIFIERS, OPCODES, cellText } from "../src/model/cells.js";
 import { DEFAULTS, HILLS } from "../src/model/settings.js";
 
-const { ASSEMBLY, BLOCK, EDIT, EXECUTES, LOAD, MarsRow, NUMBER_DIED, OUT_OF_MEMORY, WARRIOR } = layout;
+const { ASSEMBLY, BLOCK, EDIT, EXECUTES, LOAD, MarsRow, NUMBER_DIED, OUT_OF_MEMORY, PROCESS, WARRIOR } = layout;
 const EXAMPLES = new URL("../../examples/", import.meta.url);
 const BATTLES = Number(process.env.BATTLES ?? 40);
 const code = fs.readFileSync(process.env.MARS_WASM);
@@ -167,6 +167,22 @@ test("turns one by one are turns at once, with their records", () => {
   const rest = mars.play(whole, 0xffffffff);
   assert.deepEqual([whole.over, whole.turns, rest.records.length], [true, 7798, 0]);
   assert.deepEqual(whole.deaths, [{ warrior: 1, turns: 7798 }]);
+});
+
+test("ancestors of processes are found", () => {
+  // The process at the split splits in turns 1, 3 and 6. A process that has split goes on at the jump, and stays there.
+  const battle = mars.start([mars.assemble("SPL 0\nJMP 0\n")]);
+  assert.deepEqual(mars.ancestors(battle, 6, 0, 3), { births: Uint32Array.of(6, 3, 1), first: 0 });
+  mars.play(battle, 5);
+  assert.deepEqual(mars.ancestors(battle, 1, 0, 3), { births: Uint32Array.of(6), first: 0 });
+  assert.deepEqual(mars.ancestors(battle, 1, 0, 0), { births: new Uint32Array(0), first: 1 });
+  assert.equal(battle.turns, 5);
+  assert.throws(() => mars.ancestors(battle, 1, 0, 4), { code: PROCESS, message: "process" });
+  // There are more births than places for them at first.
+  const turns = (1100 * 1101) / 2;
+  const settings = { ...DEFAULTS, cycles: turns };
+  const last = mars.ancestors(mars.start([mars.assemble("SPL 0\nJMP 0\n")], { settings }), turns, 0, 1100);
+  assert.deepEqual([last.births.length, last.births[0], last.births.at(-1), last.first], [1100, turns, 1, 0]);
 });
 
 test("turns are followed, found and counted", () => {

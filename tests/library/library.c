@@ -46,7 +46,7 @@ static const MarsEdit EDIT = {4, 1, 0, 5, {0, 0, 0, 0, 0, 0}};
 /* Fills three cells, then moves a process there and kills it. */
 static const MarsEdit EDITS[] = {{1, 0, 0, 5, {1, 6, 1, 1, 0, 1}}, {1, 0, 0, 6, {1, 6, 1, 1, 0, 1}}, {1, 0, 0, 7, {1, 6, 1, 1, 0, 1}}, {2, 2, 0, 6, {0, 0, 0, 0, 0, 0}}, {3, 1, 0, 0, {0, 0, 0, 0, 0, 0}}};
 static const MarsCondition CONDITIONS[] = {{MARS_CHANGES, MARS_NUMBER_ADDRESS, 780, 20}, {MARS_CHANGES, MARS_NUMBER_WARRIOR, 1, 2}};
-enum { WORDS = 64 + 3 * 800 + 3 * 800, CELLS = 5, CALLS = 17 };
+enum { WORDS = 64 + 3 * 800 + 3 * 800, CELLS = 5, CALLS = 18 };
 static MarsCell cells[17 * CELLS];
 static MarsWarrior warriors[17]; /* the same warrior several times */
 static MarsProgram program;
@@ -68,7 +68,9 @@ typedef struct {
     MarsPast pasts[800];
     MarsFound found[9];
     MarsMoment moments[9];
+    uint32_t births[9];
     uint32_t count;
+    uint32_t first;
     int64_t value;
     MarsProgram program;
     MarsFault fault;
@@ -102,6 +104,7 @@ static void call(int which, Left *got) {
     if (which == 14) got->answer = mars_edits(got->battle, WORDS, EDITS, 5, &got->fault);
     if (which == 15) got->answer = mars_score(formula, bytes, 3, 2, &got->value, &got->fault);
     if (which == 16) got->answer = mars_moments(got->battle, WORDS, 50, got->pasts, 800, CONDITIONS, 2, got->moments, 9, &got->fault);
+    if (which == 17) got->answer = mars_ancestors(got->battle, WORDS, 50, 1, 0, got->births, 9, &got->count, &got->first, &got->fault);
 }
 
 static int is_kept(const Left *got, const Left *blank) {
@@ -162,6 +165,8 @@ static int are_nulls_taken(void) {
         && mars_play(got.battle, 0, 1, NULL, 0, NULL, 0, &got.fault) == MARS_BLOCK && got.fault.number == MARS_BLOCK_SHORT
         && mars_follow(got.battle, 0, 1, NULL, 0, NULL, 0, NULL, 0, &got.count, &got.fault) == MARS_BLOCK && got.fault.number == MARS_BLOCK_SHORT
         && mars_moments(got.battle, 0, 1, NULL, 0, NULL, 0, NULL, 0, &got.fault) == MARS_BLOCK && got.fault.number == MARS_BLOCK_SHORT
+        && mars_ancestors(block, WORDS, 9, 2, 0, NULL, 0, &got.count, &got.first, &got.fault) == MARS_DONE && got.count == 0 && got.first == 0
+        && mars_ancestors(NULL, 0, 1, 0, 0, NULL, 0, &got.count, &got.first, &got.fault) == MARS_BLOCK && got.fault.number == MARS_BLOCK_SHORT
         && mars_edits(got.battle, 0, NULL, 0, &got.fault) == MARS_BLOCK && got.fault.number == MARS_BLOCK_SHORT
         && mars_check(NULL, 0, &got.fault) == MARS_BLOCK && got.fault.number == MARS_BLOCK_SHORT;
 }
@@ -272,6 +277,31 @@ static int are_moments_true(void) {
         && !memcmp(whole.pasts, steps.pasts, sizeof whole.pasts);
 }
 
+/* Of a warrior that splits in its turns 1, 3 and 6, the last process has three births, of which as many are written as there are places. A
+ * turn of a lone warrior is one of the battle, also of one that was played before. */
+static int are_ancestors_found(void) {
+    const MarsCell splits[] = {{MARS_SPL, MARS_B, MARS_DIRECT, MARS_DIRECT, 0, 0}, {MARS_JMP, MARS_B, MARS_DIRECT, MARS_DIRECT, 0, 0}};
+    const MarsWarrior lone[] = {{2, 0}};
+    const uint32_t births[] = {6, 3, 1};
+    Left got;
+    for (size_t places = 0; places < 5; places++) {
+        prepare(8, &got);
+        if (mars_start(&SETTINGS, splits, 2, lone, 1, 0, got.battle, WORDS, &got.fault) != MARS_DONE) return 0;
+        if (mars_ancestors(got.battle, WORDS, 6, 0, 3, got.births, places, &got.count, &got.first, &got.fault) != MARS_DONE) return 0;
+        if (got.count != 3 || got.first != 0 || memcmp(got.births, births, 4 * (places < 3 ? places : 3))) return 0;
+        for (size_t place = places < 3 ? places : 3; place < 9; place++)
+            if (got.births[place] != 0x07070707) return 0;
+    }
+    const Left before = got;
+    uint32_t missing = mars_ancestors(got.battle, WORDS, 6, 0, 4, got.births, 9, &got.count, &got.first, &got.fault);
+    uint32_t unknown = mars_ancestors(got.battle, WORDS, 6, 1, 0, got.births, 9, &got.count, &got.first, &got.fault);
+    if (missing != MARS_PROCESS || unknown != MARS_PROCESS || !is_kept(&got, &before)) return 0;
+    /* After five turns the process that splits next, in turn 6, is the front. */
+    return mars_play(got.battle, WORDS, 5, NULL, 0, NULL, 0, &got.fault) == MARS_DONE
+        && mars_ancestors(got.battle, WORDS, 1, 0, 3, got.births, 9, &got.count, &got.first, &got.fault) == MARS_DONE && got.count == 1
+        && got.births[0] == 6 && got.first == 0;
+}
+
 /* The value of a formula is the points of a match that ends so, and its errors are those of that match. */
 static int are_scores_points(void) {
     static const char *const formulas[] = {"(W*W-1)/S", "S-W*100", "7/(S-2)", "9223372036854775807+S", "W+", "X"};
@@ -377,10 +407,10 @@ int main(void) {
             passed += is_so, failed += !is_so;
             if (!is_so) printf("call %d, %s refused\n", which, each ? "all from one on" : "one");
         }
-    int others[] = {mars_version() == MARS_VERSION, are_faults_cleared(), are_nulls_taken(), are_lines_reported(), are_places_reported(), are_loads_read(), are_outcomes_rows(), are_mistakes_reported_in_order(), are_battles_values(), are_turns_found(), are_moments_true(), are_edits_all_or_none(), are_scores_points()};
+    int others[] = {mars_version() == MARS_VERSION, are_faults_cleared(), are_nulls_taken(), are_lines_reported(), are_places_reported(), are_loads_read(), are_outcomes_rows(), are_mistakes_reported_in_order(), are_battles_values(), are_turns_found(), are_moments_true(), are_ancestors_found(), are_edits_all_or_none(), are_scores_points()};
     for (size_t i = 0; i < sizeof others / sizeof *others; i++) {
         passed += others[i], failed += !others[i];
-        if (!others[i]) printf("%s\n", (const char *[]){"the version", "errors of calls that succeed", "null pointers", "the lines of a source", "the places of errors", "load files", "outcomes", "the order of mistakes", "battles as values", "turns that are found", "moments", "several edits", "scores"}[i]);
+        if (!others[i]) printf("%s\n", (const char *[]){"the version", "errors of calls that succeed", "null pointers", "the lines of a source", "the places of errors", "load files", "outcomes", "the order of mistakes", "battles as values", "turns that are found", "moments", "ancestors", "several edits", "scores"}[i]);
     }
     printf("%d passed, %d failed\n", passed, failed);
     return failed != 0;

@@ -4,6 +4,7 @@ The other fields of the error are 0, and the caller's rows and battles stay as t
 """
 from collections.abc import Callable, Sequence
 from dataclasses import dataclass, field
+from functools import partial
 from itertools import combinations
 from typing import Any
 
@@ -232,6 +233,7 @@ class Battle:
     buffer: int = 1000
     way: int = 1
     pasts: int = 800
+    process: int = 0
 
 
 def battle(arguments: Battle) -> tuple[NDArray[Any], tuple[Any, int]]:
@@ -276,8 +278,12 @@ def follow(arguments: Battle, fault: Any, rows: str = "MarsFound") -> tuple[int,
     return code, words
 
 
-def moments(arguments: Battle, fault: Any) -> tuple[int, NDArray[Any]]:
-    return follow(arguments, fault, "MarsMoment")
+def ancestors(arguments: Battle, fault: Any) -> tuple[int, NDArray[Any]]:
+    words, block = battle(arguments)
+    output, (births, _) = untouched("uint32_t", 5)
+    code = library()[1].mars_ancestors(*block, 1, 0, arguments.process, births, 3, births + 3, births + 4, fault)
+    assert (output.view(np.uint8) == UNTOUCHED).all()
+    return code, words
 
 
 def debug(arguments: Battle, fault: Any) -> tuple[int, NDArray[Any]]:
@@ -293,9 +299,10 @@ FOLLOWING = [other("way", 4, 15, 0, 1), *BLOCK, other("pasts", 799, 2, 7)]
 ON_BATTLES: dict[str, tuple[Callable[[Battle, Any], tuple[int, NDArray[Any]]], list[Mistake]]] = {
     "mars_play": (play, BLOCK),
     "mars_follow": (follow, FOLLOWING),
-    "mars_moments": (moments, FOLLOWING),
+    "mars_moments": (partial(follow, rows="MarsMoment"), FOLLOWING),
     "mars_edit": (edit, [other("what", 5, 12, 1), *BLOCK, other("address", 800, 12, 2)]),
     "mars_edits": (edits, [other("what", 5, 12, 1, 1), *BLOCK, other("address", 800, 12, 2, 1)]),
+    "mars_ancestors": (ancestors, [BLOCK[0], other("process", 1, 16, 0)]),
     "mars_debug": (debug, [other("history", 0, 2, 6), BLOCK[0], other("buffer", 10, 10, 0)]),
 }
 
