@@ -1,4 +1,4 @@
-"""Battles that are edited or followed: edits, the past of each cell, and turns that meet conditions."""
+"""Battles that are edited or followed: edits, the past of each cell, turns that meet conditions, and births."""
 from __future__ import annotations
 
 import random
@@ -183,3 +183,26 @@ def compare_moments(definitions: Evaluator, given: Followed, step: int) -> Compa
         conditions = tuple(given.values)
         rows = definitions("mars_core.Moments.moments_after", count, step, conditions, given.state, given.pasts)
     return given.compared(definitions, count * step, {"moments": rows}, error, {"moments": rows_in(*moments)})
+
+
+def compare_ancestors(definitions: Evaluator, dice: random.Random) -> Iterator[Comparison]:
+    """The turns in which a process and its ancestors were born; for some places there is no process."""
+    state, turns, place = random_state(dice), dice.randrange(3 * TURNS), dice.randrange(5)
+    warrior = dice.randrange(len(state["queues"]) + (dice.random() < 0.05))
+    births, count, first = room("uint32_t", dice.randrange(4)), new("uint32_t *", 0), new("uint32_t *", 0)
+    rows = rows_in(*births)
+    block = array("uint32_t", block_words(definitions, state))
+    error = call("mars_ancestors", *block, turns, warrior, place, *births, count, first)
+    expected: Value = definitions("mars_c.Codes.block_fault_of", ("Process",))
+    lineage: Value = {"births": (), "place": 0}
+    if definitions("mars_core.Ancestors.HasProcess", turns, state, warrior, place):
+        expected = definitions("mars_c.Codes.numbered", 0, 0)
+        lineage = definitions("mars_core.Ancestors.lineage", turns, state, warrior, place)
+    defined = {
+        "error": expected,
+        "births": definitions("mars_core.Search.filled", lineage["births"], rows),
+        "count": len(lineage["births"]),
+        "first": lineage["place"],
+    }
+    computed = {"error": error, "births": rows_in(*births), "count": count[0], "first": first[0]}
+    yield Comparison("calls", (state, turns, warrior, place), defined, computed)

@@ -10,7 +10,7 @@ from functools import lru_cache, partial
 from evaluating.evaluator import Evaluator, NoCase
 from evaluating.words import NotReadable
 
-from .changing import compare_edits, compare_follows
+from .changing import compare_ancestors, compare_edits, compare_follows
 from .comparison import Area, Comparison, shown, where_different
 from .contests import compare_contests, compare_fights, compare_formulas, compare_starts
 from .debugging import compare_transcripts
@@ -28,6 +28,7 @@ AREAS = {
         Area("machine", 600, compare_turns),
         Area("edits", 600, compare_edits),
         Area("follows", 300, compare_follows),
+        Area("ancestors", 600, compare_ancestors),
         Area("blocks", 1000, compare_blocks),
         Area("loads", 600, compare_loads),
         Area("sources", 1200, compare_sources),
