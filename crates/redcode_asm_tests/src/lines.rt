@@ -12,30 +12,49 @@ fn params() -> Result<Params, Fail> {
     Ok(params)
 }
 
-const SOURCES: [(&[u8], &[u8]); 5] = [
+/// A source, the row of each cell (line, begin and end of its labels), and the labels.
+type Example = (
+    &'static [u8],
+    &'static [(u64, u64, u64)],
+    &'static [u8],
+);
+
+const SOURCES: [Example; 5] = [
     // Nested loops with counters and joins.
     (
         b"FOR 0\nprose\nROF\ni FOR 2\nx&i DAT i\nj FOR 1\ny&i&j DAT x02\nROF\nROF",
-        b"5 x01\n7 y0101\n5 x02\n7 y0201\n",
+        &[(5, 0, 4), (7, 4, 10), (5, 10, 14), (7, 14, 20)],
+        b"x01\0y0101\0x02\0y0201\0",
     ),
     // An EQU name with a definition of several lines, one of which has a label.
     (
         b"copy EQU MOV 0, 1\n EQU b ADD #4, a\n EQU\na DAT 0\nfirst copy\nNOP",
-        b"4 a\n5 first\n5 b\n6\n",
+        &[(4, 0, 2), (5, 2, 8), (5, 8, 10), (6, 10, 10)],
+        b"a\0first\0b\0",
     ),
     // Labels on lines of their own, of an ORG, and after the last instruction.
     (
         b";redcode\na\n\nb: Caps:\ngo ORG d\nd_1: NOP\nd NOP\nlast\nend_of_it END go",
-        b"6 a b Caps go d_1\n7 d\n",
+        &[(6, 0, 16), (7, 16, 18)],
+        b"a\0b\0Caps\0go\0d_1\0d\0",
     ),
-    (b"NOP\r\n\n NOP ; x\n", b"1\n3\n"),
-    (b"\n\n\n\n\n\n\n\n\nNOP", b"10\n"),
+    (b"NOP\r\n\n NOP ; x\n", &[(1, 0, 0), (3, 0, 0)], b""),
+    (b"\n\n\n\n\n\n\n\n\nNOP", &[(10, 0, 0)], b""),
 ];
 
-/// Whether a source has these lines.
-fn has_lines(alloc: Global, source: &[u8], params: &Params, lines: &[u8]) -> Result<bool, Fail> {
+/// Whether a source has these lines and labels.
+fn has_lines(
+    alloc: Global,
+    source: &[u8],
+    params: &Params,
+    rows: &[(u64, u64, u64)],
+    labels: &[u8],
+) -> Result<bool, Fail> {
     let found = assemble_with_lines(alloc, source, params, 1, 2)?;
-    let is_it = found.lines.as_slice() == lines;
+    let mut is_it = found.labels.as_slice() == labels && found.lines.len() == rows.len();
+    for (line, (number, begin, end)) in found.lines.iter().zip(rows) {
+        is_it = is_it && line.line == *number && line.begin == *begin && line.end == *end;
+    }
     drop(found);
     Ok(is_it)
 }
@@ -43,8 +62,8 @@ fn has_lines(alloc: Global, source: &[u8], params: &Params, lines: &[u8]) -> Res
 #[test]
 fn lines_of_sources(rt: HostRuntime) -> Result<(), Fail> {
     let params = params()?;
-    for (source, lines) in SOURCES {
-        assert!(rt; has_lines(rt.alloc(), source, &params, lines)?);
+    for (source, rows, labels) in SOURCES {
+        assert!(rt; has_lines(rt.alloc(), source, &params, rows, labels)?);
     }
     Ok(())
 }
@@ -94,6 +113,7 @@ fn lines_are_made(rt: HostRuntime) -> Result<(), Fail> {
         }
         Ok(made) => made,
     };
-    assert!(rt; made.lines.as_slice() == b"2 x01\n2 x02\n".as_slice());
+    assert!(rt; made.lines.len() == 2);
+    assert!(rt; made.labels.as_slice() == b"x01\0x02\0".as_slice());
     Ok(())
 }
