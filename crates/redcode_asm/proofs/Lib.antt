@@ -6,4 +6,5 @@ pub mod Makes
 pub mod Past
 pub mod Scores
 pub mod SourceLines
+pub mod Rows
 pub mod Tables

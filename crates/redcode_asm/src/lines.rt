@@ -88,6 +88,7 @@ fn program_with_lines(
     ensures warrior { IsResult (λ made. made.warrior) result (warrior_of (predefined_of predefined.now) params.now program.now) }
     ensures lines { IsResult (λ made. record { lines = made.lines.items; labels = made.labels.items }) result
         (assembled_lines (predefined_of predefined.now) params.now program.now) }
+    ensures rows { IfOk result (λ made. length made.lines.items ≡ length made.warrior.cells) }
     ensures fits { IfOk result (λ made. All (FitsCore params.now.core_size) made.warrior.cells) }
 {
     let warrior = program_warrior(alloc, program, predefined, params)?;
@@ -127,6 +128,7 @@ pub fn assemble_with_lines(
     ensures warrior { IsResult (λ made. made.warrior) result (assembly params.now rounds warriors source.now) }
     ensures lines { IsResult (λ made. record { lines = made.lines.items; labels = made.labels.items }) result
         (source_lines params.now rounds warriors source.now) }
+    ensures rows { IfOk result (λ made. length made.lines.items ≡ length made.warrior.cells) }
     ensures fits { IfOk result (λ made. All (FitsCore params.now.core_size) made.warrior.cells) }
 {
     let predefined = predefined_names(params, rounds, warriors);
