@@ -204,6 +204,13 @@ typedef struct {
     uint8_t author[64];
 } MarsProgram;
 
+/* The line of a cell in its source. */
+typedef struct {
+    uint64_t line;  /* number of the line, from 1 */
+    uint64_t begin; /* its labels are the bytes of `labels` of mars_assemble from this offset on .. */
+    uint64_t end;   /* .. up to the byte before this one; each has a zero byte after it */
+} MarsLine;
+
 /* The result of a warrior. */
 typedef struct {
     int64_t points;  /* sum of its scores by the formula */
@@ -407,17 +414,19 @@ typedef struct {
 /* Assembles a source. Its cells are written to the front of `cells`, and the number of cells, the start and the names to *program.
  * `warriors` is the value of WARRIORS, and settings->rounds that of ROUNDS. Seed and position are ignored.
  *
- * `lines` begins with a line of text for each cell, in order: the decimal number of its line in the source, from 1, then each of its labels
- * after a space, then LF. A line in a loop occurs once per iteration, with joins and counters replaced. An instruction from an EQU name has
- * the line that uses the name as its operation. A label on a line without an instruction belongs to the next instruction, if there is one.
- * *length is the length of this text. If `lines_length` is 0, the text is not written.
+ * The lines of the cells are written to the front of `lines`, in the order of the cells, and the labels of all cells to the front of
+ * `labels`: those of the first cell, then those of the second, and so on, each with a zero byte after it. *length is the length of the
+ * labels with these bytes. If `line_count` is 0, no lines are written; if `labels_length` is 0, no labels.
  *
- * Returns MARS_ROOM if there are fewer cells than program->warrior.length, or if `lines_length` is less than *length but not 0; *program and
- * *length are then written all the same. */
+ * A line in a loop occurs once per iteration, with joins and counters replaced. An instruction from an EQU name has the line that uses the
+ * name as its operation. A label on a line without an instruction belongs to the next instruction, if there is one.
+ *
+ * Returns MARS_ROOM if there are fewer cells than program->warrior.length, if `line_count` is less than that but not 0, or if
+ * `labels_length` is less than *length but not 0; *program and *length are then written all the same. */
 uint32_t mars_assemble(const MarsSettings *settings, uint32_t warriors,
                        const uint8_t *source, size_t source_length,
                        MarsCell *cells, size_t cell_count, MarsProgram *program,
-                       uint8_t *lines, size_t lines_length, size_t *length, MarsFault *fault);
+                       MarsLine *lines, size_t line_count, uint8_t *labels, size_t labels_length, size_t *length, MarsFault *fault);
 
 /* Reads the cells and the program of a load file of version 1 or 2, like mars_assemble. Only the parameters of the core are used of the
  * settings. */

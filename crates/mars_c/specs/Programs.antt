@@ -6,7 +6,8 @@ use Rattle.mars_cell.specs.ParameterFaults.{checked_parameters}
 use Rattle.mars_cell.specs.Warriors.{WarriorValue}
 use Rattle.mars_cell.specs.Written.{load_text}
 use Rattle.redcode_asm.specs.Assembly.{assembly}
-use Rattle.redcode_asm.specs.SourceLines.{source_lines}
+use Rattle.redcode_asm.specs.SourceLines.{CellLines, source_lines}
+use Rattle.redcode_asm.specs.declared.lines.CellLine.{CellLine}
 use Rattle.mars_c.specs.Cells.{plain_cell}
 use Rattle.mars_c.specs.Entrants.{IsEntrant, named, plain_program}
 use Rattle.mars_c.specs.Settings.{parameters_in}
@@ -14,9 +15,9 @@ use Rattle.mars_c.specs.declared.cells.MarsCell.{MarsCell}
 use Rattle.mars_c.specs.declared.settings.MarsSettings.{MarsSettings}
 use Rattle.mars_c.specs.declared.warriors.MarsProgram.{MarsProgram}
 
--- The buffer `after` begins with `text`, whose length is `count`; after the text it equals the buffer `before`.
-abbrev pub BeginsWith : List ℕ → ℕ → List ℕ → List ℕ → Type 0
-BeginsWith text count before after = (count ≡ length text) × (count ≤ length before) × (after ≡ text ++ drop count before)
+-- The buffer `after` begins with `values`, whose number is `count`; after them it equals the buffer `before`.
+abbrev pub BeginsWith : {A : Type 0} → List A → ℕ → List A → List A → Type 0
+BeginsWith values count before after = (count ≡ length values) × (count ≤ length before) × (after ≡ values ++ drop count before)
 
 -- `text`, whose length is `count`, is longer than the buffer.
 abbrev pub Overflows : List ℕ → ℕ → List ℕ → Type 0
@@ -52,17 +53,26 @@ abbrev pub IsLoadFile : MarsSettings → List MarsCell → MarsProgram → List 
 IsLoadFile s cells program text = (p : Parameters) × (w : WarriorValue) × (checked_parameters (parameters_in s) ≡ Ok p) × (program.warrior.length ≡ length cells)
     × IsEntrant p cells program.warrior.start (named program.name) (named program.author) w × (text ≡ load_text p.core_size w)
 
--- `text` maps the cells of the warrior to the lines of its source.
-abbrev pub AreLines : MarsSettings → ℕ → List ℕ → List ℕ → Type 0
-AreLines s warriors source text = (p : Parameters) × (checked_parameters (parameters_in s) ≡ Ok p) × (source_lines p s.rounds warriors source ≡ Ok text)
+-- `made` has the lines of the cells of the warrior in its source, and their labels.
+abbrev pub AreLines : MarsSettings → ℕ → List ℕ → CellLines → Type 0
+AreLines s warriors source made = (p : Parameters) × (checked_parameters (parameters_in s) ≡ Ok p) × (source_lines p s.rounds warriors source ≡ Ok made)
 
--- The buffer `after` begins with a text for which `Is` holds, unless the buffer is empty. `count` is the length of that text.
-abbrev pub HoldsLines : (List ℕ → Type 0) → ℕ → List ℕ → List ℕ → Type 0
-HoldsLines Is count before after = (text : List ℕ) × Is text × (count ≡ length text) × (before ≢ [] → BeginsWith text count before after)
+-- The buffer `after` begins with `values`, unless the buffer is empty.
+abbrev pub HoldsAny : {A : Type 0} → List A → List A → List A → Type 0
+HoldsAny values before after = before ≢ [] → BeginsWith values (length values) before after
 
--- The warrior of the source, whose numbers and names are those of `program`, has more cells than there are places, or the text that maps
--- them to lines, which has the length `count`, is longer than a buffer that is not empty.
-abbrev pub OverflowsAssembled : MarsSettings → ℕ → List ℕ → MarsProgram → List MarsCell → ℕ → List ℕ → Type 0
-OverflowsAssembled s warriors source program places count buffer = (w : WarriorValue) × (text : List ℕ)
-    × IsAssembled s warriors source w × AreLines s warriors source text × (program ≡ plain_program w) × (count ≡ length text)
-    × ((length places < length w.cells) ⊎ ((buffer ≢ []) × (length buffer < count)))
+-- Lines and labels for which `Is` holds are at the front of their buffers, as far as these are not empty. `count` is the length of the labels.
+abbrev pub HoldsLines : (CellLines → Type 0) → ℕ → List CellLine → List CellLine → List ℕ → List ℕ → Type 0
+HoldsLines Is count lines_before lines labels_before labels = (made : CellLines) × Is made × (count ≡ length made.labels)
+    × HoldsAny made.lines lines_before lines × HoldsAny made.labels labels_before labels
+
+-- The buffer is too short for `values`, and not empty.
+abbrev pub IsShort : {A : Type 0} → List A → List A → Type 0
+IsShort values buffer = (buffer ≢ []) × (length buffer < length values)
+
+-- The warrior of the source, whose numbers and names are those of `program`, has more cells than there are places, or a buffer that is not
+-- empty is too short for the lines of its cells or for their labels, whose length is `count`.
+abbrev pub OverflowsAssembled : MarsSettings → ℕ → List ℕ → MarsProgram → List MarsCell → ℕ → List CellLine → List ℕ → Type 0
+OverflowsAssembled s warriors source program places count lines labels = (w : WarriorValue) × (made : CellLines)
+    × IsAssembled s warriors source w × AreLines s warriors source made × (program ≡ plain_program w) × (count ≡ length made.labels)
+    × ((length places < length w.cells) ⊎ (IsShort made.lines lines ⊎ IsShort made.labels labels))

@@ -1,4 +1,4 @@
-//! Assembles sources, reads and writes load files, and maps cells to the lines of a source.
+//! Assembles sources, reads and writes load files, and returns the lines of cells in a source.
 ghost use Rattle.std.specs.Prelude.{◌≡◌, ◌≢◌, IfErr, IfOk};
 ghost use Rattle.mars_c.specs.Entrants.{IsEntrant, named, plain_program};
 ghost use Rattle.mars_c.specs.Programs.{AreLines, IsAssembled, IsLoadFile, IsLoaded};
@@ -10,7 +10,7 @@ use crate::ranges::SettingsFault;
 use crate::settings::{MarsSettings, parameters};
 use crate::warriors::{EntrantFault, Made, MarsProgram, name_in, warrior_of};
 use mars_cell::{LoadFault, Params, Warrior, read_load, write_load};
-use redcode_asm::{Assembled, assemble_with_lines};
+use redcode_asm::{Assembled, CellLine, assemble_with_lines};
 use std::alloc::Global;
 
 /// Returns a warrior with its program.
@@ -24,14 +24,15 @@ fn made_of(warrior: Warrior) -> Result<Made, CallRefusal>
     }
 }
 
-/// A program, and the text that maps its cells to the lines of its source.
+/// A program, and the lines of its cells in its source with their labels.
 #[derive(Drop)]
 pub struct Mapped {
     pub made: Made,
-    pub lines: Vec<u8>,
+    pub lines: Vec<CellLine>,
+    pub labels: Vec<u8>,
 }
 
-/// Returns the program that a source is assembled to, with the lines of its cells.
+/// Returns the program that a source is assembled to, with the lines and labels of its cells.
 ///
 /// `warriors` is the value of WARRIORS.
 pub fn assembled(
@@ -42,7 +43,7 @@ pub fn assembled(
 ) -> Result<Mapped, CallRefusal>
     ensures made { IfOk result (λ mapped. IsAssembled settings.now warriors source.now mapped.made.warrior
         × (mapped.made.program ≡ plain_program mapped.made.warrior)) }
-    ensures lines { IfOk result (λ mapped. AreLines settings.now warriors source.now mapped.lines.items) }
+    ensures lines { IfOk result (λ mapped. AreLines settings.now warriors source.now (record { lines = mapped.lines.items; labels = mapped.labels.items })) }
     ensures refused { IfErr result (RefusesSource settings.now warriors source.now) }
 {
     let params = match parameters(settings) {
@@ -50,10 +51,21 @@ pub fn assembled(
         Err(fault) => return Err(CallRefusal::Parameters(fault)),
     };
     match assemble_with_lines(alloc, source, &params, settings.rounds, warriors) {
-        Ok(Assembled { warrior, lines }) => match made_of(warrior) {
-            Ok(made) => Ok(Mapped { made, lines }),
+        Ok(
+            Assembled {
+                warrior,
+                lines,
+                labels,
+            },
+        ) => match made_of(warrior) {
+            Ok(made) => Ok(Mapped {
+                made,
+                lines,
+                labels,
+            }),
             Err(refusal) => {
                 drop(lines);
+                drop(labels);
                 Err(refusal)
             }
         },

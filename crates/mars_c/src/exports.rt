@@ -7,7 +7,7 @@ ghost use Rattle.mars_c.specs.Cells.{plain_cell};
 ghost use Rattle.mars_c.specs.Codes.{numbered};
 ghost use Rattle.mars_c.specs.Contests.{HoldsLeague, HoldsMatch, HoldsSums, IsScore};
 ghost use Rattle.mars_c.specs.Outcomes.{HoldsOutcomes, RefusesOutcomes};
-ghost use Rattle.mars_c.specs.Programs.{AreLines, BeginsWith, HoldsLines, HoldsProgram, HoldsText, IsAssembled, IsLoadFile, IsLoaded, Overflows, OverflowsAssembled, OverflowsProgram, OverflowsText};
+ghost use Rattle.mars_c.specs.Programs.{AreLines, BeginsWith, HoldsAny, HoldsLines, HoldsProgram, HoldsText, IsAssembled, IsLoadFile, IsLoaded, IsShort, Overflows, OverflowsAssembled, OverflowsProgram, OverflowsText};
 ghost use Rattle.mars_c.specs.Refusals.{HasCause, RefusesLeague, RefusesLoad, RefusesMatch, RefusesPopulation, RefusesScore, RefusesSource, RefusesWriting};
 
 mod blocks;
@@ -23,6 +23,7 @@ use crate::rows::MarsRow;
 use crate::scores::score;
 use crate::settings::MarsSettings;
 use crate::warriors::{Made, MarsProgram, MarsWarrior};
+use redcode_asm::CellLine;
 use std::alloc::Global;
 
 /// Copies `text` to the start of `buffer` if it fits, and returns whether it does. Sets `length` in both cases.
@@ -56,37 +57,59 @@ fn give_program(made: &Made, places: &mut [MarsCell], program: &mut MarsProgram)
     true
 }
 
-/// Writes the program and the length of the text of lines. If both fit, it also writes the cells to the front of `places` and the text to
-/// the front of `lines`, and returns whether they fit. No text is written to an empty `lines`.
+/// Returns whether a buffer is empty or has room for `count` values. Nothing is written to an empty one.
+fn is_roomy(buffer: usize, count: usize) -> bool
+    ensures some { result ≡ true → buffer ≢ 0 → count ≤ buffer }
+    ensures short { result ≡ false → (buffer ≢ 0) × (buffer < count) }
+{
+    buffer == 0 || count <= buffer
+}
+
+/// Writes the lines of cells and their labels to the front of their buffers, as far as these are not empty.
+fn put_lines(mapped: &Mapped, lines: &mut [CellLine], labels: &mut [u8])
+    requires lines { lines.old ≢ [] → length mapped.now.lines.items ≤ length lines.old }
+    requires labels { labels.old ≢ [] → length mapped.now.labels.items ≤ length labels.old }
+    ensures lines { HoldsAny mapped.now.lines.items lines.old lines.new }
+    ensures labels { HoldsAny mapped.now.labels.items labels.old labels.new }
+{
+    if !lines.is_empty() {
+        lines[..mapped.lines.len()].copy_from_slice(&mapped.lines);
+    }
+    if !labels.is_empty() {
+        labels[..mapped.labels.len()].copy_from_slice(&mapped.labels);
+    }
+}
+
+/// Writes the program and the length of the labels. If all fit, it also writes the cells to the front of `places`, and their lines and
+/// labels, and returns whether they fit.
 fn give_mapped(
     mapped: &Mapped,
     places: &mut [MarsCell],
     program: &mut MarsProgram,
-    lines: &mut [u8],
-    text_length: &mut usize,
+    lines: &mut [CellLine],
+    labels: &mut [u8],
+    labels_length: &mut usize,
 ) -> bool
     ensures program { program.new ≡ mapped.now.made.program }
-    ensures length { text_length.new ≡ length mapped.now.lines.items }
+    ensures length { labels_length.new ≡ length mapped.now.labels.items }
     ensures fits { result ≡ true → length mapped.now.made.warrior.cells ≤ length places.old }
     ensures cells { result ≡ true → places.new
         ≡ map plain_cell mapped.now.made.warrior.cells ++ drop (length mapped.now.made.warrior.cells) places.old }
-    ensures lines { result ≡ true → lines.old ≢ [] → BeginsWith mapped.now.lines.items text_length.new lines.old lines.new }
+    ensures lines { result ≡ true → HoldsAny mapped.now.lines.items lines.old lines.new }
+    ensures labels { result ≡ true → HoldsAny mapped.now.labels.items labels.old labels.new }
     ensures short { result ≡ false → (length places.old < length mapped.now.made.warrior.cells)
-        ⊎ ((lines.old ≢ []) × (length lines.old < length mapped.now.lines.items)) }
-    ensures kept { result ≡ false → (places.new ≡ places.old) × (lines.new ≡ lines.old) }
+        ⊎ (IsShort mapped.now.lines.items lines.old ⊎ IsShort mapped.now.labels.items labels.old) }
+    ensures kept { result ≡ false → (places.new ≡ places.old) × (lines.new ≡ lines.old) × (labels.new ≡ labels.old) }
 {
-    let text = mapped.lines.as_slice();
-    *text_length = text.len();
-    if !lines.is_empty() && lines.len() < text.len() {
+    *labels_length = mapped.labels.len();
+    if !is_roomy(lines.len(), mapped.lines.len()) || !is_roomy(labels.len(), mapped.labels.len()) {
         *program = mapped.made.program;
         return false;
     }
     if !give_program(&mapped.made, places, program) {
         return false;
     }
-    if !lines.is_empty() {
-        lines[..text.len()].copy_from_slice(text);
-    }
+    put_lines(mapped, lines, labels);
     true
 }
 
@@ -110,7 +133,7 @@ pub extern "C" fn mars_version() -> u32
     VERSION
 }
 
-/// Assembles a source to the cells of its warrior, and maps them to the lines of the source.
+/// Assembles a source to the cells of its warrior, with their lines in the source and their labels.
 #[unsafe(no_mangle)]
 pub extern "C" fn mars_assemble(
     alloc: Global,
@@ -119,7 +142,8 @@ pub extern "C" fn mars_assemble(
     source: &[u8],
     cells: &mut [MarsCell],
     program: &mut MarsProgram,
-    lines: &mut [u8],
+    lines: &mut [CellLine],
+    labels: &mut [u8],
     length: &mut usize,
     fault: &mut MarsFault,
 ) -> u32
@@ -127,16 +151,16 @@ pub extern "C" fn mars_assemble(
     ensures cleared { result ≡ 0 → fault.new ≡ numbered 0 0 }
     ensures short { result ≡ 10 → fault.new ≡ numbered 10 0 }
     ensures done { result ≡ 0 → HoldsProgram (IsAssembled settings.now warriors source.now) program.new cells.old cells.new }
-    ensures mapped { result ≡ 0 → HoldsLines (AreLines settings.now warriors source.now) length.new lines.old lines.new }
+    ensures mapped { result ≡ 0 → HoldsLines (AreLines settings.now warriors source.now) length.new lines.old lines.new labels.old labels.new }
     ensures refused { result ≢ 0 → result ≢ 10 → HasCause (RefusesSource settings.now warriors source.now) fault.new }
-    ensures room { result ≡ 10 → OverflowsAssembled settings.now warriors source.now program.new cells.old length.new lines.old }
-    ensures kept { result ≢ 0 → (cells.new ≡ cells.old) × (lines.new ≡ lines.old) }
+    ensures room { result ≡ 10 → OverflowsAssembled settings.now warriors source.now program.new cells.old length.new lines.old labels.old }
+    ensures kept { result ≢ 0 → (cells.new ≡ cells.old) × (lines.new ≡ lines.old) × (labels.new ≡ labels.old) }
     ensures unread { result ≢ 0 → result ≢ 10 → (program.new ≡ program.old) × (length.new ≡ length.old) }
 {
     match assembled(alloc, settings, warriors, source) {
         Ok(mapped) => answer(
             fault,
-            given(give_mapped(&mapped, cells, program, lines, length)),
+            given(give_mapped(&mapped, cells, program, lines, labels, length)),
         ),
         Err(refusal) => answer(fault, to_c_fault(refusal)),
     }

@@ -24,6 +24,8 @@ use Rattle.mars_app.specs.Debugger.Transcript.Transcript.{none}
 use Rattle.mars_app.specs.Debugging.{session_at}
 use Rattle.mars_match.specs.declared.fault.MatchFault.{MatchFault}
 use Rattle.mars_match.specs.declared.fault.MatchFault.TheVariants as fight
+use Rattle.redcode_asm.specs.SourceLines.{CellLines}
+use Rattle.redcode_asm.specs.declared.lines.CellLine.{CellLine}
 use Rattle.redcode_text.specs.declared.fault.ExprFault.{ExprFault}
 use Rattle.mars_c.specs.Battles.{IsDebugged}
 use Rattle.mars_c.specs.Blocks.{HoldsEdited, HoldsStart, IsPlayable, Means, OverflowsStart, RefusesEdit, RefusesPlay, RefusesWords, Reports}
@@ -34,7 +36,7 @@ use Rattle.mars_c.specs.Entrants.{AreEntrants, plain_program}
 use Rattle.mars_c.specs.Examples.{nano}
 use Rattle.mars_c.specs.Examples.Wrong.{no_mark, no_round_3}
 use Rattle.mars_c.specs.Outcomes.{AreChosen, FailsLineup, IsLineup, IsNoLineup, IsWrongLineup, RefusesLineup, indices_of}
-use Rattle.mars_c.specs.Programs.{AreLines, BeginsWith, HoldsLines, HoldsProgram, HoldsText, IsAssembled, IsLoadFile, IsLoaded, OverflowsAssembled, OverflowsProgram, OverflowsText}
+use Rattle.mars_c.specs.Programs.{AreLines, BeginsWith, HoldsAny, HoldsLines, HoldsProgram, HoldsText, IsAssembled, IsLoadFile, IsLoaded, IsShort, OverflowsAssembled, OverflowsProgram, OverflowsText}
 use Rattle.mars_c.specs.Refusals.{AreWarriors, Fails, HasCause, IsOutOfRange, RefusesLoad, RefusesSource, RefusesWriting, fight_refusal}
 use Rattle.mars_c.specs.Settings.{parameters_in}
 use Rattle.mars_c.specs.declared.cells.MarsCell.{MarsCell}
@@ -75,7 +77,7 @@ the_error_of_a_match s text cells entrants refusal (a, ws, fault, made, are, is,
 
 -- ---- Sources and load files
 
--- A source that is assembled has no error, and one map of lines.
+-- A source that is assembled has no error, and one list of lines.
 pub assembled : (s : MarsSettings) (count : ℕ) (source : List ℕ) (w : WarriorValue) (refusal : CallRefusal)
     → IsAssembled s count source w → RefusesSource s count source refusal → refusal ≡ call.OutOfMemory
 assembled s count source w call.OutOfMemory is refuses = refl
@@ -83,8 +85,8 @@ assembled s count source w (call.Parameters f) (p, allowed, is) refuses = cc
 assembled s count source w (call.Assembly f) (p, allowed, is) (q, too, refuses) = cc
 assembled s count source w other is refuses = absurd refuses
 
-pub one_map : (s : MarsSettings) (count : ℕ) (source one other : List ℕ) → AreLines s count source one → AreLines s count source other → one ≡ other
-one_map s count source one other (p, allowed, is) (q, too, are) = cc
+pub one_list : (s : MarsSettings) (count : ℕ) (source : List ℕ) (one other : CellLines) → AreLines s count source one → AreLines s count source other → one ≡ other
+one_list s count source one other (p, allowed, is) (q, too, are) = cc
 
 -- A load file that is read has no error.
 pub read : (s : MarsSettings) (text : List ℕ) (w : WarriorValue) (refusal : CallRefusal)
@@ -147,18 +149,24 @@ a_text_in_a_buffer text count before after (other, is, begins) = subst (λ text.
 pub too_short_a_buffer : (text : List ℕ) (count : ℕ) (buffer : List ℕ) → OverflowsText (λ other. other ≡ text) count buffer → (count ≡ length text) × (length buffer < count)
 too_short_a_buffer text count buffer (other, is, over) = (over.0 ∙ ap (λ (text : List ℕ). length text) is, over.1)
 
--- The length of the text of lines is reported, and the text is in a buffer that is not empty.
-pub lines_in_a_buffer : (text : List ℕ) (count : ℕ) (before after : List ℕ) → HoldsLines (λ other. other ≡ text) count before after
-    → (count ≡ length text) × (before ≢ [] → BeginsWith text count before after)
-lines_in_a_buffer text count before after (other, is, counted, begins) =
-    subst (λ (text : List ℕ). (count ≡ length text) × (before ≢ [] → BeginsWith text count before after)) is (counted, begins)
+-- The length of the labels is reported, and lines and labels are in their buffers, as far as these are not empty.
+pub lines_in_buffers : (made : CellLines) (count : ℕ) (lines_before lines : List CellLine) (labels_before labels : List ℕ)
+    → HoldsLines (λ other. other ≡ made) count lines_before lines labels_before labels
+    → (count ≡ length made.labels) × HoldsAny made.lines lines_before lines × HoldsAny made.labels labels_before labels
+lines_in_buffers made count lines_before lines labels_before labels (other, is, counted, rows, bytes) =
+    subst (λ (made : CellLines). (count ≡ length made.labels) × HoldsAny made.lines lines_before lines × HoldsAny made.labels labels_before labels) is (counted, rows, bytes)
 
--- Without a buffer only the places can be too few.
+-- Without buffers only the places can be too few.
 pub too_few_places_for_lines : (s : MarsSettings) (warriors : ℕ) (source : List ℕ) (program : MarsProgram) (places : List MarsCell) (count : ℕ)
-    → OverflowsAssembled s warriors source program places count []
+    → OverflowsAssembled s warriors source program places count [] []
     → (w : WarriorValue) × IsAssembled s warriors source w × (program ≡ plain_program w) × (length places < length w.cells)
-too_few_places_for_lines s warriors source program places count (w, text, is, are, numbers, counted, inl few) = (w, is, numbers, few)
-too_few_places_for_lines s warriors source program places count (w, text, is, are, numbers, counted, inr (some, short)) = absurd (some refl)
+too_few_places_for_lines s warriors source program places count (w, made, is, are, numbers, counted, inl few) = (w, is, numbers, few)
+too_few_places_for_lines s warriors source program places count (w, made, is, are, numbers, counted, inr (inl (some, short))) = absurd (some refl)
+too_few_places_for_lines s warriors source program places count (w, made, is, are, numbers, counted, inr (inr (some, short))) = absurd (some refl)
+
+-- A buffer with a place for each value is not too short.
+pub long_enough : (labels : List ℕ) → IsShort labels labels → ⊥
+long_enough labels (some, short) = omega (arith, short)
 
 -- ---- Edits
 
