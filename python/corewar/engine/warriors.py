@@ -17,8 +17,8 @@ from .binding import MAX_UINT32, ROOM, array, call, clamp, dtype_of, library, re
 
 # A cell as the library has it: opcode, modifier, modes and numbers. No cell has the greatest of them.
 CELL, MAX_CELL = struct.Struct("=4B2I"), (255, 255, 255, 255, MAX_UINT32, MAX_UINT32)
-# The numbers of cells and of bytes of their lines for which buffers are made first.
-CELLS, LINES = 128, 1024
+# The numbers of cells and of bytes of their labels for which buffers are made first.
+CELLS, LABELS = 128, 1024
 
 
 @dataclass(frozen=True, repr=False)
@@ -32,7 +32,8 @@ class Warrior:
       load file says
     - `file`: the name of the file that it was read from, or ""
     - `source`: its source, or None without one
-    - `listing`: the lines and labels of its cells in the source, as the library writes them; `lines` reads it
+    - `listing`, `labels`: the lines of its cells in the source, each a `MarsLine` of the API for C, and the labels of
+      its cells, each with a zero byte after it; `lines` has both
 
     Equal warriors have equal fields. `len(warrior)` is its number of cells, and `str(warrior)` its load file as text.
     """
@@ -45,6 +46,7 @@ class Warrior:
     file: str = ""
     source: bytes | None = None
     listing: bytes = b""
+    labels: bytes = b""
 
     @staticmethod
     def from_cells(
@@ -75,8 +77,8 @@ class Warrior:
     @cached_property
     def lines(self) -> list[tuple[int, list[str]]]:
         """The number of the line, from 1, and the labels of each cell in the source; empty without a source."""
-        rows = map(str.split, self.listing.decode("ascii").splitlines())
-        return [(int(number), labels) for number, *labels in rows]
+        rows, labels = np.frombuffer(self.listing, dtype_of("MarsLine")), self.labels.decode("ascii")
+        return [(line, labels[begin:end].split("\0")[:-1]) for line, begin, end in rows.tolist()]
 
     def cells_in(self, core: int) -> bytes:
         """Returns the cells as a core of a size reads them: each number by value. Raises `MarsError`."""
@@ -154,16 +156,18 @@ def program(call_name: str, settings: Settings | str, rounds: int, more: list[in
     """Returns the warrior of a source or a load file, as the call of this name reads it."""
     given, (ffi, _), has_lines = settings_of(settings), library(), call_name == "mars_assemble"
     parts = [settings_struct(given, rounds), *more, *slice_of("uint8_t", data)]
-    cells, lines = array("MarsCell", CELLS), bytearray(LINES if has_lines else 0)
     result, length = ffi.new("MarsProgram *"), ffi.new("size_t *")
+    cells, lines, labels = array("MarsCell", CELLS), array("MarsLine", CELLS), bytearray(LABELS)
 
     def read() -> int:
-        text = (*slice_of("uint8_t", lines), length) if has_lines else ()
-        return call(call_name, *parts, *slice_of("MarsCell", cells), result, *text)
+        mapped = (*slice_of("MarsLine", lines), *slice_of("uint8_t", labels), length) if has_lines else ()
+        return call(call_name, *parts, *slice_of("MarsCell", cells), result, *mapped)
 
     if read() == ROOM:
-        cells, lines = array("MarsCell", result.warrior.length), bytearray(length[0])
+        count = result.warrior.length
+        cells, lines, labels = array("MarsCell", count), array("MarsLine", count), bytearray(length[0])
         read()
     name, author = (bytes(field).rstrip(b"\0").decode("ascii") for field in (result.name, result.author))
-    found, listing = cells[: result.warrior.length].tobytes(), bytes(lines[: length[0]])
-    return Warrior(name, author, found, result.warrior.start, given.core, listing=listing)
+    count, start = result.warrior.length, result.warrior.start
+    found = Warrior(name, author, cells[:count].tobytes(), start, given.core)
+    return replace(found, listing=lines[:count].tobytes(), labels=bytes(labels[: length[0]])) if has_lines else found
