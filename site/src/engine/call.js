@@ -6,6 +6,7 @@ import {
   ROOM,
   MarsCell,
   MarsFault,
+  MarsLine,
   MarsProgram,
   MarsSettings,
   MarsWarrior,
@@ -13,6 +14,7 @@ import {
 import { errorOf } from "./errors.js";
 
 /** @typedef {import("./mars.js").Warrior} Warrior */
+/** @typedef {import("./mars.js").Line} Line */
 /** @typedef {(number | bigint)[]} Arguments */
 /**
  * The exports of the module. Addresses and sizes are BigInt.
@@ -195,19 +197,21 @@ export class Call {
   }
 
   /**
-   * Makes a call that writes a program, and if there is `room` for it the text that maps cells to lines; a second time
-   * with larger buffers if the first are too short.
+   * Makes a call that writes a program, and if there is `room` for labels the lines of its cells with them; a second
+   * time with larger buffers if the first are too short.
    * @param {string} name
    * @param {Arguments} given
-   * @param {number} room the bytes for the text of lines
-   * @returns {{warrior: Warrior, lines: string}}
+   * @param {number} room the bytes for the labels
+   * @returns {{warrior: Warrior, lines: Line[]}}
    */
   program(name, given, room = 0) {
     const [program, length] = [this.allocate(MarsProgram.size), this.allocate(8)];
     const write = (/** @type {number} */ count, /** @type {number} */ size, allowed = DONE) => {
-      const [cells, text] = [this.allocate(MarsCell.size * count), this.allocate(size)];
-      const lines = room ? [text, BigInt(size), length] : [];
-      return { cells, text, result: this.make(name, [...given, cells, BigInt(count), program, ...lines], allowed) };
+      const sizes = [MarsCell.size * count, MarsLine.size * count, size];
+      const [cells, lines, labels] = sizes.map((bytes) => this.allocate(bytes));
+      const mapped = room ? [lines, BigInt(count), labels, BigInt(size), length] : [];
+      const result = this.make(name, [...given, cells, BigInt(count), program, ...mapped], allowed);
+      return { cells, lines, labels, result };
     };
     let written = write(CELLS, room, ROOM);
     const [count, start] = this.words(program, 2);
@@ -219,7 +223,25 @@ export class Call {
       return decoder.decode(field.subarray(0, field.indexOf(0)));
     });
     const cells = this.words(written.cells, CELL_WORDS * count).slice();
-    return { warrior: { name: named, author, start, cells }, lines: decoder.decode(this.bytesAt(written.text, size)) };
+    const labels = decoder.decode(this.bytesAt(written.labels, size));
+    const lines = room ? this.#linesAt(written.lines, count, labels) : [];
+    return { warrior: { name: named, author, start, cells }, lines };
+  }
+
+  /**
+   * Returns the lines that a call wrote.
+   * @param {bigint} address
+   * @param {number} count
+   * @param {string} labels those of all lines, each with a zero character after it
+   */
+  #linesAt(address, count, labels) {
+    const view = this.view(address);
+    return Array.from({ length: count }, (_, index) => {
+      const at = MarsLine.size * index;
+      const fields = [MarsLine.line, MarsLine.begin, MarsLine.end];
+      const [line, begin, end] = fields.map((field) => Number(view.getBigUint64(at + field, true)));
+      return { line, labels: labels.slice(begin, end).split("\0").slice(0, -1) };
+    });
   }
 
   /**

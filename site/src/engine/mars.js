@@ -32,8 +32,8 @@ const encoder = new TextEncoder();
  * @param {string} name
  */
 const nameBytes = (name) => encoder.encode(name.replaceAll("\0", "\n")).subarray(0, 64);
-// The bytes of lines for which a buffer is made first.
-const LINES = 1024;
+// The bytes of labels for which a buffer is made first.
+const LABELS = 1024;
 export class Mars extends Machine {
   /** @param {WebAssembly.Instance} instance */
   constructor(instance) {
@@ -63,8 +63,8 @@ export class Mars extends Machine {
   assemble(source, { settings = DEFAULTS, rounds = 1, warriors = 2 } = {}) {
     return this.within((call) => {
       const given = [call.settings(settings, { rounds }), warriors, ...call.bytes(source)];
-      const { warrior, lines } = call.program("mars_assemble", given, LINES);
-      return { ...warrior, lines: lines.trimEnd().split("\n").map(lineOf) };
+      const { warrior, lines } = call.program("mars_assemble", given, LABELS);
+      return { ...warrior, lines };
     });
   }
 
@@ -225,14 +225,4 @@ export class Mars extends Machine {
       }));
     });
   }
-}
-
-/**
- * Returns what a row of the text of lines says.
- * @param {string} row
- * @returns {Line}
- */
-function lineOf(row) {
-  const [line, ...labels] = row.split(" ");
-  return { line: Number(line), labels };
 }

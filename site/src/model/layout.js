@@ -91,6 +91,13 @@ export const MarsProgram = {
   author: 72,
 };
 
+export const MarsLine = {
+  size: 24,
+  line: 0,
+  begin: 8,
+  end: 16,
+};
+
 export const MarsRow = {
   size: 32,
   points: 0,
