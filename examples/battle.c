@@ -12,7 +12,7 @@ int main(void)
     MarsProgram program;
     size_t words = mars_words(&nano, 1), unread;
     MarsFault fault;
-    if (mars_assemble(&nano, 1, (const uint8_t *)source, strlen(source), loaded, 5, &program, NULL, 0, &unread, &fault))
+    if (mars_assemble(&nano, 1, (const uint8_t *)source, strlen(source), loaded, 5, &program, NULL, 0, NULL, 0, &unread, &fault))
         return 1;
     uint32_t *block = malloc(4 * words), *snapshot = malloc(4 * words);
     MarsBattle *battle = (MarsBattle *)block;

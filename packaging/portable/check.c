@@ -9,6 +9,7 @@ enum { OUT_CELLS = 300, OUTCOMES = 3000, ROWS = 40, RECORDS = 64, FOUND = 32, ED
 
 static uint64_t digest;
 static MarsCell out_cells[OUT_CELLS];
+static MarsLine lines[OUT_CELLS];
 static uint8_t out[MAXTEXT];
 static size_t length;
 static MarsProgram program;
@@ -89,7 +90,15 @@ static void clear(void)
 static uint32_t assemble(void)
 {
     size_t size = source(), cells_given = chance(4) ? below(8) : OUT_CELLS, most = chance(4) ? below(40) : sizeof out;
-    uint32_t result = mars_assemble(&s, 1 + below(4), text, size, out_cells, cells_given, &program, out, most, &length, &fault);
+    size_t i, rows = chance(4) ? below(8) : OUT_CELLS;
+    uint32_t result;
+    memset(lines, 0, sizeof lines);
+    result = mars_assemble(&s, 1 + below(4), text, size, out_cells, cells_given, &program, lines, rows, out, most, &length, &fault);
+    for (i = 0; i < OUT_CELLS; i++) {
+        add(lines[i].line, 8);
+        add(lines[i].begin, 8);
+        add(lines[i].end, 8);
+    }
     add_program();
     add_text();
     return result;

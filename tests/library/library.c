@@ -39,7 +39,8 @@ void __wrap_free(void *old) {
 
 static const MarsSettings SETTINGS = {800, 800, 8000, 0, 0, 20, 20, 3, 1, 0};
 static const char SOURCE[] = ";name Loops\nstep EQU 4\ni FOR 3\nx&i ADD #step, x01\nROF\nMOV 2, @2\nJMP -2\nEND x02\n";
-static const char PLACES[] = "4 x01\n4 x02\n4 x03\n6\n7\n";
+static const MarsLine OWN_LINES[] = {{4, 0, 4}, {4, 4, 8}, {4, 8, 12}, {6, 12, 12}, {7, 12, 12}};
+static const char LABELS[] = "x01\0x02\0x03";
 static const char LINES[] = "step\nrun 5\nundo\nshow\nlist 0 5\nquit\n";
 static const char FORMULA[] = "(W*W-1)/S";
 static const MarsEdit EDIT = {4, 1, 0, 5, {0, 0, 0, 0, 0, 0}};
@@ -64,6 +65,7 @@ typedef struct {
     MarsRecord records[9];
     MarsTouched touched[9];
     MarsCell cells[20];
+    MarsLine lines[20];
     uint32_t battle[WORDS];
     MarsPast pasts[800];
     MarsFound found[9];
@@ -87,8 +89,8 @@ static void call(int which, Left *got) {
     prepare(which, got);
     const uint8_t *formula = (const uint8_t *)FORMULA, *lines = (const uint8_t *)LINES, *source = (const uint8_t *)SOURCE;
     size_t bytes = strlen(FORMULA), source_length = strlen(SOURCE);
-    if (which < 2) got->answer = mars_assemble(&SETTINGS, 2, source, source_length, got->cells, 20, &got->program, got->text,
-                                               which == 0 ? sizeof got->text : 0, &got->length, &got->fault);
+    if (which < 2) got->answer = mars_assemble(&SETTINGS, 2, source, source_length, got->cells, 20, &got->program, got->lines, which == 0 ? 20 : 0,
+                                               got->text, which == 0 ? sizeof got->text : 0, &got->length, &got->fault);
     if (which == 2) got->answer = mars_read_load(&SETTINGS, load, load_length, got->cells, 20, &got->program, &got->fault);
     if (which == 3) got->answer = mars_write_load(&SETTINGS, cells, CELLS, &program, got->text, sizeof got->text, &got->length, &got->fault);
     if (which == 4) got->answer = mars_match(&SETTINGS, formula, bytes, cells, 3 * CELLS, warriors, 3, got->rows, 3, &got->fault);
@@ -148,10 +150,10 @@ static int are_nulls_taken(void) {
     const uint8_t *source = (const uint8_t *)SOURCE, *formula = (const uint8_t *)FORMULA;
     size_t bytes = strlen(FORMULA), all = 3 * CELLS;
     MarsWarrior none = {0, 0};
-    return mars_assemble(settings, 2, NULL, 0, NULL, 0, &got.program, NULL, 0, &got.length, &got.fault) == MARS_ASSEMBLY
+    return mars_assemble(settings, 2, NULL, 0, NULL, 0, &got.program, NULL, 0, NULL, 0, &got.length, &got.fault) == MARS_ASSEMBLY
         && got.fault.number == MARS_ASSEMBLY_EMPTY
-        && mars_assemble(settings, 2, source, strlen(SOURCE), NULL, 0, &got.program, NULL, 0, &got.length, &got.fault) == MARS_ROOM
-        && got.program.warrior.length == CELLS && got.length == strlen(PLACES)
+        && mars_assemble(settings, 2, source, strlen(SOURCE), NULL, 0, &got.program, NULL, 0, NULL, 0, &got.length, &got.fault) == MARS_ROOM
+        && got.program.warrior.length == CELLS && got.length == sizeof LABELS
         && mars_read_load(settings, NULL, 0, NULL, 0, &got.program, &got.fault) == MARS_LOAD && got.fault.number == MARS_LOAD_EMPTY
         && mars_write_load(settings, cells, CELLS, &program, NULL, 0, &got.length, &got.fault) == MARS_ROOM && got.length == load_length
         && mars_match(settings, NULL, 0, cells, all, warriors, 3, got.rows, 3, &got.fault) == MARS_FORMULA && got.fault.number == MARS_EXPRESSION_SYNTAX
@@ -174,7 +176,8 @@ static int are_nulls_taken(void) {
 /* Whether the error of a source has the bytes from `begin` up to `end`. */
 static int is_error_at(const char *source, uint64_t begin, uint64_t end) {
     Left got;
-    uint32_t answer = mars_assemble(&SETTINGS, 2, (const uint8_t *)source, strlen(source), got.cells, 20, &got.program, NULL, 0, &got.length, &got.fault);
+    uint32_t answer = mars_assemble(&SETTINGS, 2, (const uint8_t *)source, strlen(source), got.cells, 20, &got.program, NULL, 0, NULL, 0, &got.length,
+                                    &got.fault);
     return answer == MARS_ASSEMBLY && got.fault.begin == begin && got.fault.end == end;
 }
 
@@ -341,21 +344,27 @@ static int are_edits_all_or_none(void) {
     return !memcmp(once.battle, several.battle, 4 * ((const MarsBattle *)once.battle)->words);
 }
 
-/* The lines of a source's cells. If the buffer is too short, nothing is written but the program and the length; without one, the cells. */
+/* Whether a call with this room for lines and for labels writes all that it has room for, or nothing but the program and the length. */
+static int are_lines_written(size_t line_count, size_t labels_length) {
+    Left got, expected;
+    int fits = (line_count == 0 || line_count >= CELLS) && (labels_length == 0 || labels_length >= sizeof LABELS);
+    prepare(0, &got), prepare(0, &expected);
+    got.answer = mars_assemble(&SETTINGS, 2, (const uint8_t *)SOURCE, strlen(SOURCE), got.cells, 20, &got.program, got.lines, line_count, got.text,
+                               labels_length, &got.length, &got.fault);
+    if (fits) memcpy(expected.cells, cells, CELLS * sizeof *cells);
+    if (fits && line_count) memcpy(expected.lines, OWN_LINES, sizeof OWN_LINES);
+    if (fits && labels_length) memcpy(expected.text, LABELS, sizeof LABELS);
+    return got.answer == (fits ? MARS_DONE : MARS_ROOM) && got.length == sizeof LABELS && !memcmp(&got.program, &program, sizeof program)
+        && !memcmp(got.cells, expected.cells, sizeof got.cells) && !memcmp(got.lines, expected.lines, sizeof got.lines)
+        && !memcmp(got.text, expected.text, sizeof got.text);
+}
+
+/* The lines of a source's cells and their labels. If a buffer is too short, nothing is written but the program and the length; to an
+ * empty one nothing is written. */
 static int are_lines_reported(void) {
-    Left got, blank;
-    size_t full = strlen(PLACES);
-    call(0, &got);
-    if (got.length != full || memcmp(got.text, PLACES, full) || got.text[full] != 7) return 0;
-    for (size_t given = 0; given < full; given++) {
-        prepare(0, &got);
-        prepare(0, &blank);
-        got.answer = mars_assemble(&SETTINGS, 2, (const uint8_t *)SOURCE, strlen(SOURCE), got.cells, 20, &got.program, got.text, given, &got.length,
-                                   &got.fault);
-        if (got.answer != (given ? MARS_ROOM : MARS_DONE) || got.length != full || got.program.warrior.length != CELLS) return 0;
-        if (memcmp(got.text, blank.text, sizeof got.text)) return 0;
-        if ((memcmp(got.cells, blank.cells, sizeof got.cells) == 0) != (given > 0)) return 0;
-    }
+    for (size_t lines = 0; lines <= CELLS + 1; lines++)
+        for (size_t labels = 0; labels <= sizeof LABELS + 1; labels++)
+            if (!are_lines_written(lines, labels)) return 0;
     return 1;
 }
 

@@ -37,11 +37,12 @@ static void *assemble(void *unused) {
     cell_count = 0;
     for (int i = 0; i < WARRIORS; i++) {
         MarsProgram program;
-        uint8_t lines[1000];
+        MarsLine lines[100];
+        uint8_t labels[1000];
         size_t length;
         const char *source = SOURCES[i % 4];
-        check(mars_assemble(&settings, WARRIORS, (const uint8_t *)source, strlen(source), cells + cell_count, 100, &program, lines, sizeof lines,
-                            &length, &fault));
+        check(mars_assemble(&settings, WARRIORS, (const uint8_t *)source, strlen(source), cells + cell_count, 100, &program, lines, 100,
+                            labels, sizeof labels, &length, &fault));
         warriors[i] = program.warrior;
         cell_count += program.warrior.length;
     }

@@ -32,7 +32,7 @@ static size_t assemble(const char *name, size_t end, MarsWarrior *warrior)
     MarsProgram program;
     FILE *file = fopen(name, "rb");
     size_t length = file ? fread(text, 1, MAX_SOURCE, file) : 0, unread;
-    check(mars_assemble(&settings, 2, text, length, cells + end, LENGTH, &program, NULL, 0, &unread, &fault), name);
+    check(mars_assemble(&settings, 2, text, length, cells + end, LENGTH, &program, NULL, 0, NULL, 0, &unread, &fault), name);
     printf("%s by %s, %u cells\n", (char *)program.name, (char *)program.author, (unsigned)program.warrior.length);
     *warrior = program.warrior;
     fclose(file);

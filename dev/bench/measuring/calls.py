@@ -49,7 +49,8 @@ int main(int count, char **words) {
         const uint8_t *source = (const uint8_t *)sources[i];
         size_t length = strlen(sources[i]);
         MarsCell *own = cells + 4 * i;
-        if (mars_assemble(&nano, 2, source, length, own, 5 - 4 * i, &program, NULL, 0, &unread, &fault)) return 1;
+        size_t room = 5 - 4 * i;
+        if (mars_assemble(&nano, 2, source, length, own, room, &program, NULL, 0, NULL, 0, &unread, &fault)) return 1;
         warriors[i] = program.warrior;
     }
     for (int i = 0; i < atoi(words[1]); i++)

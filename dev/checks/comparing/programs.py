@@ -61,15 +61,20 @@ def with_refusal(name: str, result: Value) -> Value:
 def read_program(name: str, *words: object) -> Value:
     """Returns the program and the cells that the library reads, or its error. Its texts are not looked at."""
     cells, program = room("MarsCell", ROOM_FOR_CELLS), new("MarsProgram *", {"name": [0]})
-    unread = [*room("uint8_t", 0), new("size_t *", 0)] if name == "mars_assemble" else []
+    unread = [*room("MarsLine", 0), *room("uint8_t", 0), new("size_t *", 0)] if name == "mars_assemble" else []
     fault = call(name, *words, *cells, program, *unread)
     return fault if fault["code"] else (plain(program[0]), rows_in(cells[0], program.warrior.length))
 
 
 def read_lines(*words: object) -> Value:
-    """Returns the text that maps the cells of a source to its lines, or the error of the source."""
+    """Returns the lines and the labels of the cells of a source, or its error."""
     cells, program = room("MarsCell", ROOM_FOR_CELLS), new("MarsProgram *", {"name": [0]})
-    return read_text("mars_assemble", *words, *cells, program)
+    lines = room("MarsLine", ROOM_FOR_CELLS)
+    labels = read_text("mars_assemble", *words, *cells, program, *lines)
+    if isinstance(labels, dict):
+        # (the error)
+        return labels
+    return {"lines": rows_in(lines[0], program.warrior.length), "labels": labels}
 
 
 def compare_program(
@@ -92,7 +97,7 @@ def examples(most: int = 800) -> list[str]:
 
 
 def compare_sources(definitions: Evaluator, dice: random.Random) -> Iterator[Comparison]:
-    """A source, its warrior or its first error, and the lines of its instructions."""
+    """A source, its warrior or its first error, and the lines of its cells."""
     settings, warriors = random_settings(dice), dice.choice([1, 2, 9])
     made = dice.choice(examples()) if dice.random() < 0.1 else text_of(dice, "source")
     text = tuple(mutated(dice, made).encode("latin-1"))

@@ -78,6 +78,14 @@ struct Program {
     author: [u8; 64],
 }
 
+/// The line of a cell in its source, and where its labels are.
+#[repr(C)]
+struct Line {
+    line: u64,
+    begin: u64,
+    end: u64,
+}
+
 /// A warrior.
 #[derive(Clone, Debug, PartialEq, Eq)]
 pub struct Warrior {
@@ -124,8 +132,10 @@ extern "C" {
         cells: *mut Cell,
         cell_count: usize,
         program: *mut Program,
-        lines: *mut u8,
-        lines_length: usize,
+        lines: *mut Line,
+        line_count: usize,
+        labels: *mut u8,
+        labels_length: usize,
         length: *mut usize,
         fault: *mut Fault,
     ) -> u32;
@@ -156,7 +166,7 @@ extern "C" {
 
 /// Returns the warrior of a source; `warriors` is the value of WARRIORS.
 pub fn assemble(source: &[u8], settings: &Settings, warriors: u32) -> Result<Warrior, Fault> {
-    // The pointers are valid for the given lengths, and the output overlaps nothing. The lines of the cells aren't requested.
+    // The pointers are valid for the given lengths, and the output overlaps nothing. Lines and labels aren't requested.
     warrior_of(|cells, program, fault| unsafe {
         let mut length = 0;
         mars_assemble(
@@ -167,6 +177,8 @@ pub fn assemble(source: &[u8], settings: &Settings, warriors: u32) -> Result<War
             cells.as_mut_ptr(),
             cells.len(),
             program,
+            std::ptr::null_mut(),
+            0,
             std::ptr::null_mut(),
             0,
             &mut length,
