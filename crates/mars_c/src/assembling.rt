@@ -50,26 +50,26 @@ pub fn assembled(
         Ok(params) => params,
         Err(fault) => return Err(CallRefusal::Parameters(fault)),
     };
-    match assemble_with_lines(alloc, source, &params, settings.rounds, warriors) {
-        Ok(
-            Assembled {
-                warrior,
-                lines,
-                labels,
-            },
-        ) => match made_of(warrior) {
-            Ok(made) => Ok(Mapped {
-                made,
-                lines,
-                labels,
-            }),
-            Err(refusal) => {
-                drop(lines);
-                drop(labels);
-                Err(refusal)
-            }
-        },
-        Err(fault) => Err(refused_source(fault)),
+    let assembled = match assemble_with_lines(alloc, source, &params, settings.rounds, warriors) {
+        Ok(assembled) => assembled,
+        Err(fault) => return Err(refused_source(fault)),
+    };
+    let Assembled {
+        warrior,
+        lines,
+        labels,
+    } = assembled;
+    match made_of(warrior) {
+        Ok(made) => Ok(Mapped {
+            made,
+            lines,
+            labels,
+        }),
+        Err(refusal) => {
+            drop(lines);
+            drop(labels);
+            Err(refusal)
+        }
     }
 }
 

@@ -80,10 +80,10 @@ no_room_for_processes s words some is h = omega (arith, some, is, h.capacity)
 -- ---- Buffers
 
 -- A text of one byte in a buffer of two: another count, another byte of the text, and another byte after it.
-pub texts_in_buffers : BeginsWith (65 ∷ []) 1 (1 ∷ 2 ∷ []) (65 ∷ 2 ∷ [])
-    × (BeginsWith (65 ∷ []) 2 (1 ∷ 2 ∷ []) (65 ∷ []) → ⊥)
-    × (BeginsWith (65 ∷ []) 1 [] (65 ∷ []) → ⊥)
-    × (BeginsWith (65 ∷ []) 1 (1 ∷ 2 ∷ []) (65 ∷ 3 ∷ []) → ⊥)
+pub texts_in_buffers : BeginsWith {A = ℕ} (65 ∷ []) 1 (1 ∷ 2 ∷ []) (65 ∷ 2 ∷ [])
+    × (BeginsWith {A = ℕ} (65 ∷ []) 2 (1 ∷ 2 ∷ []) (65 ∷ []) → ⊥)
+    × (BeginsWith {A = ℕ} (65 ∷ []) 1 [] (65 ∷ []) → ⊥)
+    × (BeginsWith {A = ℕ} (65 ∷ []) 1 (1 ∷ 2 ∷ []) (65 ∷ 3 ∷ []) → ⊥)
 texts_in_buffers = (
   (refl, omega arith, refl),
   λ b. let e : 2 ≡ 1 = b.0 in omega (arith, e),
