@@ -16,7 +16,7 @@ use Rattle.mars_cell.specs.Words.{op_of, modifier_of}
 use Rattle.redcode_text.specs.Results.{◌>>=◌}
 use Rattle.redcode_text.specs.declared.fault.ExprFault.{ExprFault}
 use Rattle.redcode_text.specs.declared.fault.TextFault.{TextFault}
-use Rattle.redcode_text.specs.declared.fault.TextProblem.{TextProblem}
+use Rattle.redcode_text.specs.declared.fault.TokenProblem as text
 use Rattle.redcode_text.specs.declared.token.Sign.{Sign}
 use Rattle.redcode_text.specs.declared.token.Sign.TheVariants as sign
 use Rattle.redcode_text.specs.declared.token.Span.{Span}
@@ -101,12 +101,12 @@ expressed span (Err e) = Err (record { problem = Expression e; token = span e })
 abbrev pub value_in : (ℕ → Option ℤ) → Option Span → List Token → Result ℤ TokenProblem
 value_in names before ts = expressed (fault_span names before ts) (value_of names (kinds ts))
 
-abbrev pub texted : {A : Type 0} → Result A TextProblem → Result A TokenProblem
+abbrev pub texted : {A : Type 0} → Result A text.TokenProblem → Result A TokenProblem
 texted (Ok x) = Ok x
-texted (Err e) = Err (record { problem = Text e; token = None })
+texted (Err e) = Err (record { problem = Text e.problem; token = e.token })
 
 -- The tokens `ts` with each EQU name replaced by its definition. The error has no line yet: it gets the line on which the
--- names are used. It has no token.
+-- names are used.
 abbrev pub replaced : ProgramValue → List Token → Result (List Token) TokenProblem
 replaced source ts = texted (without_line (substitution source.equates ts))
 
@@ -310,7 +310,7 @@ warrior_of ps p source =
 
 abbrev pub text_read : Result ProgramValue TextFault → Result ProgramValue AsmFault
 text_read (Ok source) = Ok source
-text_read (Err e) = Err (record { line = e.line; problem = Text e.problem; token = None })
+text_read (Err e) = Err (record { line = e.line; problem = Text e.problem; token = e.token })
 
 -- The warrior of a source text for the parameters `p`, or its first error. `rounds` and `warriors` are the values of ROUNDS
 -- and WARRIORS.

@@ -1,5 +1,5 @@
 //! The errors of sources and of score formulas.
-ghost use Rattle.std.specs.Prelude.{◌≡◌, None};
+ghost use Rattle.std.specs.Prelude.{◌≡◌};
 ghost use Rattle.redcode_asm.specs.Code.Problems.{fault_line, fault_token, problem_of_text};
 
 use redcode_text::{ExprFault, Span, TextFault, TextProblem};
@@ -46,7 +46,7 @@ pub struct AsmFault {
     pub line: usize,
     pub problem: AsmProblem,
     /// The bytes, in the source, of the token at which the error arises: the unknown word, the comma, the token that can't
-    /// continue an expression. `Empty`, `Text` and `OutOfMemory` have none.
+    /// continue an expression. `Empty` and `OutOfMemory` have none, nor has `Text` if the `TextFault` has none.
     ///
     /// A token that comes from EQU has its bytes in the definition, while `line` is that of the use.
     pub token: Option<Span>,
@@ -105,12 +105,12 @@ impl AsmFault {
     pub(crate) fn of_text(fault: TextFault) -> AsmFault
         ensures problem { result.problem ≡ problem_of_text fault.problem }
         ensures line { result.line ≡ fault.line }
-        ensures token { result.token ≡ None }
+        ensures token { result.token ≡ fault.token }
     {
         AsmFault {
             line: fault.line,
             problem: AsmProblem::of_text(fault.problem),
-            token: None,
+            token: fault.token,
         }
     }
 }

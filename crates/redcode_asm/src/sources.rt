@@ -98,7 +98,7 @@ impl<'a> Source<'a> {
     {
         match self.program.substitute(alloc, tokens) {
             Ok(made) => Ok(made),
-            Err(fault) => Err(AsmProblem::of_text(fault.problem).at_token(None)),
+            Err(fault) => Err(AsmProblem::of_text(fault.problem).at_token(fault.token)),
         }
     }
 

@@ -8,29 +8,33 @@ use Rattle.std.proofs.lemmas.List.{length-append}
 use Rattle.redcode_text.specs.Results.{◌>>=◌}
 use Rattle.redcode_text.specs.Code.Counters.{IsThere}
 use Rattle.redcode_text.specs.declared.fault.TextProblem.{TextProblem}
+use Rattle.redcode_text.specs.declared.fault.TokenProblem.{TokenProblem}
 use Rattle.redcode_text.specs.declared.fault.TextProblem.TheVariants.{BadToken, NotAscii, TooLong}
 use Rattle.redcode_text.specs.declared.token.Sign.{Sign}
-use Rattle.redcode_text.specs.declared.token.Sign.TheVariants.{Colon}
+use Rattle.redcode_text.specs.declared.token.Span.{Span}
 use Rattle.redcode_text.specs.declared.token.Token.{Token}
 use Rattle.redcode_text.specs.declared.token.TokenKind.{TokenKind}
 use Rattle.redcode_text.specs.declared.token.TokenKind.TheVariants.{Name, Number}
 use Rattle.redcode_text.specs.declared.token.TokenKind.TheVariants as token
 use Rattle.redcode_text.specs.Equates.{limit}
-use Rattle.redcode_text.specs.Expression.{kinds}
-use Rattle.redcode_text.specs.Lines.{Reading, WithTokens, before_comment, name_in_front, row_tokens, tokens_before}
+use Rattle.redcode_text.specs.Lines.{Reading, WithTokens, before_comment, is_colon, misplaced, name_alone, name_in_front, name_with_colon, row_tokens, tokens_before}
 use Rattle.redcode_text.specs.Source.{SourceRow}
-use Rattle.redcode_text.specs.Tokens.{Found, OpenLoop, Scanned, begins_name, begins_word, is_blank, joined, look_up, name_found, name_index, number_found, one_byte_signs, round_of, scan_from, sign_found, sign_token, token_at, tokens, two_byte_signs, with_name, with_room, with_token, word_found, word_len, word_token}
+use Rattle.redcode_text.specs.Tokens.{Found, OpenLoop, Scanned, at_token, problem_at, span_at, unread_len, begins_name, begins_word, is_blank, joined, look_up, name_found, name_index, number_found, one_byte_signs, round_of, scan_from, sign_found, sign_token, token_at, tokens, two_byte_signs, with_name, with_room, with_token, word_found, word_len, word_token}
 use Rattle.redcode_text.proofs.Named.{IsBelow}
 use Rattle.redcode_text.proofs.NamesMore.{with-front, with-inside}
 
 -- A property of a result's value, if there is a value.
-abbrev pub Holds : {A : Type 0} → (A → Type 0) → Result A TextProblem → Type 0
+abbrev pub Holds : {A E : Type 0} → (A → Type 0) → Result A E → Type 0
 Holds P (Ok a) = P a
 Holds P (Err e) = ⊤
 
-holds-then : {A B : Type 0} (P : A → Type 0) (Q : B → Type 0) (r : Result A TextProblem) (f : A → Result B TextProblem) → Holds P r → ((a : A) → P a → Holds Q (f a)) → Holds Q (r >>= f)
+holds-then : {A B E : Type 0} (P : A → Type 0) (Q : B → Type 0) (r : Result A E) (f : A → Result B E) → Holds P r → ((a : A) → P a → Holds Q (f a)) → Holds Q (r >>= f)
 holds-then P Q (Ok a) f h on = on a h
 holds-then P Q (Err e) f h on = tt
+
+holds-token : {A : Type 0} (P : A → Type 0) (span : Option Span) (r : Result A TextProblem) → Holds P r → Holds P (at_token span r)
+holds-token P span (Ok a) h = h
+holds-token P span (Err e) h = tt
 
 -- ---- Tokens
 
@@ -115,7 +119,7 @@ IsScannedBelow s = TokensBelow (length s.names) s.tokens
 room-below : (room line at : ℕ) (s : Scanned) (f : Found) → IsScannedBelow s → IsFoundBelow s.names f → Holds IsScannedBelow (with_room room s line at f)
 room-below room line at s f h is = go (nat_lt (length s.tokens) room)
   where
-    go : (b : Bool) → Holds IsScannedBelow (cond b (Ok (with_token s line at f)) (Err TooLong))
+    go : (b : Bool) → Holds IsScannedBelow (cond b (Ok (with_token s line at f)) (Err (problem_at (span_at at f.len) TooLong)))
     go true =
         below-push (length f.names) s.tokens (record { kind = f.kind; line = line; from = at; to = at + f.len })
         (below-more (length s.names) (length f.names) is.more s.tokens h) is.kind
@@ -130,14 +134,14 @@ module _ (loops : List OpenLoop) (line room : ℕ) where
     where
       go : (c : Bool) → ((skip : ℕ) (t : Scanned) → IsScannedBelow t → Holds IsScannedBelow (scan_from loops line room (at + 1) skip bs t))
           → Holds IsScannedBelow
-          (elim c as (λ _. Result Scanned TextProblem) [
+          (elim c as (λ _. Result Scanned TokenProblem) [
             | true ↦ scan_from loops line room (at + 1) 0 bs s
-            | false ↦ token_at loops s.names (b ∷ bs) >>= λ f. with_room room s line at f >>= λ t. scan_from loops line room (at + 1) (f.len - 1) bs t
+            | false ↦ at_token (span_at at (unread_len (b ∷ bs))) (token_at loops s.names (b ∷ bs)) >>= λ f. with_room room s line at f >>= λ t. scan_from loops line room (at + 1) (f.len - 1) bs t
           ])
       go true on = on 0 s h
       go false on =
-          holds-then (IsFoundBelow s.names) IsScannedBelow (token_at loops s.names (b ∷ bs)) (λ f. with_room room s line at f >>= λ t. scan_from loops line room (at + 1) (f.len - 1) bs t)
-          (token-below loops s.names (b ∷ bs))
+          holds-then (IsFoundBelow s.names) IsScannedBelow (at_token (span_at at (unread_len (b ∷ bs))) (token_at loops s.names (b ∷ bs))) (λ f. with_room room s line at f >>= λ t. scan_from loops line room (at + 1) (f.len - 1) bs t)
+          (holds-token (IsFoundBelow s.names) (span_at at (unread_len (b ∷ bs))) (token_at loops s.names (b ∷ bs)) (token-below loops s.names (b ∷ bs)))
           (λ f is. holds-then IsScannedBelow IsScannedBelow (with_room room s line at f) (λ t. scan_from loops line room (at + 1) (f.len - 1) bs t) (room-below room line at s f h is) (λ t k. on (f.len - 1) t k))
 
 abbrev pub IsRowBelow : WithTokens → Type 0
@@ -152,40 +156,35 @@ row-below row at st =
 
 -- ---- The name before FOR or EQU
 
-abbrev KindsBelow : ℕ → List TokenKind → Type 0
-KindsBelow n [] = ⊤
-KindsBelow n (k ∷ ks) = IsBelow n k × KindsBelow n ks
-
-kinds-below : (n : ℕ) (ts : List Token) → TokensBelow n ts → KindsBelow n (kinds ts)
-kinds-below n [] h = tt
-kinds-below n (t ∷ ts) h = (h.0, kinds-below n ts h.1)
-
 some-there : (names : List (List ℕ)) (m : ℕ) → m < length names → IsThere names (Some m)
 some-there names m less n is = let same : m ≡ n = cc in omega (arith, less, same)
 
 none-there : (names : List (List ℕ)) → IsThere names None
 none-there names n is = cc
 
-front-there : (names : List (List ℕ)) (ks : List TokenKind) → KindsBelow (length names) ks → Holds (IsThere names) (name_in_front ks)
+alone-there : (names : List (List ℕ)) (n : ℕ) (ts : List Token) → IsThere names (Some n) → Holds (IsThere names) (name_alone n ts)
+alone-there names n [] h = h
+alone-there names n (t ∷ ts) h = tt
+
+colon-there : (names : List (List ℕ)) (n : ℕ) (ts : List Token) → IsThere names (Some n) → Holds (IsThere names) (name_with_colon n ts)
+colon-there names n [] h = h
+colon-there names n (t ∷ ts) h = go (is_colon t.kind)
+  where
+    go : (c : Bool) → Holds (IsThere names) (elim c as (λ _. Result (Option ℕ) TokenProblem) [ true ↦ name_alone n ts | false ↦ Err (misplaced t) ])
+    go true = alone-there names n ts h
+    go false = tt
+
+front-there : (names : List (List ℕ)) (ts : List Token) → TokensBelow (length names) ts → Holds (IsThere names) (name_in_front ts)
 front-there names [] h = none-there names
-front-there names (Number v ∷ ks) h = tt
-front-there names (token.Sign s ∷ ks) h = tt
-front-there names (Name m ∷ []) h = some-there names m h.0
-front-there names (Name m ∷ Number v ∷ ks) h = tt
-front-there names (Name m ∷ Name k ∷ ks) h = tt
-front-there names (Name m ∷ token.Sign s ∷ []) h = go s
+front-there names (t ∷ ts) h = go t.kind h.0
   where
-    go : (s : Sign) → Holds (IsThere names) (name_in_front (Name m ∷ token.Sign s ∷ []))
-    go Colon = some-there names m h.0
-    go _ = tt
-front-there names (Name m ∷ token.Sign s ∷ k ∷ ks) h = go s
-  where
-    go : (s : Sign) → Holds (IsThere names) (name_in_front (Name m ∷ token.Sign s ∷ k ∷ ks))
-    go Colon = tt
-    go _ = tt
+    go : (k : TokenKind) → IsBelow (length names) k → Holds (IsThere names) (elim k as (λ _. Result (Option ℕ) TokenProblem) [ Name n ↦ name_with_colon n ts | _ ↦ Err (misplaced t) ])
+    go (Name n) b = colon-there names n ts (some-there names n b)
+    go (Number v) b = tt
+    go (token.Sign s) b = tt
 
 pub counter-there : (row : SourceRow) (at : ℕ) (st next : Reading) (ts : List Token) (from : ℕ) (name : Option ℕ) → row_tokens row at st ≡ Ok (ts, next)
-    → name_in_front (kinds (tokens_before from ts)) ≡ Ok name → IsThere next.names name
+    → name_in_front (tokens_before from ts) ≡ Ok name → IsThere next.names name
 counter-there row at st next ts from name read front =
     let below = below-before (length next.names) from ts (subst (Holds IsRowBelow) read (row-below row at st)) in
-    subst (Holds (IsThere next.names)) front (front-there next.names (kinds (tokens_before from ts)) (kinds-below (length next.names) (tokens_before from ts) below))
+    subst (Holds (IsThere next.names)) front (front-there next.names (tokens_before from ts) below)

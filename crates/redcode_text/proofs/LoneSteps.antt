@@ -3,6 +3,7 @@ use Rattle.std.proofs.Common.{◌≡◌, ◌∙◌, ℕ, ◌<◌, List, [], ◌�
 use Rattle.redcode_text.specs.Results.{◌>>=◌}
 use Rattle.redcode_text.specs.declared.fault.TextFault.{TextFault}
 use Rattle.redcode_text.specs.declared.fault.TextProblem.{TextProblem}
+use Rattle.redcode_text.specs.declared.fault.TokenProblem.{TokenProblem}
 use Rattle.redcode_text.specs.declared.fault.TextProblem.TheVariants.{UnclosedFor, RofAlone}
 use Rattle.redcode_text.specs.declared.source.row.SourceRow as code
 use Rattle.redcode_text.specs.Expansion.{flat, unpaired_line}
@@ -11,14 +12,14 @@ use Rattle.redcode_text.specs.Code.Loops.{one_loop}
 use Rattle.redcode_text.specs.Outcomes.{FailsAt}
 use Rattle.redcode_text.specs.Code.Rows.{row_of}
 use Rattle.redcode_text.specs.Code.Pairs.{here_from, EndsAt}
-use Rattle.redcode_text.specs.Source.{Items, Nothing, Plain, Loop, LoneRof, SourceRow, paired, then_lone, tree_of_rows, with_lone}
+use Rattle.redcode_text.specs.Source.{Items, Nothing, Plain, Loop, LoneRof, SourceRow, loop_word, paired, then_lone, tree_of_rows, with_lone}
 use Rattle.redcode_text.specs.Source as source
-use Rattle.redcode_text.specs.Tokens.{at_line}
+use Rattle.redcode_text.specs.Tokens.{at_line, problem_at}
 use Rattle.redcode_text.proofs.LoopSteps.{flat-loop, goes-on, stops, then-fails}
 use Rattle.redcode_text.proofs.PairSteps.{rof-at}
 
 abbrev lone : SourceRow → Reading → Result Reading TextFault
-lone rof st = at_line rof.number (unpaired_line RofAlone st)
+lone rof st = at_line rof.number (unpaired_line RofAlone rof st)
 
 -- A step and what follows it, up to a ROF without a FOR.
 step-lone : (r : Result Reading TextFault) (f g h : Reading → Result Reading TextFault) → ((a : Reading) → a.ended ≡ false → g a ≡ (f a >>= λ b. unless_ended b h))
@@ -30,10 +31,10 @@ step-lone (Ok a) f g h same = go a.ended refl
     go true e = sym (stops a h e)
     go false e = same a e
 
-unpaired-fails : (p : TextProblem) (n : ℕ) (st : Reading) (h : Reading → Result Reading TextFault) → at_line n (unpaired_line p st) ≡ (at_line n (unpaired_line p st) >>= λ b. unless_ended b h)
-unpaired-fails p n st h = go (line_read st)
+unpaired-fails : (p : TextProblem) (row : SourceRow) (n : ℕ) (st : Reading) (h : Reading → Result Reading TextFault) → at_line n (unpaired_line p row st) ≡ (at_line n (unpaired_line p row st) >>= λ b. unless_ended b h)
+unpaired-fails p row n st h = go (line_read st)
   where
-    go : (r : Result Reading TextProblem) → at_line n (r >>= λ _. Err p) ≡ (at_line n (r >>= λ _. Err p) >>= λ b. unless_ended b h)
+    go : (r : Result Reading TokenProblem) → at_line n (r >>= λ _. Err (problem_at (loop_word row) p)) ≡ (at_line n (r >>= λ _. Err (problem_at (loop_word row) p)) >>= λ b. unless_ended b h)
     go (Ok a) = refl
     go (Err e) = refl
 
@@ -44,8 +45,8 @@ flat-lone ps rof (Loop head body end rest) st e =
     flat-loop ps head body end (then_lone rof rest) st
     ∙ step-lone (one_loop ps head body end st) (flat ps rest) (flat ps (then_lone rof rest)) (lone rof) (flat-lone ps rof rest)
     ∙ ap (λ r. r >>= λ a. unless_ended a (lone rof)) (sym (flat-loop ps head body end rest st))
-flat-lone ps rof (source.UnclosedFor row rest) st e = unpaired-fails UnclosedFor row.number st (lone rof)
-flat-lone ps rof (LoneRof row rest) st e = unpaired-fails RofAlone row.number st (lone rof)
+flat-lone ps rof (source.UnclosedFor row rest) st e = unpaired-fails UnclosedFor row row.number st (lone rof)
+flat-lone ps rof (LoneRof row rest) st e = unpaired-fails RofAlone row row.number st (lone rof)
 
 pub lone-fails : (ps : Predefined) (items : Items) (waiting : List (SourceRow × Items)) (st : Reading) (fault : TextFault) → st.ended ≡ false → FailsAt fault.problem fault (flat ps items st) → FailsAt fault.problem fault (flat ps (with_lone items waiting) st)
 lone-fails ps items [] st fault e h = h
@@ -57,11 +58,11 @@ lone-ended ps items (rof ∷ waiting) st a e h ended = flat-lone ps rof.0 items 
 
 -- If the items of all rows end at a ROF, reading them ends with its error.
 pub lone-at : (ps : Predefined) (rows : List code.SourceRow) (j : ℕ) (s : code.SourceRow) (st a : Reading) → st.ended ≡ false → flat ps (here_from rows 0) st ≡ Ok a → a.ended ≡ false → EndsAt rows 0 j → j < length rows → s ≡ get_or rows j s
-    → flat ps (tree_of_rows (map row_of rows)) st ≡ at_line (row_of s).number (unpaired_line RofAlone a)
+    → flat ps (tree_of_rows (map row_of rows)) st ≡ at_line (row_of s).number (unpaired_line RofAlone (row_of s) a)
 lone-at ps rows j s st a e h going ends inside si =
     let rof = row_of (get_or rows j s) in
     ap (λ w. flat ps (with_lone (here_from rows 0) w) st) (ends.waiting ∙ rof-at rows j s inside ends.at_end)
     ∙ flat-lone ps rof (here_from rows 0) st e
     ∙ ap (λ r. r >>= λ a. unless_ended a (lone rof)) h
     ∙ goes-on a (lone rof) going
-    ∙ ap (λ row. at_line (row_of row).number (unpaired_line RofAlone a)) (sym si)
+    ∙ ap (λ row. at_line (row_of row).number (unpaired_line RofAlone (row_of row) a)) (sym si)

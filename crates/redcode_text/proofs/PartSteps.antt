@@ -1,7 +1,7 @@
 -- The parts of a line, one token at a time.
 use Rattle.std.proofs.Common.{◌≡◌, ℕ, zero, suc, ◌+◌, ◌<◌, ◌≤◌, List, [], ◌∷◌, ◌++◌, length, length-drop, drop, drop-drop, take, get_or, Bool, true, false, Option, Some, None, Result, Ok, Err, refl, ap, sym, ◌∙◌, arith}
 use Rattle.std.proofs.Math.Seq.{drop-cons}
-use Rattle.redcode_text.specs.declared.fault.TextProblem.{TextProblem}
+use Rattle.redcode_text.specs.declared.fault.TokenProblem.{TokenProblem}
 use Rattle.redcode_text.specs.declared.fault.TextProblem.TheVariants.{Duplicate}
 use Rattle.redcode_text.specs.declared.token.Span.{Span}
 use Rattle.redcode_text.specs.declared.token.Token.{Token}
@@ -9,6 +9,7 @@ use Rattle.redcode_text.specs.declared.token.TokenKind.{TokenKind}
 use Rattle.redcode_text.specs.declared.token.TokenKind.TheVariants.{Number, Name}
 use Rattle.redcode_text.specs.declared.token.TokenKind.TheVariants as token
 use Rattle.redcode_text.specs.Spans.{last_span, span_of}
+use Rattle.redcode_text.specs.Tokens.{problem_of}
 use Rattle.redcode_text.specs.Lines.{Parts, Reading, Predefined, is_operation, may_label, parts_within, split_colon}
 
 -- The first `i` tokens, the next one and `p` tokens after it are the first `i + 1 + p` tokens.
@@ -26,23 +27,23 @@ last-taken before (x ∷ xs) zero d h = refl
 last-taken before (x ∷ xs) (suc i) d h = last-taken (Some (span_of x)) xs i d (omega arith)
 
 module _ (ps : Predefined) (st : Reading) where
-  abbrev parted : ℕ → List ℕ → List Token → List Token → Result Parts TextProblem
+  abbrev parted : ℕ → List ℕ → List Token → List Token → Result Parts TokenProblem
   parted k labels before ts = parts_within ps st k labels before ts
 
-  abbrev found : List ℕ → List Token → Option ℕ → Option Span → List Token → Result Parts TextProblem
+  abbrev found : List ℕ → List Token → Option ℕ → Option Span → List Token → Result Parts TokenProblem
   found labels before operation span rest = Ok (record { labels = labels; label_tokens = before; operation = operation; operation_span = span; rest = rest })
 
-  abbrev found_none : List ℕ → List Token → List Token → Result Parts TextProblem
+  abbrev found_none : List ℕ → List Token → List Token → Result Parts TokenProblem
   found_none labels before rest = found labels before None (last_span None before) rest
 
-  abbrev at_kind : ℕ → List ℕ → List Token → Token → List Token → TokenKind → Result Parts TextProblem
+  abbrev at_kind : ℕ → List ℕ → List Token → Token → List Token → TokenKind → Result Parts TokenProblem
   at_kind k labels before t ts kind =
-      elim kind as (λ _. Result Parts TextProblem) [
-        | Name n ↦ elim (is_operation st n) as (λ _. Result Parts TextProblem) [
+      elim kind as (λ _. Result Parts TokenProblem) [
+        | Name n ↦ elim (is_operation st n) as (λ _. Result Parts TokenProblem) [
           | true ↦ found labels before (Some n) (Some (span_of t)) ts
-          | false ↦ elim (may_label ps st labels n) as (λ _. Result Parts TextProblem) [
+          | false ↦ elim (may_label ps st labels n) as (λ _. Result Parts TokenProblem) [
             | true ↦ parted k (labels ++ n ∷ []) (before ++ t ∷ (split_colon ts).0) (split_colon ts).1
-            | false ↦ Err Duplicate
+            | false ↦ Err (problem_of t Duplicate)
           ]
         ]
         | _ ↦ found_none labels before (t ∷ ts)
@@ -51,23 +52,23 @@ module _ (ps : Predefined) (st : Reading) where
   head-operation : (k n : ℕ) (labels : List ℕ) (before : List Token) (t : Token) (ts : List Token) → t.kind ≡ Name n → is_operation st n ≡ true → parted (suc k) labels before (t ∷ ts) ≡ found labels before (Some n) (Some (span_of t)) ts
   head-operation k n labels before t ts e o = rw (e, o) refl
 
-  head-duplicate : (k n : ℕ) (labels : List ℕ) (before : List Token) (t : Token) (ts : List Token) → t.kind ≡ Name n → is_operation st n ≡ false → may_label ps st labels n ≡ false → parted (suc k) labels before (t ∷ ts) ≡ Err Duplicate
+  head-duplicate : (k n : ℕ) (labels : List ℕ) (before : List Token) (t : Token) (ts : List Token) → t.kind ≡ Name n → is_operation st n ≡ false → may_label ps st labels n ≡ false → parted (suc k) labels before (t ∷ ts) ≡ Err (problem_of t Duplicate)
   head-duplicate k n labels before t ts e o m = rw (e, o, m) refl
 
   head-label : (k n : ℕ) (labels : List ℕ) (before : List Token) (t : Token) (ts : List Token) → t.kind ≡ Name n → is_operation st n ≡ false → may_label ps st labels n ≡ true
       → parted (suc k) labels before (t ∷ ts) ≡ parted k (labels ++ n ∷ []) (before ++ t ∷ (split_colon ts).0) (split_colon ts).1
   head-label k n labels before t ts e o m =
       ap (at_kind k labels before t ts) e
-      ∙ ap (λ (b : Bool). elim b as (λ _. Result Parts TextProblem) [
+      ∙ ap (λ (b : Bool). elim b as (λ _. Result Parts TokenProblem) [
         | true ↦ found labels before (Some n) (Some (span_of t)) ts
-        | false ↦ elim (may_label ps st labels n) as (λ _. Result Parts TextProblem) [
+        | false ↦ elim (may_label ps st labels n) as (λ _. Result Parts TokenProblem) [
           | true ↦ parted k (labels ++ n ∷ []) (before ++ t ∷ (split_colon ts).0) (split_colon ts).1
-          | false ↦ Err Duplicate
+          | false ↦ Err (problem_of t Duplicate)
         ]
       ]) o
-      ∙ ap (λ (b : Bool). elim b as (λ _. Result Parts TextProblem) [
+      ∙ ap (λ (b : Bool). elim b as (λ _. Result Parts TokenProblem) [
         | true ↦ parted k (labels ++ n ∷ []) (before ++ t ∷ (split_colon ts).0) (split_colon ts).1
-        | false ↦ Err Duplicate
+        | false ↦ Err (problem_of t Duplicate)
       ]) m
 
   head-other : (k : ℕ) (labels : List ℕ) (before : List Token) (t : Token) (ts : List Token) (kind : TokenKind) → t.kind ≡ kind → ((n : ℕ) → kind ≡ Name n → ⊥) → parted (suc k) labels before (t ∷ ts) ≡ found_none labels before (t ∷ ts)
@@ -88,7 +89,7 @@ module _ (ps : Predefined) (st : Reading) where
       ∙ ap (λ m. found labels (take i ts) (Some n) (last_span None (take m ts)) (drop m ts)) s
 
   pub duplicate-at : (ts : List Token) (i k n : ℕ) (d : Token) (labels : List ℕ) → i < length ts → length (drop i ts) ≤ k → (get_or ts i d).kind ≡ Name n → is_operation st n ≡ false → may_label ps st labels n ≡ false
-      → parted k labels (take i ts) (drop i ts) ≡ Err Duplicate
+      → parted k labels (take i ts) (drop i ts) ≡ Err (problem_of (get_or ts i d) Duplicate)
   duplicate-at ts i zero n d labels h fuel e o m = absurd (omega (arith, length-drop i ts))
   duplicate-at ts i (suc k) n d labels h fuel e o m =
       ap (parted (suc k) labels (take i ts)) (drop-cons ts i d h)
@@ -111,7 +112,7 @@ module _ (ps : Predefined) (st : Reading) where
       go (suc k) (x ∷ rest) none = absurd (omega arith)
 
   -- A label leaves enough fuel for the tokens after it.
-  pub label-at : (ts : List Token) (i k n p : ℕ) (d : Token) (labels : List ℕ) (whole : Result Parts TextProblem) → i < length ts → length (drop i ts) ≤ k → (get_or ts i d).kind ≡ Name n → is_operation st n ≡ false → may_label ps st labels n ≡ true
+  pub label-at : (ts : List Token) (i k n p : ℕ) (d : Token) (labels : List ℕ) (whole : Result Parts TokenProblem) → i < length ts → length (drop i ts) ≤ k → (get_or ts i d).kind ≡ Name n → is_operation st n ≡ false → may_label ps st labels n ≡ true
       → split_colon (drop (i + 1) ts) ≡ (take p (drop (i + 1) ts), drop p (drop (i + 1) ts)) → parted k labels (take i ts) (drop i ts) ≡ whole
       → (m : ℕ) × (length (drop (i + 1 + p) ts) ≤ m) × (parted m (labels ++ n ∷ []) (take (i + 1 + p) ts) (drop (i + 1 + p) ts) ≡ whole)
   label-at ts i zero n p d labels whole h fuel e o m c is = absurd (omega (arith, length-drop i ts))

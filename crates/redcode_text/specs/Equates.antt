@@ -4,10 +4,10 @@ use Rattle.redcode_text.specs.Results.{◌>>=◌}
 use Rattle.redcode_text.specs.declared.token.Token.{Token}
 use Rattle.redcode_text.specs.declared.token.TokenKind.{TokenKind}
 use Rattle.redcode_text.specs.declared.token.TokenKind.TheVariants.{Name}
-use Rattle.redcode_text.specs.declared.fault.TextProblem.{TextProblem}
+use Rattle.redcode_text.specs.declared.fault.TokenProblem.{TokenProblem}
 use Rattle.redcode_text.specs.declared.fault.TextProblem.TheVariants.{BadToken, EquDepth, TooLong}
 use Rattle.redcode_text.specs.declared.fault.TextFault.{TextFault}
-use Rattle.redcode_text.specs.Tokens.{at_line}
+use Rattle.redcode_text.specs.Tokens.{at_line, problem_of}
 
 -- The limit on the number of lines, of tokens and of replacements.
 abbrev pub limit : ℕ
@@ -38,28 +38,28 @@ pub record Replaced : Type 0 where
   pub count : ℕ
 
 abbrev pub Replacing : Type 0
-Replacing = Replaced → List Token → Result Replaced TextProblem
+Replacing = Replaced → List Token → Result Replaced TokenProblem
 
--- The definition of an EQU name, if it has at most one line.
-abbrev pub one_line : List (List Token) → Result (List Token) TextProblem
-one_line [] = Ok []
-one_line (line ∷ []) = Ok line
-one_line (line ∷ next ∷ lines) = Err BadToken
+-- The definition of the EQU name `t`, if it has at most one line.
+abbrev pub one_line : Token → List (List Token) → Result (List Token) TokenProblem
+one_line t [] = Ok []
+one_line t (line ∷ []) = Ok line
+one_line t (line ∷ next ∷ lines) = Err (problem_of t BadToken)
 
-abbrev pub one_more : Replaced → Result Replaced TextProblem
-one_more r = elim (nat_le limit r.count) [ true ↦ Err TooLong | false ↦ Ok (record { tokens = r.tokens; count = r.count + 1 }) ]
+abbrev pub one_more : Token → Replaced → Result Replaced TokenProblem
+one_more t r = elim (nat_le limit r.count) [ true ↦ Err (problem_of t TooLong) | false ↦ Ok (record { tokens = r.tokens; count = r.count + 1 }) ]
 
--- An EQU name is replaced by the line of its definition, in which names are replaced by `deeper`. Without `deeper` the
+-- The EQU name `t` is replaced by the line of its definition, in which names are replaced by `deeper`. Without `deeper` the
 -- nesting is too deep.
-abbrev pub replaced_name : Option Replacing → Replaced → List (List Token) → Result Replaced TextProblem
-replaced_name None r lines = Err EquDepth
-replaced_name (Some deeper) r lines = one_line lines >>= λ line. one_more r >>= λ s. deeper s line
+abbrev pub replaced_name : Option Replacing → Replaced → Token → List (List Token) → Result Replaced TokenProblem
+replaced_name None r t lines = Err (problem_of t EquDepth)
+replaced_name (Some deeper) r t lines = one_line t lines >>= λ line. one_more t r >>= λ s. deeper s line
 
-abbrev pub kept_token : Replaced → Token → Result Replaced TextProblem
-kept_token r t = elim (nat_le limit (length r.tokens)) [ true ↦ Err TooLong | false ↦ Ok (record { tokens = r.tokens ++ t ∷ []; count = r.count }) ]
+abbrev pub kept_token : Replaced → Token → Result Replaced TokenProblem
+kept_token r t = elim (nat_le limit (length r.tokens)) [ true ↦ Err (problem_of t TooLong) | false ↦ Ok (record { tokens = r.tokens ++ t ∷ []; count = r.count }) ]
 
-abbrev pub replaced_token : Option Replacing → Replaced → Token → Option (List (List Token)) → Result Replaced TextProblem
-replaced_token deeper r t (Some lines) = replaced_name deeper r lines
+abbrev pub replaced_token : Option Replacing → Replaced → Token → Option (List (List Token)) → Result Replaced TokenProblem
+replaced_token deeper r t (Some lines) = replaced_name deeper r t lines
 replaced_token deeper r t None = kept_token r t
 
 -- The tokens with each EQU name replaced, appended to `r`.
@@ -72,7 +72,8 @@ abbrev pub replacing : ℕ → List Equate → Option Replacing
 replacing zero equates = None
 replacing (suc depth) equates = Some (each_replaced equates (replacing depth equates))
 
--- The tokens of a source with each EQU name replaced, appended to `r`. An error has the line of the token that caused it.
+-- The tokens of a source with each EQU name replaced, appended to `r`. An error has the line of the token that caused
+-- it, and the bytes of the token at which it arises, which may be in a definition.
 abbrev pub each_replaced_at_line : List Equate → Replaced → List Token → Result Replaced TextFault
 each_replaced_at_line equates r [] = Ok r
 each_replaced_at_line equates r (t ∷ ts) =

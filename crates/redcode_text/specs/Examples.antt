@@ -4,3 +4,4 @@ pub mod Expressions
 pub mod Trees
 pub mod Lines
 pub mod Expansion
+pub mod Faults

@@ -1,27 +1,34 @@
 -- The expansion of a source: the program that results from reading it.
-use Rattle.std.specs.Prelude.{ℕ, zero, suc, ◌+◌, List, [], ◌∷◌, length, Bool, true, false, not, ◌||◌, ℤ, pos, negsuc, Option, Some, None, Result, Ok, Err, nat_le, codes}
+use Rattle.std.specs.Prelude.{ℕ, zero, suc, ◌+◌, List, [], ◌∷◌, length, Bool, true, false, not, ℤ, pos, negsuc, Option, Some, None, Result, Ok, Err, nat_le, codes, option_map}
+use Rattle.std.specs.List.{find}
 use Rattle.redcode_text.specs.Results.{◌>>=◌}
+use Rattle.redcode_text.specs.declared.token.Span.{Span}
 use Rattle.redcode_text.specs.declared.token.Token.{Token}
 use Rattle.redcode_text.specs.declared.token.TokenKind.{TokenKind}
 use Rattle.redcode_text.specs.declared.token.TokenKind.TheVariants.{Name}
 use Rattle.redcode_text.specs.declared.fault.ExprFault.{ExprFault}
 use Rattle.redcode_text.specs.declared.fault.TextFault.{TextFault}
 use Rattle.redcode_text.specs.declared.fault.TextProblem.{TextProblem}
+use Rattle.redcode_text.specs.declared.fault.TokenProblem.{TokenProblem}
 use Rattle.redcode_text.specs.declared.fault.TextProblem.TheVariants.{UnclosedFor, RofAlone, BadCount, LabelInCount, TooLong, Expression}
-use Rattle.redcode_text.specs.Expression.{kinds, value_of}
-use Rattle.redcode_text.specs.Tokens.{at_line, without_line}
-use Rattle.redcode_text.specs.Source.{SourceRow, Items, Plain, Loop, tree_of}
+use Rattle.redcode_text.specs.Expression.{fault_span, kinds, value_of}
+use Rattle.redcode_text.specs.Spans.{first_span, span_of}
+use Rattle.redcode_text.specs.Tokens.{at_line, problem_at, without_line}
+use Rattle.redcode_text.specs.Source.{SourceRow, Items, Plain, Loop, loop_word, tree_of}
 use Rattle.redcode_text.specs.Source as source
 use Rattle.redcode_text.specs.Equates.{Equate, substitution}
 use Rattle.redcode_text.specs.Lines.{Reading, Line, Assert, Predefined, predefined_value, with_current_line, name_at, is_predefined, line_read, row_tokens, tokens_before, tokens_after, name_in_front, plain_line, unless_ended}
 
 -- ---- The header of a loop
 
--- There is a name among the tokens that is not predefined.
-abbrev pub has_label : Predefined → Reading → List TokenKind → Bool
-has_label ps st [] = false
-has_label ps st (Name n ∷ ks) = not (is_predefined ps st n) || has_label ps st ks
-has_label ps st (_ ∷ ks) = has_label ps st ks
+-- A token is a name that is not predefined.
+abbrev pub is_undefined : Predefined → Reading → TokenKind → Bool
+is_undefined ps st (Name n) = not (is_predefined ps st n)
+is_undefined ps st _ = false
+
+-- The bytes of the first name among the tokens that is not predefined.
+abbrev pub label_span : Predefined → Reading → List Token → Option Span
+label_span ps st ts = option_map span_of (find (λ t. is_undefined ps st t.kind) ts)
 
 -- The maximum number of iterations of a loop.
 abbrev pub count_limit : ℕ
@@ -33,12 +40,31 @@ as_count (Ok (pos n)) = elim (nat_le n count_limit) [ true ↦ Ok n | false ↦ 
 as_count (Ok (negsuc n)) = Err BadCount
 as_count (Err e) = Err (Expression e)
 
-abbrev pub count_of : Predefined → Reading → List Token → Result ℕ TextProblem
-count_of ps st ts =
-    without_line (substitution st.equates ts) >>= λ us. elim (has_label ps st (kinds us)) [
-      | true ↦ Err LabelInCount
-      | false ↦ as_count (value_of (λ n. predefined_value (with_current_line ps st.instructions) (name_at st.names n)) (kinds us))
+-- The values of the names in a count.
+abbrev pub count_names : Predefined → Reading → ℕ → Option ℤ
+count_names ps st n = predefined_value (with_current_line ps st.instructions) (name_at st.names n)
+
+-- The bytes of the token at which the count `us` has an error: those of the error of its expression, or of its first token
+-- if its value is no count. A count without tokens has its error at the token `before`.
+abbrev pub count_span : (ℕ → Option ℤ) → Option Span → List Token → TextProblem → Option Span
+count_span names before us (Expression e) = fault_span names before us e
+count_span names before us problem = first_span us
+
+abbrev pub counted : (TextProblem → Option Span) → Result ℕ TextProblem → Result ℕ TokenProblem
+counted span (Ok n) = Ok n
+counted span (Err e) = Err (problem_at (span e) e)
+
+-- The number of iterations for a count whose EQU names are replaced.
+abbrev pub replaced_count : Predefined → Reading → Option Span → List Token → Result ℕ TokenProblem
+replaced_count ps st before us =
+    elim (label_span ps st us) [
+      | Some span ↦ Err (problem_at (Some span) LabelInCount)
+      | None ↦ counted (count_span (count_names ps st) before us) (as_count (value_of (count_names ps st) (kinds us)))
     ]
+
+-- The number of iterations for the tokens after the word FOR, which is the token `before`.
+abbrev pub count_of : Predefined → Reading → Option Span → List Token → Result ℕ TokenProblem
+count_of ps st before ts = without_line (substitution st.equates ts) >>= replaced_count ps st before
 
 -- The counter of a loop, the number of its iterations, and everything read up to and including its header.
 pub record Head : Type 0 where
@@ -54,28 +80,29 @@ counter_name st None = None
 abbrev pub loop_limit : ℕ
 loop_limit = 32
 
-abbrev pub room_for_loop : Reading → Result Reading TextProblem
-room_for_loop st = elim (nat_le loop_limit (length st.loops)) [ true ↦ Err TooLong | false ↦ Ok st ]
+-- There is room for one more open loop. The error has the bytes `span`.
+abbrev pub room_for_loop : Option Span → Reading → Result Reading TokenProblem
+room_for_loop span st = elim (nat_le loop_limit (length st.loops)) [ true ↦ Err (problem_at span TooLong) | false ↦ Ok st ]
 
 -- The offset of the word FOR of a row in the source.
 abbrev pub for_word_at : SourceRow → ℕ
 for_word_at row = elim (source.line_kind row.bytes) [ source.ForLine at ↦ row.at + at | _ ↦ row.at ]
 
-abbrev pub head_line : Predefined → SourceRow → Reading → Result Head TextProblem
+abbrev pub head_line : Predefined → SourceRow → Reading → Result Head TokenProblem
 head_line ps row st =
     line_read st >>= row_tokens row 0 >>= λ r.
-    name_in_front (kinds (tokens_before (for_word_at row) r.0)) >>= λ counter.
-    room_for_loop r.1 >>= λ _.
-    count_of ps r.1 (tokens_after (for_word_at row) r.0) >>= λ count.
+    name_in_front (tokens_before (for_word_at row) r.0) >>= λ counter.
+    room_for_loop (loop_word row) r.1 >>= λ _.
+    count_of ps r.1 (loop_word row) (tokens_after (for_word_at row) r.0) >>= λ count.
     Ok (record { counter = counter_name r.1 counter; count = count; reading = record (r.1) { equate_grows = false } })
 
 -- A ROF line: its tokens are read, but have no meaning.
-abbrev pub rof_line : SourceRow → Reading → Result Reading TextProblem
+abbrev pub rof_line : SourceRow → Reading → Result Reading TokenProblem
 rof_line row st = line_read st >>= row_tokens row 0 >>= λ r. Ok (record (r.1) { equate_grows = false })
 
 -- A FOR without its ROF, or a ROF without its FOR.
-abbrev pub unpaired_line : TextProblem → Reading → Result Reading TextProblem
-unpaired_line problem st = line_read st >>= λ _. Err problem
+abbrev pub unpaired_line : TextProblem → SourceRow → Reading → Result Reading TokenProblem
+unpaired_line problem row st = line_read st >>= λ _. Err (problem_at (loop_word row) problem)
 
 -- ---- The whole source
 
@@ -95,8 +122,8 @@ flat ps (Loop head body rof rest) st =
     at_line head.number (head_line ps head st) >>= λ h.
     rounds (flat ps body) h.counter 1 h.count h.reading >>= λ a.
     unless_ended a (λ b. at_line rof.number (rof_line rof b) >>= flat ps rest)
-flat ps (source.UnclosedFor row rest) st = at_line row.number (unpaired_line UnclosedFor st)
-flat ps (source.LoneRof row rest) st = at_line row.number (unpaired_line RofAlone st)
+flat ps (source.UnclosedFor row rest) st = at_line row.number (unpaired_line UnclosedFor row st)
+flat ps (source.LoneRof row rest) st = at_line row.number (unpaired_line RofAlone row st)
 
 abbrev pub nothing_read : Reading
 nothing_read =

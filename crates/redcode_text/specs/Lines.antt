@@ -8,13 +8,12 @@ use Rattle.redcode_text.specs.declared.token.TokenKind.{TokenKind}
 use Rattle.redcode_text.specs.declared.token.TokenKind.TheVariants.{Name}
 use Rattle.redcode_text.specs.declared.token.TokenKind.TheVariants as token
 use Rattle.redcode_text.specs.declared.token.Sign.TheVariants.{Colon}
-use Rattle.redcode_text.specs.declared.fault.TextProblem.{TextProblem}
+use Rattle.redcode_text.specs.declared.fault.TokenProblem.{TokenProblem}
 use Rattle.redcode_text.specs.declared.fault.TextProblem.TheVariants.{BadToken, Duplicate, EquDepth, TooLong}
 use Rattle.redcode_text.specs.Bytes.{first_printed, last_printed, question_mark, semicolon}
 use Rattle.redcode_text.specs.declared.token.Span.{Span}
-use Rattle.redcode_text.specs.Spans.{last_span, span_of}
-use Rattle.redcode_text.specs.Expression.{kinds}
-use Rattle.redcode_text.specs.Tokens.{OpenLoop, tokens}
+use Rattle.redcode_text.specs.Spans.{first_span, last_span, span_of}
+use Rattle.redcode_text.specs.Tokens.{OpenLoop, problem_at, problem_of, tokens}
 use Rattle.redcode_text.specs.Source.{SourceRow, LineKind, EquLine, line_kind, is_comment, has_directive_word, directive_text, directive_text_at, without_blanks}
 use Rattle.redcode_text.specs.Equates.{Equate, depth_limit, equate_lines, limit}
 
@@ -53,7 +52,7 @@ pub record Reading : Type 0 where
   pub ended : Bool
 
 abbrev pub Step : Type 0
-Step = Reading → Result Reading TextProblem
+Step = Reading → Result Reading TokenProblem
 
 -- The predefined names with their values, without CURLINE.
 abbrev pub Predefined : Type 0
@@ -83,10 +82,10 @@ is_label st n = list_any (λ l. list_any (λ m. m == n) l.labels) st.lines
 -- ---- The number of lines and tokens
 
 abbrev pub line_read : Step
-line_read st = elim (nat_le limit st.lines_read) [ true ↦ Err TooLong | false ↦ Ok (record st { lines_read = st.lines_read + 1 }) ]
+line_read st = elim (nat_le limit st.lines_read) [ true ↦ Err (problem_at None TooLong) | false ↦ Ok (record st { lines_read = st.lines_read + 1 }) ]
 
 abbrev pub tokens_counted : List Token → Step
-tokens_counted ts st = elim (nat_lt limit (st.tokens_read + length ts)) [ true ↦ Err TooLong | false ↦ Ok (record st { tokens_read = st.tokens_read + length ts }) ]
+tokens_counted ts st = elim (nat_lt limit (st.tokens_read + length ts)) [ true ↦ Err (problem_at None TooLong) | false ↦ Ok (record st { tokens_read = st.tokens_read + length ts }) ]
 
 -- The bytes before the first `;`, or all bytes if there is none.
 abbrev pub before_comment : List ℕ → List ℕ
@@ -98,7 +97,7 @@ abbrev pub WithTokens : Type 0
 WithTokens = List Token × Reading
 
 -- The tokens of a row from the offset `at` on, up to a comment. There may be as many tokens as the limit leaves.
-abbrev pub row_tokens : SourceRow → ℕ → Reading → Result WithTokens TextProblem
+abbrev pub row_tokens : SourceRow → ℕ → Reading → Result WithTokens TokenProblem
 row_tokens row at st =
     tokens st.loops row.number (row.at + at) (limit - st.tokens_read) st.names (before_comment (drop at row.bytes)) >>= λ s.
     Ok (s.tokens, record st { names = s.names; tokens_read = st.tokens_read + length s.tokens })
@@ -112,12 +111,28 @@ tokens_before at ts = filter (λ t. nat_lt t.from at) ts
 abbrev pub tokens_after : ℕ → List Token → List Token
 tokens_after at ts = filter (λ t. nat_lt at t.from) ts
 
--- The name before FOR or EQU, if there is one. A colon may follow it.
-abbrev pub name_in_front : List TokenKind → Result (Option ℕ) TextProblem
+abbrev pub is_colon : TokenKind → Bool
+is_colon (token.Sign Colon) = true
+is_colon _ = false
+
+-- The error of a token that is not allowed in its place.
+abbrev pub misplaced : Token → TokenProblem
+misplaced t = problem_of t BadToken
+
+-- The name `n`, if no token follows it.
+abbrev pub name_alone : ℕ → List Token → Result (Option ℕ) TokenProblem
+name_alone n [] = Ok (Some n)
+name_alone n (t ∷ ts) = Err (misplaced t)
+
+-- The name `n`, if at most a colon follows it.
+abbrev pub name_with_colon : ℕ → List Token → Result (Option ℕ) TokenProblem
+name_with_colon n [] = Ok (Some n)
+name_with_colon n (t ∷ ts) = elim (is_colon t.kind) [ true ↦ name_alone n ts | false ↦ Err (misplaced t) ]
+
+-- The name before FOR or EQU, if there is one. A colon may follow it. Any other token is not allowed there.
+abbrev pub name_in_front : List Token → Result (Option ℕ) TokenProblem
 name_in_front [] = Ok None
-name_in_front (Name n ∷ []) = Ok (Some n)
-name_in_front (Name n ∷ token.Sign Colon ∷ []) = Ok (Some n)
-name_in_front _ = Err BadToken
+name_in_front (t ∷ ts) = elim t.kind [ Name n ↦ name_with_colon n ts | _ ↦ Err (misplaced t) ]
 
 -- The EQU names, with one line added to the definition of the last one.
 abbrev pub with_line : List Equate → List Token → List Equate
@@ -125,17 +140,20 @@ with_line [] ts = []
 with_line (e ∷ []) ts = record { name = e.name; lines = e.lines ++ ts ∷ [] } ∷ []
 with_line (e ∷ f ∷ es) ts = e ∷ with_line (f ∷ es) ts
 
-abbrev pub equated : Predefined → List Token → Option ℕ → Step
-equated ps ts None st = elim st.equate_grows [ true ↦ Ok (record st { equates = with_line st.equates ts }) | false ↦ Err BadToken ]
-equated ps ts (Some n) st =
+-- The step that defines a name as the tokens `ts`, or without a name continues the last definition. An error has the bytes
+-- `span`.
+abbrev pub equated : Predefined → Option Span → List Token → Option ℕ → Step
+equated ps span ts None st = elim st.equate_grows [ true ↦ Ok (record st { equates = with_line st.equates ts }) | false ↦ Err (problem_at span BadToken) ]
+equated ps span ts (Some n) st =
     elim (is_equate st n || is_label st n || is_predefined ps st n) [
-      | true ↦ Err Duplicate
+      | true ↦ Err (problem_at span Duplicate)
       | false ↦ Ok (record st { equates = st.equates ++ record { name = n; lines = ts ∷ [] } ∷ []; equate_grows = true })
     ]
 
--- The step that reads an EQU line, whose word EQU is at the offset `at` in the source.
+-- The step that reads an EQU line, whose word EQU is at the offset `at` in the source. The first token is the name, or
+-- without a name the word EQU.
 abbrev pub equ_line : Predefined → ℕ → List Token → Step
-equ_line ps at ts st = name_in_front (kinds (tokens_before at ts)) >>= λ name. equated ps (tokens_after at ts) name st
+equ_line ps at ts st = name_in_front (tokens_before at ts) >>= λ name. equated ps (first_span ts) (tokens_after at ts) name st
 
 -- ---- Ordinary lines
 
@@ -172,7 +190,7 @@ without_operation labels before ts =
 
 -- The parts of a line whose first labels are `labels`, with the tokens `before`. At most `k` labels more are read from
 -- `ts`.
-abbrev pub parts_within : Predefined → Reading → ℕ → List ℕ → List Token → List Token → Result Parts TextProblem
+abbrev pub parts_within : Predefined → Reading → ℕ → List ℕ → List Token → List Token → Result Parts TokenProblem
 parts_within ps st zero labels before ts = Ok (without_operation labels before ts)
 parts_within ps st (suc k) labels before [] = Ok (without_operation labels before [])
 parts_within ps st (suc k) labels before (t ∷ ts) =
@@ -181,13 +199,13 @@ parts_within ps st (suc k) labels before (t ∷ ts) =
         | true ↦ Ok (record { labels = labels; label_tokens = before; operation = Some n; operation_span = Some (span_of t); rest = ts })
         | false ↦ elim (may_label ps st labels n) [
           | true ↦ parts_within ps st k (labels ++ n ∷ []) (before ++ t ∷ (split_colon ts).0) (split_colon ts).1
-          | false ↦ Err Duplicate
+          | false ↦ Err (problem_of t Duplicate)
         ]
       ]
       | _ ↦ Ok (without_operation labels before (t ∷ ts))
     ]
 
-abbrev pub parts_of : Predefined → Reading → List Token → Result Parts TextProblem
+abbrev pub parts_of : Predefined → Reading → List Token → Result Parts TokenProblem
 parts_of ps st ts = parts_within ps st (length ts) [] [] ts
 
 -- The operation is `word`, in either case.
@@ -250,7 +268,7 @@ operation_lines st None = None
 -- it, unless they are nested too deep.
 abbrev pub parts_read : Option (List Token → Step) → ℕ → Parts → Option (List (List Token)) → Step
 parts_read deeper number p None st = Ok (line_added number (record p { rest = on_line number p.rest }) st)
-parts_read None number p (Some lines) st = Err EquDepth
+parts_read None number p (Some lines) st = Err (problem_at p.operation_span EquDepth)
 parts_read (Some ordinary) number p (Some lines) st = each_line ordinary (append_to_last (prepend_to_first p.label_tokens lines) p.rest) st
 
 abbrev pub ordinary_with : Predefined → ℕ → Option (List Token → Step) → List Token → Step

@@ -1,12 +1,12 @@
 -- How the result of a call that allocates is related to its definition: it is the defined one, or memory ran out.
-use Rattle.std.specs.Prelude.{◌≡◌, Result, Ok, Err}
+use Rattle.std.specs.Prelude.{◌≡◌, None, Result, Ok, Err}
 use Rattle.redcode_text.specs.declared.fault.TextFault.{TextFault}
 use Rattle.redcode_text.specs.declared.fault.TextProblem.{TextProblem}
 use Rattle.redcode_text.specs.declared.fault.TextProblem.TheVariants.{OutOfMemory}
 
--- An error is the defined one, or memory ran out, which is reported without a line.
+-- An error is the defined one, or memory ran out, which is reported without a line and a token.
 abbrev pub FailsAt : {X : Type 0} → TextProblem → TextFault → Result X TextFault → Type 0
-FailsAt OutOfMemory fault defined = fault.line ≡ 0
+FailsAt OutOfMemory fault defined = (fault.line ≡ 0) × (fault.token ≡ None)
 FailsAt problem fault defined = defined ≡ Err fault
 
 -- The result, mapped by `f`, is the defined one, or memory ran out.

@@ -3,6 +3,7 @@ use Rattle.std.specs.Prelude.{ℕ, ◌+◌, List, [], ◌∷◌, length, drop, t
 use Rattle.std.specs.List.{starts_with, list_any, onto_first, prefix_len}
 use Rattle.std.specs.Str.{str_eq_ignore_ascii_case, str_to_ascii_lowercase}
 use Rattle.redcode_text.specs.Bytes.{colon, line_feed, semicolon}
+use Rattle.redcode_text.specs.declared.token.Span.{Span}
 use Rattle.redcode_text.specs.Tokens.{is_blank, word_len}
 
 -- ---- Lines
@@ -88,6 +89,14 @@ line_kind bytes =
       | true ↦ RofLine
       | false ↦ for_or (equ_or_other (leading_word_at (codes "equ") bytes)) (leading_word_at (codes "for") bytes)
     ]
+
+-- The bytes of the word at the offset `at` of a row.
+abbrev pub word_span : SourceRow → ℕ → Option Span
+word_span row at = Some (record { from = row.at + at; to = row.at + past_word row.bytes at })
+
+-- The bytes of the word FOR of a FOR line, or of the first word of any other line: the word ROF of a ROF line.
+abbrev pub loop_word : SourceRow → Option Span
+loop_word row = elim (line_kind row.bytes) [ ForLine at ↦ word_span row at | _ ↦ word_span row (first_word_at row.bytes) ]
 
 -- ---- Directives
 

@@ -6,6 +6,8 @@ use Rattle.std.specs.Str.{bytes_eq}
 use Rattle.std.specs.Str.Parse.{digits_value}
 use Rattle.redcode_text.specs.Results.{◌>>=◌}
 use Rattle.redcode_text.specs.Bytes.{ampersand, line_feed, underscore}
+use Rattle.redcode_text.specs.Spans.{span_of}
+use Rattle.redcode_text.specs.declared.token.Span.{Span}
 use Rattle.redcode_text.specs.declared.token.Token.{Token}
 use Rattle.redcode_text.specs.declared.token.TokenKind.{TokenKind}
 use Rattle.redcode_text.specs.declared.token.TokenKind.TheVariants.{Number, Name}
@@ -14,16 +16,29 @@ use Rattle.redcode_text.specs.declared.token.Sign.{Sign}
 use Rattle.redcode_text.specs.declared.token.Sign.TheVariants.{Equal, NotEqual, LessEqual, GreaterEqual, And, Or, Plus, Minus, Star, Slash, Percent, Bang, Less, Greater, OpenParen, CloseParen, Comma, Dot, Colon, Hash, Dollar, At, OpenBrace, CloseBrace}
 use Rattle.redcode_text.specs.declared.fault.TextFault.{TextFault}
 use Rattle.redcode_text.specs.declared.fault.TextProblem.{TextProblem}
+use Rattle.redcode_text.specs.declared.fault.TokenProblem.{TokenProblem}
 use Rattle.redcode_text.specs.declared.fault.TextProblem.TheVariants.{NotAscii, BadToken, TooLong}
 
--- A result whose error gets the line number `n`.
-abbrev pub at_line : {A : Type 0} → ℕ → Result A TextProblem → Result A TextFault
-at_line n (Ok x) = Ok x
-at_line n (Err e) = Err (record { line = n; problem = e })
+-- A problem with the bytes of the token at which it arises.
+abbrev pub problem_at : Option Span → TextProblem → TokenProblem
+problem_at span problem = record { problem = problem; token = span }
 
-abbrev pub without_line : {A : Type 0} → Result A TextFault → Result A TextProblem
+abbrev pub problem_of : Token → TextProblem → TokenProblem
+problem_of t problem = problem_at (Some (span_of t)) problem
+
+-- A result whose error gets the bytes of the token at which it arises.
+abbrev pub at_token : {A : Type 0} → Option Span → Result A TextProblem → Result A TokenProblem
+at_token span (Ok x) = Ok x
+at_token span (Err e) = Err (problem_at span e)
+
+-- A result whose error gets the line number `n`.
+abbrev pub at_line : {A : Type 0} → ℕ → Result A TokenProblem → Result A TextFault
+at_line n (Ok x) = Ok x
+at_line n (Err e) = Err (record { line = n; problem = e.problem; token = e.token })
+
+abbrev pub without_line : {A : Type 0} → Result A TextFault → Result A TokenProblem
 without_line (Ok x) = Ok x
-without_line (Err e) = Err e.problem
+without_line (Err e) = Err (record { problem = e.problem; token = e.token })
 
 -- ---- Bytes
 
@@ -178,22 +193,32 @@ abbrev pub with_token : Scanned → ℕ → ℕ → Found → Scanned
 with_token s line at f =
     record { tokens = s.tokens ++ record { kind = f.kind; line = line; from = at; to = at + f.len } ∷ []; names = f.names }
 
+-- The bytes from `at` on, `len` in number.
+abbrev pub span_at : ℕ → ℕ → Option Span
+span_at at len = Some (record { from = at; to = at + len })
+
 -- What has been scanned, with the token `f` added, if there are fewer than `room` tokens.
-abbrev pub with_room : ℕ → Scanned → ℕ → ℕ → Found → Result Scanned TextProblem
-with_room room s line at f = if nat_lt (length s.tokens) room then Ok (with_token s line at f) else Err TooLong
+abbrev pub with_room : ℕ → Scanned → ℕ → ℕ → Found → Result Scanned TokenProblem
+with_room room s line at f = if nat_lt (length s.tokens) room then Ok (with_token s line at f) else Err (problem_at (span_at at f.len) TooLong)
+
+-- The number of bytes at the start of a text that are no token: those of a word, or else one byte.
+abbrev pub unread_len : List ℕ → ℕ
+unread_len bs = if begins_word bs then word_len bs else 1
 
 -- The result of scanning the bytes from `at` on, after `s` was scanned. The next `skip` bytes belong to the last token.
-abbrev pub scan_from : List OpenLoop → ℕ → ℕ → ℕ → ℕ → List ℕ → Scanned → Result Scanned TextProblem
+abbrev pub scan_from : List OpenLoop → ℕ → ℕ → ℕ → ℕ → List ℕ → Scanned → Result Scanned TokenProblem
 scan_from loops line room at skip [] s = Ok s
 scan_from loops line room at (suc skip) (b ∷ bs) s = scan_from loops line room (at + 1) skip bs s
 scan_from loops line room at zero (b ∷ bs) s =
     elim (is_blank b) [
       | true ↦ scan_from loops line room (at + 1) 0 bs s
-      | false ↦ token_at loops s.names (b ∷ bs) >>= λ f. with_room room s line at f >>= λ t. scan_from loops line room (at + 1) (f.len - 1) bs t
+      | false ↦
+          at_token (span_at at (unread_len (b ∷ bs))) (token_at loops s.names (b ∷ bs)) >>= λ f.
+          with_room room s line at f >>= λ t. scan_from loops line room (at + 1) (f.len - 1) bs t
     ]
 
 -- The tokens of a line's bytes, at most `room`, and the names including theirs. The first byte is at `at` in the source.
-abbrev pub tokens : List OpenLoop → ℕ → ℕ → ℕ → List (List ℕ) → List ℕ → Result Scanned TextProblem
+abbrev pub tokens : List OpenLoop → ℕ → ℕ → ℕ → List (List ℕ) → List ℕ → Result Scanned TokenProblem
 tokens loops line at room names bs = scan_from loops line room at 0 bs (record { tokens = []; names = names })
 
 -- The tokens and names of a text of one line, outside loops.

@@ -7,7 +7,7 @@ ghost use Rattle.redcode_text.specs.Outcomes.{IsResult};
 ghost use Rattle.redcode_text.specs.Code.Problems.{Gives};
 ghost use Rattle.redcode_text.specs.Tokens.{at_line};
 
-use crate::fault::{TextFault, TextProblem};
+use crate::fault::{TextFault, TextProblem, TokenProblem};
 use crate::limits::{MAX_NESTING, MAX_REPLACED, MAX_REPLACEMENTS};
 use crate::token::{Token, TokenKind};
 use indexmap::IndexMap;
@@ -66,66 +66,67 @@ impl Model for Replaced {
 
 impl Replaced {
     /// Counts one more replaced name.
-    fn count_one(&mut self) -> Result<(), TextProblem>
-        ensures { Gives (λ _. self.new) result (one_more self.old) }
+    fn count_one(&mut self, name: Token) -> Result<(), TokenProblem>
+        ensures { Gives (λ _. self.new) result (one_more name self.old) }
     {
         if self.count >= MAX_REPLACEMENTS {
-            return Err(TextProblem::TooLong);
+            return Err(TextProblem::TooLong.at_token(Some(name.span())));
         }
         self.count += 1;
         Ok(())
     }
 
     /// Appends a token that isn't an EQU name.
-    fn keep(&mut self, token: Token) -> Result<(), TextProblem>
+    fn keep(&mut self, token: Token) -> Result<(), TokenProblem>
         ensures { Gives (λ _. self.new) result (kept_token self.old token) }
     {
         if self.tokens.len() >= MAX_REPLACED {
-            return Err(TextProblem::TooLong);
+            return Err(TextProblem::TooLong.at_token(Some(token.span())));
         }
         match self.tokens.push(token) {
             Ok(()) => Ok(()),
-            Err(_) => Err(TextProblem::OutOfMemory),
+            Err(_) => Err(TextProblem::OutOfMemory.at_token(None)),
         }
     }
 }
 
 /// Returns the definition of an EQU name, which may have at most one line.
-fn only_line(lines: &[Vec<Token>]) -> Result<&[Token], TextProblem>
-    ensures { let defined = one_line (map (λ line. line.items) lines.now) in MatchResult result (λ line. defined ≡ Ok line.now)
+fn only_line(name: Token, lines: &[Vec<Token>]) -> Result<&[Token], TokenProblem>
+    ensures { let defined = one_line name (map (λ line. line.items) lines.now) in MatchResult result (λ line. defined ≡ Ok line.now)
         (λ problem. defined ≡ Err problem) }
 {
     match lines {
         [] => Ok(&[]),
         [line] => Ok(line),
-        _ => Err(TextProblem::BadToken),
+        _ => Err(TextProblem::BadToken.at_token(Some(name.span()))),
     }
 }
 
 impl Equates {
-    /// Appends the expansion of an EQU name, whose definition is `lines`, to `replaced`. At most `depth` expansions may
-    /// nest.
+    /// Appends the expansion of the EQU name `name`, whose definition is `lines`, to `replaced`. At most `depth` expansions
+    /// may nest.
     #[cycle(replacing)]
     fn replace(
         &self,
         depth: usize,
+        name: Token,
         lines: &[Vec<Token>],
         replaced: &mut Replaced,
-    ) -> Result<(), TextProblem>
+    ) -> Result<(), TokenProblem>
         ensures { Gives (λ _. replaced.new) result
-            (replaced_name (replacing depth self.now) replaced.old (map (λ line. line.items) lines.now)) }
+            (replaced_name (replacing depth self.now) replaced.old name (map (λ line. line.items) lines.now)) }
     {
         if depth == 0 {
-            return Err(TextProblem::EquDepth);
+            return Err(TextProblem::EquDepth.at_token(Some(name.span())));
         }
-        let line = only_line(lines)?;
-        replaced.count_one()?;
+        let line = only_line(name, lines)?;
+        replaced.count_one(name)?;
         self.replace_each(depth - 1, line, replaced)
     }
 
     /// Appends a token, or its expansion if it is an EQU name, to `replaced`.
     #[cycle(replacing)]
-    fn put(&self, depth: usize, token: Token, replaced: &mut Replaced) -> Result<(), TextProblem>
+    fn put(&self, depth: usize, token: Token, replaced: &mut Replaced) -> Result<(), TokenProblem>
         ensures { Gives (λ _. replaced.new) result
             (replaced_token (replacing depth self.now) replaced.old token (token_lines self.now token.kind)) }
     {
@@ -133,7 +134,7 @@ impl Equates {
             return replaced.keep(token);
         };
         match self.lines_of(name) {
-            Some(lines) => self.replace(depth, lines, replaced),
+            Some(lines) => self.replace(depth, token, lines, replaced),
             None => replaced.keep(token),
         }
     }
@@ -145,7 +146,7 @@ impl Equates {
         depth: usize,
         tokens: &[Token],
         replaced: &mut Replaced,
-    ) -> Result<(), TextProblem>
+    ) -> Result<(), TokenProblem>
         ensures { Gives (λ _. replaced.new) result (each_replaced self.now (replacing depth self.now) replaced.old tokens.now) }
     {
         for token in tokens {
@@ -200,7 +201,7 @@ impl Equates {
         alloc: Global,
         name: usize,
         line: Vec<Token>,
-    ) -> Result<(), TextProblem>
+    ) -> Result<(), TokenProblem>
         requires { equate_lines self.old name ≡ None }
         ensures { Gives (λ _. self.new) result (Ok (self.old ++ record { name = name; lines = line.items ∷ [] } ∷ [])) }
     {
@@ -211,7 +212,7 @@ impl Equates {
     }
 
     /// Adds a line to the definition of the last EQU name.
-    pub fn add_line(&mut self, line: Vec<Token>) -> Result<(), TextProblem>
+    pub fn add_line(&mut self, line: Vec<Token>) -> Result<(), TokenProblem>
         ensures { Gives (λ _. self.new) result (Ok (with_line self.old line.items)) }
     {
         let Some((name, mut lines)) = self.lines.pop() else {

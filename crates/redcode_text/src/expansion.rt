@@ -54,7 +54,7 @@ fn read_from_rows(
         (flat (predefined_of names.now) (tree_of_rows (map row_of rows.now)) nothing_read) }
 {
     let Ok(mut reading) = Reading::new(alloc) else {
-        return Err(TextProblem::OutOfMemory.at_line(0));
+        return Err(TextProblem::OutOfMemory.at_token(None).at_line(0));
     };
     match read_all(alloc, names, rows, &mut reading) {
         Ok(()) => Ok(reading),
@@ -72,7 +72,7 @@ fn read_source(alloc: Global, bytes: &[u8], names: &PredefinedNames) -> Result<R
     ensures { IsResult (λ reading. reading_of reading) result (flat (predefined_of names.now) (tree_of bytes.now) nothing_read) }
 {
     let Ok(rows) = rows_of(alloc, bytes) else {
-        return Err(TextProblem::OutOfMemory.at_line(0));
+        return Err(TextProblem::OutOfMemory.at_token(None).at_line(0));
     };
     read_from_rows(alloc, read_rows(&rows), names)
 }
@@ -85,8 +85,8 @@ fn read_source(alloc: Global, bytes: &[u8], names: &PredefinedNames) -> Result<R
 ///
 /// # Errors
 ///
-/// Returns the first error in the order of reading, with its line number in the source, from 1. The errors of one line
-/// come in this order:
+/// Returns the first error in the order of reading, with its line number in the source, from 1, and its token. The errors
+/// of one line come in this order:
 ///
 /// - `TooLong` if 65,536 lines were read before it
 /// - `UnclosedFor` and `RofAlone`
@@ -98,7 +98,7 @@ fn read_source(alloc: Global, bytes: &[u8], names: &PredefinedNames) -> Result<R
 /// - in any other line: `Duplicate` for its labels, from the left; then, if its operation is an EQU name, `EquDepth` and
 ///   the errors of the lines that replace it, in turn
 ///
-/// `OutOfMemory`, with the line 0, replaces any error that would have been found after the allocation that failed.
+/// `OutOfMemory`, with the line 0 and no token, replaces any error that would have been found after the allocation that failed.
 #[tactic(auto, unfolding(crate::specs::Expansion::expansion))]
 pub fn expand(alloc: Global, bytes: &[u8], names: &PredefinedNames) -> Result<Program, TextFault>
     ensures { IsResult (λ program. program) result (expansion (predefined_of names.now) bytes.now) }

@@ -1,7 +1,9 @@
 //! The errors of texts and of expressions.
 ghost use Rattle.std.specs.Prelude.{◌≡◌};
-ghost use Rattle.redcode_text.specs.Code.Problems.{fault_line};
+ghost use Rattle.redcode_text.specs.Code.Problems.{fault_line, fault_token};
+ghost use Rattle.redcode_text.specs.Tokens.{problem_at};
 
+use crate::token::Span;
 use std::alloc::{AllocError, AllocFailed};
 use thiserror::Error;
 
@@ -74,17 +76,6 @@ impl From<AllocError> for TextProblem {
     }
 }
 
-impl<T: Drop> From<AllocFailed<T>> for TextProblem {
-    ghost use Rattle.std.specs.Prelude.{◌≡◌};
-    ghost use Rattle.redcode_text.specs.declared.fault.TextProblem.TheVariants as fault;
-
-    ghost from_gives = { λ _ to. to ≡ fault.OutOfMemory };
-
-    fn from(_failed: AllocFailed<T>) -> TextProblem {
-        TextProblem::OutOfMemory
-    }
-}
-
 /// An error in a text, with its line. It is displayed without the line.
 #[derive(Clone, Copy, Debug, PartialEq, Eq, Error)]
 #[error("{problem}")]
@@ -92,23 +83,86 @@ pub struct TextFault {
     /// The line number, from 1; 0 if memory ran out.
     pub line: usize,
     pub problem: TextProblem,
+    /// The bytes, in the source, of the token at which the error arises: the byte or word that is no token, the second of two
+    /// equal names, the word FOR or ROF. `OutOfMemory` has none, nor has `TooLong` for too many lines, or for the tokens of
+    /// EQU lines that replace an operation.
+    ///
+    /// A token that comes from EQU has its bytes in the definition, while `line` is that of the use.
+    pub token: Option<Span>,
+}
+
+/// An error that has no line yet.
+#[derive(Clone, Copy, Drop)]
+pub struct TokenProblem {
+    pub problem: TextProblem,
+    /// The bytes of the token at which the error arises.
+    pub token: Option<Span>,
+}
+
+impl From<AllocError> for TokenProblem {
+    ghost use Rattle.std.specs.Prelude.{◌≡◌, None};
+    ghost use Rattle.redcode_text.specs.declared.fault.TextProblem.TheVariants.{OutOfMemory};
+
+    ghost from_gives = { λ _ to. to ≡ record { problem = OutOfMemory; token = None } };
+
+    fn from(_error: AllocError) -> TokenProblem {
+        TextProblem::OutOfMemory.at_token(None)
+    }
+}
+
+impl<T: Drop> From<AllocFailed<T>> for TokenProblem {
+    ghost use Rattle.std.specs.Prelude.{◌≡◌, None};
+    ghost use Rattle.redcode_text.specs.declared.fault.TextProblem.TheVariants.{OutOfMemory};
+
+    ghost from_gives = { λ _ to. to ≡ record { problem = OutOfMemory; token = None } };
+
+    fn from(_failed: AllocFailed<T>) -> TokenProblem {
+        TextProblem::OutOfMemory.at_token(None)
+    }
 }
 
 impl TextProblem {
-    /// Adds a line number to an error; `OutOfMemory` gets the line 0.
-    pub(crate) fn at_line(self, line: usize) -> TextFault
-        ensures problem { result.problem ≡ self }
-        ensures line { result.line ≡ fault_line line self }
+    /// Adds the bytes of the token at which an error arises.
+    pub(crate) fn at_token(self, token: Option<Span>) -> TokenProblem
+        ensures { result ≡ problem_at token self }
     {
-        match self {
+        TokenProblem {
+            problem: self,
+            token,
+        }
+    }
+}
+
+impl TokenProblem {
+    /// Adds a line number to an error; `OutOfMemory` gets the line 0 and no token.
+    pub fn at_line(self, line: usize) -> TextFault
+        ensures problem { result.problem ≡ self.problem }
+        ensures line { result.line ≡ fault_line line self.problem }
+        ensures token { result.token ≡ fault_token self.token self.problem }
+    {
+        match self.problem {
             TextProblem::OutOfMemory => TextFault {
                 line: 0,
-                problem: self,
+                problem: self.problem,
+                token: None,
             },
-            _ => TextFault {
+            problem => TextFault {
                 line,
-                problem: self,
+                problem,
+                token: self.token,
             },
+        }
+    }
+}
+
+impl TextFault {
+    /// Returns the error without its line.
+    pub(crate) fn without_line(self) -> TokenProblem
+        ensures { result ≡ record { problem = self.problem; token = self.token } }
+    {
+        TokenProblem {
+            problem: self.problem,
+            token: self.token,
         }
     }
 }

@@ -2,21 +2,21 @@
 ghost use Rattle.std.specs.Prelude.{◌≡◌, ◌≤◌, ◌<◌, ◌+◌, ◌^◌, [], drop, length, vec_len, IfOk, OnOk};
 ghost use Rattle.redcode_text.specs.Outcomes.{IsResult};
 ghost use Rattle.redcode_text.specs.Views.{scan_of};
-ghost use Rattle.redcode_text.specs.Code.Problems.{Gives};
+ghost use Rattle.redcode_text.specs.Code.Problems.{Gives, GivesBare};
 ghost use Rattle.redcode_text.specs.Code.Scanning.{found_without_names, one_token, with_names};
 ghost use Rattle.redcode_text.specs.Code.SourceLoops.{loops_of};
-ghost use Rattle.redcode_text.specs.Tokens.{begins_word, is_blank, scan_from, scanned, sign_token, token_at};
+ghost use Rattle.redcode_text.specs.Tokens.{begins_word, is_blank, scan_from, scanned, sign_token, span_at, token_at, unread_len};
 
 pub mod open_loops;
 pub mod source_names;
 mod words;
 
 use crate::characters::{begins_word, is_blank, word_len};
-use crate::fault::{TextFault, TextProblem};
+use crate::fault::{TextFault, TextProblem, TokenProblem};
 use crate::lexer::source_names::SourceNames;
 use crate::lexer::words::read_word;
 use crate::names::NameTable;
-use crate::token::{Spelled, Token, TokenKind, one_byte_sign, two_byte_sign};
+use crate::token::{Span, Spelled, Token, TokenKind, one_byte_sign, two_byte_sign};
 use std::alloc::Global;
 
 /// The part of a line that is read as tokens.
@@ -56,7 +56,7 @@ fn read_sign(bytes: &[u8]) -> Result<Spelled, TextProblem>
 
 /// Reads the token at the start of `bytes`, which don't start with whitespace.
 fn read_token(alloc: Global, names: &mut SourceNames, bytes: &[u8]) -> Result<Spelled, TextProblem>
-    ensures value { Gives (with_names names.new.table) result (token_at (loops_of names.old) names.old.table bytes.now) }
+    ensures value { GivesBare (with_names names.new.table) result (token_at (loops_of names.old) names.old.table bytes.now) }
     ensures len { IfOk result (λ s. (1 ≤ s.len) × (s.len ≤ length bytes.now)) }
     ensures loops { OnOk result (loops_of names.new ≡ loops_of names.old) }
 {
@@ -72,6 +72,30 @@ fn read_token(alloc: Global, names: &mut SourceNames, bytes: &[u8]) -> Result<Sp
     read_sign(bytes)
 }
 
+/// Returns the number of bytes at the start of `bytes` that are no token: those of a word, or else one byte.
+fn unread_len(bytes: &[u8]) -> usize
+    requires { 1 ≤ length bytes.now }
+    ensures value { result ≡ unread_len bytes.now }
+    ensures within { result ≤ length bytes.now }
+{
+    if begins_word(bytes) {
+        word_len(bytes)
+    } else {
+        1
+    }
+}
+
+/// Returns the bytes of a source from `at` on, `len` in number.
+fn span_at(at: usize, len: usize) -> Option<Span>
+    requires { at + len < 2 ^ 64 }
+    ensures { result ≡ span_at at len }
+{
+    Some(Span {
+        from: at,
+        to: at + len,
+    })
+}
+
 /// Reads the token at an offset of a text, and returns its number of bytes.
 fn add_token(
     alloc: Global,
@@ -80,7 +104,7 @@ fn add_token(
     room: usize,
     names: &mut SourceNames,
     tokens: &mut Vec<Token>,
-) -> Result<usize, TextProblem>
+) -> Result<usize, TokenProblem>
     requires within { at < length text.bytes.now }
     requires fits { text.at + length text.bytes.now < 2 ^ 64 }
     ensures value { Gives (λ len. (len, scan_of tokens.new names.new.table)) result
@@ -89,14 +113,15 @@ fn add_token(
     ensures room { vec_len tokens.old ≤ room → vec_len tokens.new ≤ room }
     ensures loops { OnOk result (loops_of names.new ≡ loops_of names.old) }
 {
-    let Spelled { kind, len } = match read_token(alloc, names, &text.bytes[at..]) {
+    let from = text.at + at;
+    let bytes = &text.bytes[at..];
+    let Spelled { kind, len } = match read_token(alloc, names, bytes) {
         Ok(found) => found,
-        Err(problem) => return Err(problem),
+        Err(problem) => return Err(problem.at_token(span_at(from, unread_len(bytes)))),
     };
     if tokens.len() >= room {
-        return Err(TextProblem::TooLong);
+        return Err(TextProblem::TooLong.at_token(span_at(from, len)));
     }
-    let from = text.at + at;
     let token = Token {
         kind,
         line: text.number,
@@ -105,7 +130,7 @@ fn add_token(
     };
     match tokens.push(token) {
         Ok(()) => Ok(len),
-        Err(_) => Err(TextProblem::OutOfMemory),
+        Err(_) => Err(TextProblem::OutOfMemory.at_token(None)),
     }
 }
 
@@ -116,7 +141,7 @@ pub fn read_tokens(
     room: usize,
     names: &mut SourceNames,
     tokens: &mut Vec<Token>,
-) -> Result<(), TextProblem>
+) -> Result<(), TokenProblem>
     requires fits { text.at + length text.bytes.now < 2 ^ 64 }
     requires room { vec_len tokens.old ≤ room }
     ensures value { Gives (λ _. scan_of tokens.new names.new.table) result

@@ -30,7 +30,8 @@
 //!
 //! The crates above this one may use:
 //!
-//! - `expand` returns the program of a source, or its first error with its line, as `specs/Expansion` defines it.
+//! - `expand` returns the program of a source, or its first error with its line and its token, as `specs/Expansion`
+//!   defines it.
 //! - The methods of `Program` return its parts. It has at most 65,536 lines, and its name and author are printable.
 //! - `Program::substitute` replaces each EQU name among tokens and returns at most 65,536 tokens, or the first error, as
 //!   `specs/Equates` defines it.

@@ -138,7 +138,8 @@ impl Program {
     ///
     /// Returns the first error, from left to right: `EquDepth` if expansions nest more than 32 deep, `BadToken` for a
     /// name whose definition has several lines, or `TooLong` for more than 65,536 tokens or replacements. It has the line
-    /// of its token among `tokens`, which is the line of the use. `OutOfMemory` has the line 0.
+    /// of the token among `tokens` that caused it, which is the line of the use, and the bytes of the token at which it
+    /// arises, which may be in a definition. `OutOfMemory` has the line 0 and no token.
     pub fn substitute(&self, alloc: Global, tokens: &[Token]) -> Result<Vec<Token>, TextFault>
         ensures value { IsResult (λ made. made.items) result (substitution self.now.equates tokens.now) }
         ensures few { IfOk result (λ made. vec_len made ≤ limit) }

@@ -5,8 +5,7 @@ ghost use Rattle.redcode_text.specs.Programs.{IsPrinted};
 ghost use Rattle.redcode_text.specs.declared.limits.TheConstants.{MAX_LINES, MAX_TOKENS};
 ghost use Rattle.std.specs.List.{list_any};
 ghost use Rattle.std.specs.Str.{str_eq_ignore_ascii_case};
-ghost use Rattle.redcode_text.specs.Lines.{operations, name_in_front, tokens_after, tokens_before};
-ghost use Rattle.redcode_text.specs.Expression.{kinds};
+ghost use Rattle.redcode_text.specs.Lines.{misplaced, operations, name_in_front, tokens_after, tokens_before};
 
 mod comment;
 mod line;
@@ -16,7 +15,7 @@ mod used_lines;
 
 use crate::characters::is_word;
 use crate::equates::Equates;
-use crate::fault::TextProblem;
+use crate::fault::{TextProblem, TokenProblem};
 use crate::lexer::source_names::SourceNames;
 use crate::lexer::{Text, read_tokens};
 use crate::limits::{MAX_LINES, MAX_TOKENS};
@@ -109,27 +108,27 @@ impl Reading {
     }
 
     /// Counts one more line.
-    pub fn count_line(&mut self) -> Result<(), TextProblem>
+    pub fn count_line(&mut self) -> Result<(), TokenProblem>
         ensures value { Gives (λ _. reading_of self.new) result (line_read (reading_of self.old)) }
         ensures equates { self.new.equates ≡ self.old.equates }
         ensures room { OnOk result (vec_len self.new.lines < self.new.lines_read) }
     {
         if self.lines_read >= MAX_LINES {
-            return Err(TextProblem::TooLong);
+            return Err(TextProblem::TooLong.at_token(None));
         }
         self.lines_read += 1;
         Ok(())
     }
 
     /// Counts the tokens of a line that comes from EQU.
-    pub fn count_tokens(&mut self, tokens: &[Token]) -> Result<(), TextProblem>
+    pub fn count_tokens(&mut self, tokens: &[Token]) -> Result<(), TokenProblem>
         ensures value { Gives (λ _. reading_of self.new) result (tokens_counted tokens.now (reading_of self.old)) }
         ensures equates { self.new.equates ≡ self.old.equates }
         ensures lines { vec_len self.new.lines ≡ vec_len self.old.lines }
         ensures lines_read { self.new.lines_read ≡ self.old.lines_read }
     {
         if tokens.len() > MAX_TOKENS - self.tokens_read {
-            return Err(TextProblem::TooLong);
+            return Err(TextProblem::TooLong.at_token(None));
         }
         self.tokens_read += tokens.len();
         Ok(())
@@ -141,7 +140,7 @@ impl Reading {
         alloc: Global,
         row: SourceRow<'_>,
         at: usize,
-    ) -> Result<Vec<Token>, TextProblem>
+    ) -> Result<Vec<Token>, TokenProblem>
         requires within { at ≤ length row.bytes.now }
         requires fits { row.at + length row.bytes.now < 2 ^ 64 }
         ensures value { Gives (λ tokens. (tokens.items, reading_of self.new)) result
@@ -197,37 +196,43 @@ impl Reading {
 }
 
 /// Returns the first token that starts before an offset of the source, and the tokens after it.
-fn next_before(tokens: &[Token], at: usize) -> Option<(TokenKind, &[Token])>
-    ensures { MatchOption result (kinds (tokens_before at tokens.now) ≡ [])
-        (λ r. kinds (tokens_before at tokens.now) ≡ r.0 ∷ kinds (tokens_before at r.1.now)) }
+fn next_before(tokens: &[Token], at: usize) -> Option<(Token, &[Token])>
+    ensures { MatchOption result (tokens_before at tokens.now ≡ []) (λ r. tokens_before at tokens.now ≡ r.0 ∷ tokens_before at r.1.now) }
 {
     for index in 0..tokens.len() {
         if tokens[index].from < at {
-            return Some((tokens[index].kind, &tokens[index + 1..]));
+            return Some((tokens[index], &tokens[index + 1..]));
         }
     }
     None
 }
 
+/// Returns the error of a token that isn't allowed in its place.
+fn misplaced(token: Token) -> TokenProblem
+    ensures { result ≡ misplaced token }
+{
+    TextProblem::BadToken.at_token(Some(token.span()))
+}
+
 /// Returns the name before an offset of the source, if there is one. A colon may follow it; any other token is an error.
-pub fn name_in_front(tokens: &[Token], at: usize) -> Result<Option<usize>, TextProblem>
-    ensures { result ≡ name_in_front (kinds (tokens_before at tokens.now)) }
+pub fn name_in_front(tokens: &[Token], at: usize) -> Result<Option<usize>, TokenProblem>
+    ensures { result ≡ name_in_front (tokens_before at tokens.now) }
 {
     let Some((first, rest)) = next_before(tokens, at) else {
         return Ok(None);
     };
-    let TokenKind::Name(name) = first else {
-        return Err(TextProblem::BadToken);
+    let TokenKind::Name(name) = first.kind else {
+        return Err(misplaced(first));
     };
     let Some((second, rest)) = next_before(rest, at) else {
         return Ok(Some(name));
     };
-    if second != TokenKind::Sign(Sign::Colon) {
-        return Err(TextProblem::BadToken);
+    if second.kind != TokenKind::Sign(Sign::Colon) {
+        return Err(misplaced(second));
     }
     match next_before(rest, at) {
         None => Ok(Some(name)),
-        Some(_) => Err(TextProblem::BadToken),
+        Some((third, _)) => Err(misplaced(third)),
     }
 }
 

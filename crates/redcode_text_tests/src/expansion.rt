@@ -36,16 +36,19 @@ const LOOPS: &[u8] =
 const COPIES: &[u8] =
     b"step EQU 4\ncopy EQU MOV.I target, step\n     EQU ADD.AB #step, target\ntarget DAT 0, 0\ncopy\nEND target\n";
 
-fn fault_of(alloc: Global, source: &[u8]) -> Option<TextFault> {
-    expand(alloc, source, &NAMES).err()
+/// The line and the problem of an error.
+type Located = (usize, TextProblem);
+
+fn located(fault: TextFault) -> Located {
+    (fault.line, fault.problem)
 }
 
-fn fault(line: usize, problem: TextProblem) -> TextFault {
-    TextFault { line, problem }
+fn fault_of(alloc: Global, source: &[u8]) -> Option<Located> {
+    expand(alloc, source, &NAMES).err().map(located)
 }
 
-fn at(line: usize, problem: TextProblem) -> Option<TextFault> {
-    Some(fault(line, problem))
+fn at(line: usize, problem: TextProblem) -> Option<Located> {
+    Some((line, problem))
 }
 
 /// Checks that each source has its error, on the given line.
@@ -154,7 +157,7 @@ fn check_copies(
     alloc: Global,
     text: &[u8],
     count: usize,
-    fault: Option<TextFault>,
+    fault: Option<Located>,
 ) -> Result<(), Fail> {
     let source = copies(alloc, text, count)?;
     assert_eq!(rt; fault_of(alloc, &source), fault);

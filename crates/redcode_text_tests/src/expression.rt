@@ -151,6 +151,7 @@ fn faults_are_displayed_by_number_and_name(rt: HostRuntime) -> Result<(), Fail> 
     let fault = TextFault {
         line: 3,
         problem: TextProblem::Expression(ExprFault::DivideByZero),
+        token: None,
     };
     assert_eq!(rt;
         format!(in rt.alloc(); "{fault}")?.as_str(),
@@ -159,6 +160,7 @@ fn faults_are_displayed_by_number_and_name(rt: HostRuntime) -> Result<(), Fail> 
     let fault = TextFault {
         line: 0,
         problem: TextProblem::OutOfMemory,
+        token: None,
     };
     assert_eq!(rt;
         format!(in rt.alloc(); "{fault}")?.as_str(),

@@ -1,6 +1,7 @@
 use crate::expansion::NAMES;
 use redcode_text::{
-    LineTokens, NameTable, Program, Sign, TextFault, TextProblem, Token, TokenKind, expand, scan,
+    LineTokens, NameTable, Program, Sign, Span, TextFault, TextProblem, Token, TokenKind, expand,
+    scan,
 };
 use std::alloc::Global;
 use std::process::Abort;
@@ -130,6 +131,7 @@ fn joins_and_counters(rt: HostRuntime) -> Result<(), Fail> {
     let bad = TextFault {
         line: 4,
         problem: TextProblem::BadToken,
+        token: Some(Span { from: 27, to: 31 }),
     };
     assert_eq!(rt; expand(rt.alloc(), NO_COUNTER, &NAMES).err(), Some(bad));
     checked
@@ -167,7 +169,8 @@ fn want_of_memory_has_no_line(rt: HostRuntime) {
             fault,
             TextFault {
                 line: 0,
-                problem: TextProblem::OutOfMemory
+                problem: TextProblem::OutOfMemory,
+                token: None,
             }
         ),
     }

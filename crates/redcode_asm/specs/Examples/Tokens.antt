@@ -62,10 +62,11 @@ pub words_of_definitions :
 unfolding assembly expansion value_of tree_within digits default_modifier op_of modifier_of
 words_of_definitions = (refl, refl, refl)
 
--- The first instruction that is too many. A source without instructions has no token, nor has an error of the text.
+-- The first instruction that is too many. A source without instructions has no token.
 pub words_of_sources :
     (token (codes "NOP" ∷ codes "NOP" ∷ codes "NOP" ∷ codes "NOP" ∷ codes "a NOP" ∷ codes "NOP" ∷ []) ≡ at 18 21)
     × (token ([] ∷ []) ≡ None)
-    × (token (codes "NOP 1x" ∷ []) ≡ None)
+    × (token (codes "NOP 1x" ∷ []) ≡ at 4 6)
+    × (token (codes "x EQU 1-x" ∷ codes "NOP 1+x" ∷ []) ≡ at 8 9)
 unfolding assembly expansion value_of tree_within digits default_modifier op_of modifier_of
-words_of_sources = (refl, refl, refl)
+words_of_sources = (refl, refl, refl, refl)

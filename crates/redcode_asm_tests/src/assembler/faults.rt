@@ -117,7 +117,7 @@ fn tokens_of_faults(rt: HostRuntime) -> Result<(), Fail> {
     Ok(())
 }
 
-const TOKENS_OF_FAULTS: [(&str, usize, usize); 22] = [
+const TOKENS_OF_FAULTS: [(&str, usize, usize); 26] = [
     ("here: MVO 1, 2", 6, 9),
     ("NOP\n5", 4, 5),
     ("MOV.ab.ba 1, 2", 6, 7),
@@ -140,6 +140,10 @@ const TOKENS_OF_FAULTS: [(&str, usize, usize); 22] = [
     ("a EQU b\nb EQU c-1\nNOP a", 14, 15),
     ("i FOR 9\nNOP\nROF", 8, 11),
     ("\n\n", 0, 0),
+    ("NOP\nNOP 3 ? 4", 10, 11),
+    ("NOP\na NOP\na NOP", 10, 11),
+    ("NOP\ni FOR CORESIZE/0", 6, 9),
+    ("x EQU 1-x\nNOP 3, 2-x", 8, 9),
 ];
 
 #[test]
@@ -148,7 +152,7 @@ fn bytes_outside_ascii(rt: HostRuntime) -> Result<(), Fail> {
     let expected = AsmFault {
         line: 1,
         problem: AsmProblem::Text(TextProblem::NotAscii),
-        token: None,
+        token: Some(Span { from: 4, to: 5 }),
     };
     assert_eq!(rt; fault_of(rt.alloc(), &params, b"NOP \xC8"), Some(expected));
     for source in [

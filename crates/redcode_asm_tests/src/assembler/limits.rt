@@ -1,7 +1,7 @@
 //! The limits of a source, at their value and one beyond.
 use crate::assembler::{UNKNOWN, check_faults, check_listing, core_of, fault_of};
 use redcode_asm::{AsmFault, AsmProblem};
-use redcode_text::{ExprFault, TextProblem};
+use redcode_text::{ExprFault, Span, TextProblem};
 use std::alloc::Global;
 use std::process::Abort;
 use std::test::Fail;
@@ -71,7 +71,7 @@ fn doubled_names(rt: HostRuntime) -> Result<(), Fail> {
     let expected = AsmFault {
         line: 18,
         problem: TOO_LONG,
-        token: None,
+        token: Some(Span { from: 232, to: 235 }),
     };
     assert_eq!(rt; fault, Some(expected));
     Ok(())
@@ -90,7 +90,7 @@ fn nested_names(rt: HostRuntime) -> Result<(), Fail> {
     let expected = AsmFault {
         line: 34,
         problem: DEPTH_OF_EQU,
-        token: None,
+        token: Some(Span { from: 16, to: 18 }),
     };
     assert_eq!(rt; fault, Some(expected));
     Ok(())

@@ -1,13 +1,13 @@
 -- Properties of a result, if it is a value.
-use Rattle.std.proofs.Common.{◌+◌, ◌-◌, ℕ, false, List, length, drop, Result, Ok, Err}
+use Rattle.std.proofs.Common.{◌+◌, ◌-◌, ℕ, false, List, length, drop, Option, Result, Ok, Err}
 use Rattle.std.specs.Prelude.{⊤}
 use Rattle.redcode_text.specs.Results.{◌>>=◌}
-use Rattle.redcode_text.specs.declared.fault.TextProblem.{TextProblem}
+use Rattle.redcode_text.specs.declared.fault.TokenProblem.{TokenProblem}
 use Rattle.redcode_text.specs.Equates.{limit}
 use Rattle.redcode_text.specs.Expansion.{Head, count_of, counter_name, for_word_at, head_line, room_for_loop}
-use Rattle.redcode_text.specs.Expression.{kinds}
 use Rattle.redcode_text.specs.Lines.{Predefined, Reading, WithTokens, before_comment, line_read, name_in_front, row_tokens, tokens_after, tokens_before}
-use Rattle.redcode_text.specs.Source.{SourceRow}
+use Rattle.redcode_text.specs.declared.token.Span.{Span}
+use Rattle.redcode_text.specs.Source.{SourceRow, loop_word}
 use Rattle.redcode_text.specs.Tokens.{tokens}
 
 -- The property `P` holds of a result's value, if there is a value.
@@ -25,11 +25,11 @@ no-matter (Ok a) = tt
 no-matter (Err e) = tt
 
 -- The header of a loop, from its tokens on.
-abbrev pub headed : Predefined → ℕ → WithTokens → Result Head TextProblem
-headed ps at r =
-    name_in_front (kinds (tokens_before at r.0)) >>= λ counter.
-    room_for_loop r.1 >>= λ _.
-    count_of ps r.1 (tokens_after at r.0) >>= λ count.
+abbrev pub headed : Predefined → Option Span → ℕ → WithTokens → Result Head TokenProblem
+headed ps word at r =
+    name_in_front (tokens_before at r.0) >>= λ counter.
+    room_for_loop word r.1 >>= λ _.
+    count_of ps r.1 word (tokens_after at r.0) >>= λ count.
     Ok (record { counter = counter_name r.1 counter; count = count; reading = record (r.1) { equate_grows = false } })
 
 -- A property that doesn't depend on names, counted tokens and EQU lines still holds after the header of a loop was read.
@@ -38,9 +38,9 @@ pub head-alone : (ps : Predefined) (row : SourceRow) (st : Reading) (P : Reading
 head-alone ps row st P more grows read =
     let Q : WithTokens → Type 0 = λ x. P x.1 in
     let R : Head → Type 0 = λ h. P h.reading in
-    alone-then Q R (line_read st >>= row_tokens row 0) (headed ps (for_word_at row))
+    alone-then Q R (line_read st >>= row_tokens row 0) (headed ps (loop_word row) (for_word_at row))
     (alone-then P Q (line_read st) (row_tokens row 0) read
     (λ a p. alone-then (λ _. ⊤) Q (tokens a.loops row.number (row.at + 0) (limit - a.tokens_read) a.names (before_comment (drop 0 row.bytes))) _ (no-matter _) (λ s _. more a s.names (a.tokens_read + length s.tokens) p)))
-    (λ x p. alone-then (λ _. ⊤) R (name_in_front (kinds (tokens_before (for_word_at row) x.0))) _ (no-matter _)
-    (λ counter _. alone-then (λ _. ⊤) R (room_for_loop x.1) _ (no-matter _)
-    (λ _ _. alone-then (λ _. ⊤) R (count_of ps x.1 (tokens_after (for_word_at row) x.0)) _ (no-matter _) (λ count _. grows x.1 p))))
+    (λ x p. alone-then (λ _. ⊤) R (name_in_front (tokens_before (for_word_at row) x.0)) _ (no-matter _)
+    (λ counter _. alone-then (λ _. ⊤) R (room_for_loop (loop_word row) x.1) _ (no-matter _)
+    (λ _ _. alone-then (λ _. ⊤) R (count_of ps x.1 (loop_word row) (tokens_after (for_word_at row) x.0)) _ (no-matter _) (λ count _. grows x.1 p))))

@@ -5,12 +5,13 @@ use Rattle.std.specs.List.{list_any, onto_first}
 use Rattle.redcode_text.specs.Results.{◌>>=◌}
 use Rattle.redcode_text.specs.declared.fault.TextFault.{TextFault}
 use Rattle.redcode_text.specs.declared.fault.TextProblem.{TextProblem}
+use Rattle.redcode_text.specs.declared.fault.TokenProblem.{TokenProblem}
 use Rattle.redcode_text.specs.declared.fault.TextProblem.TheVariants.{UnclosedFor, RofAlone}
 use Rattle.redcode_text.specs.Expansion.{expansion, flat, head_line, nothing_read, program_of, rof_line, rounds, unpaired_line}
 use Rattle.redcode_text.specs.Lines.{Reading, Predefined, line_read, plain_line, unless_ended}
 use Rattle.redcode_text.specs.Source as source
-use Rattle.redcode_text.specs.Source.{SourceRow, Items, Nothing, Plain, Loop, LoneRof, LineKind, RofLine, ForLine, EquLine, OtherLine, Pairing, begins_redcode, from_redcode, has_directive, line_kind, lines_of, opened, paired, paired_with, read_rows, rows_from, rows_of, then_lone, tree_of, tree_of_rows, with_lone}
-use Rattle.redcode_text.specs.Tokens.{at_line}
+use Rattle.redcode_text.specs.Source.{SourceRow, loop_word, Items, Nothing, Plain, Loop, LoneRof, LineKind, RofLine, ForLine, EquLine, OtherLine, Pairing, begins_redcode, from_redcode, has_directive, line_kind, lines_of, opened, paired, paired_with, read_rows, rows_from, rows_of, then_lone, tree_of, tree_of_rows, with_lone}
+use Rattle.redcode_text.specs.Tokens.{at_line, problem_at}
 use Rattle.redcode_text.proofs.Kept.{Kept, rof-ended}
 
 -- ---- Rows
@@ -144,10 +145,10 @@ begins-tree here more (w ∷ waiting) others e = rw (e.3, ← e.0) (begins-itsel
 
 -- ---- Reading
 
-pub unpaired-refused : (n : ℕ) (problem : TextProblem) (st read : Reading) → at_line n (unpaired_line problem st) ≡ Ok read → ⊥
-unpaired-refused n problem st read = go (line_read st)
+pub unpaired-refused : (n : ℕ) (problem : TextProblem) (row : SourceRow) (st read : Reading) → at_line n (unpaired_line problem row st) ≡ Ok read → ⊥
+unpaired-refused n problem row st read = go (line_read st)
   where
-    go : (r : Result Reading TextProblem) → at_line n (r >>= λ (a : Reading). Err problem) ≡ Ok read → ⊥
+    go : (r : Result Reading TokenProblem) → at_line n (r >>= λ (a : Reading). Err (problem_at (loop_word row) problem)) ≡ Ok read → ⊥
     go (Ok a) e = cc
     go (Err x) e = cc
 
@@ -170,7 +171,7 @@ module _ (read : Reading) (ends : read.ended ≡ true) where
   rof-goes-on : (rof : SourceRow) (a b : Reading) → a.ended ≡ false → at_line rof.number (rof_line rof a) ≡ Ok b → b.ended ≡ false
   rof-goes-on rof a b going = go (rof_line rof a) (rof-ended rof a)
     where
-      go : (r : Result Reading TextProblem) → Kept (λ st. st.ended) a.ended r → at_line rof.number r ≡ Ok b → b.ended ≡ false
+      go : (r : Result Reading TokenProblem) → Kept (λ st. st.ended) a.ended r → at_line rof.number r ≡ Ok b → b.ended ≡ false
       go (Ok x) k e = let same : x ≡ b = cc in ap (λ st. st.ended) (sym same) ∙ k ∙ going
       go (Err x) k e = cc
 
@@ -188,8 +189,8 @@ module _ (read : Reading) (ends : read.ended ≡ true) where
       (λ h is. after (rounds (flat ps body) h.counter 1 h.count h.reading) (λ a. unless_ended a (behind rest)) (λ a. unless_ended a (behind b.0))
       (λ a was. unless a (behind rest) (behind b.0)
       (λ on. after (at_line rof.number (rof_line rof a)) (flat ps rest) (flat ps b.0) (λ c closed. reads-same ps rest b.0 b.2 c (rof-goes-on rof a c on closed))))) e)
-  reads-same ps (source.UnclosedFor row rest) more b st going e = absurd (unpaired-refused row.number UnclosedFor st read e)
-  reads-same ps (LoneRof row rest) more b st going e = absurd (unpaired-refused row.number RofAlone st read e)
+  reads-same ps (source.UnclosedFor row rest) more b st going e = absurd (unpaired-refused row.number UnclosedFor row st read e)
+  reads-same ps (LoneRof row rest) more b st going e = absurd (unpaired-refused row.number RofAlone row st read e)
 
 -- ---- The whole source
 

@@ -4,7 +4,7 @@ use Rattle.std.specs.List.{starts_with}
 use Rattle.std.specs.Str.{str_to_ascii_lowercase}
 use Rattle.redcode_text.specs.Results.{◌>>=◌}
 use Rattle.redcode_text.specs.Bytes.{semicolon}
-use Rattle.redcode_text.specs.declared.fault.TextProblem.{TextProblem}
+use Rattle.redcode_text.specs.declared.fault.TokenProblem.{TokenProblem}
 use Rattle.redcode_text.specs.declared.source.directives.Comment.{Comment}
 use Rattle.redcode_text.specs.declared.source.directives.Comment.TheVariants.{Name, Author, Assert, Other}
 use Rattle.redcode_text.specs.Lines.{Reading, max_name_len, printable, row_tokens, unless_empty}
@@ -25,7 +25,7 @@ abbrev pub with_author_text : List ℕ → Reading → Reading
 with_author_text text st = record st { author = unless_empty (printed_value text) st.author }
 
 -- The step that adds an assert, whose expression starts at the byte `at` of its row.
-abbrev pub assert_at : SourceRow → ℕ → Reading → Result Reading TextProblem
+abbrev pub assert_at : SourceRow → ℕ → Reading → Result Reading TokenProblem
 assert_at row at st =
     row_tokens row at st >>= λ r.
     Ok (record (r.1) { asserts = r.1.asserts ++ record { number = row.number; current_line = r.1.instructions; tokens = r.0 } ∷ [] })
@@ -76,7 +76,7 @@ abbrev pub meaning : List ℕ → Meaning
 meaning bytes = name_or bytes (author_meaning bytes) (text_found (semicolon ∷ codes "name") bytes)
 
 -- What is read after a comment line with this meaning.
-abbrev pub after_comment : Meaning → SourceRow → Reading → Result Reading TextProblem
+abbrev pub after_comment : Meaning → SourceRow → Reading → Result Reading TokenProblem
 after_comment (IsName text) row st = Ok (with_name_text text st)
 after_comment (IsAuthor text) row st = Ok (with_author_text text st)
 after_comment (IsAssert at) row st = assert_at row at st

@@ -2,8 +2,9 @@
 use Rattle.std.specs.Prelude.{ℕ, List, [], Result, Ok, Err}
 use Rattle.redcode_text.specs.Results.{◌>>=◌}
 use Rattle.redcode_text.specs.declared.fault.TextProblem.{TextProblem}
+use Rattle.redcode_text.specs.declared.fault.TokenProblem.{TokenProblem}
 use Rattle.redcode_text.specs.declared.token.Spelled.{Spelled}
-use Rattle.redcode_text.specs.Tokens.{Found, OpenLoop, Scanned, token_at, with_room}
+use Rattle.redcode_text.specs.Tokens.{Found, OpenLoop, Scanned, at_token, span_at, token_at, unread_len, with_room}
 
 -- The token that the code found at the start of a text, and the names after it.
 abbrev pub with_names : List (List ℕ) → Spelled → Found
@@ -15,5 +16,5 @@ found_without_names (Ok s) = Ok (with_names [] s)
 found_without_names (Err e) = Err e
 
 -- The number of bytes of the token at the start of the text, and what has been scanned including it.
-abbrev pub one_token : List OpenLoop → ℕ → ℕ → ℕ → List ℕ → Scanned → Result (ℕ × Scanned) TextProblem
-one_token loops line room at bs s = token_at loops s.names bs >>= λ f. with_room room s line at f >>= λ t. Ok (f.len, t)
+abbrev pub one_token : List OpenLoop → ℕ → ℕ → ℕ → List ℕ → Scanned → Result (ℕ × Scanned) TokenProblem
+one_token loops line room at bs s = at_token (span_at at (unread_len bs)) (token_at loops s.names bs) >>= λ f. with_room room s line at f >>= λ t. Ok (f.len, t)

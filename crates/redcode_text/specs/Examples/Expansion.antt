@@ -41,19 +41,23 @@ abbrev pub shown_operation : List (List ℕ) → Option ℕ → List ℕ
 shown_operation names None = []
 shown_operation names (Some n) = name_at names n
 
-abbrev pub shown : Result ProgramValue TextFault → Result (List ShownLine) TextFault
-shown (Ok st) = Ok (map (λ l. record { number = l.number; labels = map (name_at st.names) l.labels; operation = shown_operation st.names l.operation; rest = map (shown_token st.names) (kinds l.rest) }) st.lines)
-shown (Err e) = Err e
+-- The lines of a program, or the line of its error and the error.
+abbrev pub Listing : Type 0
+Listing = Result (List ShownLine) (ℕ × TextProblem)
 
-abbrev pub lines : List (List ℕ) → Result (List ShownLine) TextFault
+abbrev pub shown : Result ProgramValue TextFault → Listing
+shown (Ok st) = Ok (map (λ l. record { number = l.number; labels = map (name_at st.names) l.labels; operation = shown_operation st.names l.operation; rest = map (shown_token st.names) (kinds l.rest) }) st.lines)
+shown (Err e) = Err (e.line, e.problem)
+
+abbrev pub lines : List (List ℕ) → Listing
 unfolding expansion
 lines ls = shown (expansion predefined (text ls))
 
 abbrev pub line : ℕ → List (List ℕ) → List ℕ → List Shown → ShownLine
 line number labels operation rest = record { number = number; labels = labels; operation = operation; rest = rest }
 
-abbrev pub fault : ℕ → TextProblem → Result (List ShownLine) TextFault
-fault n p = Err (record { line = n; problem = p })
+abbrev pub fault : ℕ → TextProblem → Listing
+fault n p = Err (n, p)
 
 abbrev pub comma : Shown
 comma = Mark (token.Sign Comma)

@@ -72,7 +72,7 @@ unfolding value_of tree_within
 lines_and_tokens_are_counted = refl
 
 -- One line too many is reported before any other error of the line.
-pub lines_are_limited : flat predefined (tree_of (text (codes "FOR 1" ∷ []))) (record nothing_read { lines_read = 65536 }) ≡ Err (record { line = 1; problem = TooLong })
+pub lines_are_limited : flat predefined (tree_of (text (codes "FOR 1" ∷ []))) (record nothing_read { lines_read = 65536 }) ≡ Err (record { line = 1; problem = TooLong; token = None })
 lines_are_limited = refl
 
 -- For each line, the line numbers of the tokens after its operation.

@@ -3,7 +3,7 @@ ghost use Rattle.std.specs.Prelude.{◌≡◌, ◌++◌, ◌≤◌, ◌^◌, len
 ghost use Rattle.std.specs.Char.{is_ascii_digit};
 ghost use Rattle.std.specs.List.{list_all};
 ghost use Rattle.std.specs.Str.Parse.{digits_value};
-ghost use Rattle.redcode_text.specs.Code.Problems.{Gives};
+ghost use Rattle.redcode_text.specs.Code.Problems.{GivesBare};
 ghost use Rattle.redcode_text.specs.Code.Scanning.{with_names};
 ghost use Rattle.redcode_text.specs.Code.SourceLoops.{loops_of};
 ghost use Rattle.redcode_text.specs.Tokens.{joined, number_kind, plain_word_found, round_digits, round_of, word_found, word_token};
@@ -48,7 +48,7 @@ fn plain_word(
     len: usize,
 ) -> Result<Spelled, TextProblem>
     requires { IsAscii word.now }
-    ensures value { Gives (with_names names.new.table) result (plain_word_found names.old.table len word.now) }
+    ensures value { GivesBare (with_names names.new.table) result (plain_word_found names.old.table len word.now) }
     ensures len { IfOk result (λ s. s.len ≡ len) }
     ensures loops { OnOk result (loops_of names.new ≡ loops_of names.old) }
 {
@@ -76,7 +76,7 @@ fn joined_word(
     len: usize,
 ) -> Result<Spelled, TextProblem>
     requires { IsAscii word.now }
-    ensures value { Gives (with_names names.new.table) result (word_found names.old.table len word.now (round_of (loops_of names.old) word.now)) }
+    ensures value { GivesBare (with_names names.new.table) result (word_found names.old.table len word.now (round_of (loops_of names.old) word.now)) }
     ensures len { IfOk result (λ s. s.len ≡ len) }
     ensures loops { OnOk result (loops_of names.new ≡ loops_of names.old) }
 {
@@ -105,7 +105,7 @@ fn push_round(word: &mut Vec<u8>, round: u32) -> Result<(), AllocError>
 /// Replaces each join of a word by the digits of its counter.
 fn join_word(alloc: Global, names: &SourceNames, word: &[u8]) -> Result<Vec<u8>, TextProblem>
     requires { IsAscii word.now }
-    ensures value { Gives (λ w. w.items) result (joined (loops_of names.now) word.now) }
+    ensures value { GivesBare (λ w. w.items) result (joined (loops_of names.now) word.now) }
     ensures ascii { IfOk result (λ w. IsAscii w.items) }
 {
     let mut at = part_len(word);
@@ -129,7 +129,7 @@ pub fn read_word(
     word: &[u8],
 ) -> Result<Spelled, TextProblem>
     requires { IsAscii word.now }
-    ensures value { Gives (with_names names.new.table) result (word_token (loops_of names.old) names.old.table word.now) }
+    ensures value { GivesBare (with_names names.new.table) result (word_token (loops_of names.old) names.old.table word.now) }
     ensures len { IfOk result (λ s. s.len ≡ length word.now) }
     ensures loops { OnOk result (loops_of names.new ≡ loops_of names.old) }
 {

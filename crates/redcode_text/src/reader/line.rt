@@ -7,12 +7,12 @@ ghost use Rattle.redcode_text.specs.Code.Problems.{Gives};
 ghost use Rattle.redcode_text.specs.Code.Kinds.{kind_of, word_place};
 ghost use Rattle.redcode_text.specs.Code.Rows.{row_of};
 
-use crate::fault::TextProblem;
+use crate::fault::{TextProblem, TokenProblem};
 use crate::limits::MAX_NESTING;
 use crate::names::predefined::PredefinedNames;
 use crate::reader::{Reading, keep_after, name_in_front};
 use crate::source::row::{LineKind, SourceRow};
-use crate::token::Token;
+use crate::token::{Token, first_span};
 use std::alloc::Global;
 
 impl Reading {
@@ -23,19 +23,20 @@ impl Reading {
         names: &PredefinedNames,
         at: usize,
         mut tokens: Vec<Token>,
-    ) -> Result<(), TextProblem>
+    ) -> Result<(), TokenProblem>
         ensures value { Gives (λ _. reading_of self.new) result (equ_line (predefined_of names.now) at tokens.items (reading_of self.old)) }
     {
         let name = name_in_front(&tokens, at)?;
+        let first = first_span(&tokens);
         keep_after(&mut tokens, at);
         let Some(name) = name else {
             if !self.equate_grows {
-                return Err(TextProblem::BadToken);
+                return Err(TextProblem::BadToken.at_token(first));
             }
             return self.equates.add_line(tokens);
         };
         if self.is_equate(name) || self.is_label(name) || self.is_predefined(names, name) {
-            return Err(TextProblem::Duplicate);
+            return Err(TextProblem::Duplicate.at_token(first));
         }
         self.equates.define(alloc, name, tokens)?;
         self.equate_grows = true;
@@ -50,7 +51,7 @@ impl Reading {
         kind: LineKind,
         row: SourceRow<'_>,
         tokens: Vec<Token>,
-    ) -> Result<(), TextProblem>
+    ) -> Result<(), TokenProblem>
         requires room { vec_len self.old.lines < self.old.lines_read }
         requires fits { row.at + length row.bytes.now < 2 ^ 64 }
         requires inside { word_place kind ≤ length row.bytes.now }
@@ -72,7 +73,7 @@ impl Reading {
         alloc: Global,
         names: &PredefinedNames,
         row: SourceRow<'_>,
-    ) -> Result<(), TextProblem>
+    ) -> Result<(), TokenProblem>
         requires fits { row.at + length row.bytes.now < 2 ^ 64 }
         ensures value { Gives (λ _. reading_of self.new) result
             (plain_line (predefined_of names.now) (row_of row.entry) (reading_of self.old)) }

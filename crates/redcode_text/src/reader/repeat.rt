@@ -18,7 +18,7 @@ ghost use Rattle.redcode_text.specs.Tokens.{at_line};
 
 pub mod head;
 
-use crate::fault::{TextFault, TextProblem};
+use crate::fault::{TextFault, TextProblem, TokenProblem};
 use crate::names::predefined::PredefinedNames;
 use crate::reader::Reading;
 use crate::reader::repeat::head::Head;
@@ -28,7 +28,7 @@ use std::alloc::Global;
 
 impl Reading {
     /// Reads a ROF line, whose tokens have no meaning.
-    pub fn read_rof(&mut self, alloc: Global, row: SourceRow<'_>) -> Result<(), TextProblem>
+    pub fn read_rof(&mut self, alloc: Global, row: SourceRow<'_>) -> Result<(), TokenProblem>
         requires fits { row.at + length row.bytes.now < 2 ^ 64 }
         ensures value { Gives (λ _. reading_of self.new) result (rof_line (row_of row.entry) (reading_of self.old)) }
     {
@@ -106,11 +106,12 @@ fn refuse_unpaired(
     problem: TextProblem,
     reading: &mut Reading,
 ) -> Result<(), TextFault>
+    requires fits { row.at + length row.bytes.now < 2 ^ 64 }
     ensures gives { IsResult (λ _. reading_of reading.new) result
-        (at_line row.entry.number (unpaired_line problem (reading_of reading.old))) }
+        (at_line row.entry.number (unpaired_line problem (row_of row.entry) (reading_of reading.old))) }
 {
     match reading.count_line() {
-        Ok(()) => Err(problem.at_line(row.number)),
+        Ok(()) => Err(problem.at_token(row.loop_word()).at_line(row.number)),
         Err(problem) => Err(problem.at_line(row.number)),
     }
 }
@@ -216,7 +217,7 @@ fn read_rounds(
     let Head { mut counter, count } = head;
     for round in 1..=count {
         let Ok(()) = reading.names.open_loop(counter, round) else {
-            return Err(TextProblem::OutOfMemory.at_line(0));
+            return Err(TextProblem::OutOfMemory.at_token(None).at_line(0));
         };
         read_items(alloc, names, source, first, reading)?;
         counter = reading.names.close_loop();
@@ -241,7 +242,7 @@ pub fn read_all(
         (flat (predefined_of names.now) (tree_of_rows (map row_of rows.now)) (reading_of reading.old)) }
 {
     let Ok(ends) = ends_of(alloc, rows) else {
-        return Err(TextProblem::OutOfMemory.at_line(0));
+        return Err(TextProblem::OutOfMemory.at_token(None).at_line(0));
     };
     let source = PairedRows {
         rows: &*rows,

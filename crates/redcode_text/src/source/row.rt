@@ -1,12 +1,13 @@
 //! A line of a source, and its kind.
-ghost use Rattle.std.specs.Prelude.{◌≡◌, ◌≤◌, ◌==◌, length, not, IfSome};
+ghost use Rattle.std.specs.Prelude.{◌≡◌, ◌≤◌, ◌<◌, ◌+◌, ◌^◌, ◌==◌, length, not, IfSome};
 ghost use Rattle.std.specs.List.{prefix_len};
 ghost use Rattle.redcode_text.specs.Bytes.{semicolon};
 ghost use Rattle.redcode_text.specs.Code.Kinds.{IsKind, kind_of, word_place};
 ghost use Rattle.redcode_text.specs.Lines.{before_comment};
-ghost use Rattle.redcode_text.specs.Source.{is_comment, first_word_at, has_word, leading_word_at, line_kind, past_blanks, past_colon, past_word, second_word_at};
+ghost use Rattle.redcode_text.specs.Source.{is_comment, first_word_at, has_word, leading_word_at, line_kind, past_blanks, past_colon, past_word, second_word_at, loop_word, word_span};
 
 use crate::characters::{blank_len, is_word, word_len};
+use crate::token::Span;
 
 /// The kind of a line, with the offset of its word FOR or EQU.
 #[derive(Clone, Copy, PartialEq, Eq)]
@@ -153,6 +154,29 @@ impl<'a> SourceRow<'a> {
         match &self.bytes[blank_len(self.bytes)..] {
             [b';', ..] => true,
             _ => false,
+        }
+    }
+
+    /// Returns the bytes of the word at an offset of the line.
+    fn word_span(&self, at: usize) -> Option<Span>
+        requires within { at ≤ length self.now.bytes.now }
+        requires fits { self.now.at + length self.now.bytes.now < 2 ^ 64 }
+        ensures { result ≡ word_span (row_of self.now) at }
+    {
+        Some(Span {
+            from: self.at + at,
+            to: self.at + past_word(self.bytes, at),
+        })
+    }
+
+    /// Returns the bytes of the word FOR of a FOR line, or of the first word of any other line: the word ROF of a ROF line.
+    pub fn loop_word(&self) -> Option<Span>
+        requires { self.now.at + length self.now.bytes.now < 2 ^ 64 }
+        ensures { result ≡ loop_word (row_of self.now) }
+    {
+        match self.kind {
+            LineKind::For(at) => self.word_span(at),
+            _ => self.word_span(first_word_at(self.bytes)),
         }
     }
 

@@ -1,8 +1,8 @@
 //! The errors of sources, with their lines.
 use super::{
-    COPIES, LOOPS, NAMES, at, check_faults, check_no_faults, copies, fault, fault_of, joined,
+    COPIES, LOOPS, NAMES, at, check_faults, check_no_faults, copies, fault_of, joined, located,
 };
-use redcode_text::{ExprFault, Program, TextProblem, expand};
+use redcode_text::{ExprFault, Program, Span, TextProblem, expand};
 use std::alloc::Global;
 use std::process::Abort;
 use std::test::Fail;
@@ -68,13 +68,50 @@ fn the_first_fault_of_a_line(rt: HostRuntime) {
     check_faults(&rt, rt.alloc(), FIRST_FAULTS);
 }
 
+/// The token of each error: `from` up to, but excluding, `to`.
+const TOKENS_OF_FAULTS: &[(&[u8], usize, usize)] = &[
+    (b"a \xC8\xC8", 2, 3),
+    (b"NOP a==?=", 7, 8),
+    (b"NOP\n NOP 0x1F, 2", 9, 13),
+    (b"i FOR 2\na&i&j NOP\nROF\n", 8, 13),
+    (b"DAT 9223372036854775808", 4, 23),
+    (b"k: FOR 2\nNOP\n", 3, 6),
+    (b"NOP\n  rof ; no FOR\n", 6, 9),
+    (b"FOR 10001\nROF\n", 4, 9),
+    (b"n EQU 2-3\n i FOR n\nROF\n", 6, 7),
+    (b"FOR 1+CORESIZE-lab\nROF\n", 15, 18),
+    (b"FOR 2*(3\nROF\n", 7, 8),
+    (b"NOP\nk FOR\nROF\n", 6, 9),
+    (b"FOR 4%0\nROF\n", 4, 5),
+    (b": FOR 1\nROF\n", 0, 1),
+    (b"1 EQU 2\n", 0, 1),
+    (b"NOP\n EQU 2\n", 5, 8),
+    (b"CORESIZE: EQU 2\n", 0, 8),
+    (b"a: NOP\nb: a: NOP\n", 10, 11),
+    (b"x EQU y\ny EQU x\nNOP\nl x 5\n", 14, 15),
+    (b"x EQU 1-x\nFOR 2-x\nROF\n", 8, 9),
+];
+
+#[test]
+fn tokens_of_faults(rt: HostRuntime) -> Result<(), Fail> {
+    for (source, from, to) in TOKENS_OF_FAULTS {
+        let fault = expand(rt.alloc(), source, &NAMES).err().ok_or("fault")?;
+        let expected = Some(Span {
+            from: *from,
+            to: *to,
+        });
+        assert_eq!(rt; fault.token, expected, "in {source:?}");
+    }
+    Ok(())
+}
+
 /// Checks that the first and the last token of the first line have the line number 4, and that replacing EQU names
 /// nests too deep.
 fn check_use(rt: &impl Abort, alloc: Global, program: &Program) -> Result<(), Fail> {
     let line = program.lines().first().ok_or("line")?;
     assert_eq!(rt; line.rest.first().map(|token| token.line), Some(4));
     assert_eq!(rt; line.rest.last().map(|token| token.line), Some(4));
-    let fault = program.substitute(alloc, &line.rest).err();
+    let fault = program.substitute(alloc, &line.rest).err().map(located);
     assert_eq!(rt; fault, at(4, TextProblem::EquDepth));
     Ok(())
 }

@@ -1,6 +1,6 @@
 //! Limits of a source, at their value and one beyond.
-use super::{NAMES, at, check_copies, copies, fault, fault_of, first_labels, joined};
-use redcode_text::{Program, TextFault, TextProblem, expand};
+use super::{Located, NAMES, at, check_copies, copies, fault_of, first_labels, joined, located};
+use redcode_text::{Program, Span, TextProblem, expand};
 use std::alloc::Global;
 use std::process::Abort;
 use std::test::Fail;
@@ -25,13 +25,41 @@ fn as_many_tokens_as_may_be_read(rt: HostRuntime) -> Result<(), Fail> {
     check_copies(&rt, rt.alloc(), b"0 ", 65_537, too_long)
 }
 
+/// Returns the token of the error of a source.
+fn token_of(alloc: Global, source: &[u8]) -> Option<Span> {
+    expand(alloc, source, &NAMES).err()?.token
+}
+
+/// Checks the token at which each limit is passed. A line has none.
+#[test]
+fn tokens_beyond_limits(rt: HostRuntime) -> Result<(), Fail> {
+    let alloc = rt.alloc();
+    let tokens = joined(alloc, &[&copies(alloc, b"0 ", 65_536)?, b"here"])?;
+    let last = Span {
+        from: 131_072,
+        to: 131_076,
+    };
+    assert_eq!(rt; token_of(alloc, &tokens), Some(last));
+    let loops = joined(
+        alloc,
+        &[
+            &copies(alloc, b"FOR 1\n", 33)?,
+            &copies(alloc, b"ROF\n", 33)?,
+        ],
+    )?;
+    let last = Span { from: 192, to: 195 };
+    assert_eq!(rt; token_of(alloc, &loops), Some(last));
+    assert_eq!(rt; token_of(alloc, &copies(alloc, b"\n", 65_537)?), None);
+    Ok(())
+}
+
 /// Checks that `count` nested loops around the given lines have this error.
 fn check_loops(
     rt: &impl Abort,
     alloc: Global,
     count: usize,
     within: &[u8],
-    fault: Option<TextFault>,
+    fault: Option<Located>,
 ) -> Result<(), Fail> {
     let opened = copies(alloc, b"FOR 1\n", count)?;
     let closed = copies(alloc, b"ROF\n", count)?;
@@ -62,17 +90,20 @@ fn doublings(alloc: Global, leaf: &str, last: usize, behind: &str) -> Result<Vec
 }
 
 /// The number of tokens of the last line of a program, without its operation, after EQU names are replaced.
-fn last_len(alloc: Global, program: &Program) -> Result<usize, TextFault> {
+fn last_len(alloc: Global, program: &Program) -> Result<usize, Located> {
     let mut len = 0;
     for line in program.lines() {
-        len = program.substitute(alloc, &line.rest)?.len();
+        len = program
+            .substitute(alloc, &line.rest)
+            .map_err(located)?
+            .len();
     }
     Ok(len)
 }
 
 /// The number of tokens of the last line of a source's program, after EQU names are replaced.
-fn substituted_len(alloc: Global, source: &[u8]) -> Result<usize, TextFault> {
-    let program = expand(alloc, source, &NAMES)?;
+fn substituted_len(alloc: Global, source: &[u8]) -> Result<usize, Located> {
+    let program = expand(alloc, source, &NAMES).map_err(located)?;
     let len = last_len(alloc, &program);
     drop(program);
     len
@@ -84,7 +115,7 @@ fn check_doublings(
     alloc: Global,
     last: usize,
     behind: &str,
-    len: Result<usize, TextFault>,
+    len: Result<usize, Located>,
 ) -> Result<(), Fail> {
     let source = doublings(alloc, "1", last, behind)?;
     assert_eq!(rt; substituted_len(alloc, &source), len);
@@ -95,12 +126,12 @@ fn check_doublings(
 fn as_many_names_as_may_be_replaced(rt: HostRuntime) -> Result<(), Fail> {
     let alloc = rt.alloc();
     check_doublings(&rt, alloc, 15, "DAT e15\n", Ok(65_535))?;
-    let too_long = fault(18, TextProblem::TooLong);
+    let too_long = (18, TextProblem::TooLong);
     check_doublings(&rt, alloc, 16, "DAT e16\n", Err(too_long))?;
-    let depth = fault(3, TextProblem::EquDepth);
+    let depth = (3, TextProblem::EquDepth);
     let len = substituted_len(alloc, b"x EQU y+y\ny EQU x+x\nDAT x\n");
     assert_eq!(rt; len, Err(depth));
-    let several = fault(3, TextProblem::BadToken);
+    let several = (3, TextProblem::BadToken);
     let len = substituted_len(alloc, b"x EQU 1\n EQU 2\nDAT x\n");
     assert_eq!(rt; len, Err(several));
     Ok(())
@@ -111,10 +142,10 @@ fn as_many_names_as_may_be_replaced(rt: HostRuntime) -> Result<(), Fail> {
 fn as_many_tokens_as_replacements_may_make(rt: HostRuntime) -> Result<(), Fail> {
     let alloc = rt.alloc();
     check_doublings(&rt, alloc, 15, "DAT e15 1\n", Ok(65_536))?;
-    let too_long = fault(17, TextProblem::TooLong);
+    let too_long = (17, TextProblem::TooLong);
     check_doublings(&rt, alloc, 15, "DAT e15 1 1\n", Err(too_long))?;
     check_doublings(&rt, alloc, 15, "z EQU\nDAT z e15\n", Ok(65_535))?;
-    let too_long = fault(18, TextProblem::TooLong);
+    let too_long = (18, TextProblem::TooLong);
     check_doublings(&rt, alloc, 15, "z EQU\nDAT z z e15\n", Err(too_long))
 }
 

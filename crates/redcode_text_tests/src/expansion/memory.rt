@@ -15,6 +15,7 @@ const SOURCE: &[u8] =
 const OF_MEMORY: TextFault = TextFault {
     line: 0,
     problem: TextProblem::OutOfMemory,
+    token: None,
 };
 
 /// The numbers of lines and asserts of a program, and of the labels and tokens of its lines.

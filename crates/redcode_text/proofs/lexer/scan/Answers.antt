@@ -21,5 +21,5 @@ returns-in-Ok c =
 pub returns-in-Err : goal.returns-in-Err
 unfolding scanned
 returns-in-Err c =
-    fails-at 1 c.in-Err.problem c.at_line.result (tokens [] 1 0 (length c.args.text.now) [] c.args.text.now) c.at_line.ensures.problem c.at_line.ensures.line
+    fails-at 1 c.in-Err.problem c.at_line.result (tokens [] 1 0 (length c.args.text.now) [] c.args.text.now) c.at_line.ensures.problem c.at_line.ensures.line c.at_line.ensures.token
     (subst (Fails c.in-Err.problem) (start c.args.text.now (loops_of c.new-names.result) c.new-tokens.result.items c.new-names.result.table c.new-names.ensures.loops c.new-tokens.ensures.items c.new-names.ensures.table) c.in-Err.ensures.value)

@@ -1,9 +1,7 @@
 //! The header of a loop: its counter and its count.
-ghost use Rattle.std.specs.Prelude.{◌≡◌, ◌<◌, ◌+◌, ◌^◌, length, ◌≤◌, Ok, IfOk};
-ghost use Rattle.redcode_text.specs.Equates.{substitution};
-ghost use Rattle.redcode_text.specs.Tokens.{without_line};
-ghost use Rattle.redcode_text.specs.Expansion.{as_count, count_of, has_label, head_line};
-ghost use Rattle.redcode_text.specs.Expression.{kinds};
+ghost use Rattle.std.specs.Prelude.{◌≡◌, ◌<◌, ◌+◌, ◌^◌, length, ◌≤◌, IfOk};
+ghost use Rattle.redcode_text.specs.Expansion.{as_count, count_of, count_span, counted, head_line, is_undefined, label_span, replaced_count};
+ghost use Rattle.redcode_text.specs.Expression.{kinds, value_of};
 ghost use Rattle.redcode_text.specs.Code.Counters.{IsThere};
 ghost use Rattle.redcode_text.specs.Code.Heads.{head_of};
 ghost use Rattle.redcode_text.specs.Views.{predefined_of};
@@ -12,14 +10,15 @@ ghost use Rattle.redcode_text.specs.Code.Problems.{Gives};
 ghost use Rattle.redcode_text.specs.Code.Rows.{row_of};
 ghost use Rattle.redcode_text.specs.Source.{ForLine, line_kind};
 
+use crate::expression::positions::fault_span;
 use crate::expression::{Env, eval};
-use crate::fault::{ExprFault, TextProblem};
+use crate::fault::{ExprFault, TextProblem, TokenProblem};
 use crate::limits::{MAX_COUNT, MAX_LOOPS};
 use crate::names::NameTable;
 use crate::names::predefined::PredefinedNames;
 use crate::reader::{Reading, keep_after, name_in_front};
 use crate::source::row::SourceRow;
-use crate::token::{Token, TokenKind};
+use crate::token::{Span, Token, TokenKind, first_span};
 use std::alloc::Global;
 
 /// The header of a loop.
@@ -62,19 +61,53 @@ fn as_count(value: Result<i64, ExprFault>) -> Result<u32, TextProblem>
     }
 }
 
+/// Returns the bytes of the token at which a count has this error: those of the error of its expression, or of its first
+/// token if its value is no count. A count without tokens has its error at the token `before`.
+fn count_span<E: Env>(
+    names: &E,
+    before: Option<Span>,
+    tokens: &[Token],
+    problem: TextProblem,
+) -> Option<Span>
+    ensures { result ≡ count_span (E.value_of names.now) before tokens.now problem }
+{
+    match problem {
+        TextProblem::Expression(fault) => fault_span(names, before, tokens, fault),
+        _ => first_span(tokens),
+    }
+}
+
+/// Returns the value of a count.
+fn counted<E: Env>(names: &E, before: Option<Span>, tokens: &[Token]) -> Result<u32, TokenProblem>
+    ensures { result ≡ counted (count_span (E.value_of names.now) before tokens.now) (as_count (value_of (E.value_of names.now) (kinds tokens.now))) }
+{
+    match as_count(eval(tokens, names)) {
+        Ok(count) => Ok(count),
+        Err(problem) => Err(problem.at_token(count_span(names, before, tokens, problem))),
+    }
+}
+
 impl Reading {
-    /// Returns whether there is a name among the tokens that isn't predefined.
-    fn has_label(&self, names: &PredefinedNames, tokens: &[Token]) -> bool
-        ensures { result ≡ has_label (predefined_of names.now) (reading_of self.now) (kinds tokens.now) }
+    /// Returns whether a token is a name that isn't predefined.
+    fn is_undefined(&self, names: &PredefinedNames, kind: TokenKind) -> bool
+        ensures { result ≡ is_undefined (predefined_of names.now) (reading_of self.now) kind }
+    {
+        match kind {
+            TokenKind::Name(name) => !self.is_predefined(names, name),
+            _ => false,
+        }
+    }
+
+    /// Returns the bytes of the first name among the tokens that isn't predefined, if there is one.
+    fn label_span(&self, names: &PredefinedNames, tokens: &[Token]) -> Option<Span>
+        ensures { result ≡ label_span (predefined_of names.now) (reading_of self.now) tokens.now }
     {
         for token in tokens {
-            if let TokenKind::Name(name) = token.kind {
-                if !self.is_predefined(names, name) {
-                    return true;
-                }
+            if self.is_undefined(names, token.kind) {
+                return Some(token.span());
             }
         }
-        false
+        None
     }
 
     /// Returns the values of names in a count at this place.
@@ -94,33 +127,33 @@ impl Reading {
     fn replaced_count(
         &self,
         names: &PredefinedNames,
+        before: Option<Span>,
         tokens: &[Token],
-        replaced: &[Token],
-    ) -> Result<u32, TextProblem>
-        requires { without_line (substitution self.now.equates tokens.now) ≡ Ok replaced.now }
-        ensures { result ≡ count_of (predefined_of names.now) (reading_of self.now) tokens.now }
+    ) -> Result<u32, TokenProblem>
+        ensures { result ≡ replaced_count (predefined_of names.now) (reading_of self.now) before tokens.now }
     {
-        if self.has_label(names, replaced) {
-            return Err(TextProblem::LabelInCount);
+        match self.label_span(names, tokens) {
+            Some(span) => Err(TextProblem::LabelInCount.at_token(Some(span))),
+            None => counted(&self.count_names(names), before, tokens),
         }
-        as_count(eval(replaced, &self.count_names(names)))
     }
 
-    /// Returns the number of iterations, from the tokens of the count.
+    /// Returns the number of iterations, from the tokens of the count, which follow the word FOR, the token `before`.
     #[tactic(auto, using(crate::proofs::Failing::fails_bare))]
     fn count_of(
         &self,
         alloc: Global,
         names: &PredefinedNames,
+        before: Option<Span>,
         tokens: &[Token],
-    ) -> Result<u32, TextProblem>
-        ensures { Gives (λ count. count) result (count_of (predefined_of names.now) (reading_of self.now) tokens.now) }
+    ) -> Result<u32, TokenProblem>
+        ensures { Gives (λ count. count) result (count_of (predefined_of names.now) (reading_of self.now) before tokens.now) }
     {
         let replaced = match self.equates.substitute(alloc, tokens) {
             Ok(replaced) => replaced,
-            Err(fault) => return Err(fault.problem),
+            Err(fault) => return Err(fault.without_line()),
         };
-        self.replaced_count(names, tokens, &replaced)
+        self.replaced_count(names, before, &replaced)
     }
 }
 
@@ -132,7 +165,7 @@ impl Reading {
         names: &PredefinedNames,
         row: SourceRow<'_>,
         word_at: usize,
-    ) -> Result<Head, TextProblem>
+    ) -> Result<Head, TokenProblem>
         requires fits { row.at + length row.bytes.now < 2 ^ 64 }
         requires inside { word_at ≤ length row.bytes.now }
         requires word { ForLine word_at ≡ line_kind row.bytes.now }
@@ -145,10 +178,10 @@ impl Reading {
         let at = row.at + word_at;
         let name = name_in_front(&tokens, at)?;
         if self.names.depth() >= MAX_LOOPS {
-            return Err(TextProblem::TooLong);
+            return Err(TextProblem::TooLong.at_token(row.loop_word()));
         }
         keep_after(&mut tokens, at);
-        let count = self.count_of(alloc, names, &tokens)?;
+        let count = self.count_of(alloc, names, row.loop_word(), &tokens)?;
         self.equate_grows = false;
         Ok(Head {
             counter: name,

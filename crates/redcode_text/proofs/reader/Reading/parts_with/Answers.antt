@@ -1,4 +1,6 @@
-use Rattle.std.proofs.Common.{◌∙◌, sym, arith, length-drop}
+use Rattle.std.proofs.Common.{◌∙◌, Err, Some, ap, sym, arith, length-drop}
+use Rattle.redcode_text.specs.declared.fault.TextProblem.TheVariants.{Duplicate}
+use Rattle.redcode_text.specs.Tokens.{problem_at}
 use Rattle.std.proofs.lemmas.List.{take_rest}
 use Rattle.redcode_text.specs.Views.{predefined_of}
 use Rattle.redcode_text.specs.Code.Readings.{reading_of}
@@ -22,8 +24,9 @@ returns-then-is_operation-clause-value c =
 pub returns-then-not-may_label-clause-value : goal.returns-then-not-may_label-clause-value
 returns-then-not-may_label-clause-value c =
     let (k, fuel, same) = c.loop-at.invariant.same in
-    sym same ∙ duplicate-at (predefined_of c.args.names.now) (reading_of c.args.self.now) c.args.tokens.now c.loop-at.at k c.in-Name.name _ c.loop-at.labels.items c.loop-at-test.true fuel c.in-Name.is (sym c.is_operation.ensures ∙ c.if-is_operation.false)
+    rw c.at_token.ensures (sym same ∙ duplicate-at (predefined_of c.args.names.now) (reading_of c.args.self.now) c.args.tokens.now c.loop-at.at k c.in-Name.name _ c.loop-at.labels.items c.loop-at-test.true fuel c.in-Name.is (sym c.is_operation.ensures ∙ c.if-is_operation.false)
     (sym (may-label (predefined_of c.args.names.now) (reading_of c.args.self.now) c.loop-at.known c.loop-at.labels.items c.in-Name.name c.loop-at.invariant.known) ∙ sym c.may_label.ensures ∙ c.if-not-may_label.true)
+    ∙ ap (λ span. Err (problem_at (Some span) Duplicate)) (sym c.span.ensures))
 
 pub loop-at-preserved : goal.loop-at-preserved
 loop-at-preserved c =
