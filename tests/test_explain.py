@@ -262,7 +262,7 @@ def test_standard_input(run: Run, tmp_path: Path) -> None:
     (tmp_path / "slip.red").write_text("go      MVO     bomb, 2\n        JMP     go\nbomb    DAT     #0, #0\n")
     line = "league: mars: slip.red: line 3: 1 Text 7 Duplicate"
     shown = (
-        f"{line}\n     2 |         JMP     go\n>    3 | bomb    DAT     #0, #0\n"
+        f"{line}\n     2 |         JMP     go\n>    3 | bomb    DAT     #0, #0\n       | ^^^^\n"
         "In line 1, `MVO` is read as a label; did you mean `MOV`?\n"
     )
     assert run("explain", input=f"a table\n{line}\n").stdout == shown
@@ -625,6 +625,10 @@ NEWCOMERS = [
         "c EQU NOP\n EQU NOP\nc\nJMP c\n",
         {4: "`c` is the EQU of several lines in line 1, which can be used only as an operation"},
     ),
+    ("m EQU MOV 1/0, 1\nm\nJMP x\n", {2: "In line 1, there is a division", 3: "`x` is not defined"}),
+    ("x EQU 1-x\nNOP 1, x\n", {2: "In line 1, EQU names refer to each other"}),
+    ("x EQU x\na x 1\nJMP a\n", {2: "In line 1, EQU names refer to each other"}),
+    ("m EQU a NOP\n EQU a NOP\nm\n", {3: "In line 2, the label or EQU name is already used"}),
     ("NOP\nNOP\nNOP\nFOR 2-CURLINE\nNOP\nROF\n", {4: "The value of `2-CURLINE` is not between 0 and 10,000"}),
 ]
 
@@ -656,6 +660,15 @@ def test_errors_of_newcomers(source: str, lines: dict[int, str]) -> None:
         ("[1]\n", "       | ^"),
         (";assert 0\n", "       |         ^"),
         ("jmp 2-CORESIZ ; CORESIZ\n", "       |       ^^^^^^^"),
+        ("mov 1, 0x1F\n", "       |        ^^^^"),
+        ("mov 1 & 2\n", "       |       ^"),
+        ("mov 0, \u20181\u2019\n", "       |        ^"),
+        ("i: for 2\n", "       |    ^^^"),
+        (" rof ; rof\n", "       |  ^^^"),
+        ("for CORESIZE-lab\nrof\n", "       |              ^^^"),
+        ("for 2%0\nrof\n", "       |     ^"),
+        ("5 for 2\nrof\n", "       | ^"),
+        ("b c c nop\n", "       |     ^"),
     ],
 )
 def test_the_word_that_is_wrong_is_marked(text: str, mark: str, run: Run, tmp_path: Path) -> None:
@@ -673,6 +686,8 @@ def test_the_word_that_is_wrong_is_marked(text: str, mark: str, run: Run, tmp_pa
         ("i FOR 2\nmov.i 0, i\nROF\n", "i", 4),
         ("nop 0\nmov 1 mov\njmp off\n", "off", 4),
         ("; nothing\n", "", None),
+        ("a nop 0\nb a nop 0\n", "a", 2),
+        ("x EQU 1-x\nnop 1, x\n", "x", None),
     ],
 )
 def test_the_place_of_an_error(source: str, word: str, column: int | None) -> None:

@@ -168,6 +168,9 @@ def test_corrections(source: str, title: str, expected: str) -> None:
         (";\U0001f600\nnop 1, 4/0\n", 1, 7, 8),
         ("x nop 0\n;assert 2 == 3\n", 1, 8, 9),
         ("e EQU 1/0\n nop e\n", 0, 6, 7),
+        ("\ti: for 2\nnop 0\n", 0, 4, 7),
+        ("; \U0001f600\nnop \u2018\U0001f600\n", 1, 4, 5),
+        ("e EQU 1-e\nnop 2, e\n", 0, 8, 9),
     ],
 )
 def test_an_error_is_at_its_word(source: str, line: int, first: int, last: int) -> None:

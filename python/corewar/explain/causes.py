@@ -14,7 +14,6 @@ from .source import (
     NAME,
     OPCODES,
     PREDEFINED,
-    TOKEN,
     Line,
     Loop,
     Place,
@@ -37,37 +36,38 @@ MAX_NUMBER = 2**63 - 1
 OPENING = ("#", "$", "@", "{", "}", "(")
 
 
-def not_ascii(source: Source, line: Line, _: Place | None) -> Iterator[Advice]:
+def not_ascii(source: Source, line: Line, place: Place | None) -> Iterator[Advice]:
     raw = source.data.split(b"\n")[line.number - 1].split(b";")[0]
     if line.number == 1 and raw.startswith((b"\xff\xfe", b"\xfe\xff")):
         yield cause_sentence("utf16")
     elif line.number == 1 and raw.startswith(b"\xef\xbb\xbf"):
         yield cause_sentence("mark")
-    else:
-        found = re.search(r"[^\x00-\x7f]", raw.decode("utf-8", "replace"))
-        if found:
-            named = character_name(found[0], "without a name").lower()
-            yield cause_sentence("not ascii", column=found.start() + 1, word=found[0], named=named)
+    elif place:
+        named = character_name(place.word, "without a name").lower()
+        yield cause_sentence("not ascii", column=place.column + 1, word=place.word, named=named)
 
 
-def bad_token(source: Source, line: Line, _: Place | None) -> Iterator[Advice]:
-    found = FOREIGN.search(line.code)
-    if found and found[0] == "\\" and line.is_continued and line.number < len(source.lines):
+def bad_token(source: Source, line: Line, place: Place | None) -> Iterator[Advice]:
+    """Says why a word or sign is no token, or is not allowed. It may be in the definition of an EQU."""
+    if place is None:
+        return
+    if place.word == "\\" and line.is_continued and line.number < len(source.lines):
         yield cause_sentence("backslash")
-    elif found:
-        yield cause_sentence("foreign", word=found[0])
-    elif assigned := ASSIGNED.match(line.code):
+    elif FOREIGN.match(place.word):
+        yield cause_sentence("foreign", word=place.word)
+    elif place.word == "=" and (assigned := ASSIGNED.match(line.code)):
         yield cause_sentence("assign", word=line.code.strip(), new=f"{assigned[1]} EQU {assigned[2].rstrip()}")
-    elif alone := AMPERSAND.search(line.code):
+    elif place.word == "&" and (alone := AMPERSAND.match(line.code, place.column)):
         yield cause_sentence("ampersand", word=alone[1])
     else:
-        counters = {loop.counter for loop in source.loops_around(line.number)}
-        for token in TOKEN.findall(line.code):
-            yield from wrong_token(source, line, token, counters)
+        user = source.lines[place.number - 1]
+        for why in wrong_token(source, user, place.word):
+            yield why if user is line else earlier(user.number, why)
 
 
-def wrong_token(source: Source, line: Line, token: str, counters: set[str]) -> Iterator[Advice]:
+def wrong_token(source: Source, line: Line, token: str) -> Iterator[Advice]:
     """Says why a token is none, or is not allowed in a line."""
+    counters = {loop.counter for loop in source.loops_around(line.number)}
     joined_names = [name for name in token.split("&")[1:] if name not in counters]
     if token.isdecimal() and Decimal(token) > MAX_NUMBER:
         yield cause_sentence("large", word=token)
@@ -141,20 +141,22 @@ def modifier(source: Source, line: Line, named: str) -> Iterator[Advice]:
         yield cause_sentence("modifier", word=named, all=", ".join(MODIFIERS))
 
 
-def duplicate(source: Source, line: Line, _: Place | None) -> Iterator[Advice]:
-    word, labels, loops = misspelt(source, line), source.labels(), source.loops_around(line.number)
+def duplicate(source: Source, line: Line, place: Place | None) -> Iterator[Advice]:
+    word, loops = misspelt(source, line), source.loops_around(line.number)
     if word:
         yield word
-    for name in dict.fromkeys(line.labels):
-        other = min((found.get(name, line) for found in (labels, source.equates)), key=lambda one: one.number)
-        if name in PREDEFINED:
-            yield cause_sentence("predefined", word=name)
-        elif other.number < line.number:
-            yield taken(source, line, name, other)
-        elif line.labels.count(name) > 1:
-            yield cause_sentence("twice", word=name)
-        elif loops:
-            yield joined(name, loops)
+    if place is None or place.number != line.number:
+        return
+    name = place.word
+    other = min((found.get(name, line) for found in (source.labels(), source.equates)), key=lambda one: one.number)
+    if name in PREDEFINED:
+        yield cause_sentence("predefined", word=name)
+    elif other.number < line.number:
+        yield taken(source, line, name, other)
+    elif line.labels.count(name) > 1:
+        yield cause_sentence("twice", word=name)
+    elif loops:
+        yield joined(name, loops)
 
 
 def joined(name: str, loops: list[Loop]) -> Advice:

@@ -45,9 +45,9 @@ def errors_of(data: bytes, load: Callable[[bytes], object]) -> Iterator[tuple[Ma
                 before = text.count(b"\n", 0, fault.begin)
                 moved = sum(map(len, given[:before])) - sum(map(len, lines[:before]))
                 fault.begin, fault.end = fault.begin + moved, fault.end + moved
-            # The cause may be a misspelt word, in this line or in an earlier one.
-            advice = next((one for one in sentences[:1] if isinstance(one, Misspelt)), None)
-            number = advice.line if advice and advice.line else fault.line
+            # The cause may be in an earlier line, and be a misspelt word.
+            advice = next((one for one in sentences[:1] if isinstance(one, Advice)), Advice(""))
+            number, misspelt = advice.line or fault.line, advice.old if isinstance(advice, Misspelt) else ""
             # A line that is still wrong after it was replaced has names that are wrong elsewhere.
             if number not in seen:
                 yield fault, sentences
@@ -56,9 +56,13 @@ def errors_of(data: bytes, load: Callable[[bytes], object]) -> Iterator[tuple[Ma
             seen.add(number)
             if kind_of(fault) == UNCLOSED:
                 close(lines, source)
-            lines[number - 1] = replaced(source.lines[number - 1], source, advice.old if advice else "").encode()
-            if advice and advice.new == "EQU":
-                correct(lines, source, advice.old)
+            lines[number - 1] = replaced(source.lines[number - 1], source, misspelt).encode()
+            user = source.lines[(fault.line or number) - 1]
+            if user.number != number and user.operation in source.equates:
+                # The line that replaces an EQU may not be an instruction.
+                lines[user.number - 1] = replaced(user, source, "").encode()
+            if misspelt and advice.new == "EQU":
+                correct(lines, source, misspelt)
 
 
 @dataclass(frozen=True)

@@ -74,7 +74,8 @@ def explain_kind(kind: str, number: int, source: bytes, place: Place | None = No
     if place is None or place.number == number:
         return [meaning]
     # It is in the definition of an EQU.
-    return [earlier(place.number, Advice(meaning[0].lower() + meaning[1:], place.word))]
+    lowered = meaning if meaning[1].isupper() else meaning[0].lower() + meaning[1:]
+    return [earlier(place.number, Advice(lowered, place.word))]
 
 
 def read_faults(lines: Iterable[str]) -> Iterator[tuple[str, str, int, str]]:

@@ -38,6 +38,6 @@ class Misspelt(Advice):
 cause_sentence = Advice.of
 
 
-def earlier(number: int, inner: Advice) -> Misspelt:
+def earlier(number: int, inner: Advice) -> Advice:
     """Returns advice on another line than that of the error."""
-    return Misspelt(cause_sentence("earlier", line=number, inner=inner), inner.old, inner.new, number)
+    return type(inner)(cause_sentence("earlier", line=number, inner=inner), inner.old, inner.new, number)

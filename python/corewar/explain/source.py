@@ -250,8 +250,12 @@ class Place:
 
 
 def place_of(data: bytes, begin: int, end: int) -> Place | None:
-    """Returns the word or sign that consists of some bytes of a source, or None if there are none."""
+    """Returns the word or sign that consists of some bytes of a source, or None if there are none. A byte that is not
+    ASCII stands for its character.
+    """
     start = data.rfind(b"\n", 0, begin) + 1
+    while begin < end < len(data) and 0x80 <= data[end] < 0xC0:
+        end += 1
     before, word = (part.decode("utf-8", "replace") for part in (data[start:begin], data[begin:end]))
     return Place(data.count(b"\n", 0, begin) + 1, len(before), word) if word else None
 

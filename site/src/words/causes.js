@@ -9,7 +9,6 @@ import {
   labelsOf,
   loopsAround,
   operandsOf,
-  tokensOf,
   wordOf,
 } from "./source.js";
 
@@ -84,26 +83,31 @@ export function misspelt(source, line) {
 }
 
 /** @type {Find} */
-function notAscii(_, { number, text }) {
+function notAscii(_, { number, text }, place) {
   if (number === 1 && /^(\xff\xfe|\xfe\xff)/.test(text)) return [{ cause: "utf16" }];
   if (number === 1 && text.startsWith("\ufeff")) return [{ cause: "mark" }];
-  const found = /[^\0-\x7f]/u.exec(codeOf(text));
-  if (!found) return [];
-  const code = /** @type {number} */ (found[0].codePointAt(0)).toString(16).toUpperCase().padStart(4, "0");
-  return [{ cause: "not ascii", column: found.index + 1, word: found[0], named: `U+${code}` }];
+  if (!place) return [];
+  const code = /** @type {number} */ (place.word.codePointAt(0)).toString(16).toUpperCase().padStart(4, "0");
+  return [{ cause: "not ascii", column: place.column + 1, word: place.word, named: `U+${code}` }];
 }
 
-/** @type {Find} */
-function badToken(source, line) {
-  const [word] = FOREIGN.exec(codeOf(line.text)) ?? [];
+/**
+ * Says why a word or sign is no token, or is not allowed. It may be in the definition of an EQU.
+ * @type {Find}
+ */
+function badToken(source, line, place) {
+  if (!place) return [];
+  const [{ word, column, number }, code] = [place, codeOf(line.text)];
   const isContinued = /^[^;]*\\\s*$/.test(line.text) && line.number < source.lines.length;
-  if (word) return [{ cause: word === "\\" && isContinued ? "backslash" : "foreign", word }];
-  const [, name, value] = /^\s*([A-Za-z_]\w*)\s*=\s*(\w.*)/.exec(codeOf(line.text)) ?? [];
-  if (name) return [{ cause: "assign", new: `${name} EQU ${value?.trimEnd()}`, word: codeOf(line.text).trim() }];
-  const [, alone] = /(?<!&)&(?![A-Za-z_&])(\w*)/.exec(codeOf(line.text)) ?? [];
+  if (FOREIGN.test(word)) return [{ cause: word === "\\" && isContinued ? "backslash" : "foreign", word }];
+  const [, name, value] = (word === "=" && /^\s*([A-Za-z_]\w*)\s*=\s*(\w.*)/.exec(code)) || [];
+  if (name) return [{ cause: "assign", new: `${name} EQU ${value?.trimEnd()}`, word: code.trim() }];
+  const [, alone] = (word === "&" && /^&(?![A-Za-z_&])(\w*)/.exec(code.slice(column))) || [];
   if (alone !== undefined) return [{ cause: "ampersand", word: alone }];
-  const counters = loopsAround(source, line.number).map(({ counter }) => counter);
-  return tokensOf(codeOf(line.text)).flatMap((token) => wrongToken(source, line, token, counters) ?? []);
+  const user = source.lines[number - 1];
+  const why = wrongToken(source, user, word);
+  if (!why) return [];
+  return [user === line ? why : { cause: "earlier", line: number, inner: why }];
 }
 
 /**
@@ -111,10 +115,11 @@ function badToken(source, line) {
  * @param {Source} source
  * @param {Line} line
  * @param {string} word
- * @param {string[]} counters
  * @returns {Cause | undefined}
  */
-function wrongToken({ lines, equates }, line, word, counters) {
+function wrongToken(source, line, word) {
+  const { lines, equates } = source;
+  const counters = loopsAround(source, line.number).map(({ counter }) => counter);
   if (/^\d+$/.test(word)) return BigInt(word) > MAX_NUMBER ? { cause: "large", word } : undefined;
   if (/^\d/.test(word)) return { cause: "half number", word };
   const name = NAME.test(word) ? word.split("&").slice(1).find((one) => !counters.includes(one)) : undefined;
@@ -200,17 +205,27 @@ function modifier(source, { number }, word) {
 }
 
 /** @type {Find} */
-function duplicate(source, line) {
-  const [word, labels, loops] = [misspelt(source, line), labelsOf(source), loopsAround(source, line.number)];
-  const names = [...new Set(line.labels)].flatMap((name) => {
-    const first = [labels, source.equates].map((found) => found.get(name) ?? line);
-    const other = first[0].number <= first[1].number ? first[0] : first[1];
-    if (PREDEFINED.includes(name)) return [{ cause: "predefined", word: name }];
-    if (other.number < line.number) return [taken(source, line, name, other)];
-    if (line.labels.filter((one) => one === name).length > 1) return [{ cause: "twice", word: name }];
-    return loops.length ? [joined(name, loops)] : [];
-  });
-  return word ? [word, ...names] : names;
+function duplicate(source, line, place) {
+  const word = misspelt(source, line);
+  const name = place?.number === line.number ? inUse(source, line, place.word) : null;
+  return [word, name].flatMap((cause) => cause ?? []);
+}
+
+/**
+ * Says why a name of a line is in use already.
+ * @param {Source} source
+ * @param {Line} line
+ * @param {string} name
+ * @returns {Cause | null}
+ */
+function inUse(source, line, name) {
+  const first = [labelsOf(source), source.equates].map((found) => found.get(name) ?? line);
+  const other = first[0].number <= first[1].number ? first[0] : first[1];
+  if (PREDEFINED.includes(name)) return { cause: "predefined", word: name };
+  if (other.number < line.number) return taken(source, line, name, other);
+  if (line.labels.filter((one) => one === name).length > 1) return { cause: "twice", word: name };
+  const loops = loopsAround(source, line.number);
+  return loops.length ? joined(name, loops) : null;
 }
 
 /**

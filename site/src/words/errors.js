@@ -65,7 +65,7 @@ export function explain(error, text, meanings) {
   if (!causes.length && place && place.number !== number) {
     // It is in the definition of an EQU.
     number = place.number;
-    meaning = meaning[0].toLowerCase() + meaning.slice(1);
+    if (!/^[A-Z]{2}/.test(meaning)) meaning = meaning[0].toLowerCase() + meaning.slice(1);
   }
   const explanation = causes.map((cause) => sentence(cause, meanings)).join(" ") || meaning;
   const misspelt = ["misspelt", "elsewhere"].includes(causes[0]?.cause ?? "") ? causes[0] : undefined;
@@ -75,7 +75,8 @@ export function explain(error, text, meanings) {
 }
 
 /**
- * Returns the word or sign at which the library has an error of a source, or null.
+ * Returns the word or sign at which the library has an error of a source, or null. A byte that is not ASCII stands for
+ * its character.
  * @param {string} text
  * @param {MarsError} error
  * @returns {Place | null}
@@ -85,7 +86,9 @@ function placeOf(text, { begin, end }) {
   const [bytes, decoder] = [new TextEncoder().encode(text), new TextDecoder()];
   const before = decoder.decode(bytes.subarray(0, begin)).split("\n");
   const column = before[before.length - 1].length;
-  return { number: before.length, column, word: decoder.decode(bytes.subarray(begin, end)) };
+  let last = end;
+  while (bytes[last] >= 0x80 && bytes[last] < 0xc0) last += 1;
+  return { number: before.length, column, word: decoder.decode(bytes.subarray(begin, last)) };
 }
 
 /**
@@ -128,6 +131,9 @@ export async function errorsOf(text, meanings, assemble) {
     if (error.what === UNCLOSED) close(lines, source);
     const misspelt = explained.misspelt?.word ?? "";
     lines[line.number - 1] = replaced(line, source, misspelt);
+    const user = source.lines[error.line - 1] ?? line;
+    // The line that replaces an EQU may not be an instruction.
+    if (user !== line && source.equates.has(user.operation)) lines[user.number - 1] = replaced(user, source, "");
     if (explained.misspelt?.new === "EQU") correct(lines, source, misspelt);
   }
   return found;
