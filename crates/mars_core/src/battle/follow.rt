@@ -66,7 +66,7 @@ impl Battle {
         let instruction = cell_at(&self.core, pc).cell();
         let owner = self.next;
         let mut atom = Atom::default();
-        let operands = self.recorded_turn(&mut atom);
+        let operands = self.turn_with_operands(&mut atom);
         let touched = touched_for(&self.params, conditions, pc, instruction, operands);
         let seen = Seen {
             core: &self.core,

@@ -3,7 +3,7 @@ use Rattle.mars_core.proofs.TurnState.{refilled}
 use Rattle.mars_core.proofs.battle.Battle.recorded_turn.Goals as goal
 
 pub invariant_of-self : goal.invariant_of-self
-invariant_of-self c =
+invariant_of-self g c =
     let i = c.self.inside in
     let parts = c.make_recorded_turn-made.ensures.parts in
     let cells : length c.make_recorded_turn-made.new.core ≡ i.core.len = omega (arith, i.core.ok.0, c.deref_mut.ensures.len, c.make_recorded_turn-made.auto.core) in
