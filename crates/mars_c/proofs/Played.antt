@@ -1,26 +1,9 @@
 -- Turns that are executed one after another.
-use Rattle.std.proofs.Common.{◌≡◌, ℕ, zero, suc, ◌+◌, ◌-◌, ◌<◌, Bool, true, false, if◌then◌else◌, List, [], ◌∷◌, ◌++◌, length, take, drop, set, get_or, Some, None, Ok, Err, refl, arith, append_assoc}
+use Rattle.std.proofs.Common.{◌≡◌, ℕ, zero, suc, ◌+◌, ◌-◌, ◌<◌, Bool, true, false, List, [], ◌∷◌, ◌++◌, length, take, drop, set, get_or, refl, arith, append_assoc}
 use Rattle.std.proofs.lemmas.List.{take_more_set, drop-set-lt, drop_more}
 use Rattle.mars_core.specs.State.{State, is_over_of}
 use Rattle.mars_core.specs.Turn.{turn_of, after_turns}
 use Rattle.mars_c.specs.Records.{recorded}
-
--- If a turn returns `Ok x`, the battle was not over, and `x` is its result. `runs`, `made` and `ended` read the same off a row.
-pub made_first : {A E : Type 0} (over : Bool) (e : E) (y x : A) → Ok x ≡ (if over then Err e else Ok y) → (over ≡ false) × (x ≡ y)
-made_first true e y x shown = cc
-made_first false e y x shown = (refl, cc)
-
-pub runs : {A : Type 0} (over : Bool) (y x : A) → Some x ≡ (if over then None else Some y) → over ≡ false
-runs true y x shown = cc
-runs false y x shown = refl
-
-pub made : {A : Type 0} (over : Bool) (y x : A) → Some x ≡ (if over then None else Some y) → x ≡ y
-made true y x shown = cc
-made false y x shown = cc
-
-pub ended : {A : Type 0} (over : Bool) (y : A) → None ≡ (if over then None else Some y) → over ≡ true
-ended true y shown = refl
-ended false y shown = cc
 
 -- A battle that is over has no turns.
 pub over_stays : (n : ℕ) (s : State) → is_over_of s ≡ true → after_turns n s ≡ s

@@ -107,14 +107,16 @@ fn taken(work: Work) -> (u32, u32)
 }
 
 impl MarsRecord {
-    /// Returns the record of a turn as numbers. `cycle` is the number of cycles that are complete after the turn.
-    fn of(atom: &Atom, cycle: u32) -> MarsRecord
-        ensures { result ≡ plain_record atom.now cycle }
+    /// Writes the record of a turn as numbers. `cycle` is the number of cycles that are complete after the turn.
+    ///
+    /// The changes are written one after another, because the numbers of all of them at once would not fit into registers.
+    fn write(&mut self, atom: &Atom, cycle: u32)
+        ensures { self.new ≡ plain_record atom.now cycle }
     {
         let (warrior, address) = taken(atom.work);
         let cells = atom.cells.as_slice();
         let queued = atom.queued.as_slice();
-        MarsRecord {
+        *self = MarsRecord {
             warrior,
             address,
             next: atom.next_after,
@@ -122,23 +124,20 @@ impl MarsRecord {
             died: number_of(atom.died),
             changes: cells.len() as u32,
             queued: queued.len() as u32,
-            change: [
-                change_of(change_at(cells, 0)),
-                change_of(change_at(cells, 1)),
-                change_of(change_at(cells, 2)),
-            ],
+            change: [change_of(None); 3],
             process: [address_at(queued, 0), address_at(queued, 1)],
-        }
+        };
+        self.change[0] = change_of(change_at(cells, 0));
+        self.change[1] = change_of(change_at(cells, 1));
+        self.change[2] = change_of(change_at(cells, 2));
     }
 }
 
 impl TurnRow for MarsRecord {
     ghost row_of = { turn_row };
 
-    fn of_turn(battle: &mut Battle) -> Option<Self> {
-        match battle.turn() {
-            Ok(atom) => Some(MarsRecord::of(&atom, battle.cycle())),
-            Err(_) => None,
-        }
+    fn record_turn(battle: &mut Battle, atom: &mut Atom, row: &mut Self) {
+        battle.turn_into(atom);
+        row.write(atom, battle.cycle());
     }
 }

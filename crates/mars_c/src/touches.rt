@@ -29,12 +29,7 @@ fn plain(addresses: &[u32]) -> MarsTouched
 impl TurnRow for MarsTouched {
     ghost row_of = { touched_row };
 
-    fn of_turn(battle: &mut Battle) -> Option<Self> {
-        if battle.is_over() {
-            return None;
-        }
-        let mut atom = Atom::default();
-        let touched = battle.turn_touching(&mut atom);
-        Some(plain(touched.as_slice()))
+    fn record_turn(battle: &mut Battle, atom: &mut Atom, row: &mut Self) {
+        *row = plain(battle.turn_touching(atom).as_slice());
     }
 }
