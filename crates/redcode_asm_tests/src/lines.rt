@@ -13,11 +13,7 @@ fn params() -> Result<Params, Fail> {
 }
 
 /// A source, the row of each cell (line, begin and end of its labels), and the labels.
-type Example = (
-    &'static [u8],
-    &'static [(u64, u64, u64)],
-    &'static [u8],
-);
+type Example = (&'static [u8], &'static [(u64, u64, u64)], &'static [u8]);
 
 const SOURCES: [Example; 5] = [
     // Nested loops with counters and joins.
