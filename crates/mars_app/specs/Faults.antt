@@ -26,7 +26,7 @@ use Rattle.mars_app.specs.declared.fault.RunFault.{RunFault}
 use Rattle.mars_app.specs.declared.fault.RunFault.TheVariants as fault
 use Rattle.mars_app.specs.declared.files.FileFault.TheVariants as file
 
--- The line of an error in a load file, or 0.
+-- The line of an error in a load file, or 0 if the error has none.
 abbrev pub line_of : LoadFault → ℕ
 line_of (load_fault.Syntax line) = line
 line_of _ = 0

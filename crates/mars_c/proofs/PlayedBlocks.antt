@@ -63,7 +63,7 @@ zip_push [] (x ∷ edits) one e before means = absurd before
 zip_push (n ∷ numbers) [] one e before means = absurd before
 zip_push (n ∷ numbers) (x ∷ edits) one e before means = (before.0, zip_push numbers edits one e before.1 means)
 
--- The numbers of one more edit mean it.
+-- If the numbers so far mean the edits, and the next numbers mean `e`, then together they mean the edits and `e`.
 pub mean_next : (numbers : List MarsEdit) (edits : List Edit) (i : ℕ) (one d : MarsEdit) (e : Edit) → AllZip Means (take i numbers) edits → i < length numbers
     → get_or numbers i d ≡ one → Means one e → AllZip Means (take (i + 1) numbers) (edits ++ e ∷ [])
 mean_next numbers edits i one d e before inside is means =

@@ -60,7 +60,7 @@ load_from-statements written m k s (l ∷ ls) open_end =
       ])
     ] refl
 
--- ---- the warrior of a listing
+-- ---- The warrior of a listing
 
 abbrev pub start_in : Listing → ℤ
 start_in s = unwrap_or (option_or s.origin s.end) (pos 0)

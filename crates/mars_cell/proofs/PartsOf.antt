@@ -1,4 +1,4 @@
--- The first part of a line.
+-- The parts of a line, one by one.
 use Rattle.std.proofs.Common.{◌≡◌, refl, ℕ, ◌+◌, true, false, List, [], ◌∷◌, length, take, drop, sym, ap, ◌∙◌, arith, add-one, one-add}
 use Rattle.std.specs.List.{take_while}
 use Rattle.std.specs.Char.{is_ascii_alphanumeric}
@@ -54,7 +54,7 @@ take_prefix (x ∷ xs) =
       | false ↦ λ e. rw e refl
     ] refl
 
--- ---- the first part of a line
+-- ---- The first part of a line
 
 pub parts-end : (line rest : List ℕ) → rest ≡ drop (length (take_while is_blank line)) line → length rest ≡ 0 → parts line ≡ []
 unfolding parts

@@ -18,7 +18,7 @@ use Rattle.std.proofs.lemmas.Grind.{take-set_at}
 use Rattle.mars_core.proofs.Pasts.{after-over, after-turn, followed-over, followed-turn, length-pasts_after}
 use Rattle.mars_core.proofs.Reaching.{after_both}
 
--- The cells of the first `i` pasts are counted.
+-- `cells` has, for each of 16 warriors, how many of the first `i` pasts it owns.
 pub record AreCounted (pasts : List Past) (i : ℕ) (cells : List ℕ) : Type 0 where
   pub size : length cells ≡ 16
   pub counted : (w : ℕ) → w < 16 → get_or cells w 0 ≡ owned_by (take i pasts) w

@@ -85,7 +85,7 @@ pub record AreNoted (owner turn : ℕ) (writes : List CellChange) (core : List C
 
 module _ (owner turn : ℕ) (writes : List CellChange) (core : List Cell) (old : List Past) (i : ℕ) (pasts : List Past)
     (w : CellChange) (inside : i < length writes) (is : get_or writes i w ≡ w) (n : AreNoted owner turn writes core old i pasts) where
-  -- The next write is at a cell that is as it was before.
+  -- The next write is at a cell that all writes together leave as it was.
   pub note_same : differs writes core w.address ≡ false → AreNoted owner turn writes core old (i + 1) pasts
   note_same same = record {
     size = n.size;

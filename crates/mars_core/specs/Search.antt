@@ -57,11 +57,11 @@ is_same _ _ = false
 abbrev pub are_on : Way → List Condition → Bool
 are_on way conditions = list_any (λ (condition : Condition). is_same way condition.way) conditions
 
--- Those of the conditions that are on a cell that a turn uses in this way.
+-- The conditions on a cell that a turn uses in this way.
 abbrev pub on : Way → List Condition → List Condition
 on way conditions = filter (λ (condition : Condition). is_same way condition.way) conditions
 
--- The turn uses a cell in this way for which all conditions on such a cell hold.
+-- The turn uses a cell in this way that meets all conditions on a cell used so.
 abbrev pub one_meets : Way → List Condition → State → List Past → Bool
 one_meets way conditions s pasts =
     list_any (λ address. uses way s address && list_all (holds s pasts address) (on way conditions)) (range_with_len 0 s.params.core_size)

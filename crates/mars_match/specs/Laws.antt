@@ -68,8 +68,8 @@ FatesAreOutcomes = (counting : Bool) (p : Parameters) (warriors : List WarriorVa
 abbrev pub added_rows : RowValue → RowValue → RowValue
 added_rows a b = record { name = a.name; author = a.author; points = a.points +ℤ b.points; wins = a.wins + b.wins; ties = a.ties + b.ties; losses = a.losses + b.losses }
 
--- The pairs that `is_in` selects have rows, and so have the other pairs. For each warrior, the sum over all rows is the
--- sum over the rows of the former plus the sum over the rows of the latter.
+-- The pairs that `is_in` selects have the rows `inside`, and the other pairs the rows `outside`. For each warrior, the sum
+-- over all rows is the sum over `inside` plus the sum over `outside`.
 pub record AddsUp (p : Parameters) (formula : Scanned) (fixed : Option ℕ) (n seed : ℕ) (is_in : Pair → Bool) (pairs : List Pair) (rows : List PlacedRow) : Type 0 where
   pub inside : List PlacedRow
   pub outside : List PlacedRow

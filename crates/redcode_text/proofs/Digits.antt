@@ -17,7 +17,7 @@ in_digits ds i all inside = digit_range (get_or ds i 0) (AllPass-from_list_all i
 digit_value_at : (ds : List ℕ) (i : ℕ) → list_all is_ascii_digit ds ≡ true → i < length ds → digit_value (get_or ds i 0) ≡ get_or ds i 0 - 48
 digit_value_at ds i all inside = let range = in_digits ds i all inside in let same = digit_value_digit (get_or ds i 0) range in omega (arith, same)
 
--- Adding digits never decreases a number.
+-- Appending digits never decreases a number.
 pub value-grows : (n : ℕ) (ds : List ℕ) → n ≤ digits_value_after 10 n ds
 value-grows n [] = omega arith
 value-grows n (d ∷ ds) = omega (arith, value-grows (n * 10 + digit_value d) ds)

@@ -41,7 +41,7 @@ ShapesAreTrees = (xs : List TokenKind) → shape start xs ≡ Ok tt →
     let tree = tree_within (length xs) 5 xs in
     (spelling tree ≡ xs) × IsLevelled tree × IsWithin 0 0 tree
 
--- The spelling of such a tree has a valid shape, and its tree is that tree.
+-- If a tree is arranged by precedence and within the limits, its spelling has a valid shape, whose tree is this tree.
 abbrev pub TreesHaveShapes : Type 0
 TreesHaveShapes = (tree : Tree) → IsLevelled tree → IsWithin 0 0 tree →
     let xs = spelling tree in

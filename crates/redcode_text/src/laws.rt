@@ -30,7 +30,7 @@ pub fn shapes_are_trees()
     ensures { ShapesAreTrees }
 {}
 
-/// The spelling of such a tree has a valid shape, and its tree is that tree.
+/// If a tree is arranged by precedence and within the limits, its spelling has a valid shape, whose tree is this tree.
 pub fn trees_have_shapes()
     ensures { TreesHaveShapes }
 {}

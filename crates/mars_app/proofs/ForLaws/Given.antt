@@ -1,4 +1,4 @@
--- A run that ends without an error writes what was given to it determines.
+-- What a run that ends without an error writes depends only on what was given to it.
 use Rattle.std.proofs.Common.{◌≡◌, refl, ap, sym, subst, ◌∙◌, ℕ, Bool, true, false, List, [], ◌∷◌, ◌++◌, Option, None, Some, Result, Ok, inl, inr, append-nil}
 use Rattle.std.specs.Prelude.{◌⊎◌, All, IsSome, IfSome}
 use Rattle.std.specs.List.{flat_map}

@@ -6,7 +6,7 @@ use Rattle.mars_cell.specs.Output.{CutShort}
 use Rattle.mars_cell.proofs.CallerLemmas.{CutShort-back}
 use Rattle.mars_app.specs.Code.Waiting.{Waits}
 
--- A first text waits.
+-- Before anything is written, the whole text waits.
 pub first_waits : (a : Option (List ℕ)) (text : List ℕ) → Waits a a text text
 first_waits a text = ([], refl, Appends-nil a)
 

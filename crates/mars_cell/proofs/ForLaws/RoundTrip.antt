@@ -25,7 +25,7 @@ use Rattle.mars_cell.specs.Grammar.{cell_of, comma_at, mode_at, modifier_at, num
 use Rattle.mars_cell.specs.Text.{number_text}
 use Rattle.mars_cell.proofs.ForLaws.Values.{by_value-residue, residue-less, residue-plain}
 
--- ---- digits
+-- ---- Digits
 
 digit_is_word : (b : ℕ) → is_ascii_digit b ≡ true → is_ascii_alphanumeric b ≡ true
 digit_is_word b e = grind arith
@@ -57,7 +57,7 @@ are_digits = numerals_by_value _ (search rules)
 pub numeral : (n : ℕ) → n < 2 ^ 64 → IsNumeral n (decimal n)
 numeral n h = record { digits = digits_decimal are_digits n h; value = digits_value-decimal are_digits n h }
 
--- ---- numbers
+-- ---- Numbers
 
 no_minus : (b : ℕ) → is_ascii_digit b ≡ true → nat_eq b 45 ≡ false
 no_minus b e = grind arith
@@ -104,7 +104,7 @@ number_read m n below small =
       | false ↦ λ e. record { number = signed true (m - n); is_read = rw e (minus_read (m - n) (omega arith)); same = residue-less m n (signed true (m - n)) below (omega (arith, ints)) }
     ] refl
 
--- ---- parts
+-- ---- Parts
 
 pub digits_part : (xs rest : List ℕ) → 0 < length xs → list_all is_ascii_digit xs ≡ true → begins_word rest ≡ false → parts (xs ++ rest) ≡ xs ∷ parts rest
 digits_part [] rest some all ends = absurd (omega arith)

@@ -34,7 +34,7 @@ use Rattle.mars_cell.proofs.FirstLine.{goes_on}
 use Rattle.mars_cell.proofs.ForLaws.RoundTrip.{cell_parts, cell_read, decimal_read, digits_part, numeral, parts_nil}
 use Rattle.mars_cell.proofs.ForLaws.Values.{carried-same}
 
--- ---- lines
+-- ---- Lines
 
 -- No byte of the line is an LF.
 pub record IsLine (line : List ℕ) : Type 0 where
@@ -78,7 +78,7 @@ before_comment-plain : (line : List ℕ) → list_all is_plain line ≡ true →
 before_comment-plain [] h = refl
 before_comment-plain (b ∷ line) h = let h' = and_parts (is_plain b) (list_all is_plain line) h in rw (no_comment b h'.0, one-add) (ap (λ l. b ∷ l) (before_comment-plain line h'.1))
 
--- ---- written lines are plain
+-- ---- Written lines are plain
 
 digit_is_plain : (b : ℕ) → is_ascii_digit b ≡ true → is_plain b ≡ true
 digit_is_plain b e = grind arith
@@ -154,7 +154,7 @@ cell_is_plain m c small fits =
 pub origin_is_plain : (n : ℕ) → n < 2 ^ 64 → IsPlain (codes "ORG " ++ decimal n)
 origin_is_plain n h = append_is_plain (text_is_plain (codes "ORG ") refl) (text_is_plain (decimal n) (decimal_is_plain n h))
 
--- ---- the statements of the lines
+-- ---- The statements of the lines
 
 no_origin : (o : Op) → str_eq_ignore_ascii_case (op_name o) (codes "ORG") ≡ false
 no_origin op.Dat = refl
@@ -224,7 +224,7 @@ statement_of-origin m size n small =
     ∙ statement_of-org m size (decimal n)
     ∙ ap (option_map (λ n. statement.Origin n)) (decimal_read n small)
 
--- ---- the header
+-- ---- The header
 
 -- A core size is read back: it does not begin with 0.
 no_zero_first : (ds : List ℕ) → 48 < get_or ds 0 0 → starts_with nat_eq ds (codes "0") ≡ false
@@ -278,7 +278,7 @@ name_line word name e is = behind_is_line word name e (name_is_line name (each_p
 pub size_line : (m : ℕ) → m ≤ max_core_size → IsLine (codes ";load 2 " ++ decimal m)
 size_line m most = behind_is_line (codes ";load 2 ") (decimal m) refl (each_goes_on (decimal m) (decimal_is_plain m (omega arith)))
 
--- ---- the whole file
+-- ---- The whole file
 
 statements-cells : (m size k : ℕ) (cells : List Cell) → m < 2 ^ 32 → AllByRecursion (FitsCore m) cells → statements m size k (map (cell_text m) cells) ≡ Ok (map statement.Instruction (map (carried m size) cells))
 unfolding statements

@@ -71,7 +71,7 @@ fn anns(alloc: Global, len: usize, start: u32) -> Option<Result<Warrior, Warrior
     Some(Warrior::new(name, author, cells, start))
 }
 
-/// Returns whether the result is such a warrior, or this error.
+/// Returns whether the result is a warrior of Ann's with this length and start, or this error.
 fn is_as_expected(
     found: &Result<Warrior, WarriorFault>,
     len: usize,

@@ -8,7 +8,7 @@ use Rattle.mars_core.specs.Past.{copy_by, followed, pasts_after}
 use Rattle.mars_core.specs.declared.past.Past.{Past}
 use Rattle.mars_core.specs.Examples.{the_machine, battle_of, cell_of, numbers, imp, of_eight, eight, lone}
 
--- A cell that no turn has changed, and that was loaded at the address.
+-- A cell that no turn has changed, and that was loaded at the address; 9 stands for no warrior.
 abbrev pub loaded : ℕ → Past
 loaded address = record { owner = 9; turn = 0; origin = address }
 
@@ -24,7 +24,7 @@ pub copies_of_a_copy_have_its_origin : followed 3 (lone of_eight (eight (imp ∷
 unfolding the_machine copy_by pasts_after
 copies_of_a_copy_have_its_origin = refl
 
--- The second warrior copies a cell that the first has changed.
+-- The first warrior writes an equal cell, which the second copies: the origin is that of the first, the change is of the second.
 pub each_turn_is_of_its_warrior : followed 2 (battle_of of_eight (eight (imp ∷ imp ∷ [])) ((0 ∷ []) ∷ (1 ∷ []) ∷ [])) all_loaded
     ≡ loaded 0 ∷ past 9 0 0 ∷ past 1 2 0 ∷ loaded 3 ∷ loaded 4 ∷ loaded 5 ∷ loaded 6 ∷ loaded 7 ∷ []
 unfolding the_machine copy_by pasts_after

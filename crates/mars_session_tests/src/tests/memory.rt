@@ -226,8 +226,8 @@ fn second_list(alloc: Global) -> Result<Vec<Reply>, Fail> {
     Ok(out)
 }
 
-/// Returns the replies to the calls, from a second try if there was no memory for them. After the failure, the session must be
-/// equal to its twin, and there is no new reply.
+/// Appends the replies to the calls, in a second try if there was no memory for them. After the failure, the session must be
+/// equal to its twin, and there must be no new reply.
 fn call_all<T: Tape>(
     rt: &impl Abort,
     session: &mut Session<T>,

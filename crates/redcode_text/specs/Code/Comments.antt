@@ -51,7 +51,7 @@ meaning_of (Author text) = IsAuthor text.now
 meaning_of (Assert at) = IsAssert at
 meaning_of Other = IsOther
 
--- The offset of an assert's expression.
+-- The offset of an assert's expression, or 0 if the comment is no assert.
 abbrev pub assert_place : Comment → ℕ
 assert_place (Assert at) = at
 assert_place comment = 0
