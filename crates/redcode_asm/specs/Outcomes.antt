@@ -4,7 +4,7 @@ use Rattle.redcode_asm.specs.declared.fault.AsmFault.{AsmFault}
 use Rattle.redcode_asm.specs.declared.fault.AsmProblem.{AsmProblem}
 use Rattle.redcode_asm.specs.declared.fault.AsmProblem.TheVariants.{OutOfMemory}
 
--- An error is the defined one, or memory ran out, which is reported without a line and a token.
+-- An error is the defined one, or memory ran out, which is reported with neither a line nor a token.
 abbrev pub FailsAt : {X : Type 0} → AsmProblem → AsmFault → Result X AsmFault → Type 0
 FailsAt OutOfMemory fault defined = (fault.line ≡ 0) × (fault.token ≡ None)
 FailsAt problem fault defined = defined ≡ Err fault
