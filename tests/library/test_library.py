@@ -346,6 +346,17 @@ def test_c(tmp_path: Path, built: str, more: list[str], before: list[str]) -> No
     assert re.fullmatch(r"[1-9]\d* passed, 0 failed\n", done.stdout)
 
 
+def test_structures_in_rust() -> None:
+    """The structures of the example in Rust have the sizes of those in the header."""
+    text = Path(TOP, "examples", "rust", "src", "mars.rs").read_text()
+    sizes = {"u8": 1, "u32": 4, "u64": 8, "i64": 8, "[u8; 64]": 64, "Extent": 8}
+    found = re.findall(r"#\[repr\(C\)\]\n(?:#.*\n)?(?:pub )?struct (\w+) \{\n(.*?)\n\}", text, re.S)
+    assert len(found) == text.count("#[repr(C)]")
+    for name, fields in found:
+        size = sum(sizes[kind] for kind in re.findall(r"^ *(?:pub )?\w+: (.*),$", fields, re.M))
+        assert size == library()[0].sizeof({"Extent": "MarsWarrior"}.get(name, f"Mars{name}")), name
+
+
 def test_rust(tmp_path: Path, built: str) -> None:
     """The example in Rust: the rows of a match, and the error of a source."""
     if not shutil.which("cargo"):
@@ -363,7 +374,7 @@ def test_rust(tmp_path: Path, built: str) -> None:
     assert plain(fight("20", *loads).stdout.encode()) == plain(done.stdout.encode())
     done = fight("20", file_of(tmp_path, "source.red", b"MOV 0, 1\nFOO 1\n"))
     assert (done.returncode, done.stdout) == (1, "")
-    assert "answer 5, number 2, problem 0, expression 0, line 2" in done.stderr
+    assert "answer 5, number 2, problem 0, expression 0, line 2, warrior 0, bytes 9 to 12" in done.stderr
 
 
 def test_header() -> None:

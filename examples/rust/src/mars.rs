@@ -105,6 +105,9 @@ pub struct Fault {
     pub line: u64,
     /// The index of a wrong warrior, from 0.
     pub warrior: u64,
+    /// The bytes of a source from `begin` to before `end` are the word or sign at which an error of it arises; both are 0 if it has none.
+    pub begin: u64,
+    pub end: u64,
 }
 
 impl fmt::Display for Fault {
@@ -116,8 +119,11 @@ impl fmt::Display for Fault {
             expression,
             line,
             warrior,
+            begin,
+            end,
         } = self;
-        write!(f, "answer {code}, number {number}, problem {problem}, expression {expression}, line {line}, warrior {warrior}")
+        write!(f, "answer {code}, number {number}, problem {problem}, expression {expression}, line {line}, warrior {warrior}, ")?;
+        write!(f, "bytes {begin} to {end}")
     }
 }
 
