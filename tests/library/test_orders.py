@@ -214,8 +214,7 @@ def test_length_after_errors() -> None:
     (ffi, calls), (settings, _) = library(), Arguments().converted()
     length, fault, buffer = ffi.new("size_t *", 12345), ffi.new("MarsFault *"), untouched("uint8_t", 100)[1]
     nothing, zeros = filled("MarsCell", []), slice_of("uint32_t", array("uint32_t", 9))
-    program = ffi.new("MarsProgram *")
-    lines = filled("MarsLine", [])
+    program, lines = ffi.new("MarsProgram *"), filled("MarsLine", [])
     assert calls.mars_assemble(settings, 2, *text("MOV"), *nothing, program, *lines, *buffer, length, fault) == 5
     assert calls.mars_write_load(settings, *nothing, ffi.new("MarsProgram *"), *buffer, length, fault) == 13
     assert calls.mars_debug(*zeros, 1, *text("show\n"), *buffer, length, fault) == 11
