@@ -253,11 +253,11 @@ export function keptSources() {
   return new Map(found.sort(([, one], [, other]) => one.made - other.made));
 }
 
-/** Returns the names of what is damaged. */
+/** Returns the names of the damaged entries. */
 export const damagedNames = () =>
   [...damaged].map((key) => (key === NAME ? "settings" : key === LEAGUE ? "league" : key.slice(SOURCE.length)));
 
-/** Deletes what is damaged, and nothing else. */
+/** Deletes the damaged entries, and nothing else. */
 export function deleteDamaged() {
   for (const key of damaged) set(key, key === NAME ? JSON.stringify(read()) : null);
 }

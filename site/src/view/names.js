@@ -7,7 +7,7 @@ import { make } from "./dom.js";
 const KINDS = { own: "", example: "example", guest: "from a link", lesson: "lesson" };
 
 /**
- * Returns the line of a source.
+ * Returns the item of the list for a source.
  * @param {OpenSource} entry
  * @param {boolean} isShown whether it is in the editor
  * @param {{show: (entry: OpenSource) => void, mark: (entry: OpenSource, fights: boolean) => void}} acts

@@ -35,7 +35,7 @@ export class Session extends Turns {
   pending = 0;
   /** @type {Promise<unknown>} */
   #done = Promise.resolve();
-  /** Reads the story. The turn that is shown first comes before it. */
+  /** Reads the story, after a delay in which the first turn is shown. */
   #tell = debounce(() => this.#readStory().catch(() => {}), 90);
 
   /**

@@ -72,12 +72,15 @@ export class Turns {
    * @type {{turn: number, at: Condition | null} | null}
    */
   #limit = null;
-  /** @type {Promise<void> | null} */
+  /**
+   * Showing the turns that are wanted, until none is left.
+   * @type {Promise<void> | null}
+   */
   #going = null;
 
   /**
    * @param {import("../worker/pool.js").Remote} desk
-   * @param {(text: string) => void} complain
+   * @param {(text: string) => void} complain shows an error
    */
   constructor(desk, complain) {
     this.desk = desk;
@@ -112,7 +115,7 @@ export class Turns {
     return this.#going === null && this.view?.turn === this.wanted;
   }
 
-  /** How many turns a shade of the core lasts: all shades are about a second of play. */
+  /** How many turns a shade of the core lasts: about a second of play for all shades, at most 1/400 of the battle. */
   get grain() {
     return clamp(this.rate / 26, 0.34, Math.max(1, this.end / 400));
   }
@@ -214,7 +217,7 @@ export class Turns {
   }
 
   /**
-   * Plays forwards or backwards; from the other end if there is no other turn.
+   * Plays forwards or backwards; if there is no further turn, from the other end.
    * @param {1 | -1} way
    */
   play(way) {

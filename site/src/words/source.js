@@ -1,4 +1,4 @@
-/** Splits sources by their look into lines with labels, operation and operands, EQU names and loops. */
+/** Splits sources, without assembling them, into lines with labels, operation and operands, EQU names and loops. */
 import { OPCODES as KNOWN } from "../model/cells.js";
 
 /** @typedef {import("./causes.js").Cause} Cause */
@@ -16,7 +16,7 @@ import { OPCODES as KNOWN } from "../model/cells.js";
 export const OPCODES = [...KNOWN, "CMP"];
 export const DIRECTIVES = ["FOR", "ROF", "EQU", "ORG", "END"];
 export const OPERATIONS = [...OPCODES, ...DIRECTIVES];
-/** A name with its joins, a number, or punctuation, also such as the language does not have. */
+/** A name with its joins, a number, or punctuation, even if Redcode has no such token. */
 const TOKEN = /(?:\w|&(?=[A-Za-z_]))+|==|!=|<=|>=|&&|\|\||[^\0- ]/gu;
 export const NAME = /^[A-Za-z_][\w&]*$/;
 
@@ -77,8 +77,9 @@ export function readSource(text) {
   const source = { lines: [], equates: new Map(), loops: [] };
   /** @type {Loop[]} */
   const open = [];
+  // The line of END, and the number of open loops whose count is 0.
   let [end, zeros] = [0, 0];
-  const isZero = (/** @type {Line} */ { rest }) => Number(rest.join(" ") === "0");
+  const isZero = (/** @type {Line} */ { rest }) => rest.join(" ") === "0";
   texts.forEach((one, index) => {
     const line = parseLine(index + 1, one, source.equates);
     const word = wordOf(line);
@@ -96,10 +97,10 @@ export function readSource(text) {
       const loop = { head: line, counter: line.labels.at(-1) ?? "", last: texts.length + 1 };
       open.push(loop);
       source.loops.push(loop);
-      zeros += isZero(line);
+      if (isZero(line)) zeros++;
     } else if (word === "ROF" && open.length) {
       const loop = /** @type {Loop} */ (open.pop());
-      zeros -= isZero(loop.head);
+      if (isZero(loop.head)) zeros--;
       loop.last = line.number;
     }
   });

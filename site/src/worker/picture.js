@@ -12,11 +12,12 @@ import { BY_HAND, NOBODY } from "../model/cells.js";
  */
 /** @typedef {{from: number, owner: Uint8Array, light: Uint8Array}} Piece columns, one after another */
 
-/** How many columns a cell shines after it is written, and how bright a band of old cells, and fresh ones, are. */
+/** The columns after which a third of the shine of a written cell is left. */
 const AFTERGLOW = 7;
+/** The brightness of a row of old cells, and what it gains if all of them are fresh. */
 const OLD = 0.5;
 const FRESH = 0.62;
-/** The maximum number of processes of a warrior whose places shine. */
+/** The maximum number of processes of a warrior at which their cells shine, and how much a process adds. */
 const MAX_SHINING = 24;
 const SHINE = 1;
 /** How a cell fades: its brightness at equal steps of the time until it no longer shines. */
@@ -36,13 +37,14 @@ export class Painter {
     this.history = history;
     this.frame = frame;
     const { core, order } = history;
-    /** Who owns cells is counted apart: each warrior, and edits. */
+    /** The number of owners: the warriors, and edits. */
     this.owners = order.length + 1;
+    /** For each row and owner: the number of cells, and the sum of their shine. */
     this.old = new Float64Array(this.owners * frame.rows);
     this.fresh = new Float64Array(this.owners * frame.rows);
-    /** The squares of what is fresh: of many cells that have nearly faded none is bright. */
+    /** The sums of squares: many cells that have nearly faded are less bright than a few fresh ones. */
     this.squares = new Float64Array(this.owners * frame.rows);
-    /** Where the owners of each cell's row begin. */
+    /** For each cell, where the sums of its row begin. */
     this.placeOf = Uint32Array.from({ length: core }, (_, at) => this.owners * Math.floor((at * frame.rows) / core));
     /** The number of cells of a row. */
     this.cells = core / frame.rows;
@@ -76,6 +78,7 @@ export class Painter {
   }
 
   /**
+   * Paints the next column.
    * @param {Uint8Array} owner
    * @param {Uint8Array} light
    * @param {number} at where the column begins
@@ -128,7 +131,10 @@ export class Painter {
     }
   }
 
-  /** @param {Place} place */
+  /**
+   * Adds the shine of the processes of warriors that have few.
+   * @param {Place} place
+   */
   #weighProcesses({ battle }) {
     for (let who = 0; who < battle.warriors; who++) {
       const queue = battle.queue(who);
