@@ -58,7 +58,7 @@ class Melee(Standings):
 
 
 def lineups_of(warriors: int, size: int, count: int, dice: random.Random) -> list[list[int]]:
-    """Returns random lineups of different warriors, in which all of them are equally often, or one more time."""
+    """Returns random lineups, each of different warriors. Their numbers of lineups differ by at most one."""
     matches_of = [0] * warriors
     lineups = []
     for _ in range(count):

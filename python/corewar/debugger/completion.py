@@ -62,6 +62,7 @@ class CommandCompleter(Completer):
     def condition(self, rest: str) -> tuple[str, Choices]:
         """Returns the last argument of a condition, and what it can be."""
         *before, begun = rest.split(" ")
+        # What can come next depends on the last of these words; a condition begins as it does after `and`.
         places = [
             place for place, word in enumerate(before) if word in (*FOLLOWING, *WORDS["cells"], *WORDS["warriors"])
         ]
@@ -80,7 +81,7 @@ class CommandCompleter(Completer):
         return begun.rpartition("..")[2], self.addresses() | (following if last in WORDS["cells"] else {})
 
     def choices(self, kind: str, command: Command) -> Choices:
-        """Returns what an argument can be that is written so in the usage of its command."""
+        """Returns what an argument can be, from the word for it in the usage of its command."""
         numbers = {"delete": self.session.breakpoints, "futures": range(len(self.session.futures))}
         known: dict[str, Choices] = {
             "COMMAND": {one.name: one.summary for one in COMMANDS.values()},

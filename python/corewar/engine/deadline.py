@@ -1,4 +1,4 @@
-"""A limit of CPU time for what this process itself makes of a source, such as explanations."""
+"""A limit of the CPU time that this process itself spends on a source, such as for explanations."""
 from __future__ import annotations
 
 import signal
