@@ -79,7 +79,7 @@ class Compiler:
         return head
 
     def compiled(self, name: str, text: str, triple: str) -> str:
-        """Compiles the text of a module, or with a name that ends with .s an assembler's, and returns the file."""
+        """Compiles a module or, if the name ends with .s, a text of the assembler, and returns the object file."""
         words = [] if name.endswith(".s") else ["-x", "ir"]
         source, out = self.write(name, text), self.path(f"{name}.o")
         run(self.clang, f"--target={triple}", *OPTIONS, "-c", *words, source, "-o", out)

@@ -1,4 +1,4 @@
-"""The CPU seconds of a league of sixteen sources, of 1 and of 10 rounds: by one start of `mars`, and by starts for each
+"""The CPU seconds of a league of sixteen sources, of 1 and of 10 rounds: by one start of `mars`, and by one for each
 pair.
 """
 from __future__ import annotations
@@ -17,6 +17,7 @@ ROUNDS = (1, 10)
 
 def measure(words: argparse.Namespace) -> None:
     program, pmars = find_program(words.program), find_pmars()
+    # There are fewer examples than sixteen, so some take part twice.
     files = (sorted(glob.glob(os.path.join(EXAMPLES, "*.red"))) * 2)[:16]
     pairs = [*combinations(files, 2)]
     ways = {
