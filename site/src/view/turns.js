@@ -217,7 +217,7 @@ export class Turns {
   }
 
   /**
-   * Plays forwards or backwards; if there is no further turn, from the other end.
+   * Plays forwards or backwards. If it is at that end already, it starts from the other one.
    * @param {1 | -1} way
    */
   play(way) {
