@@ -270,10 +270,9 @@ def follow(arguments: Battle, fault: Any, rows: str = "MarsFound") -> tuple[int,
     pasts, found = array("MarsPast", arguments.pasts), array(rows, 1)
     conditions = filled("MarsCondition", [(1, 4, 0, 0), (arguments.way, 9, 0, 0)])
     given = [*block, 1, *slice_of("MarsPast", pasts), *conditions, *slice_of(rows, found)]
-    if rows == "MarsMoment":
-        code = library()[1].mars_moments(*given, fault)
-    else:
-        code = library()[1].mars_follow(*given, library()[0].new("uint32_t *"), fault)
+    count = [] if rows == "MarsMoment" else [library()[0].new("uint32_t *")]
+    call = library()[1].mars_follow if count else library()[1].mars_moments
+    code = call(*given, *count, fault)
     assert not pasts.view(np.uint32).any() and not found.view(np.uint32).any()
     return code, words
 
