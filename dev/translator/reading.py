@@ -19,6 +19,8 @@ class CannotTranslate(Exception):
 
 @dataclass
 class Function:
+    """A function of a module: types and parameters are those of LLVM, and `kind` is its specifier in C."""
+
     name: str
     result: str
     parameters: list[tuple[str, str]]

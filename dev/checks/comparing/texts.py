@@ -5,7 +5,8 @@ import random
 import re
 from collections.abc import Sequence
 
-# A text has its parts in <>, each by one of its alternatives. What is listed several times is drawn as often.
+# A text has its parts in <>, each replaced by one of its alternatives. An alternative may be listed several times, so
+# that it is drawn more often.
 GRAMMAR: dict[str, list[str]] = {
     "source": [
         "<head>a <instruction>\n<lines>b: <instruction>\n<lines><end>",
@@ -40,7 +41,7 @@ GRAMMAR: dict[str, list[str]] = {
         "FOR <count>\n<line>ROF\n",
     ],
     "few": ["2", "1", "0"],
-    # (many iterations take the definitions long)
+    # Evaluating the definitions takes long if there are many iterations.
     "count": [*"012312", "9", "11", "WARRIORS+1", "CURLINE", "-1", "10001", "1/0", "a", "(2", "ROUNDS%3", "2*!0"],
     "instruction": [*["<op> <operand>, <operand>"] * 6, "<op> <operand>", "<op>", "<op> <operand>, <operand>, 1"],
     "op": [*"DAT MOV ADD SUB MUL DIV MOD JMP JMZ JMN DJN SEQ SNE SLT SPL NOP CMP mov".split() * 2, "<op>.<modifier>"]
@@ -107,7 +108,7 @@ def text_of(dice: random.Random, part: str, **more: Sequence[str]) -> str:
 
 
 def mutated(dice: random.Random, text: str, others: Sequence[str] = ODD) -> str:
-    """Returns a text with a token or a line left out, doubled, exchanged or replaced; most times with none."""
+    """Returns a text of which one or two tokens or lines are left out, doubled or replaced; half of the time, none."""
     for _ in range(dice.choice([0, 0, 0, 1, 1, 2])):
         parts = TOKENS.findall(text) if dice.random() < 0.8 else text.splitlines(keepends=True)
         if parts:
