@@ -3,9 +3,8 @@
 
 usage: examples/evolver.py [SECONDS [SEED]]      [default: 60 seconds, seed 1]
 
-It requires the package `corewar` with its library; build the kit first. In each generation the
-best warriors stay and the others are replaced by children of the best with changed cells. One call runs all matches of
-a generation.
+It requires the package `corewar` with its library; build the kit first. In each generation the best warriors stay, and
+the others are replaced by children of the best with changed cells. One call runs all matches of a generation.
 """
 from __future__ import annotations
 
@@ -109,6 +108,7 @@ def main() -> None:
         # Seeds near one another would give related positions.
         fight(candidates, opponents, dice.randrange(1, 1 << 30))
         best = candidates[:BEST]
+        # Reports generations 1, 2, 4, 8 and so on.
         if count & (count - 1) == 0:
             print(f"generation {count}: {measure(best[0].cells, opponents):.2f} points per round", file=sys.stderr)
         candidates = best + [
