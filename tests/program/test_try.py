@@ -30,6 +30,7 @@ def tried(folder: str, *words: str) -> tuple[int, list[str], str]:
 
 
 def test_words(tmp_path: Path) -> None:
+    """Files that exist are passed as data, under names that are no paths; `rt` has to be on the path."""
     folder = os.path.realpath(tmp_path)
     with open(os.path.join(folder, "rt"), "w") as file:
         file.write(STAND_IN)
