@@ -212,7 +212,7 @@ export class Track {
     const wide = Math.ceil((right - left) * devicePixelRatio) + 1;
     context.save();
     context.beginPath();
-    // Whole pixels: the edges of a part are not to be seen.
+    // A part has whole pixels, so that its edges cannot be seen.
     context.rect(Math.floor(left * devicePixelRatio), 0, wide, canvas.height);
     context.clip();
     context.setTransform(devicePixelRatio, 0, 0, devicePixelRatio, 0, 0);
@@ -251,6 +251,7 @@ export class Track {
   }
 
   /**
+   * Returns how far a turn is from the left edge.
    * @param {number} turn
    * @param {number} width
    */
@@ -282,7 +283,7 @@ export class Track {
   }
 
   /**
-   * Draws a line at each edit and each death.
+   * Draws a line at each edit and each death, and a mark at each turn at which playing stops.
    * @param {import("./curves.js").Drawing} drawing
    */
   #drawMoments({ context, palette, width, bottom, x }) {
