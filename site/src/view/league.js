@@ -20,7 +20,7 @@ import { allOf, errorWords, sumOf } from "./host.js";
  * @typedef {(sources: Source[], terms: MatchTerms) => AsyncGenerator<Result[]>} Runner
  */
 
-/** The matrix of more warriors is a picture. */
+/** The maximum number of warriors of a matrix of numbers; that of more warriors is a picture. */
 const MAX_TABLE_SIZE = 40;
 const NOTHING = { points: 0, wins: 0, ties: 0, losses: 0 };
 const WON = [0, 150, 130];

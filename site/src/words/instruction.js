@@ -1,4 +1,4 @@
-/** An instruction in plain English. With an address, cells are named by theirs; without, by their distance. */
+/** An instruction in plain English. If its address is given, cells have addresses, otherwise distances. */
 import WORDS from "../../../python/corewar/explain/instructions.json";
 import { MODES, MODIFIERS, OPCODES, signed } from "../model/cells.js";
 

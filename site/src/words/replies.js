@@ -40,7 +40,7 @@ function headWords({ turn, warrior, address, executed, reads }, known) {
 }
 
 /**
- * Returns the writes of a turn, last those that changed nothing.
+ * Returns the writes of a turn; those that changed nothing come last.
  * @param {Move} move
  * @param {Known} known
  */
