@@ -105,7 +105,7 @@ class Schedule:
                 yield rows
 
     def fill_in(self, rows: Indices, found: NDArray[Any]) -> None:
-        """Takes the results of matches. Raises CorewarError if they cannot be those."""
+        """Takes the results of matches. Raises CorewarError if no matches of these warriors can have them."""
         raise NotImplementedError
 
     def stored(self, rows: Indices) -> Iterator[tuple[Any, ...]]:

@@ -53,7 +53,7 @@ def has_input(stream: FileIO, seconds: float) -> bool:
     """Returns whether there is something to read, or the end, within this time."""
     if sys.platform != "win32":
         return bool(select.select([stream], [], [], seconds)[0])
-    # There, select knows only sockets.
+    # On Windows, select accepts only sockets.
     import ctypes
     import msvcrt
 

@@ -96,7 +96,8 @@ class Assembler:
             try:
                 result = server.ask(data, given)
             except Terminated:
-                # Not for this source: Python ends the children of a process also when a fork of it ends.
+                # It may have ended for another reason than this source: Python ends the children of a process also when
+                # a fork of it ends.
                 result = server.ask(data, given)
         if isinstance(result, Warrior):
             return replace(result, file=os.fsdecode(file), source=data)
