@@ -156,7 +156,7 @@ def annotated(thing: Any) -> Iterator[str]:
 
 
 def test_types_of_signatures_are_public() -> None:
-    """A program may use them in signatures of its own."""
+    """The package exports each type that its signatures name, so that programs can use it in theirs."""
     general = "Any ArrayLike Callable ClassVar Collection Executor Iterator NDArray PathLike Sequence os np".split()
     known = {*corewar.__all__, *general, *dir(builtins), *(f"np.{name}" for name in dir(np)), "os.PathLike"}
     for name in corewar.__all__:

@@ -183,7 +183,7 @@ def result_of(call: Any, *given: Any, **words: Any) -> Any:
 
 
 def test_a_system_without_proc(monkeypatch: pytest.MonkeyPatch) -> None:
-    """Such as a chroot: sources are assembled, under a looser limit of memory."""
+    """Without /proc, as in a chroot, sources are assembled under a looser limit of memory."""
     monkeypatch.setattr(limits, "STATM", "/nowhere/statm")
     with corewar.Assembler(corewar.Limit(5, 500)) as assembler:
         assert len(assembler.assemble("MOV 0, 1\n")) == 1
