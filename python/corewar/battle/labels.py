@@ -53,8 +53,8 @@ class Sources:
         return self.lines.get(int(history.pasts(turn)["origin"][address]))
 
     def describe_line(self, history: History, address: int, turn: int, warrior: int | None = None) -> str:
-        """Returns the number and the text of this line, or "". They follow the name of the warrior if it is neither the
-        one given nor, without one, the one that was loaded at the address.
+        """Returns the number and the text of that line, or "" if there is none. The name of its warrior comes first,
+        unless it is the one given or, without one, the one that was loaded at the address.
         """
         line, loaded = self.line(history, address, turn), self.lines.get(address)
         if line is None:

@@ -99,7 +99,7 @@ def assemble(
 
 def encode_source(source: str | bytes) -> bytes:
     """Returns the bytes of a source; those that are not UTF-8 may be in a text as `surrogateescape` decodes them."""
-    # Of a number `bytes` would make as many zeros; a memoryview refuses it.
+    # `bytes` would make as many zeros of a number; a memoryview rejects it.
     return source.encode(errors="surrogateescape") if isinstance(source, str) else bytes(memoryview(source))
 
 
@@ -144,7 +144,7 @@ def match(
 
 
 def check_numbers(settings: Settings, rounds: int, seed: int, position: int | None) -> None:
-    """Raises MarsError if the library would refuse one of these numbers."""
+    """Raises MarsError if the library rejects one of these numbers."""
     # Without candidates no match is run.
     rows("mars_population", settings, (rounds, seed, position), FORMULA, [], 0)
 
@@ -152,7 +152,7 @@ def check_numbers(settings: Settings, rounds: int, seed: int, position: int | No
 def portions(numbers: MatchNumbers, warriors: int, size: int) -> Iterator[MatchNumbers]:
     """Yields the numbers of matches of about `size` rounds, which together have the rounds of a match in order."""
     rounds, seed, position = numbers
-    # The warrior that begins is the same in each first round.
+    # The same warrior begins each portion.
     size = max(1, -(-size // warriors)) * warriors
     # In each round a seed is drawn for each warrior but the first, and for each but two to put them in another order.
     draws = max(0, 2 * warriors - 3) if not position else 0
