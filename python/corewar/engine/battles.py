@@ -52,7 +52,7 @@ class Battle:
     @staticmethod
     def of_bytes(data: bytes) -> Battle:
         """Returns the battle with these bytes. Raises `MarsError` if they are not a battle."""
-        # A memoryview refuses a number, of which `bytearray` would make as many zeros.
+        # A memoryview rejects a number, of which `bytearray` would make as many zeros.
         words = np.frombuffer(bytearray(memoryview(data)), np.uint32, len(data) // 4)
         call("mars_check", *slice_of("uint32_t", words))
         return battle_of_words(words)

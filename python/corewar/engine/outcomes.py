@@ -190,7 +190,7 @@ def play(
     warriors: Sequence[Warrior], table: Array, run: Run, finish: Callable[[Array], Array], stop: Event | None = None
 ) -> Array:
     """Runs the matches of a table, and returns them finished. A single match may take long: it is run in portions."""
-    # The library refuses 0 by the same name as any number out of the range, and 0 rounds need no memory.
+    # The library rejects 0 by the same name as any number out of the range, and 0 rounds need no memory.
     rounds = run.rounds if 0 < run.rounds <= NUMBERS["rounds"].maximum else 0
     fixed, size = warrior_arrays(warriors, run.settings.core), TURNS // max(1, turns_of(run, table))
     given, parts = [(rounds, 0, run.position)], []
@@ -202,7 +202,7 @@ def play(
         if seed:
             table = table.copy()
             table["seed"] = seed
-        # It refuses a seed that is out of its range, but takes 0 in a lineup for that of the settings.
+        # It rejects a seed that is out of its range, but takes 0 in a lineup for that of the settings.
         settings = settings_struct(run.settings, count, int(table["seed"].min(initial=1)), position)
         rows = array("MarsOutcome", count * int(table["count"].sum()))
         call("mars_outcomes", settings, *fixed, *slice_of("MarsLineup", table), *slice_of("MarsOutcome", rows))
@@ -239,7 +239,7 @@ def table_of(lineups: Any, seeds: ArrayLike) -> Array:
 
 
 def clamped(given: ArrayLike, wanted: str) -> NDArray[np.int64]:
-    """Returns whole numbers as the library takes them; it refuses those that do not fit. Raises ValueError."""
+    """Returns whole numbers as the library takes them; it rejects those that do not fit. Raises ValueError."""
     try:
         numbers = np.asarray(given)
         fits = (numbers >= 0) & (numbers <= MAX_UINT32)

@@ -90,7 +90,7 @@ class Warrior:
     @cached_property
     def load(self) -> bytes:
         """The load file. Raises `MarsError` if a name, the start or a cell is invalid."""
-        # The library refuses a name of more than 60 bytes, or with a control character; but 0 would end it.
+        # The library rejects a name of more than 60 bytes, or with a control character; but 0 would end it.
         given_names = [name.replace("\0", "\n") for name in (self.name, self.author)]
         names = [name.encode(errors="surrogatepass")[:64] for name in given_names]
         program = library()[0].new("MarsProgram *", [[len(self), clamp(self.start)], *names])
@@ -140,7 +140,7 @@ def pack_cells(cells: Sequence[Cell | np.void] | Cells) -> bytes:
 
 
 def clamp_fields(cell: Cell) -> list[int]:
-    """Returns the numbers of a cell as the library takes them; it refuses those that do not fit. Raises ValueError."""
+    """Returns the numbers of a cell as the library takes them; it rejects those that do not fit. Raises ValueError."""
     try:
         return [clamp(index(one), maximum) for one, maximum in zip(cell, MAX_CELL, strict=True)]
     except (TypeError, ValueError):

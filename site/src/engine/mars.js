@@ -28,7 +28,7 @@ export { MarsError } from "../model/errors.js";
 
 const encoder = new TextEncoder();
 /**
- * Returns the bytes of a name. The library refuses one of more than 60 or with a control character, but 0 would end it.
+ * Returns the bytes of a name. The library rejects one of more than 60 or with a control character, but 0 would end it.
  * @param {string} name
  */
 const nameBytes = (name) => encoder.encode(name.replaceAll("\0", "\n")).subarray(0, 64);
@@ -157,7 +157,7 @@ export class Mars extends Machine {
         const own = numbers.subarray(size * index, size * (index + 1));
         own[MarsLineup.seed / 4] = seeds[index] ?? seed;
         own[MarsLineup.count / 4] = lineup.length;
-        // A row has no more places; the library refuses the length of a longer lineup.
+        // A row has no more places; the library rejects the length of a longer lineup.
         own.set(lineup.slice(0, MAX_WARRIORS), MarsLineup.warrior / 4);
         own[MarsLineup.counting / 4] = Number(counts);
       });
