@@ -6,7 +6,6 @@ before it. The library follows the past of each cell and searches for turns. The
 from __future__ import annotations
 
 from collections.abc import Iterator
-from dataclasses import dataclass
 from functools import cached_property, lru_cache
 from html import escape
 from importlib import import_module
@@ -24,7 +23,7 @@ from ..model.errors import CorewarError
 from ..model.printing import make_distinct
 from ..model.settings import whole
 from .blocks import Block
-from .runs import NOBODY, Run
+from .runs import NOBODY, Run, Segment
 
 if TYPE_CHECKING:
     # These describe histories, and are loaded when they are called.
@@ -35,19 +34,6 @@ if TYPE_CHECKING:
 
 # The number of turns of a block, and of blocks in the cache, 5 to 13 MB each.
 BLOCK_SIZE, CACHED_BLOCKS = 65_536, 24
-
-
-@dataclass(frozen=True)
-class Segment:
-    """The turns of a run that a history has: up to the next edit, or to the end."""
-
-    run: Run
-    last: int
-
-    @property
-    def first(self) -> int:
-        """The turn after which the segment starts."""
-        return self.run.first
 
 
 class History:
@@ -64,7 +50,7 @@ class History:
 
     def __init__(self, match: Match, round: int = 0) -> None:
         self.match, self.round, self.core = match, round, match.settings.core
-        self.segments = [whole_segment(Run(Battle(match, round)))]
+        self.segments = [Segment.whole(Run(Battle(match, round)))]
         self.warriors = match.warriors[round % len(match.warriors) :] + match.warriors[: round % len(match.warriors)]
         self.names = make_distinct([warrior.called for warrior in self.warriors])
         # Histories that edits make of this one share the cache. One of the module would keep the runs of all histories.
@@ -317,7 +303,7 @@ class History:
         edited = History.__new__(History)
         edited.__dict__.update({name: value for name, value in vars(self).items() if name != "_formatter"})
         kept = [Segment(one.run, min(one.last, turn)) for one in self.segments if one.first <= turn]
-        edited.segments = [*kept, whole_segment(Run(after, edit, before))]
+        edited.segments = [*kept, Segment.whole(Run(after, edit, before))]
         return edited
 
 
@@ -331,10 +317,6 @@ def spans(history: History, first: int, last: int) -> list[tuple[int, int]]:
         ends = [*range(max(segment.first, first), end, BLOCK_SIZE), end]
         found += zip(ends, ends[1:])
     return found
-
-
-def whole_segment(run: Run) -> Segment:
-    return Segment(run, run.ending.turns)
 
 
 def read_block(run: Run, first: int, count: int) -> Block:

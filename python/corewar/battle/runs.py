@@ -1,6 +1,7 @@
 """A run of a battle: states and pasts of its cells at regular distances, from which those after any turn follow."""
 from __future__ import annotations
 
+from dataclasses import dataclass
 from typing import Any
 
 import numpy as np
@@ -90,3 +91,21 @@ class Run:
             battle.follow(pasts, turn - battle.turns)
             self._latest = battle.copy(), pasts.copy()
         return battle, pasts
+
+
+@dataclass(frozen=True)
+class Segment:
+    """The turns of a run that a history has: up to the next edit, or to the end."""
+
+    run: Run
+    last: int
+
+    @staticmethod
+    def whole(run: Run) -> Segment:
+        """Returns all turns of a run."""
+        return Segment(run, run.ending.turns)
+
+    @property
+    def first(self) -> int:
+        """The turn after which the segment starts."""
+        return self.run.first
