@@ -1,11 +1,11 @@
 /** The battle that the page shows, with all its futures, and the answers to the page's questions about it. */
+import { changesOf } from "../battle/changes.js";
 import { completed, count, hits, search } from "../battle/conditions.js";
 import { History } from "../battle/history.js";
 import { Histories } from "./histories.js";
 import { Painter } from "./picture.js";
 import { chainOf, copiedIn } from "./why.js";
 import { assembleAll, describe } from "../engine/warrior.js";
-import { BY_HAND } from "../model/cells.js";
 
 /** @typedef {import("../battle/conditions.js").Condition} Condition */
 /** @typedef {import("../battle/story.js").Event} Event */
@@ -43,10 +43,7 @@ import { BY_HAND } from "../model/cells.js";
  * @property {number[]} processes
  * @property {number[]} owned
  */
-/** @typedef {{turn: number, warrior: number, before: Uint32Array, after: Uint32Array}} CellChange */
 
-/** The number of changes of a cell that are reported. */
-const MAX_CHANGES = 5;
 /** About the milliseconds that a piece of a picture takes: meanwhile no turn is answered. */
 const PIECE_TIME = 6;
 
@@ -314,20 +311,7 @@ export class Desk {
    * @param {number} turn
    */
   cell(future, address, turn) {
-    const history = this.#history(future);
-    const isEdited = (/** @type {number} */ at) => history.place(at).owner(address) === BY_HAND;
-    /** @type {CellChange[]} */
-    const changes = [];
-    // From the turn that changed the cell last to the one before that turn, and so on.
-    for (let at = turn; changes.length < MAX_CHANGES && !isEdited(at); at--) {
-      at = history.place(at).written(address);
-      if (at === 0) break;
-      const { warrior, changes: all } = history.deed(at);
-      const { before, after } = all.filter((change) => change.address === address)[0];
-      changes.push({ turn: at, warrior, before, after });
-    }
-    const edited = isEdited(turn) ? history.byHand(address, turn) : null;
-    return { changes, next: history.nextChange(address, turn), edited };
+    return changesOf(this.#history(future), address, turn);
   }
 
   /**
