@@ -22,6 +22,7 @@ from ..model.edits import Edit
 from ..model.errors import CorewarError
 from ..model.printing import make_distinct
 from ..model.settings import whole
+from .births import births_of
 from .blocks import Block
 from .runs import NOBODY, Run, Segment
 
@@ -115,6 +116,19 @@ class History:
             raise CorewarError("expected a condition")
         found: Records = self._load("battle.conditions").places(self, conditions)
         return found["turn"].astype(np.int64)
+
+    def born(self, turn: int, warrior: int | str, index: int = 0) -> tuple[list[int], int | None]:
+        """Returns the turns in which a process and its ancestors were born, that of its own birth first; and the turn
+        after which an edit added the first of them, or None if it was loaded.
+
+        - `turn`: the turn after which it is in the queue, and after the edits made there
+        - `warrior`: its warrior, by number, name or file
+        - `index`: its index in the queue; the next one has index 0
+
+        Raises `CorewarError` if there is no such turn, warrior or process.
+        """
+        self._segment(turn)
+        return births_of(self.segments, turn, self.warrior(str(warrior)), index)
 
     def _load(self, module: str) -> Any:
         """Returns a module of a higher folder, which itself imports this one."""
