@@ -130,7 +130,7 @@ def joined_of(parts: dict[str, Any]) -> list[Condition]:
 
 
 def test_its_history_is_that_of_python() -> None:
-    """States, owners, source lines, deaths, conditions and the overview, also after edits."""
+    """States, owners, source lines, births, deaths, conditions and the overview, also after edits."""
     if not WASM.is_file():
         skip("mars.wasm", "dev/library could not build it", "binaryen")
     fights = randomly(60)
@@ -152,7 +152,11 @@ def test_its_history_is_that_of_python() -> None:
             assert state["edited"] == by_hand
             assert state["lines"] == [line.number if line else 0 for line in lines]
             assert (state["head"], state["cycle"]) == (history.head(turn), block.cycle(turn))
-            assert state["queues"] == [int(one) for queue in history.state(turn).queues for one in queue]
+            queues = history.state(turn).queues
+            assert state["queues"] == [int(one) for queue in queues for one in queue]
+            processes = [(warrior, index) for warrior, queue in enumerate(queues) for index in range(len(queue))]
+            born = [history.born(turn, *process) for process in processes]
+            assert [(one["births"], one["added"]) for one in state["born"]] == born
         for question, found in zip(fight["questions"], answer["found"]):
             joined = joined_of(question["condition"])
             expected = search(history, [joined], min(question["turn"], history.end), question["forward"])

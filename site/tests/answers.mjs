@@ -28,10 +28,14 @@ function answer({ turns, questions, ...fight }) {
   const { future, end, deaths, lines } = opened(desk, fight);
   const states = turns.map((given) => {
     const turn = Math.min(given, end);
-    const { owner, written, head, cycle, queues } = desk.turn(future, turn);
+    const { owner, written, head, cycle, queues, processes } = desk.turn(future, turn);
     const edited = [...owner.keys()].map((address) => desk.cell(future, address, turn).edited?.turn ?? null);
     const found = [...desk.origins(future, turn)].map((origin) => lines[origin]?.line ?? 0);
-    return { turn, owner: [...owner], written: [...written], edited, lines: found, head, cycle, queues: [...queues] };
+    const born = processes.flatMap((count, warrior) => {
+      return Array.from({ length: count }, (_, place) => desk.born(future, turn, warrior, place));
+    });
+    const shown = { owner: [...owner], written: [...written], edited, lines: found, queues: [...queues], born };
+    return { turn, head, cycle, ...shown };
   });
   const found = questions.map(({ condition, turn, forward }) =>
     desk.search(future, [condition], Math.min(turn, end), forward),

@@ -189,6 +189,32 @@ test("the winner is found by who lives, whatever it is called", () => {
   assert.equal(fateWords(known(["A tie"])), "survives");
 });
 
+test("processes come from births, also over edits", () => {
+  const desk = new Desk(mars);
+  const settings = { ...DEFAULTS, core: 80, processes: 80, cycles: 800, longest: 10, distance: 10 };
+  const paper = "SPL 1, 0\nSPL @0, <9\nMOV }-1, >-1\nMOV }-2, >-2\nJMP -3, 0\n";
+  desk.open({ ...fightOf([paper, "JMP 0\n"]), settings });
+  const loaded = { births: [13, 5, 1], added: null };
+  assert.deepEqual([desk.born(0, 0, 0, 0), desk.born(0, 20, 0, 2)], [{ births: [], added: null }, loaded]);
+  let future = 0;
+  const edit = (made) => {
+    future = desk.edit(future, 20, { warrior: 0, ...made }).future;
+  };
+  edit({ kind: "kill", place: 1 });
+  assert.deepEqual([0, 1].map((place) => desk.born(future, 20, 0, place)), [{ births: [1], added: null }, loaded]);
+  edit({ kind: "move", place: 1, address: 33 });
+  assert.deepEqual(desk.born(future, 20, 0, 1), loaded);
+  edit({ kind: "add", address: 10 });
+  assert.deepEqual(desk.born(future, 20, 0, 6), { births: [], added: 20 });
+  // Of the other warrior no process was killed or added.
+  assert.deepEqual([20, 33].map((turn) => desk.born(future, turn, 1, 0)), Array(2).fill({ births: [], added: null }));
+  assert.deepEqual([6, 7].map((place) => desk.born(future, 33, 0, place).births), [[], [33]]);
+  assert.deepEqual(desk.born(future, 33, 0, 7), { births: [33], added: 20 });
+  for (const [warrior, place] of [[0, 8], [1, 1], [2, 0]]) {
+    assert.throws(() => desk.born(future, 33, warrior, place), { message: "process" });
+  }
+});
+
 test("a score has the values of its formula, also of outcomes that do not occur", () => {
   const jobs = new Jobs(mars);
   const [lives, dies] = ["JMP 0\n", "DAT 0\n"].map((text) => mars.assemble(text));

@@ -1,4 +1,5 @@
 /** The battle that the page shows, with all its futures, and the answers to the page's questions about it. */
+import { birthsIn } from "../battle/births.js";
 import { changesOf } from "../battle/changes.js";
 import { completed, count, hits, search } from "../battle/conditions.js";
 import { History } from "../battle/history.js";
@@ -312,6 +313,17 @@ export class Desk {
    */
   cell(future, address, turn) {
     return changesOf(this.#history(future), address, turn);
+  }
+
+  /**
+   * Returns the turns in which a process after a turn and its ancestors were born. Throws a MarsError if there is none.
+   * @param {number} future
+   * @param {number} turn
+   * @param {number} warrior
+   * @param {number} place its place in the queue of its warrior
+   */
+  born(future, turn, warrior, place) {
+    return birthsIn(this.#history(future), turn, warrior, place);
   }
 
   /**

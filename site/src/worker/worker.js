@@ -9,7 +9,7 @@ import { Jobs } from "./jobs.js";
 
 const DESK_CALLS = [
   ..."open show edit turn origins move overview story paint search count starts countIn hits".split(" "),
-  ..."why copied until cell cellOf memory".split(" "),
+  ..."why copied until cell born cellOf memory".split(" "),
 ];
 const JOB_CALLS = "assemble warriors match scores round sweep positions checkFormula".split(" ");
 
