@@ -114,6 +114,7 @@ def test_the_line_of_the_debugger(folder: Path) -> None:
 
     assert offered("und") == ["undo"] and offered("goto ") == ["goto start", "goto end"] and offered("quit ") == []
     assert offered("c d") == ["c dies"] and offered("c dies fl") == ["c dies Flash Paper"]
+    assert offered("bor") == ["born"] and offered("born fl") == ["born Flash Paper"]
     assert offered("c changes l") == ["c changes loop"] and offered("c changes 1..lo") == ["c changes 1..loop"]
     words = "of from was becomes by and".split()
     assert offered("c changes loop ") == [f"c changes loop {word}" for word in words]

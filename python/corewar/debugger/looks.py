@@ -4,6 +4,7 @@ from __future__ import annotations
 import re
 from collections.abc import Iterator
 
+from ..analysis.births import describe_births
 from ..analysis.causes import describe_cause, describe_change, describe_death
 from ..explain.instructions import describe_instruction
 from ..model.cells import MODES
@@ -38,14 +39,25 @@ def list_cells(session: Session, rest: str) -> Iterator[str]:
             yield from formatter.cells(turn, int(queue[0]) - AROUND // 2, min(AROUND, core), width)
 
 
-@command("queue")
-def queue(session: Session, rest: str) -> Iterator[str]:
+def warrior_and_index(session: Session, rest: str) -> tuple[int, str]:
+    """Returns the warrior that a text names, by default the next one, and the index of a process after it, or ""."""
     # The name of a warrior may end in a number.
     is_name = rest.lower() in map(str.lower, session.names)
     named, _, index = rest.rpartition(" ") if not is_name and re.fullmatch(r".+ \d+", rest) else (rest, "", "")
     next_warrior = session.history.block(session.turn).next_warrior(session.turn)
-    warrior = session.warrior(named.strip()) if named else next_warrior
+    return session.warrior(named.strip()) if named else next_warrior, index
+
+
+@command("queue")
+def queue(session: Session, rest: str) -> Iterator[str]:
+    warrior, index = warrior_and_index(session, rest)
     yield session.formatter.queue(session.turn, warrior, session.process(warrior, index) if index else 0)
+
+
+@command("born")
+def born(session: Session, rest: str) -> Iterator[str]:
+    warrior, index = warrior_and_index(session, rest)
+    yield from describe_births(session.formatter, session.turn, warrior, session.process(warrior, index or "0"))
 
 
 @command("show")

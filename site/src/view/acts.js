@@ -14,7 +14,7 @@ import {
   readWarriorAnd,
 } from "./arguments.js";
 import { find } from "./finding.js";
-import { cellAt, changed, explain, here, list, queue, queueAround, show, why } from "./looks.js";
+import { born, cellAt, changed, explain, here, list, queue, queueAround, show, why } from "./looks.js";
 
 /** @typedef {import("../battle/conditions.js").Condition} Condition */
 /** @typedef {import("../model/fight.js").Edit} Edit */
@@ -224,6 +224,7 @@ export const ACTS = {
   futures,
   list,
   queue,
+  born,
   show,
   why,
   changed,

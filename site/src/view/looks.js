@@ -131,14 +131,35 @@ export function queueAround(session, warrior, process) {
   return queueLines(session, warrior, Math.max(0, Math.min(process - LISTED / 2, others)));
 }
 
-/** @type {Act} */
-export function queue(session, rest) {
+/**
+ * Returns the warrior that a text names, by default the next one, and the index of a process after it, or "".
+ * @param {Session} session
+ * @param {string} rest
+ */
+function readWarriorAndIndex(session, rest) {
   const { view, known } = session;
   // The name of a warrior may end in a number.
   const isName = known.names.some((name) => name.toLowerCase() === rest.toLowerCase());
-  const [, named, index] = (!isName && /^(.+) (\d+)$/.exec(rest)) || ["", rest];
-  const warrior = named ? readWarrior(session, named) : (view?.next ?? 0);
+  const [, named, index] = (!isName && /^(.+) (\d+)$/.exec(rest)) || ["", rest, ""];
+  return { warrior: named ? readWarrior(session, named) : (view?.next ?? 0), index };
+}
+
+/** @type {Act} */
+export function queue(session, rest) {
+  const { warrior, index } = readWarriorAndIndex(session, rest);
   return queueLines(session, warrior, index ? readProcess(session, warrior, index) : 0);
+}
+
+/** @type {Act} */
+export async function born(session, rest) {
+  const { view, known, desk, future, turn } = session;
+  const { warrior, index } = readWarriorAndIndex(session, rest);
+  const place = readProcess(session, warrior, index || "0");
+  if (!view) return [];
+  const descent = await desk.born(future, turn, warrior, place);
+  const shown = descent.births.slice(0, words.MAX_LISTED);
+  const moves = await Promise.all(shown.map((birth) => desk.move(future, birth)));
+  return words.birthLines({ index: place, warrior, address: queueOf(view, warrior)[place] }, descent, moves, known);
 }
 
 /** @param {Session} session */

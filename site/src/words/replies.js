@@ -4,9 +4,10 @@ import { joinNames, where } from "./battle.js";
 
 /** @typedef {import("./battle.js").Known} Known */
 /** @typedef {import("./battle.js").Move} Move */
+/** @typedef {import("../battle/births.js").Descent} Descent */
 
-/** How many of many addresses are listed, and the widths of the first columns of a list of cells. */
-const MAX_LISTED = 8;
+/** How many of many addresses or turns are listed, and the widths of the first columns of a list of cells. */
+export const MAX_LISTED = 8;
 const COLUMNS = [1, 6, 10, 24];
 
 /**
@@ -75,6 +76,26 @@ export const turnLines = (move, known) => [
   headWords(move, known),
   ...writeWords(move, known).map((text) => `    ${text}`),
 ];
+
+/**
+ * Returns the turns in which a process and its ancestors were born, the last one first.
+ * @param {{index: number, warrior: number, address: number}} process
+ * @param {Descent} descent
+ * @param {Move[]} moves the first of these turns
+ * @param {Known} known
+ */
+export function birthLines({ index, warrior, address }, { births, added }, moves, known) {
+  const process = `Process ${index} of ${known.names[warrior]}, at ${where(address, known)},`;
+  const origin = added === null ? "loaded" : `added by an edit after turn ${added}`;
+  if (!births.length) return [`${process} was ${origin}.`];
+  const left = births.length - moves.length;
+  return [
+    `${process} was born in turn ${births[0]}${births.length > 1 ? ", and its ancestors before that" : ""}:`,
+    ...moves.map((move) => turnWords(move, known)),
+    ...(left ? [`and ${counted(left, "earlier turn")}`] : []),
+    `Its first ancestor was ${origin}.`,
+  ];
+}
 
 /**
  * Returns how the battle ended.
