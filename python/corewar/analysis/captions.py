@@ -34,7 +34,9 @@ def fate(history: History, warrior: int) -> str:
 
 
 def describe_settings(history: History) -> list[str]:
-    """The settings of the battle with their names, except for limits equal to the core size."""
+    """Returns the settings of the battle with their names, except for limits and a position that are not given, and for the
+    seed if the position is given.
+    """
     match = history.match
     numbers = {**vars(match.settings), "seed": match.seed, "position": match.position, "round": history.round}
     if match.position:
@@ -51,7 +53,7 @@ def arguments(history: History) -> list[str]:
         text for name, value in numbers.items() if value != usual[name] for text in (NUMBERS[name].word, str(value))
     ]
     options += ["--round", str(history.round)] if history.round else []
-    # The name of a file isn't taken for an option.
+    # The name of a file that begins with `-` would be taken for an option.
     return [*options, *(f"./{one.file}" if one.file[:1] == "-" < one.file else one.file for one in match.warriors)]
 
 

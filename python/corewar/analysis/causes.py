@@ -14,7 +14,7 @@ from .endings import Executed, describe_survivor, executed_by, own_turns
 from .formatting import BattleFormatter
 from .turns import Turn
 
-# How many more turns are searched for one in which a warrior executed a cell of another.
+# How many turns before those that are shown are searched for one in which a warrior executed a cell that another wrote.
 EXTRA_TURNS = 500
 
 
@@ -42,8 +42,8 @@ def describe_cause(formatter: BattleFormatter, address: int, turn: int) -> list[
 
 
 def causes_of(history: History, address: int, turn: int) -> list[int]:
-    """Returns the last turn, up to this one, that changed a cell, and if it is another one that which copied its
-    instruction there; nothing before an edit of the cell.
+    """Returns the last turn, up to this one, that changed a cell, and the turn that copied its instruction there if that
+    is another turn. A turn before an edit of the cell is left out.
     """
     found, by_hand = last_change(history, address, turn), history.by_hand(address, turn)
     if found is None:
@@ -65,7 +65,7 @@ def foreign_turns(history: History, warrior: int, turns: Sequence[int]) -> Itera
     others = (EXECUTES, OWNER, warrior + 1, (warrior - 1) & MAX_UINT32)
     rows = [by_warrior(warrior), others, (EXECUTES, TURN, 1, MAX_UINT32)]
     for found in find(history, rows, turns[-1] - 1, turns[0], False) if turns else []:
-        # An edit is no warrior.
+        # The range also has BY_HAND, but an edit is no warrior.
         yield from (turn for turn in reversed(found["turn"].tolist()) if foreign_write(history, turn) is not None)
 
 
@@ -139,13 +139,13 @@ class Why:
 
     - `warrior`, `name`: its number and its name
     - `fate`: `died`, `killed` by an edit, or `alive`
-    - `turn`: the turn in which it died, or the last one
-    - `last`: the turn in which its last process died, or None
-    - `causes`: the turn that last changed the cell which that turn executed and, if it is another one, that which
-      copied its instruction there
-    - `before`: its turns before that, the latest last
+    - `turn`: the turn in which it died, or after which an edit killed it, or the last one of the battle if it is alive
+    - `last`: the turn in which its last process died, or None unless it `died`; then the next two are empty
+    - `causes`: the turn that last changed the cell that `last` executed and, if it is another turn, the one that copied
+      its instruction there
+    - `before`: its own turns before `last`, the latest one at the end
     - `hit`: the first turn in which another warrior changed its loaded code, or None
-    - `executed`: for one that is alive, the lines that it executed in its last turns, the most frequent first
+    - `executed`: if it is alive, the lines that it executed in its last turns, the most frequent first; else empty
     - `text`: the lines that `corewar why` prints
     """
 

@@ -13,7 +13,7 @@ from ..model.cells import cell_text
 from ..model.printing import COLOUR
 from .turns import Location, Turn, Write
 
-# How many of many texts are shown, and how many processes.
+# The maximum number of texts of a list that are shown, and of processes of a queue.
 MAX_LISTED, MAX_PROCESSES = 8, 20
 
 # The widths of the first columns of a list of cells: the mark, the address, the label and the cell.
@@ -24,7 +24,7 @@ COLOUR_CODES = (91, 94, 92, 93, 95, 96, 31, 34, 32, 33, 35, 36)
 
 
 def paint(number: int, text: str) -> str:
-    """A warrior's name in its colour."""
+    """Returns the name of a warrior in the colour of its number."""
     return f"\x1b[{COLOUR_CODES[number % len(COLOUR_CODES)]}m{text}\x1b[0m"
 
 
@@ -44,7 +44,9 @@ def pluralize(count: int, noun: str) -> str:
 
 
 def fitted(rows: Sequence[Sequence[str]], width: int) -> Iterator[str]:
-    """Returns rows of cells as lines, with narrow columns and a cut last one if they would be longer than a width."""
+    """Returns rows of cells as lines. If one would be longer than `width`, unless that is 0, the columns are as narrow as
+    possible, and the last one is cut.
+    """
     # A painted name has more letters than it shows.
     lengths = [[len(COLOUR.sub("", text)) for text in row] for row in rows]
     narrow = [max(column) for column in zip(*lengths)]
@@ -147,7 +149,7 @@ class BattleFormatter:
         return [self.head(turn), *(f"    {change}" for change in self.changes(turn))]
 
     def lines_with_source(self, turn: int) -> list[str]:
-        """Describes a turn as `lines`, also by the line of source of its instruction and the warrior that has it."""
+        """Describes a turn as `lines`, and by the line of source from which its instruction comes, if there is one."""
         line = self.sources.line(self.history, int(self.history.record(turn)["address"]), turn - 1)
         source = [f"    line {line.number} of {self.names[line.warrior]}: {line.text}"] if line else []
         return [*self.lines(turn), *source]

@@ -64,7 +64,7 @@ def fates(
 
 
 def lost_rounds(match: Match, warriors: Collection[int]) -> list[int]:
-    """Returns the rounds that one of some warriors did not win."""
+    """Returns the rounds that at least one of these warriors did not win."""
     given = {name: value for name, value in vars(match).items() if name != "seed"}
     survived = outcomes(**given, seeds=match.seed)["survived"][0]
     is_won = survived & (survived.sum(axis=1) == 1)[:, None]
@@ -129,7 +129,7 @@ def describe_losses(name: str, rounds: int, deaths: Sequence[Death]) -> Iterator
 
 
 def describe_ties(name: str, rounds: int, ties: Sequence[Tie]) -> Iterator[str]:
-    """Describes the ties of a warrior in a match in the same way."""
+    """Describes the ties of a warrior in a match, if there are any, as `describe_losses` does its losses."""
     if ties:
         yield f"{name} tied {len(ties)} of {pluralize(rounds, 'round')}:"
         head = f"executed in its last {LAST_TURNS} turns"

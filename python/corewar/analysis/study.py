@@ -22,7 +22,7 @@ from ..model.settings import Settings, settings_of
 from .formatting import BattleFormatter, pluralize
 
 COMPARING = [OPCODES.index(name) for name in ("SEQ", "SNE", "SLT", "JMZ", "JMN", "DJN")]
-# Lines need some 3 seconds for this number of turns.
+# The maximum number of turns, which take about 3 seconds.
 MAX_TURNS = 1_000_000
 # The most lines of a table, the most strides of a line, and the least share of a stride that is shown.
 MAX_ROWS, MAX_STRIDES, MIN_SHARE = 8, 2, 0.2
@@ -36,8 +36,8 @@ Accesses = NDArray[Any]
 
 @dataclass(frozen=True)
 class Access:
-    """A line that writes or compares cells: how many `times`, how many `cells` it reaches, `by` which turn, the
-    `strides` from one cell to the next, each with its share, and the line. A stride is None if none is frequent.
+    """A line that writes or compares cells: how many `times`, how many `cells` it reaches, `by` which turn all of
+    them, the `strides` from one cell to the next, each with its share, and the line. A stride is None if none is frequent.
     """
 
     times: int
@@ -76,7 +76,7 @@ class Study:
     - `turns`, `survives`: the number of turns that it makes, and whether it lives after them
     - `hit`: the first turn in which it hits itself, or None
     - `core`, `written`, `scanned`: the numbers of cells of the core, that it writes, and that it scans outside its code
-    - `writes`, `scans`: the lines that do so, those that reach the most cells first
+    - `writes`, `scans`: the lines that write and that scan, those that reach the most cells first
 
     Its text is what `corewar study` prints.
     """

@@ -30,7 +30,7 @@ ALL: Row = (EXECUTES, ADDRESS, 0, MAX_UINT32)
 class Condition:
     """A condition on a turn, and on a cell that it uses.
 
-    - `word`: `at`, `changes` or `reads`: the turn executes, changed or read the cell; `splits`, `ends` or `dies`: its
+    - `word`: `at`, `changes` or `reads`: the turn executed, changed or read the cell; `splits`, `ends` or `dies`: its
       warrior gained a process, lost one or died; `moves`: any turn. The last four are about the cell that it executed
     - `cells`: the first and the last address of the cell, around the end of the core if the last one is smaller
     - `of`: the warrior that changed the cell last, or that was loaded there
@@ -59,8 +59,8 @@ class Condition:
                 raise CorewarError(f"no opcode `{opcode}`; the opcodes are {', '.join(OPCODES)}")
 
     def rows(self, core: int) -> list[Row]:
-        """Returns the conditions of the library that its turn meets in a core of a size. Raises CorewarError if it has
-        no such cells.
+        """Returns the conditions of the library, all of which a turn must meet, for a core of this size. Raises
+        CorewarError if an address is outside the core.
         """
         for address in (*(self.cells or ()), *(self.origin or ())):
             if not 0 <= address < core:
@@ -79,7 +79,7 @@ class Condition:
         return rows + ([(way, event[0], event[1], event[1])] if event else [])
 
 
-# Conditions that one turn meets, those with the same word for the same cell.
+# Conditions that one turn must all meet; those with the same word are about the same cell.
 Joined = Sequence[Condition]
 
 
@@ -91,14 +91,14 @@ def by_warrior(warrior: int) -> Row:
 def find(
     history: History, rows: Sequence[Row], first: int = 0, last: int | None = None, forward: bool = True
 ) -> Iterator[Records]:
-    """Yields the turns after `first`, up to `last` or the end, that meet all conditions of the library: some at
-    once, in order, the latest ones first if it is not `forward`. They are arrays with the fields of `MarsFound`, whose
-    pasts are known only if a condition is about one.
+    """Yields the turns after `first`, up to `last` or the end, that meet all conditions of the library: an array
+    for each of the `spans`, the last span first if not `forward`. Each is in the order of the turns and has the fields
+    of `MarsFound`; its pasts are known only if a condition is about a past.
     """
     parts = spans(history, first, history.end if last is None else last)
     is_past_asked = any(OWNER <= number <= ORIGIN for _, number, *_ in rows)
     for start, end in parts if forward else reversed(parts):
-        # Without conditions on them, the pasts at the start do not matter.
+        # Without conditions on pasts, the pasts at the start do not matter.
         if is_past_asked:
             battle, pasts = history.followed(start)
         else:
@@ -109,7 +109,9 @@ def find(
 def places_in(
     history: History, joined: Joined, first: int = 0, last: int | None = None, forward: bool = True
 ) -> Iterator[Records]:
-    """Yields the places at which conditions hold, as `find` yields turns: numbers of executed turns."""
+    """Yields the places at which conditions hold, as `find` yields turns. A place is a number of executed turns: that of
+    the turn that meets the conditions or, for `at`, of the turn before it.
+    """
     rows = [row for one in joined for row in one.rows(history.core)]
     for found in find(history, rows, first, last, forward):
         # `at` is about the turn after the place.
@@ -125,7 +127,9 @@ def places(history: History, joined: Joined) -> Records:
 def search(
     history: History, conditions: Sequence[Joined], turn: int, forward: bool = True
 ) -> tuple[int, Joined] | None:
-    """Returns the first place after a turn at which one of some conditions holds, or the last one before it."""
+    """Returns the first place after a turn at which one of some conditions holds, with the condition; if not `forward`, the
+    last place before it; or None if there is none.
+    """
     span = (turn, history.end) if forward else (0, turn)
     for parts in zip(*(places_in(history, joined, *span, forward) for joined in conditions)):
         found = []
@@ -144,7 +148,9 @@ def last_change(history: History, address: int, turn: int) -> int | None:
 
 
 def last_copy(history: History, address: int, turn: int) -> int | None:
-    """Returns the last turn, up to this one, that copied the instruction of a cell there in place of another one."""
+    """Returns the last turn, up to this one, that copied to a cell the instruction that it has, in place of another one; or
+    None if there is no such turn.
+    """
     origin = int(history.pasts(turn)[address]["origin"])
     # A range whose end is below its start goes around.
     rows = [(CHANGES, ADDRESS, address, address), (CHANGES, ORIGIN, origin + 1, (origin - 1) & MAX_UINT32)]

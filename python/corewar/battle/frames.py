@@ -12,8 +12,8 @@ from .history import History
 
 @dataclass(frozen=True, eq=False)
 class Frame:
-    """The battle after `turn` turns. `addresses` are the cells that changed since the previous frame, in order, and
-    `writers` the warrior that changed each last, or BY_HAND.
+    """The battle after `turn` turns. `addresses` are the cells that changed since the previous frame, in order,
+    `writers` the warrior that changed each last, or BY_HAND, and `queues` the addresses of each warrior's processes.
     """
 
     turn: int
@@ -23,7 +23,9 @@ class Frame:
 
 
 def part_ends(first: int, last: int, count: int) -> list[int]:
-    """Returns the ends of `count` parts of the turns from `first` to `last`, or of fewer if there are fewer turns."""
+    """Returns `first` and the last turn of each of `count` parts of the turns up to `last`, or of fewer parts if there are
+    fewer turns.
+    """
     count = max(1, min(last - first, count))
     return [first + (last - first) * part // count for part in range(count + 1)]
 

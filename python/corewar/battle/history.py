@@ -107,7 +107,8 @@ class History:
         return [self._formatter.turn_of(turn) for turn in range(first, last + 1)]
 
     def find(self, *conditions: Condition) -> NDArray[np.int64]:
-        """Returns the turns, from 1, that meet all conditions, in order; the turns before those if one of them is `at`.
+        """Returns the numbers of the turns that meet all conditions, in order. If one of them is `at`, each number is one
+        less: that of the turn after which the cell is about to be executed, which may be 0.
 
         Conditions with the same word are about the same cell. Raises `CorewarError` without a condition, or if the core
         has no such cell.
@@ -119,7 +120,7 @@ class History:
 
     def born(self, turn: int, warrior: int | str, index: int = 0) -> tuple[list[int], int | None]:
         """Returns the turns in which a process and its ancestors were born, that of its own birth first; and the turn
-        after which an edit added the first of them, or None if it was loaded.
+        after which an edit added the earliest ancestor, or None if that was loaded.
 
         - `turn`: the turn after which it is in the queue, and after the edits made there
         - `warrior`: its warrior, by number, name or file
@@ -131,12 +132,12 @@ class History:
         return births_of(self.segments, turn, self.warrior(str(warrior)), index)
 
     def _load(self, module: str) -> Any:
-        """Returns a module of a higher folder, which itself imports this one."""
+        """Returns a module of the package that itself imports this one. It is loaded here to avoid a cycle of imports."""
         return import_module(f"corewar.{module}")
 
     @cached_property
     def _formatter(self) -> Any:
-        """What describes turns, with the sources."""
+        """The formatter that describes turns, with the sources of the warriors."""
         return self._load("analysis.formatting").BattleFormatter(self, self._load("battle.labels").Sources(self))
 
     def __getstate__(self) -> dict[str, Any]:
@@ -237,7 +238,9 @@ class History:
         return self._deaths[self._deaths["turns"] <= turn]
 
     def death(self, warrior: int) -> int | None:
-        """Returns the turn in which a warrior dies, or None if it survives. Raises `CorewarError` if there is none."""
+        """Returns the turn in which a warrior dies, or after which an edit kills it, or None if it survives. Raises
+        `CorewarError` if there is no such warrior.
+        """
         if not 0 <= warrior < len(self.names):
             raise CorewarError(f"the battle has warriors 0 to {len(self.names) - 1}")
         return next((int(turns) for number, turns in self._deaths.tolist() if number == warrior), None)
@@ -245,7 +248,7 @@ class History:
     def is_killed(self, warrior: int) -> bool:
         """Returns whether a warrior was killed by an edit, and not in a turn of its own."""
         turn = self.death(warrior)
-        # No turn has the number 0: it is the death of a warrior that an edit killed at the start.
+        # No turn has the number 0, so the death of a warrior in turn 0 is by an edit at the start.
         if turn is None or turn == 0:
             return turn == 0
         record = self.record(turn)
@@ -259,7 +262,9 @@ class History:
         return self.written(turn)[0]
 
     def written(self, turn: int) -> tuple[Owners, NDArray[np.int64]]:
-        """Returns the owner of each cell after a turn, as `owners`, and the turn that changed it last, or 0."""
+        """Returns the owner of each cell after a turn, as `owners`, and the turn that changed it last, or 0 if none did. For
+        a cell that an edit changed last it is the turn after which the edit was made.
+        """
         pasts = self.pasts(turn)
         return pasts["owner"].astype(np.uint8), pasts["turn"].astype(np.int64)
 

@@ -42,7 +42,7 @@ class Run:
                 marks, self.stride = marks[::2], 2 * self.stride
             battle.play(self.stride)
         self.marks = tuple(marks)
-        # The pasts at the marks that are known, and a battle with its pasts, which were requested last.
+        # The pasts at the marks for which they are known; and the battle and its pasts that were requested last.
         self._pasts: dict[int, Pasts] = {}
         self._latest: tuple[Battle, Pasts] | None = None
 
@@ -66,7 +66,9 @@ class Run:
         return bool(self._pasts)
 
     def follow_from(self, pasts: Pasts) -> None:
-        """Takes the pasts at the start, or those before the edit; the cells that it changed are changed manually."""
+        """Takes the pasts at the start. If the run starts with an edit they are those before it, and the cells that it
+        changed get the owner BY_HAND.
+        """
         start = pasts.copy()
         if self.before:
             changed = np.flatnonzero(self.before.cells != battle_of_words(self.marks[0]).cells)

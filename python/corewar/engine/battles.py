@@ -20,10 +20,10 @@ from .warriors import clamp_fields
 Words = NDArray[np.uint32]
 # The number of words before the cells.
 HEADER = 64
-# The number of turns of a call that returns records, touched cells or the turns that meet conditions, and the types of
-# the first two.
+# The maximum number of turns of a call that returns records, touched cells or the turns that meet conditions; and the
+# types of a record and of the touched cells of a turn.
 RECORDED_TURNS, ROWS = 65_536, ("MarsRecord", "MarsTouched")
-# The number of births that the first call for the ancestors of a process has places for.
+# The number of births for which `ancestors` first makes a buffer.
 BIRTHS = 1000
 # The size of the debugger's history in places, if none is given.
 HISTORY = 200_000
@@ -125,7 +125,7 @@ class Battle:
         call("mars_check", *self._slice())
 
     def play(self, turns: int | None = None, *, records: int = 0, touched: int = 0) -> tuple[Records, Records]:
-        """Executes turns, as many as are left at most.
+        """Executes turns until the battle is over, or until their number is reached.
 
         - `turns`: the number of turns, or None for all that are left
         - `records`: the maximum number of records to return, those of the first turns; a record has 120 bytes
@@ -135,7 +135,7 @@ class Battle:
         `CorewarError` for a negative number, and `MarsError` if something that was written to the battle is invalid.
         """
         before, wanted = self.turns, (check_size(records), check_size(touched))
-        # No battle has the greatest number of turns.
+        # No battle has as many turns as MAX_UINT32.
         left = MAX_UINT32 if turns is None else check_size(turns)
         parts: list[tuple[Records, Records]] = []
         while True:
@@ -153,14 +153,14 @@ class Battle:
         return recorded, seen
 
     def follow(self, pasts: Pasts, turns: int, conditions: Sequence[tuple[int, int, int, int]] = ()) -> Records:
-        """Executes turns, as many as are left at most, and keeps the past of each cell in place, as `mars_follow`.
+        """Executes turns as `play` does, and updates the past of each cell in place, as `mars_follow`.
 
-        - `pasts`: an array with the fields of `MarsPast` and a row for each cell
+        - `pasts`: an array with the fields of `MarsPast` and a row for each cell, as they are before these turns
         - `conditions`: the fields of each `MarsCondition`
 
         Returns the turns that meet all conditions, or none without conditions: an array with the fields of `MarsFound`.
-        Raises `MarsError` for a way or a number that does not exist, and if something that was written to the battle is
-        invalid.
+        Raises `MarsError` for a condition whose `way` or `number` does not exist, and if something that was written to
+        the battle is invalid.
         """
         asked, count = array("MarsCondition", len(conditions)), library()[0].new("uint32_t *")
         asked[:] = [*conditions]

@@ -112,8 +112,8 @@ def clamp(value: int, maximum: int = MAX_UINT32) -> int:
 
 
 def check_size(value: int) -> int:
-    """Returns a number of turns or records, or a value of ROUNDS or WARRIORS. Raises CorewarError if no argument of the
-    library can be that.
+    """Returns a number of turns or records, or a value of ROUNDS or WARRIORS, as it is given. Raises CorewarError if it
+    does not fit in 32 bits without a sign.
     """
     if not 0 <= value <= MAX_UINT32:
         raise CorewarError(f"expected a number from 0 to {MAX_UINT32}, not {value}")
@@ -121,10 +121,10 @@ def check_size(value: int) -> int:
 
 
 def settings_struct(settings: Settings, rounds: int = 1, seed: int = 1, position: int | None = None) -> Any:
-    """Returns the settings in the form that a call expects. There, 0 says of some that they are not given."""
+    """Returns the settings in the form that a call expects. There, 0 stands for one of OPTIONAL that is not given."""
     numbers = {**vars(settings), "rounds": rounds, "seed": seed, "position": position}
     given = {name: 0 if value is None else clamp(value) for name, value in numbers.items()}
-    # A 0 that is given is out of its range, but the library would take it for one that is not given.
+    # A 0 that the caller gives is out of the range, but the library would take it for a number that is not given.
     given |= {name: MAX_UINT32 for name in OPTIONAL if numbers[name] == 0}
     return library()[0].new("MarsSettings *", given)
 
@@ -141,7 +141,9 @@ def call(name: str, *given: Any) -> int:
 
 
 def read_text(room: int, fill: Callable[..., int]) -> bytes:
-    """Returns the text of a call. A buffer that is too short is replaced once."""
+    """Returns the text that a call writes. `room` is the size of the first buffer in bytes; if it is too short, the call
+    is made again with a buffer of the size that it asked for.
+    """
     length, buffer = library()[0].new("size_t *"), bytearray(room)
     if fill(*slice_of("uint8_t", buffer), length) == ROOM:
         buffer = bytearray(length[0])

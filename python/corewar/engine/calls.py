@@ -131,7 +131,7 @@ def match(
     count, sums = len(warriors), []
     size = TURNS // max(1, given.cycles * count)
     if rounds > size:
-        # The portions are computed from these two; each call checks the position.
+        # The portions are computed from the number of rounds and the seed; each call checks the position.
         check_numbers(given, rounds, seed, None)
         # Python raises Ctrl-C between two calls.
         for part in portions(numbers, count, size):
@@ -198,7 +198,7 @@ def rows(
     warriors: Sequence[Warrior],
     count: int,
 ) -> list[Row]:
-    """Returns the rows of a call."""
+    """Returns the rows of the call `name`, one for each of the first `count` warriors."""
     given, result = settings_of(settings), array("MarsRow", count)
     words = settings_struct(given, *numbers), *slice_of("uint8_t", encode_source(formula))
     call(name, *words, *warrior_arrays(warriors, given.core), *slice_of("MarsRow", result))

@@ -21,8 +21,8 @@ class Expired(BaseException):
 
 @contextmanager
 def deadline(limit: Limit) -> Iterator[None]:
-    """Raises `Overrun` in its block once this process has taken the seconds of a limit there. In a thread other than
-    the main one, which receives no signal, there is no limit.
+    """Raises `Overrun` in the `with` block once this process has taken the seconds of a limit there. Other threads than the
+    main one receive no signal, so they have no limit.
     """
     if threading.current_thread() is not threading.main_thread():
         yield
@@ -39,7 +39,7 @@ def deadline(limit: Limit) -> Iterator[None]:
 
 @contextmanager
 def timer(seconds: int) -> Iterator[None]:
-    """Sends the signal to the main thread once this process has taken the CPU time in its block."""
+    """Sends the signal to the main thread once this process has taken this CPU time in the `with` block."""
     if SIGNAL == signal.SIGTERM:
         clock = Clock(lambda: signal.raise_signal(SIGNAL), time.process_time() + seconds)
         try:

@@ -27,7 +27,7 @@ def replace_file(path: str | Path, data: bytes) -> None:
 
 
 def replace(path: Path, data: bytes) -> None:
-    """Writes a file beside another one, and then in its place. Raises OSError."""
+    """Writes the data to a new file in the same folder, which then replaces the file at `path`. Raises OSError."""
     if path.exists() and not os.access(path, os.W_OK):
         raise PermissionError(0, "read-only file")
     part = path.with_name(f".{secrets.token_hex(8)}.part")

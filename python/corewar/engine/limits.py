@@ -13,7 +13,8 @@ except ImportError:
     # Windows has no such limits.
     resource = None  # type: ignore[assignment]
 
-# Where the system says how much memory a process has, and what is taken for it in a chroot without that.
+# The file in which Linux says how much memory a process has; and the number of bytes that is assumed if there is no such
+# file, as in a chroot.
 STATM, MUCH_MEMORY = "/proc/self/statm", 4_000_000_000
 # The exit status of a process that took more than its CPU time, where the system does not end it by a signal.
 TOO_LONG = 124
@@ -74,6 +75,6 @@ def taken_memory() -> int:
 
 
 def lower_limit(kind: int, soft: int) -> None:
-    """Sets a soft limit of this process, as far as its hard one allows."""
+    """Sets a soft limit of this process, or the hard limit if that is lower."""
     hard = resource.getrlimit(kind)[1]
     resource.setrlimit(kind, (soft if hard == resource.RLIM_INFINITY else min(soft, hard), hard))

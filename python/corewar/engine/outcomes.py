@@ -20,12 +20,12 @@ from .parts import DISTANT_TURNS, TURNS, Stopped, run_parts
 from .rewards import cycles_of
 from .warriors import Warrior
 
-# What is known of a warrior in a round.
+# The fields of a warrior in a round, and those that are added if what it did is counted, as `outcomes` describes them.
 OUTCOME = np.dtype([("survived", "?"), ("turns", "u4"), ("cycles", "u4"), ("start", "u4")])
-# What it did, if that is counted.
 COUNTS = ("own_turns", "spawned", "executed", "written", "touched")
 COUNTED = np.dtype([*OUTCOME.descr, *((name, "u4") for name in COUNTS)])
-# The number of parts for each thread, so that all end at about the same time, and the maximum rows of one, 17 MB.
+# The number of parts for each thread, so that all threads end at about the same time; and the maximum number of rows of a
+# part, 17 MB.
 PARTS, MAX_ROWS = 4, 1 << 19
 # The maximum number of matches that are listed at a time, 20 MB of lineups.
 BLOCK = 1 << 18
@@ -125,7 +125,9 @@ def found_of(rows: Array, counts: bool, cycles: int, reduce: Callable[[Array], A
 
 @dataclass(frozen=True)
 class Run:
-    """What all matches have in common: also the number of warriors of each row, which is that of the longest lineup."""
+    """What all matches have in common. `width` is the number of warriors of the longest lineup: the results of each match
+    have as many columns.
+    """
 
     settings: Settings
     rounds: int
@@ -134,7 +136,7 @@ class Run:
 
 
 def turns_of(run: Run, table: Array) -> int:
-    """Returns the most turns of a round, of which one that is counted stands for several."""
+    """Returns the maximum number of turns of a round, times COUNTING if they are counted, since these take longer."""
     return run.settings.cycles * run.width * (COUNTING if table["counting"].any() else 1)
 
 
@@ -175,7 +177,9 @@ def run_lineups(
 
 
 def part_of(warriors: Sequence[Warrior], table: Array, width: int, is_here: bool) -> tuple[list[Warrior], Array]:
-    """Returns the warriors of some lineups, without their sources if they are sent, and the lineups of these."""
+    """Returns the warriors that occur in some lineups, and these lineups with the indices of the returned warriors. If the
+    part does not run in this process, the warriors have no sources, which would be sent in vain.
+    """
     indices = table["warrior"][:, :width]
     # An entry without a warrior has the index 0.
     used = np.flatnonzero(np.bincount(indices.ravel(), minlength=len(warriors)))
@@ -189,7 +193,9 @@ def part_of(warriors: Sequence[Warrior], table: Array, width: int, is_here: bool
 def play(
     warriors: Sequence[Warrior], table: Array, run: Run, finish: Callable[[Array], Array], stop: Event | None = None
 ) -> Array:
-    """Runs the matches of a table, and returns them finished. A single match may take long: it is run in portions."""
+    """Runs the matches of a table, and returns what `finish` makes of their rows. A table of one match, which may take
+    long, is run in portions, between which `stop` ends it.
+    """
     # The library rejects 0 by the same name as any number out of the range, and 0 rounds need no memory.
     rounds = run.rounds if 0 < run.rounds <= NUMBERS["rounds"].maximum else 0
     fixed, size = warrior_arrays(warriors, run.settings.core), TURNS // max(1, turns_of(run, table))

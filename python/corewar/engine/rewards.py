@@ -15,7 +15,7 @@ from .calls import encode_source
 
 @lru_cache(maxsize=None)
 def score_of(formula: str, warriors: int, survivors: int) -> int:
-    """Returns the points of each survivor of a round, 0 if there are none. Raises `MarsError`."""
+    """Returns the points of each survivor of a round, 0 without survivors. Raises `MarsError`."""
     points = library()[0].new("int64_t *")
     call("mars_score", *slice_of("uint8_t", encode_source(formula)), warriors, survivors, points)
     return int(points[0])
@@ -23,8 +23,8 @@ def score_of(formula: str, warriors: int, survivors: int) -> int:
 
 def values_of(formula: str, *counts: NDArray[Any]) -> list[int]:
     """Returns the points of each of 1, 2 .. survivors of a round; 0 for those that do not occur, for which a formula
-    needs no value. `counts` has for each number of survivors in how many rounds warriors were such; for two warriors
-    these are wins and ties. Raises `MarsError`.
+    needs no value. `counts` has an array for each number of survivors: in how many rounds each warrior was one of that
+    many. For two warriors these are the wins and the ties. Raises `MarsError`.
     """
     return [score_of(formula, len(counts), left) if many.any() else 0 for left, many in enumerate(counts, 1)]
 

@@ -76,7 +76,7 @@ def sums(
 ) -> list[Row]:
     """Returns the row of each warrior in matches of two, which are listed in blocks. Raises MarsError."""
     check_numbers(run.settings, run.rounds, seed, run.position)
-    # Without survivors the formula is only read: a wrong one is refused before the matches.
+    # Without survivors the formula is only read: an error in it is raised before the matches are run.
     score_of(formula, 2, 0)
     counts = np.zeros((len(warriors), 3), np.int64)
     for pairs in blocks:

@@ -1,1 +1,1 @@
-"""Plain values: settings, warriors, cells and errors. Nothing here calls the library; only its header is read."""
+"""Plain values: settings, cells, edits and errors. Nothing here calls the library; only its header is read."""

@@ -31,7 +31,7 @@ def make_distinct(names: list[str]) -> list[str]:
 
 
 def cut(text: str, width: int) -> str:
-    """Returns a text that has a width of 2 or more at most: the end of a longer one is cut."""
+    """Returns a text of at most `width` letters, which is 2 or more: a longer text is cut and ends in `..`."""
     return text if len(text) <= width else f"{text[: width - 2]}.."
 
 

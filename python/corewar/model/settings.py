@@ -100,5 +100,5 @@ LABELS = {"core": "core size", "longest": "max length", "distance": "min distanc
 
 
 def label(name: str) -> str:
-    """What the number of this name is called where results are shown."""
+    """Returns what the number of this name is called where results are shown."""
     return LABELS.get(name, name.replace("_", " "))

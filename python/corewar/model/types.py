@@ -19,5 +19,5 @@ Owners = NDArray[np.uint8]
 Indices = NDArray[np.intp]
 Numbers = NDArray[np.int64]
 Rates = NDArray[np.float64]
-# From what the starting positions of the matches of a contest follow.
+# What determines the starting positions of the matches of a contest, as `Contest` says.
 Positions = Literal["drawn", "same", "pmars", "all"]
