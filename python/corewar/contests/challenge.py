@@ -13,21 +13,22 @@ from .exact import strip_of
 from .matches import Matches
 from .standings import HEAD, NAMES, RATES, Standings, Sums, best_of, head_of, row_of
 
-# The width of a strip in a table, whose head fits into 80 columns, and the least one in a narrow terminal.
+# The width of a strip, which shows the points by distance as bars: in a table, so that its head fits into 80 columns, and
+# at least in a narrow terminal.
 STRIP, NARROW_STRIP = 24, 8
 
 
 @dataclass(frozen=True, eq=False)
 class Challenge(Standings):
-    """The results of a warrior against each of its opponents: `Standings` whose rows have an opponent, and the results
-    of the warrior in the match with it.
+    """The results of a warrior against each of its opponents: `Standings` with a row for each opponent, which has
+    the results of the warrior in the match with it; `warriors` are the opponents.
 
     - `challenger`: the warrior
     - `theirs`: the points of the opponents
     - `seeds`: the seeds of the matches
     - `total_error`: the standard error of the warrior's score in all matches
-    - `by_distance`: the warrior's mean points for each distance to each opponent, from the minimum distance on, if the
-      contest has every position, or None
+    - `by_distance`: the warrior's mean points for each distance to each opponent, from the minimum distance on; None
+      unless the positions of the contest are `all`
     """
 
     challenger: Warrior

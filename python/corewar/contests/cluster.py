@@ -11,7 +11,7 @@ from typing import Any
 
 from ..model.errors import CorewarError
 
-# The seconds after which the cluster is checked for workers.
+# The number of seconds between two checks whether the cluster has workers.
 CHECK_SECONDS = 5
 NO_PACKAGE = (
     f"--scheduler: {sys.executable} cannot import distributed; install Debian's python3-distributed, or with pip "
@@ -36,7 +36,7 @@ def report_absence(client: Any, end: Event) -> None:
 
 @contextmanager
 def cluster(address: str) -> Iterator[Executor]:
-    """Yields the workers of a Dask scheduler. What they have not run is dropped at the end. Raises CorewarError."""
+    """Yields the workers of a Dask scheduler. Matches that they have not run are dropped at the end. Raises CorewarError."""
     try:
         import distributed
     except ImportError:

@@ -14,7 +14,7 @@ from ..model.printing import printable
 from .standings import NAMES, freeze, head_of, names_of, rounded
 
 if TYPE_CHECKING:
-    # A contest has methods that return these.
+    # That module imports this one, since methods of a contest return comparisons.
     from .contest import Contest
 
 # The number of standard errors from which a change is more than chance.
@@ -31,7 +31,7 @@ class Comparison:
     - `opponents`: the opponents
     - `scores`: the points of each version against each opponent in each round
 
-    Both versions have the same positions in a round. Its text is the table that `corewar challenge --old` prints, and
+    Both versions have the same positions in a round, unless the positions of the contest are `pmars`. Its text is the table that `corewar challenge --old` prints, and
     `records` and `to_dict` are for programs.
     """
 

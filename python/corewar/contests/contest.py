@@ -58,7 +58,8 @@ class Execution:
 
     def check(self, contest: Terms) -> None:
         """Raises CorewarError if results of a contest cannot be stored."""
-        # The positions of `pmars -f` also follow from whether a source says CMP, by which no result is stored.
+        # The positions of `pmars -f` also depend on whether a source says CMP or SEQ, but stored results are found by cells,
+        # which are the same for both.
         if self.results is not None and contest.positions in ("pmars", "all"):
             raise CorewarError("results with the positions of `pmars -f`, or with every position, cannot be stored")
 
@@ -75,7 +76,7 @@ class Contest(Terms):
     - `seed`: the seed, 1 to 2,147,483,646
     - `position`: the address of the second of two warriors, or None to draw positions from the seed
     - `formula`: the score of each survivor of a round, as for `match`
-    - `positions`: from what the starting positions of each match follow:
+    - `positions`: what determines the starting positions of each match:
         - `drawn`: a seed of its own, which `seed` and its warriors determine, so that the matches are independent
         - `same`: `seed` itself, as in `mars --league`
         - `pmars`: the cells of its two warriors, as with `pmars -f`
@@ -146,8 +147,8 @@ class Contest(Terms):
         progress: Callable[[Progress], object] | None = None,
     ) -> Comparison:
         """Runs a match of each of two versions of a warrior with each opponent, all with the same seed, so that both
-        versions have the same positions. Raises `MarsError`, and `CorewarError` without an opponent and for errors of
-        an executor.
+        versions have the same positions; with the positions `pmars` each match has the seed of its own cells instead.
+        Raises `MarsError`, and `CorewarError` without an opponent and for errors of an executor.
         """
         if not opponents:
             raise CorewarError("expected 1 or more opponents")
@@ -172,7 +173,7 @@ class Contest(Terms):
         progress: Callable[[Progress], object] | None = None,
     ) -> Melee:
         """Runs matches of random warriors, whose numbers of matches differ by at most one. The seed draws the warriors
-        and the seed of each match. The first matches of a greater number are the same.
+        and the seed of each match. With more lineups, the first matches stay the same.
 
         - `size`: the number of warriors in a match, 2 to 16
         - `lineups`: the number of matches, 1 or more

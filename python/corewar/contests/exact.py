@@ -15,7 +15,7 @@ from ..engine.rewards import score_of
 from ..model.errors import MarsError
 from ..model.settings import Settings
 
-# Eight levels of a strip.
+# The bars of a strip, from the lowest level to the highest.
 LEVELS = "▁▂▃▄▅▆▇█"
 
 
@@ -27,7 +27,7 @@ def distances(settings: Settings) -> range:
 def battles_of(pairs: NDArray[np.intp], settings: Settings) -> tuple[NDArray[np.intp], NDArray[np.int64]]:
     """Returns a lineup of each pair for each battle, and the seeds that draw the positions."""
     room = len(distances(settings))
-    # A draw is never 0.
+    # The draw modulo `room` selects the distance. A draw is never 0, so `room` stands for it.
     seeds = np.array([seed_after(step or room, -1) for step in range(room)], np.int64)
     # If the second warrior begins, it is at address 0, and the first one where its distance leads to it.
     lineups = np.repeat(np.stack([pairs, pairs[:, ::-1]], axis=1), room, axis=1).reshape(-1, 2)

@@ -19,7 +19,7 @@ from ..model.errors import SCORE, CorewarError, MarsError
 from .results import Table
 
 if TYPE_CHECKING:
-    # Its methods run matches.
+    # That module imports this one, since methods of a contest run matches.
     from .contest import Contest
 
 
@@ -80,7 +80,7 @@ class Schedule:
     """
 
     TABLE: Table
-    # In which form results come here, from the rows of the library.
+    # Returns the form in which results are sent here for the rows of the library.
     finish: Callable[[NDArray[Any]], NDArray[Any]]
 
     def __init__(self, contest: Contest, warriors: Sequence[Warrior], lineups: Indices) -> None:
@@ -113,8 +113,9 @@ class Schedule:
         raise NotImplementedError
 
     def take_stored(self, stored: Iterator[tuple[Any, ...]]) -> int:
-        """Fills in what was stored. Returns how many matches are stored only with the warriors in the other order, in
-        results of no match of these. Raises CorewarError if the results cannot be those of a match.
+        """Fills in what was stored. Returns how many of these matches are not stored themselves, but with the warriors in
+        the other order, and that as the result of none of these matches. Raises CorewarError if the results cannot be
+        those of a match.
         """
         raise NotImplementedError
 
@@ -128,7 +129,7 @@ class Matches(Schedule):
         super().__init__(contest, warriors, pairs)
         self.counts: Numbers = np.zeros((len(pairs), 5), np.int64)
         self.finish = partial(counts_of, formula=contest.formula)
-        # An invalid warrior is named by its index.
+        # This runs no match, but raises the error of an invalid warrior with its index.
         play(warriors, table_of([], 1), contest.run(), np.asarray)
         both = [digests_of(warrior) for warrior in warriors]
         self.digests, self._older = [one for one, _ in both], [other for _, other in both]
@@ -167,7 +168,7 @@ class Matches(Schedule):
         counts = check_counts([row[3:] for row in found] or np.empty((0, 5)), len(found), self.contest)
         rows, reversed_rows = self.rows_of(pairs), self.rows_of(pairs[:, ::-1])
         self.fill_in(rows[rows >= 0], counts[rows >= 0])
-        # A warrior of which there are copies may be both before and after the same opponent.
+        # If equal warriors occur, one may be before an opponent and the other after it, so that both orders have a match.
         is_own = np.isin(indices[:, 0], indices[rows >= 0])
         reversed_rows = np.unique(reversed_rows[(reversed_rows >= 0) & ~is_own])
         return int((~self.is_fought[reversed_rows]).sum())

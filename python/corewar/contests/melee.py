@@ -23,7 +23,7 @@ from .results import Table
 from .standings import Standings, head_of
 
 if TYPE_CHECKING:
-    # Its methods run matches.
+    # That module imports this one, since methods of a contest run melees.
     from .contest import Contest
 
 
@@ -58,7 +58,9 @@ class Melee(Standings):
 
 
 def lineups_of(warriors: int, size: int, count: int, dice: random.Random) -> list[list[int]]:
-    """Returns random lineups, each of different warriors. Their numbers of lineups differ by at most one."""
+    """Returns random lineups, each of different warriors. The numbers of lineups that two warriors are in differ by at
+    most one.
+    """
     matches_of = [0] * warriors
     lineups = []
     for _ in range(count):
@@ -79,7 +81,7 @@ class Lineups(Schedule):
     def __init__(self, contest: Contest, warriors: Sequence[Warrior], size: int, count: int) -> None:
         lineups = np.array(lineups_of(len(warriors), size, count, random.Random(contest.seed)))
         super().__init__(contest, warriors, lineups)
-        # The first matches of more lineups are the same.
+        # The seed of a match depends only on its index, so that with more lineups the first matches stay the same.
         self.seeds = contest.seeds_of(*np.arange(2 * count, dtype=np.uint64).reshape(-1, 2).T)
         self.points = np.zeros(lineups.shape)
         # In how many rounds each warrior died, and was one of 1, 2 .. survivors.
@@ -142,6 +144,6 @@ def errors_of(indices: Indices, points: Rates, count: int) -> Rates:
     """
     matches, sums = np.bincount(indices, minlength=count), np.bincount(indices, points, count)
     with np.errstate(divide="ignore", invalid="ignore"):
-        # The matches of a warrior have other opponents, drawn as well as the rounds, so whole matches are compared.
+        # Opponents are drawn as well as rounds, so the error is computed from whole matches and not from rounds.
         spread = np.bincount(indices, (points - (sums / matches)[indices]) ** 2, count) / (matches - 1)
         return np.where(matches > 1, 100 * np.sqrt(spread / matches), np.nan)

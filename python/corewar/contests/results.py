@@ -34,7 +34,7 @@ Done = TypeVar("Done")
 
 @dataclass(frozen=True)
 class Table:
-    """The table of a kind of matches: its name, the digests by which one is known, and its results with their type."""
+    """The table of a kind of matches: its name, the digests by which a match is found, and its results and their type."""
 
     name: str
     digests: tuple[str, ...]
@@ -93,7 +93,7 @@ class Results:
                 raise CorewarError(f"{self.path}: invalid result: {fault}") from None
 
     def keep(self, rows: Indices) -> None:
-        """Stores the results of some rows."""
+        """Adds the results of some rows to those that wait, and writes all if the last time was a second ago or more."""
         self.new += ((self.contest, *one) for one in self.matches.stored(rows))
         if time.monotonic() - self.written >= WRITE_SECONDS:
             self.write()
@@ -115,7 +115,7 @@ class Results:
             try:
                 return function()
             except sqlite3.OperationalError as fault:
-                # The lowest byte is the error; an extended one has more.
+                # The lowest byte of an extended error code is the error itself.
                 if fault.sqlite_errorcode & 255 != sqlite3.SQLITE_BUSY or time.monotonic() > end:
                     raise
             if not is_shown:

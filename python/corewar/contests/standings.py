@@ -15,7 +15,7 @@ from ..model.types import Indices, Numbers, Rates
 from .matches import Matches
 
 if TYPE_CHECKING:
-    # A contest has methods that return these.
+    # That module imports this one, since methods of a contest return standings.
     from .contest import Contest
 
 HEAD = ("points", "wins", "ties", "losses")

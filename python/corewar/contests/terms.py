@@ -19,7 +19,7 @@ from ..model.settings import FORMULA, MAX_SEED, NUMBERS, Settings, settings_of
 from ..model.types import Indices, Numbers, Positions
 from .exact import distances
 
-# The numbers of the generator SplitMix64, which makes numbers of 64 bits that look random of any numbers.
+# The constants of the generator SplitMix64, whose numbers of 64 bits look random whatever its states are.
 MULTIPLIERS, SHIFTS = (0x9E3779B97F4A7C15, 0xBF58476D1CE4E5B9, 0x94D049BB133111EB), (30, 27, 31)
 
 
@@ -51,8 +51,8 @@ class Terms:
             raise CorewarError(f"expected the positions {', '.join(most)} or {last}, not {positions!r}")
         if position is not None and positions in ("pmars", "all"):
             raise CorewarError(f"a position and the positions {positions} exclude each other")
-        # The seeds of matches are made of this one. An invalid number, and a formula that is wrong or has no value for
-        # a win, are refused before hours of matches.
+        # An invalid number, and a formula that is wrong or has no value for a win, are rejected here and not after hours of
+        # matches. No match checks this seed, since the seeds of matches are made from it.
         check_numbers(self.settings, rounds, seed, position)
         score_of(formula, 2, 1)
         if positions == "all":
@@ -80,7 +80,7 @@ class Terms:
 
     @property
     def key(self) -> str:
-        """What matches of these settings are stored by."""
+        """The text by which results with these settings are found in a file."""
         return shlex.join([*self.words, *([f"--pair-seeds={self.seed}"] if self.has_seeds else [])])
 
     def run(self, width: int = 2) -> Run:
@@ -95,7 +95,9 @@ class Terms:
         return np.array([*map(seed_of_cells, matches)], np.int64)
 
     def seeds_of(self, first: NDArray[np.uint64], second: NDArray[np.uint64]) -> Numbers:
-        """Returns seeds of their own for matches, from the first 8 bytes of the digests of their two warriors."""
+        """Returns a seed for each match, from two numbers of each: the first 8 bytes of the digests of its two warriors or,
+        in a melee, numbers that no other match has.
+        """
         start = mixed(np.full(len(first), self.seed, np.uint64))
         return 1 + (mixed(mixed(start ^ first) ^ second) % np.uint64(MAX_SEED)).astype(np.int64)
 

@@ -7,7 +7,7 @@ from typing import NoReturn
 
 from ..model.errors import CorewarError
 
-# These enter their functions.
+# These modules enter their functions into ACTS when they are imported.
 from . import acts, looks  # noqa: F401
 from .session import Session
 from .table import ACTS, TABLE, command
@@ -69,7 +69,7 @@ def quit_debugger(session: Session, _: str) -> NoReturn:
     raise QuitDebugger
 
 
-# The reader of lines executes these two.
+# `Runner` in `prompt` executes these two; entering them makes them known to `help` and to completion.
 for name in ("source", "log"):
     command(name)(lambda *_: [])
 

@@ -17,7 +17,7 @@ FOLLOWING = (*WORDS["more"], "and")
 
 
 def read_conditions(session: Session, text: str) -> Joined:
-    """Returns the conditions of a text, which one turn meets. Raises CorewarError."""
+    """Returns the conditions of a text, all of which one turn must meet. Raises CorewarError."""
     rest, found, is_joined = text.split(), list[Condition](), True
     while rest:
         word = rest.pop(0)
@@ -47,7 +47,7 @@ def has_argument(session: Session, word: str, rest: list[str]) -> bool:
 
 
 def with_more(session: Session, condition: Condition, word: str, rest: list[str]) -> Condition:
-    """Returns a condition that also has what a word says. Removes its argument from the words that are left."""
+    """Returns a condition that also has what a word says. Removes the argument of that word from `rest`."""
     name = {"from": "origin"}.get(word, word)
     if not rest or getattr(condition, name) is not None:
         raise CorewarError(WORDS["expected"])

@@ -44,7 +44,7 @@ def find_in_rounds(session: Session, rest: str) -> Iterator[str]:
         session.tell(f"searched {number} of {pluralize(match.rounds, 'round')}")
         history = History(match, number)
         history.names = [names[(place + number - here) % len(names)] for place in range(len(names))]
-        # At the end no cell is the next one.
+        # After the last turn there is no next cell, so that `.` is refused as an address.
         other = Session(history, Sources(history), turn=history.end)
         wanted = read_conditions(other, renumbered(rest, here - number, len(match.warriors)))
         count, text = times(history, wanted, LISTED_IN_ROUND)

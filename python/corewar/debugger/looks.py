@@ -16,7 +16,7 @@ CELLS, AROUND, TURNS = 11, 7, 4
 
 
 def show_position(session: Session) -> Iterator[str]:
-    """The turn that led here, and what comes next."""
+    """Describes the turn that led here, unless this is the start, and what comes next."""
     if session.turn:
         yield session.formatter.turn(session.turn)
     yield session.formatter.next_turn(session.turn)

@@ -129,7 +129,7 @@ def run_prompt(session: Session, coloured: bool) -> None:
     """Reads lines at a prompt until the user quits."""
     session.paint = paint if coloured else session.paint
     session.width = lambda: get_terminal_size().columns
-    # A text replaces the one that the line has.
+    # Each text replaces the one before it in the same line of the terminal.
     session.tell = lambda text: print(f"\r\x1b[K{text}", end="", flush=True)
 
     def show(text: str) -> None:

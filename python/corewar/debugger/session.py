@@ -16,7 +16,7 @@ from ..model.edits import Edit
 from ..model.errors import CorewarError, MarsError
 from ..model.settings import whole
 
-# The most cells that one edit fills, as the debugger of the program has it.
+# The maximum number of cells that one edit fills, as in the debugger of `mars -e`.
 MAX_FILLED_CELLS = 1_000_000
 # A label in a line of source, as `bomb` or as `1.bomb`.
 LABEL = re.compile(r"(?<![\w.])(?:\d+\.)?[A-Za-z_]\w*")
@@ -89,7 +89,9 @@ class Session:
         return [f"after turn {turn}: {edit.text(history.core)}" for turn, edit in history.edits]
 
     def search(self, conditions: Sequence[Joined], forward: bool) -> Joined:
-        """Goes to the next place where one of the conditions holds, or to the one before."""
+        """Goes to the next place where one of the conditions holds, or to the last one before here, and returns the
+        condition. Raises CorewarError if there is no such place or no condition.
+        """
         if not conditions:
             raise CorewarError("no breakpoint is set; use `break CONDITION` or add a condition to this command")
         found = search(self.history, conditions, self.turn, forward)
@@ -121,7 +123,7 @@ class Session:
         return (at + sum(map(int, re.findall(r"[+-]\d+", found[2])))) % self.history.core
 
     def warrior(self, text: str) -> int:
-        """A warrior by its number, its name or its file."""
+        """Returns the number of a warrior, given by its number, name or file. Raises CorewarError if there is none."""
         return self.history.warrior(text)
 
     def cell(self, address: int, line: str) -> Cell:
@@ -131,7 +133,7 @@ class Session:
         addresses, words = self.sources.addresses_at(address), LABEL.findall(line)
 
         def distance(found: re.Match[str]) -> str:
-            """`1.bomb` as its distance, because no name of a source has a point."""
+            """Returns a label such as `1.bomb` as its distance, because no name of a source has a point."""
             is_label = "." in found[0] and found[0] in addresses
             return f"({addresses[found[0]] - address})" if is_label else found[0]
 

@@ -156,7 +156,7 @@ def prepare_rename(text: Text, params: Params) -> Any:
 
 @answers("rename")
 def rename(text: Text, params: Params) -> Any:
-    """Replaces a name everywhere if the load file stays the same."""
+    """Returns the edits that replace a name everywhere. Raises CorewarError unless the load file stays the same."""
     token, new = name_to_rename(text, params), params["newName"]
     check_name(text, new)
     found = text.names.same(token)

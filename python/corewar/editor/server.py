@@ -14,8 +14,8 @@ from .answers import ANSWERS, LEGEND, Params, diagnostic
 from .text import Error, Text
 from .wire import Message, Wire
 
-# Errors are looked for if nothing comes for this many seconds. A source is assembled within these limits, and what
-# else an answer takes has the same limit of time.
+# Errors are looked for once no message has come for this many seconds. A source is assembled within these limits, and
+# the rest of an answer has the same limit of time.
 IDLE_SECONDS, LIMIT = 0.05, Limit(2, 500)
 CAPABILITIES = {
     "textDocumentSync": {"openClose": True, "change": 1},
@@ -76,7 +76,7 @@ class Server:
         except CorewarError as refused:
             answer = {"error": {"code": FAILED, "message": str(refused)}}
         except Exception as error:
-            # The editor would lose its server by a mistake in one answer.
+            # A mistake in this package must not end the server.
             traceback.print_exc()
             answer = {"error": {"code": INTERNAL, "message": f"internal error: {error!r}"}}
         if "id" in message:
@@ -122,7 +122,7 @@ class Server:
             except Overrun as overrun:
                 found = [diagnostic(self.text(""), Error(str(overrun), []))]
             except Exception:
-                # Nor by one in the errors of one source.
+                # A mistake in this package must not end the server, here either.
                 traceback.print_exc()
                 continue
             params = {"uri": uri, "diagnostics": found}

@@ -13,8 +13,8 @@ except ImportError:
     # Windows has no such limits.
     resource = None  # type: ignore[assignment]
 
-# The file in which Linux says how much memory a process has; and the number of bytes that is assumed if there is no such
-# file, as in a chroot.
+# The file in which Linux says how much memory a process has; and the number of bytes that is assumed without that file,
+# as in a chroot.
 STATM, MUCH_MEMORY = "/proc/self/statm", 4_000_000_000
 # The exit status of a process that took more than its CPU time, where the system does not end it by a signal.
 TOO_LONG = 124

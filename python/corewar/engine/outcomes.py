@@ -24,8 +24,8 @@ from .warriors import Warrior
 OUTCOME = np.dtype([("survived", "?"), ("turns", "u4"), ("cycles", "u4"), ("start", "u4")])
 COUNTS = ("own_turns", "spawned", "executed", "written", "touched")
 COUNTED = np.dtype([*OUTCOME.descr, *((name, "u4") for name in COUNTS)])
-# The number of parts for each thread, so that all threads end at about the same time; and the maximum number of rows of a
-# part, 17 MB.
+# The number of parts for each thread, so that all threads end at about the same time; and the maximum number of rows of
+# a part, 17 MB.
 PARTS, MAX_ROWS = 4, 1 << 19
 # The maximum number of matches that are listed at a time, 20 MB of lineups.
 BLOCK = 1 << 18
