@@ -42,7 +42,7 @@ def check_address(context: click.Context, param: click.Parameter, given: str | N
 
 
 FILE = Output(dir_okay=False, writable=True)
-# Each job is a thread, of which a process cannot have any number.
+# Each job is a thread, and systems limit the number of threads of a process.
 MAX_JOBS = 1000
 # Where matches are run, and where their results are stored.
 EXECUTION_OPTIONS = [
@@ -112,8 +112,9 @@ def contest_options(rounds: int) -> Decorator:
 
 
 def entrants_of(options: BattleOptions, count: int = 2) -> tuple[Contest, list[Warrior], list[FileError]]:
-    """The contest, the warriors of the files for matches of `count`, in order, and the errors of the other files, which
-    are reported.
+    """Returns the contest, the warriors of the files, in order, and the errors of the other files, which are reported.
+
+    - `count`: the number of warriors in a match, the value of WARRIORS
     """
     contest, warriors, faults = options.contest, list[Warrior](), list[FileError]()
     with Assembler(options.limit) as assembler:
@@ -179,7 +180,7 @@ def league(options: BattleOptions, runner: MatchRunner, order: str, form: str, *
 
     The first warrior of a match is the one whose file is given earlier. A file with an error is reported and left out.
     """
-    # What is missing for its files is reported before hours of matches.
+    # If a module or the site is missing, this is reported here and not after hours of matches.
     if files["picture"]:
         from ..pictures.matrix import draw
     if files["pages"]:

@@ -37,7 +37,7 @@ class Reader:
         self.tokens, self.at = [*tokens, ""], 0
 
     def read(self) -> Tree | None:
-        """Returns the tree of the expression, or None if it has none."""
+        """Returns the tree of the expression, or None if the tokens are no expression."""
         try:
             tree = self.whole()
         except ValueError:
@@ -74,7 +74,7 @@ class Reader:
 
 
 class PmarsReader(Reader):
-    """Reads them as `eval` of pMARS does: an operator that was read too early is saved, and sometimes lost."""
+    """Reads the tokens of an expression as `eval` of pMARS does: an operator that was read too early is saved, and sometimes lost."""
 
     saved = ""
 
@@ -101,7 +101,7 @@ class PmarsReader(Reader):
             return tree
         right = self.part(own, right, following)
         tree = right if left is None else Binary(operator, left, right)
-        # Its number of `==` is 0, which pMARS takes for none that is saved.
+        # pMARS gives `==` the number 0, which also stands for no saved operator.
         if self.saved not in ("", "==") and PRECEDENCES[self.saved] >= bound:
             tree = self.part(other, tree, self.saved)
             self.saved = ""

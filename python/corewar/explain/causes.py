@@ -125,7 +125,9 @@ def empty(source: Source, _line: Line, _: Place | None) -> Iterator[Advice]:
 
 
 def operand(source: Source, line: Line, _: Place | None) -> Iterator[Advice]:
-    """An operand is empty if it is the name of an EQU without a text; there are too many in two instructions."""
+    """Says why operands are missing or too many: one is the name of an EQU without a text, or the line has an opcode
+    among its operands, and so two instructions.
+    """
     for token in line.operands:
         if token.upper() in OPCODES and token not in source.labels():
             yield cause_sentence("opcode name", word=token)
@@ -169,11 +171,11 @@ def joined(name: str, loops: list[Loop]) -> Advice:
 
 
 def taken(source: Source, line: Line, name: str, other: Line) -> Advice:
-    """Returns why a name is in an earlier line."""
+    """Returns why an earlier line already defines a name."""
     word = misspelt(source, other)
     equ = next((one for one in other.labels[1:] if most_similar(one, ["EQU"])), "")
     if not word and equ:
-        # The text that it should name has an opcode, so the line is an instruction.
+        # The text after the misspelt EQU begins with an opcode, so the line was read as an instruction.
         word = Misspelt.of("misspelt", word=equ, new="EQU")
     if word:
         return earlier(other.number, word)

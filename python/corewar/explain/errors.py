@@ -41,7 +41,7 @@ def errors_of(data: bytes, load: Callable[[bytes], object]) -> Iterator[tuple[Ma
         except MarsError as fault:
             sentences = explain_error(fault, text)
             if fault.end:
-                # The lines before it were replaced.
+                # The position is in `text`, in which earlier lines are replaced; it becomes the position in `data`.
                 before = text.count(b"\n", 0, fault.begin)
                 moved = sum(map(len, given[:before])) - sum(map(len, lines[:before]))
                 fault.begin, fault.end = fault.begin + moved, fault.end + moved
@@ -69,7 +69,7 @@ def errors_of(data: bytes, load: Callable[[bytes], object]) -> Iterator[tuple[Ma
 class Problem:
     """An error of a source.
 
-    - `line`: the number of the line, from 1, or 0
+    - `line`: the number of the line, from 1, or 0 if the error has no line
     - `error`: the error as `mars` prints it after the line, such as `2 Operation`
     - `source`: the text of the line
     - `advice`: sentences on what is wrong and what to do
@@ -135,7 +135,7 @@ def problems(
 
 
 def correct(lines: list[bytes], source: Source, misspelt: str) -> None:
-    """Writes EQU in place of a misspelt one, in all lines: what they name is used elsewhere."""
+    """Writes EQU in place of a misspelt one, in all lines that have it, since the names of these EQUs are used elsewhere."""
     for line in source.lines:
         if misspelt in line.labels[1:] and not line.unread:
             lines[line.number - 1] = re.sub(rf"\b{misspelt}\b", "EQU", line.code, count=1).encode()

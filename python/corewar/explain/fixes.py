@@ -99,7 +99,7 @@ def remove_asserts(source: Source, lines: list[str], _: Load) -> None:
 
 
 def comment_prose(source: Source, lines: list[str], _: Load) -> None:
-    """Makes a comment of text in a loop that is skipped, which begins a loop here and not in pMARS."""
+    """Makes a comment of each line of a skipped loop whose text begins a loop here but not in pMARS."""
     for line in source.lines:
         if line.skipped and line.word == "FOR" and len(line.labels) < 2 and not opens_in_pmars(line):
             lines[line.number - 1] = commented(lines[line.number - 1])
@@ -121,13 +121,15 @@ def compute_counts(source: Source, lines: list[str], load: Load) -> None:
 
 
 def bound_counts(source: Source, lines: list[str], load: Load) -> None:
-    """Writes 0 for each count below 0, as long as one is the error of the source."""
+    """Writes `(count)*((count)>0)` for each count below 0, which is then 0, as long as such a count is the error of the
+    source.
+    """
     for _number in range(MAX_COUNTS):
         try:
             load("\n".join(lines).encode("latin-1"))
             return
         except CorewarError as fault:
-            # A source may also cost too much.
+            # Assembling may also exceed a limit, which is no MarsError.
             if not isinstance(fault, MarsError):
                 return
             line = source.lines[fault.line - 1] if 0 < fault.line <= len(source.lines) else Line(0, "")
@@ -138,8 +140,8 @@ def bound_counts(source: Source, lines: list[str], load: Load) -> None:
 
 
 def value_of(source: Source, number: int, expression: str, load: Load) -> int | None:
-    """Returns the value of a count at a line, at least 0, or None. The instructions before it are replaced, since their
-    operands may have names that are defined later.
+    """Returns the value of a count at a line, at least 0, or None if it cannot be computed or is above MAX_ITERATIONS. The
+    instructions before it are replaced, since their operands may have names that are defined later.
     """
     before = [replaced(line, source, "") if line.word in OPCODES else line.text for line in source.lines[: number - 1]]
 
@@ -171,5 +173,5 @@ FIXES: list[Fix] = [
     compute_counts,
     bound_counts,
 ]
-# What this kit accepts, too.
+# The fixes of what this kit accepts, too, but reads in another way.
 READ_DIFFERENTLY = [obey_directives, take_lone_labels, write_version, write_seq, write_operands]

@@ -73,7 +73,7 @@ def explain_kind(kind: str, number: int, source: bytes, place: Place | None = No
     meaning = KINDS[kind]
     if place is None or place.number == number:
         return [meaning]
-    # It is in the definition of an EQU.
+    # The word at `place` is in the definition of an EQU, in another line than the error.
     lowered = meaning if meaning[1].isupper() else meaning[0].lower() + meaning[1:]
     return [earlier(place.number, Advice(lowered, place.word))]
 

@@ -65,7 +65,7 @@ class Expansion:
                 name = ""
 
     def tokens(self, tokens: Sequence[str]) -> list[str]:
-        """Returns at most as many tokens as an expression may have, and one more."""
+        """Returns tokens with these EQU names replaced: at most one token more than an expression may have."""
         left, found = [(token, 0) for token in reversed(tokens[: MAX_TOKENS + 1])], list[str]()
         while left and len(found) <= MAX_TOKENS:
             token, depth = left.pop()

@@ -40,7 +40,7 @@ CHECKED_ROWS = 35
 
 
 def check(function: Callable[[Source], Found]) -> Callable[[Source], Found]:
-    """Enters a function into the list."""
+    """Enters a function into CHECKS."""
     CHECKS.append(function)
     return function
 
@@ -184,7 +184,7 @@ def equates(source: Source) -> Found:
 def unused(source: Source) -> Found:
     used = {word for line in source.lines for word in line.uses}
     for line in [line for name, head in source.equates.items() if name not in used for line in source.equate(head)]:
-        # It has a word that is none, or that joins a name which is no counter.
+        # This kit rejects the text: a word is no token, or joins a name that is no counter.
         joined = {part for token in line.rest if NAME.match(token) for part in token.split("&")[1:]}
         joined -= {loop.counter for loop in source.loops_around(line.number)} if joined else set()
         if joined or any(map(NO_WORD.match, line.rest)):

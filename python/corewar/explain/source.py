@@ -80,7 +80,9 @@ class Line:
 
 @dataclass
 class Loop:
-    """A loop: the line of its FOR, its counter or nothing, and the number of the line of its ROF."""
+    """A loop: the line of its FOR, its counter or "", and the number of the line of its ROF; without a ROF, the number after
+    that of the last line.
+    """
 
     head: Line
     counter: str
@@ -97,11 +99,11 @@ class Source:
     loops: list[Loop]
 
     def read_lines(self) -> list[Line]:
-        """The lines that are read."""
+        """Returns the lines that are read."""
         return [line for line in self.lines if not line.unread and not line.skipped]
 
     def labels(self) -> dict[str, Line]:
-        """The first line of each label."""
+        """Returns the first line of each label."""
         found: dict[str, Line] = {}
         for line in self.read_lines():
             if line.word not in ("EQU", "FOR"):
@@ -114,7 +116,7 @@ class Source:
         return any(name in line.rest for line in self.lines)
 
     def equate(self, head: Line) -> list[Line]:
-        """The lines of an EQU: the first one, and those without a name that follow. Empty lines may be between them."""
+        """Returns the lines of an EQU: the first one, and those without a name that follow. Empty lines may be between them."""
         found = [head]
         for line in self.lines[head.number :]:
             if line.word == "EQU" and not line.labels:
@@ -161,7 +163,7 @@ def parse_line(number: int, text: str, names: dict[str, Line]) -> Line:
 
 
 def read_source(data: bytes) -> Source:
-    """Splits the lines of a source. Loops are read once."""
+    """Splits the lines of a source. Each line of a loop is read once, and not in each iteration."""
     texts = [text.decode("utf-8", "replace").rstrip("\r") for text in data.removesuffix(b"\n").split(b"\n")]
     first = next((number for number, text in enumerate(texts, 1) if re.match(r"\s*;redcode", text, re.I)), 1)
     source, open_loops, end, zeros = Source(data, [], {}, []), list[Loop](), 0, 0
@@ -221,7 +223,7 @@ def likeness(word: str, choice: str) -> float:
 
 def misspelt(source: Source, line: Line) -> Misspelt | None:
     """Returns a sentence on a word in place of an operation that is similar to one, lacks the space after it, or is one
-    of another dialect.
+    of another dialect; or None without such a word.
     """
     for word in [] if line.word in OPERATIONS else line.labels[:FIRST_WORDS]:
         if pair := glued(source, word):

@@ -6,7 +6,7 @@ from numpy.typing import NDArray
 
 from ..battle.history import History
 
-# Sixteen distinct ones, also for colour-blind people, the first two most and the first eight well.
+# Sixteen colours that colour-blind people can distinguish, too: the first two best, and the first eight well.
 COLOURS = (
     *("#d5480a", "#0a6fb8", "#0b5148", "#c080b8", "#e8960f", "#22a9ee", "#7a0f12", "#5c1896"),
     *("#f08a5d", "#5a8fd8", "#4f9a80", "#8a3f80", "#9a6a10", "#2f7f93", "#b28a6c", "#858b94"),

@@ -52,8 +52,8 @@ def canvas_of(core: int, columns: int, rows: int) -> Canvas:
 
 
 def values_of(history: History, turn: int) -> NDArray[np.int64]:
-    """Returns a number for each cell: 0 for none, that of its owner from 1, or that after all owners if one of its
-    processes is there.
+    """Returns a value for each cell: 0 without an owner, or 1 + the number of its owner; if a process is there, 1 + the
+    number of warriors + the number of the process's warrior.
     """
     count, owners = len(history.warriors), history.owners(turn).astype(np.int64)
     values = np.where(owners < count, owners + 1, 0)
@@ -64,7 +64,7 @@ def values_of(history: History, turn: int) -> NDArray[np.int64]:
 
 
 def styles_of(history: History) -> list[str]:
-    """Returns the colour of each value."""
+    """Returns the colour of each value of `values_of`, "" for 0."""
     colours = warrior_colours(history)
     parts = [[int(colour[at : at + 2], 16) for at in (1, 3, 5)] for colour in colours]
     light = [[round(part + (255 - part) * WHITE) for part in one] for one in parts]

@@ -26,7 +26,9 @@ OWNED, WRITTEN, EXECUTED = 0.3, 0.6, 1.0
 
 @dataclass(frozen=True)
 class View:
-    """The turns at which the rows of a picture end, the cells that it shows, and its number of columns."""
+    """The turn after which a picture begins and those at which its rows end, the cells that it shows, and its number of
+    columns.
+    """
 
     ends: list[int]
     cells: range

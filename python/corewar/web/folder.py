@@ -16,7 +16,7 @@ from ..model.settings import MAX_FILE_SIZE
 
 
 class ChangedOnDisk(CorewarError):
-    """Something else has changed a file; `seen` names its content."""
+    """Something else has changed a file; `seen` is the digest of its content now, or "" if there is no such file."""
 
     def __init__(self, name: str, seen: str) -> None:
         super().__init__(f"{name} has changed on disk; not overwritten")
@@ -68,9 +68,11 @@ class Folder:
         ]
 
     def save(self, name: str, text: str, seen: str) -> str:
-        """Saves a source to its file if that is as it was seen, or to a new file. Returns how its content is named.
+        """Saves a source to its file, or to a new one. Returns the digest of its content.
 
-        Raises ChangedOnDisk, `FileError` and CorewarError.
+        - `seen`: the digest of the content that the page has last seen, or "" for a new file
+
+        Raises ChangedOnDisk if the file has another content, `FileError`, and CorewarError for an invalid name or text.
         """
         # Invalid UTF-8 survives reading and saving.
         data = encode_source(text)
@@ -88,7 +90,7 @@ class Folder:
         # A pipe or a device could be read without end.
         if path.exists() and not path.is_file():
             raise CorewarError(f"{name} is not a regular file; not saved")
-        # The page was never sent more of a file.
+        # A larger file was never sent to the page, which cannot have seen its content.
         if path.exists() and path.stat().st_size > MAX_FILE_SIZE:
             raise CorewarError(f"{name} is larger than {MAX_FILE_SIZE} bytes; not saved")
         there = digest(path.read_bytes()) if path.exists() else ""

@@ -31,7 +31,7 @@ HEADERS = {
 }
 # The maximum size of a message: a source as JSON has at most six times its bytes, and a league has many sources.
 MAX_MESSAGE_SIZE = 64 << 20
-# Where the page finds out that there is a server, and what its browser keeps by.
+# The element by which the page finds out that there is a server, with the key by which its browser stores unsaved texts.
 META = '<meta name="corewar-server" content="api" data-key="{}">\n<title>'
 
 
@@ -110,7 +110,7 @@ class Handler(BaseHTTPRequestHandler):
 
     def _send_file(self, name: str) -> None:
         path = self.served.site / name
-        # Unlike that of a path, this `isfile` accepts a name that is too long.
+        # Unlike `Path.is_file`, this raises no error for a name that is too long.
         if path.parent != self.served.site or path.suffix not in TYPES or not os.path.isfile(path):
             return self._refuse(404, "not found")
         body = path.read_bytes()
@@ -119,7 +119,7 @@ class Handler(BaseHTTPRequestHandler):
         self._send(200, body, TYPES[path.suffix])
 
     def _handle(self, act: Callable[[dict[str, Any]], None]) -> None:
-        """Calls a function with the message of the request. Its errors are answers."""
+        """Calls a function with the message of the request. If the function raises an error, that is the answer."""
         length = self.headers.get("Content-Length", "")
         # Python reads no number of thousands of digits.
         if not length.isdecimal() or len(length) > 10 or int(length) > MAX_MESSAGE_SIZE:
