@@ -56,7 +56,7 @@ class Commands(Command, click.Group):
         if words[:1] == ["help"]:
             words = [*words[1:2], "--help"]
         if not words and not context.resilient_parsing:
-            # It fits into the 24 lines of a small terminal.
+            # This short help fits into the 24 lines of a small terminal.
             formatter = context.make_formatter()
             self.format_usage(context, formatter)
             self.format_commands(context, formatter)

@@ -56,14 +56,16 @@ class BattleOptions:
         )
 
     def everywhere(self) -> BattleOptions:
-        """The same options for matches from every position. Raises an error of click for options that draw some."""
+        """Returns the same options for matches from every position. Raises an error of click for options that draw some."""
         drawing = ("rounds", "seed", "position", "results", "same_seed", "pmars_position", "pmars_fixed")
         if given := options_given(*drawing):
             raise click.UsageError(f"--positions all and {given[0]} exclude each other")
         return replace(self, positions="all")
 
     def match(self) -> Match:
-        """The match of the files. Each file is read once. Raises FileError."""
+        """Returns the match of the files, each of which is read once. Raises FileError, and an error of click if the
+        number of files does not fit.
+        """
         self.check_pmars(len(self.files))
         if len(self.files) > MAX_WARRIORS:
             advice = "`corewar league` and `corewar melee` take more"
@@ -82,8 +84,8 @@ class BattleOptions:
 
 
 class Output(click.Path):
-    """A file or a folder to write. Its name isn't empty, and a file may be written: the folder exists and accepts a new
-    one.
+    """A file or a folder to write. Its name is not empty. A file can be written: it exists and is not read-only, or its
+    folder exists and accepts a new file.
     """
 
     def convert(self, value: Any, param: click.Parameter | None, context: click.Context | None) -> Any:
@@ -105,7 +107,7 @@ INPUT = click.Path(readable=False)
 
 def warriors_before(context: click.Context) -> Iterator[Warrior]:
     """Yields the warriors of the files before the cursor, for completion."""
-    # Click doesn't read on at an option that still lacks its value.
+    # If the option before the cursor lacks its value, click has not read the files as such; they are in `args`.
     for file in context.params.get("files") or context.args:
         try:
             yield read_warriors([file], HILLS[context.params.get("hill") or "94nop"])[0]
@@ -176,7 +178,7 @@ def expand_folders(files: Sequence[str]) -> Iterator[str]:
 
 
 class LimitType(click.ParamType):
-    """S or S,MB."""
+    """The limits for assembling a source: S, the seconds, or S,MB with the megabytes."""
 
     name = "S[,MB]"
 
@@ -201,7 +203,7 @@ def with_options(*options: Decorator) -> Decorator:
 
 
 def number_option(name: str, group: str, **how: Any) -> Decorator:
-    """The option of a number, with its range."""
+    """Returns the option of a number, whose help has its range."""
     number = NUMBERS[name]
     words = {number.word, f"--{name.replace('_', '-')}"}
     text = f"{number.meaning[0].upper()}{number.meaning[1:]}, {number.range}"
@@ -291,7 +293,9 @@ def core_options(command: Callable[..., Any]) -> Callable[..., Any]:
 
 
 def positions_of(settings: Settings, position: int | None, fixed: bool) -> dict[str, Any]:
-    """Returns the options that select the positions of pMARS. Raises an error of click."""
+    """Returns the values of BattleOptions that select the positions of pMARS: its options as `pmars`, or "" without them,
+    and the seed or the position. Raises an error of click.
+    """
     given = options_given("seed", "position", "pmars_position", "pmars_fixed")
     if len(given) > 1 and (fixed or position is not None):
         raise click.UsageError(f"{' and '.join(given)} exclude each other")

@@ -24,7 +24,7 @@ EDITS = ("edit", "fill", "move", "kill", "spawn")
 
 
 def output_options(kind: Output, usual: str) -> tuple[Decorator, Decorator]:
-    """The options that name the file to write."""
+    """Returns the options that name the file to write, `usual` by default."""
     return (
         click.option("-o", "--output", type=kind, help=f"File to write, overwritten if it exists  [default: {usual}]"),
         click.option("--force", is_flag=True, help=f"Overwrite {usual} without -o"),
@@ -32,14 +32,16 @@ def output_options(kind: Output, usual: str) -> tuple[Decorator, Decorator]:
 
 
 def frame_ends(history: History, first: int, turns: int | None, count: int) -> list[int]:
-    """The turns at which `count` frames of a part of a battle end."""
+    """Returns the turn before a part of a battle, which begins with `first`, and the turns at which its frames end: `count`
+    of them, or fewer if it has fewer turns.
+    """
     checked_turn(first, max(1, history.end), "--from")
     last = history.end if turns is None else min(history.end, first - 1 + turns)
     return part_ends(first - 1, last, count)
 
 
 def output_file(output: str | None, usual: str, force: bool) -> str:
-    """The file to write. Raises FileError if it is the usual one, which exists and may not be overwritten."""
+    """Returns the file to write. Raises FileError if it is the usual one, which exists and may not be overwritten."""
     if output is None and os.path.exists(usual) and not force:
         raise FileError(usual, "already exists; use --force to overwrite it or -o to name another file")
     return output or usual
@@ -83,7 +85,7 @@ def picture(
 
 
 def cells_of(text: str | None, core: int) -> range:
-    """The cells of `A-B`, or the whole core."""
+    """Returns the cells of `A-B`, or the whole core for None. Raises an error of click."""
     first, _, last = (text or f"0-{core - 1}").partition("-")
     low, high = whole(first), whole(last)
     if low is None or high is None or not low <= high < core:
@@ -128,7 +130,9 @@ def page(options: BattleOptions, turn: int, edits: tuple[str, ...], output: str 
 
 
 def edited(history: History, texts: Sequence[str]) -> History:
-    """Makes the edits in the order of their turns. Each has to be possible after the ones before it."""
+    """Returns the history with the edits, which are made in the order of their turns. Raises an error of click if one is
+    impossible after the ones before it.
+    """
     session = Session(history, Sources(history))
     for turn, line in sorted(map(split_edit, texts), key=itemgetter(0)):
         session.go(turn)

@@ -1,4 +1,4 @@
-"""Reports errors on standard error."""
+"""Writes results to standard output, and errors to standard error."""
 from __future__ import annotations
 
 import json

@@ -36,7 +36,7 @@ def progress(total: int, what: str, done: int = 0) -> Iterator[Callable[[int], N
 
 
 class Waiting(ExitStack):
-    """Shows the progress of a contest by a bar on a terminal."""
+    """Shows the progress of a contest by a bar on a terminal, in units called `what`, each of `scale` matches."""
 
     def __init__(self, what: str = "matches", scale: int = 1) -> None:
         super().__init__()

@@ -40,7 +40,9 @@ GAP, LINES = "   ", 3
 
 @dataclass
 class Show:
-    """A round that is watched: the turn that is shown, in which direction it moves, and how many turns in a second."""
+    """A round that is watched: the turn that is shown, whether it moves forwards (1), backwards (-1) or not (0), and how
+    many turns it moves in a second; 0 stands for the rate at which the battle takes SECONDS.
+    """
 
     match: Match
     history: History
@@ -76,7 +78,7 @@ class Show:
             self.go(0)
 
     def text(self) -> Fragments:
-        """The screen: the title, the core, the warriors, the turn in words and the keys."""
+        """Returns the screen: the title, the core, the warriors, the turn in words and the keys."""
         self.advance()
         size, history = get_app().output.get_size(), self.history
         state = {1: "▶", -1: "◀", 0: "■"}[self.way]
@@ -114,7 +116,7 @@ def wrapped(parts: Sequence[str], gap: str, columns: int) -> list[str]:
 
 
 def keys_of(show: Show) -> KeyBindings:
-    """What the keys do, as on the site."""
+    """Returns what the keys do, as on the site."""
     bindings = KeyBindings()
     acts: dict[str, Callable[[], object]] = {
         " ": lambda: show.go(show.turn, 0 if show.way else 1),

@@ -13,8 +13,8 @@ from .exact import strip_of
 from .matches import Matches
 from .standings import HEAD, NAMES, RATES, Standings, Sums, best_of, head_of, row_of
 
-# The width of a strip, which shows the points by distance as bars, in a table, so that its head fits into 80 columns; and
-# the least width in a narrow terminal.
+# A strip shows the points by distance as bars. Its width in a table, so that the head of that fits into 80 columns, and
+# its least width in a narrow terminal.
 STRIP, NARROW_STRIP = 24, 8
 
 

@@ -135,7 +135,7 @@ def problems(
 
 
 def correct(lines: list[bytes], source: Source, misspelt: str) -> None:
-    """Writes EQU in place of a misspelt one, in all lines that have it, since the names of these EQUs are used elsewhere."""
+    """Writes EQU in place of a misspelt one, in all lines that have it, since the names that they define are used."""
     for line in source.lines:
         if misspelt in line.labels[1:] and not line.unread:
             lines[line.number - 1] = re.sub(rf"\b{misspelt}\b", "EQU", line.code, count=1).encode()

@@ -80,8 +80,8 @@ class Line:
 
 @dataclass
 class Loop:
-    """A loop: the line of its FOR, its counter or "", and the number of the line of its ROF; without a ROF, the number after
-    that of the last line.
+    """A loop: the line of its FOR, its counter or "", and the number of the line of its ROF; without a ROF, one more than
+    the number of lines.
     """
 
     head: Line

@@ -31,7 +31,7 @@ HEADERS = {
 }
 # The maximum size of a message: a source as JSON has at most six times its bytes, and a league has many sources.
 MAX_MESSAGE_SIZE = 64 << 20
-# The element by which the page finds out that there is a server, with the key by which its browser stores unsaved texts.
+# The element by which the page finds out that there is a server, with the key by which browsers store unsaved texts.
 META = '<meta name="corewar-server" content="api" data-key="{}">\n<title>'
 
 
