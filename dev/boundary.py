@@ -2,8 +2,8 @@
 64 bits.
 
 On such a machine a call only passes its arguments on. On a machine with addresses of 32 bits, a length that is returned
-is narrowed. On a big-endian machine each argument is turned: what is constant into a copy, everything else where it is,
-before the call and after it. packaging/portable/calls.c has the macros.
+is narrowed. On a big-endian machine the bytes of each number that an argument points to are turned, which means put in the
+other order: those of a constant argument in a copy, all others in place, before the call and after it. packaging/portable/calls.c has the macros.
 """
 from __future__ import annotations
 
@@ -12,13 +12,13 @@ from collections.abc import Iterator
 from dataclasses import dataclass
 
 SIZES = {"uint8_t": 1, "uint16_t": 2, "uint32_t": 4, "int32_t": 4, "uint64_t": 8, "int64_t": 8}
-# The name of words that are a battle, in which some words are four bytes.
+# The name of the parameters whose words are a battle: some of these words are four numbers of one byte.
 BATTLE = "battle"
 
 
 @dataclass
 class Parameter:
-    """A parameter of a call; `count` is the number of values that it points to, in C."""
+    """A parameter of a call; `count` is the number of values that it points to, as an expression in C."""
 
     type: str
     name: str

@@ -37,7 +37,7 @@ def without_each(text: str) -> Iterator[Dropped]:
 
 
 def factors_in(text: str, start: int, end: int) -> Iterator[tuple[int, int, str]]:
-    """Yields each factor of the products in a part of a text: where it starts and ends, with the sign beside it."""
+    """Yields each factor of the products in a part of a text, and where it starts and ends with a `×` beside it."""
     for first, last in split(text, start, end, r"[⊎→]|=(?= |\n)|\n(?=\w)| in |(?<=\w)\. "):
         parts = list(split(text, first, last, "×"))
         values = [bool(VALUE.match(text[a:b].strip())) for a, b in parts]
@@ -55,7 +55,7 @@ def factors_in(text: str, start: int, end: int) -> Iterator[tuple[int, int, str]
 
 
 def split(text: str, start: int, end: int, sign: str) -> Iterator[tuple[int, int]]:
-    """Yields the parts of a part of a text between signs that no parentheses enclose."""
+    """Yields where each piece of `text[start:end]` starts and ends, between the signs that no parentheses enclose."""
     depth, last = 0, start
     for found in re.compile(rf"[(\[{{]|[)\]}}]|{sign}").finditer(text, start, end):
         if found[0] in "([{":

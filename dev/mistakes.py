@@ -42,7 +42,7 @@ class Mistake:
 
 
 def mistakes_of(crate: str) -> Iterator[Mistake]:
-    """Returns the mistakes of a crate's list."""
+    """Yields the mistakes of a crate's list."""
     with open(os.path.join(LISTS, crate)) as file:
         blocks = re.split(r"\n\s*\n", file.read())
     for block in blocks:

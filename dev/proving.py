@@ -84,7 +84,7 @@ def up_to_date(lines: dict[str, list[str]]) -> set[str]:
 
 
 def builder_of(library: str) -> str | None:
-    """Returns the line of a library with the build of the prover that wrote it."""
+    """Returns the line of a folder of statements that names the build of the prover that wrote it, or None."""
     with open(os.path.join(library, "format"), errors="replace") as file:
         return next((line for line in file if line.startswith("rattle-build ")), None)
 
@@ -152,7 +152,7 @@ class FromScratch:
         os.makedirs(os.path.dirname(output), exist_ok=True)
         tools = f"{self.kit}/toolchain"
         if name == LIBRARY:
-            # The clang that keeps the module replaces only a smaller one.
+            # The clang that keeps the module replaces only a smaller one, and an older module may be larger.
             if os.path.exists(MODULE):
                 os.remove(MODULE)
             with tempfile.TemporaryDirectory() as room:

@@ -37,7 +37,7 @@ def make_room(folder: str, lines: dict[str, list[str]]) -> None:
 
 
 def write_new(path: str, text: str) -> None:
-    """Replaces a file of a room, which may be a link to that of the repository."""
+    """Replaces a file of a room. It may be a link to a file of the repository, which stays as it is."""
     if os.path.exists(path):
         os.remove(path)
     os.makedirs(os.path.dirname(path), exist_ok=True)

@@ -39,7 +39,7 @@ TABLE, ELEMENTS = 4, 9
 
 
 def for_webassembly(text: str) -> str:
-    """The text of a module of x86-64 as one of wasm64."""
+    """Returns the text of a module of x86-64 as one of wasm64."""
     text = re.sub(r"^target datalayout = .*", f'target datalayout = "{LAYOUT}"', text, flags=re.M)
     text = re.sub(r"^target triple = .*", f'target triple = "{TARGET}"', text, flags=re.M)
     small = rf'(?:"(?:{SMALL})::|mars_(?!{FAST})).*'
@@ -49,7 +49,7 @@ def for_webassembly(text: str) -> str:
 
 
 def with_narrow_table(code: bytes) -> bytes:
-    """The module with 32-bit limits of its table, which is empty: Debian's binaryen reads no others."""
+    """Returns the module with 32-bit limits of its table, which is empty: Debian's binaryen reads no others."""
     code, at = bytearray(code), 8
 
     def number(at: int) -> tuple[int, int]:

@@ -43,7 +43,7 @@ FORMS = {
 FORM = re.compile("|".join(rf"(?P<f{number}>\b(?:{form})\b)" for number, form in enumerate(FORMS)), re.I)
 WANTED = list(FORMS.values())
 
-# The part of a text, its line, and the text.
+# A piece of prose: the name of its part, as above, its first line in the file, and the text.
 Piece = tuple[str, int, str]
 PYTHON = re.compile(r"#!.*python")
 JAVASCRIPT_TEXT = re.compile(r"([\"'`])((?:\\.|(?!\1)[^\\\n])*)\1")
