@@ -102,7 +102,7 @@ def has_wasm() -> bool:
 
 @lru_cache(maxsize=None)
 def node() -> subprocess.Popen[str]:
-    """Returns the process that executes turns in mars.wasm, one for each process that asks."""
+    """Returns the process that executes turns in mars.wasm. Each process of this script starts its own."""
     return subprocess.Popen(["node", SCRIPT, WASM], stdin=subprocess.PIPE, stdout=subprocess.PIPE, text=True)
 
 

@@ -30,7 +30,7 @@ def random_cell(dice: random.Random, core: int) -> Value:
 
 
 def random_parameters(dice: random.Random) -> Value:
-    """Returns parameters of a small battle, of which half have limits."""
+    """Returns parameters of a small battle. Half of the time it has a read limit and a write limit."""
     core = dice.choice([1, 2, 3, 5, 8, 8, 13, 20, 40])
     limits = [core, core] if dice.random() < 0.5 else [dice.randint(1, core) for _ in range(2)]
     longest = dice.randint(1, core)

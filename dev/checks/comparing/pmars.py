@@ -15,7 +15,7 @@ from .comparison import Comparison
 from .contests import random_fighters
 from .library import TOP
 
-# Where dev/bench/pmars leaves it for the tests. That of Debian's package opens a window, and debugs nothing.
+# The pMARS that `dev/bench/pmars build/pmars` builds. The one in Debian's package opens a window, and has no debugger.
 PMARS = os.path.join(TOP, "build", "pmars", "pmars")
 PAGE = 15
 # A run that takes longer hangs, as pMARS does for some values of expressions.
@@ -23,7 +23,7 @@ SECONDS = 5
 CELL = re.compile(r"(\d{5})   (?:([A-Z]{3})\.([A-Z]{1,2}) *(\S) *(-?\d+), (\S) *(-?\d+))?")
 MODES = {"#": "Immediate", "$": "Direct", "*": "AIndirect", "@": "BIndirect"}
 MODES |= {"{": "APredecrement", "<": "BPredecrement", "}": "APostincrement", ">": "BPostincrement"}
-# The lives of two warriors at the end, and how pMARS counts wins of each and ties.
+# The line of pMARS, the wins of each warrior and the ties of one round, by which of the two live at its end.
 RESULTS = {(True, False): "1 0 0", (False, True): "0 1 0", (True, True): "0 0 1"}
 
 
@@ -85,7 +85,7 @@ class Round:
         return tuple(cells.get(address) for address in range(self.core)), int(following[1]) if following else None
 
     def result(self) -> str:
-        """Returns its line of wins and ties."""
+        """Returns the line of pMARS with the wins of each warrior and the ties, or `no line` if it prints none."""
         found = re.search(r"^Results: (\d \d \d)$", self.run("-b"), re.M)
         return found[1] if found else "no line"
 
@@ -102,7 +102,7 @@ def reads_itself_changed(definitions: Evaluator, state: Value) -> bool:
 
 
 def compare_pmars(definitions: Evaluator, dice: random.Random) -> Iterator[Comparison]:
-    """The core after some turns of two random warriors, and who survives, as long as pMARS means the same."""
+    """The core after some turns of two random warriors, and who survives, up to a turn that pMARS executes differently."""
     core, longest = dice.choice([8, 12, 20, 41]), dice.choice([1, 2, 4])
     bounds = {"core_size": core, "processes": dice.choice([1, 2, 8]), "cycles": dice.choice([5, 30])}
     bounds |= {"read_limit": core, "write_limit": core, "max_length": longest, "distance": longest}

@@ -54,7 +54,7 @@ def parameters(definitions: Evaluator, settings: Value) -> Value:
 
 
 def with_refusal(name: str, result: Value) -> Value:
-    """Returns a result whose error is a refusal."""
+    """Returns a result, whose error, if it is one, becomes the refusal of this name."""
     return ("Err", (name, result[1])) if result[0] == "Err" else result
 
 
