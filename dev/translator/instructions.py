@@ -29,12 +29,13 @@ PLAIN = {
     "urem": "%",
 }
 OF_SIGNED = {"sdiv": "/", "srem": "%"}
-# Memory of at most this size is copied and cleared as a value, which more compilers keep in registers.
+# Memory of at most this number of bytes is copied and cleared as a value, which more compilers keep in registers.
 MAX_BLOCK = 256
 
 
 class Instructions(Values):
-    """Translates instructions one by one. `blocks` are the sizes of memory that is copied or cleared as a value."""
+    """Translates instructions one by one. `blocks` are the sizes, in bytes, of memory that is copied or cleared as a value.
+    """
 
     def __init__(self, text: str, exports: list[str]) -> None:
         super().__init__(text, exports)
@@ -177,7 +178,7 @@ class Instructions(Values):
                 b = ""
             return kind, f"{what}128({a}{', ' if b else ''}{b})"
         if what in PLAIN:
-            # Smaller integers than int are promoted to it, and the type drops what is above.
+            # C promotes integers that are smaller than int; the cast to their type drops the bits above.
             mask = " & 1" if kind == "i1" and what in ("add", "sub", "mul") else ""
             small = "(u32)" if kind in ("i8", "i16") else ""
             return kind, f"({self.type_of(kind)})({small}{a} {PLAIN[what]} {b}){mask}"
@@ -191,7 +192,7 @@ class Instructions(Values):
         return found[1], f"insert_{kind}({self.value(found[1], found[2])}, {self.value('i8', found[3])}, {found[4]})"
 
     def do_shufflevector(self, text: str) -> tuple[str, str]:
-        """A splat of the first element, or a part of one vector."""
+        """Translates two forms: a vector whose elements all are the first one of another, and 16 elements of one of 64."""
         found = self.match(rf"(<(\d+) x i8>) ({VALUE}), \1 zeroinitializer, <(\d+) x i32> (zeroinitializer|<.*>)", text)
         value, kind = self.value(found[1], found[3]), f"<{found[4]} x i8>"
         if found[5] == "zeroinitializer" and kind == found[1]:

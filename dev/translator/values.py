@@ -55,7 +55,7 @@ class Values(Module):
             at += size
 
     def value(self, kind: str, text: str) -> str:
-        """Returns a value of a type in C."""
+        """Returns the expression of C for a value of a type of the module."""
         if text.startswith("%"):
             if text in self.here.variables:
                 raise CannotTranslate(f"the address of a variable: {text}")
@@ -88,7 +88,7 @@ class Values(Module):
         return re.sub(r"\W", "_", text[1:])
 
     def load(self, kind: str, place: str) -> str:
-        """Returns the value of a type at a place."""
+        """Returns the expression of C that loads a value of a type from a place."""
         if place in self.here.variables:
             return self.local(place)
         return self.load_from(kind, self.value("ptr", place))

@@ -13,7 +13,8 @@ What each part of the module becomes:
 - a local place whose address is used for nothing but whole loads and stores of one type: a variable
 - what is undefined behaviour in LLVM (`unreachable`): a call of abort
 
-Flags and attributes that only allow LLVM to assume more (nuw, noundef, !range, inbounds, ..) are dropped.
+Flags and attributes that only allow LLVM to assume more (nuw, noundef, !range, ..) are dropped. Only `inbounds` is used:
+it allows an address to be computed by the pointer addition of C.
 """
 from __future__ import annotations
 
@@ -32,7 +33,7 @@ class Translator(Instructions):
     """Writes a module as C."""
 
     def find_places(self) -> None:
-        """Finds the local places of the function, which are all in its first block."""
+        """Finds the local places of the function, each with its size. All are allocated in its first block."""
         is_entry = True
         for line in self.here.lines:
             found = re.fullmatch(r"  (%[\w.]+) = alloca (\w+|<\d+ x \w+>|\[(\d+) x i8\]), align \d+", line)

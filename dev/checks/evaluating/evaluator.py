@@ -32,7 +32,7 @@ def no_case() -> Value:
 
 
 def cheap(compute: Callable[[], Value]) -> Callable[[], Value]:
-    """Returns the function, in place of `later` if its value takes no time to compute again."""
+    """Returns the function itself. It takes the place of `later` if the value takes no time to compute again."""
     return compute
 
 
@@ -49,7 +49,11 @@ def later(compute: Callable[[], Value]) -> Callable[[], Value]:
 
 
 def one_by_one(function: Callable[..., Value], waits: tuple[bool, ...], given: tuple[Value, ...] = ()) -> Value:
-    """Returns a function that takes one argument after the other, as values."""
+    """Returns a function that takes one argument after the other, as values.
+
+    - `waits`: for each argument, whether `function` takes it as a function that computes the value when it is needed
+    - `given`: the arguments so far, in the form that `function` takes
+    """
     if len(given) == len(waits):
         return function(*given)
 
@@ -60,7 +64,7 @@ def one_by_one(function: Callable[..., Value], waits: tuple[bool, ...], given: t
 
 
 def of_values(function: Callable[..., Value], waits: tuple[bool, ...]) -> Callable[..., Value]:
-    """Returns a function that takes all arguments as values."""
+    """Returns a function that takes all arguments as values; `waits` is as for `one_by_one`."""
     if not any(waits):
         return function
     return lambda *values: function(*((lambda v=v: v) if wait else v for v, wait in zip(values, waits)))
@@ -78,7 +82,7 @@ class Evaluator:
         self.files: dict[str, File] = {}
         self.known: dict[tuple[str, str], Meaning] = {}
         self.arities = Arities()
-        # The names of the functions in Python, and their sources.
+        # What the names in the written functions stand for, and the source of each function by its name.
         self.space: dict[str, Any] = {"cheap": cheap, "later": later, "no_case": no_case}
         self.sources: dict[str, str] = {}
         self.functions: dict[str, Callable[..., Value]] = {}
@@ -247,13 +251,15 @@ class Names:
         return meaning.name if meaning.kind == "constructor" else None
 
     def constructor_at(self, clauses: list[Clause], index: int) -> bool:
-        """Whether a clause has a constructor without values as its pattern of an argument."""
+        """Returns whether the pattern of some clause for this argument is a constructor without values."""
         patterns = [clause.patterns[index] for clause in clauses]
         return any(isinstance(one, Variable) and self.constructor(Name(one.name)) for one in patterns)
 
 
 def may_wait(clauses: list[Clause], index: int) -> bool:
-    """Whether an argument is not always needed, and no clause looks at it."""
+    """Returns whether an argument may be computed only when it is needed: some clause does not always use it, and the
+    pattern of no clause looks into it.
+    """
     patterns = [clause.patterns[index] for clause in clauses]
     return all(isinstance(one, Variable) for one in patterns) and not all(
         isinstance(one, Variable) and always_uses(clause.body, one.name) for one, clause in zip(patterns, clauses)

@@ -52,7 +52,7 @@ class Terms:
         if position is not None and positions in ("pmars", "all"):
             raise CorewarError(f"a position and the positions {positions} exclude each other")
         # An invalid number, and a formula that is wrong or has no value for a win, are rejected here and not after hours of
-        # matches. No match checks this seed, since the seeds of matches are made from it.
+        # matches. If each match has its own seed, made from this one, no match would check this one.
         check_numbers(self.settings, rounds, seed, position)
         score_of(formula, 2, 1)
         if positions == "all":
