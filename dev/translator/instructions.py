@@ -34,8 +34,7 @@ MAX_BLOCK = 256
 
 
 class Instructions(Values):
-    """Translates instructions one by one. `blocks` are the sizes, in bytes, of memory that is copied or cleared as a value.
-    """
+    """Translates instructions one by one. `blocks` are the numbers of bytes that are copied or cleared as a value."""
 
     def __init__(self, text: str, exports: list[str]) -> None:
         super().__init__(text, exports)

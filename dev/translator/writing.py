@@ -13,7 +13,7 @@ What each part of the module becomes:
 - a local place whose address is used for nothing but whole loads and stores of one type: a variable
 - what is undefined behaviour in LLVM (`unreachable`): a call of abort
 
-Flags and attributes that only allow LLVM to assume more (nuw, noundef, !range, ..) are dropped. Only `inbounds` is used:
+Flags and attributes that only allow LLVM to assume more (nuw, noundef, !range, ..) are dropped, except for `inbounds`:
 it allows an address to be computed by the pointer addition of C.
 """
 from __future__ import annotations

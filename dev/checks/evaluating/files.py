@@ -50,7 +50,7 @@ class File:
         return [parse_clause(words) for words in self.clauses[name]]
 
     def statement(self, name: str) -> Term:
-        """Parses the type of a definition, which is a statement if the definition is its proof."""
+        """Parses the type of a definition. If the definition is a proof, its type is the statement that it proves."""
         return Parser(self.types[name]).whole_term()
 
     def record_type(self, name: str) -> RecordType:

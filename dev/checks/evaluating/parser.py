@@ -126,7 +126,7 @@ class Parser:
         return Every(tuple(names), domain, self.term())
 
     def prefix(self) -> Term:
-        """Parses what is between operators: a term that begins with a keyword, or an application."""
+        """Parses an operand of an operator: a term that begins with a keyword, or an application."""
         word = self.next
         if word.kind == "name":
             if word.text in {"λ", "let", "if", "do"}:

@@ -7,7 +7,7 @@ from dataclasses import dataclass, field
 from .terms import Constructed, Field, Name, Pattern, Term, Variable
 from .words import NotReadable
 
-# The test and the parts of each constructor of the library, of a value `{0}`.
+# For each constructor of the library: the test whether a value `{0}` has it, and the parts of the value, as Python.
 CONSTRUCTORS: dict[str, tuple[str, list[str]]] = {
     "[]": ("not {0}", []),
     "◌∷◌": ("{0}", ["{0}[0]", "{0}[1:]"]),
@@ -19,7 +19,7 @@ CONSTRUCTORS: dict[str, tuple[str, list[str]]] = {
     "false": ("not {0}", []),
     "tt": ("True", []),
 }
-# The value of each constructor of the library.
+# The value that each constructor of the library makes of its arguments, as Python; `translator` writes lists itself.
 VALUES = {
     "[]": "()",
     "zero": "0",

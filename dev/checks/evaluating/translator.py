@@ -48,7 +48,7 @@ INLINE = {
 }
 # Statements that hold always, or never.
 PLAIN = {"⊤": "True", "Unit": "True", "⊥": "False"}
-# The number of values of constructors that are passed as functions.
+# The constructors that may be passed as functions, each with its number of values.
 FUNCTIONS = {"suc": 1, "pos": 1, "negsuc": 1, "Some": 1, "Ok": 1, "Err": 1}
 
 
@@ -90,7 +90,7 @@ class Translator:
     """Writes the terms of a definition as Python.
 
     - `waits`: for each of its arguments, whether it is given as a function
-    - `own`: its name, if a call of itself goes round a loop
+    - `own`: its name, if its last call of itself is written as the next iteration of a loop
     """
 
     def __init__(

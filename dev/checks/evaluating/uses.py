@@ -1,4 +1,4 @@
-"""Which values a term needs in any case, so that it may be given them at once."""
+"""Which variables each evaluation of a term needs, so that their values may be computed before it."""
 from __future__ import annotations
 
 from .terms import Apply, Elim, Every, Field, If, Lambda, Let, Name, Number, Record, Some, Term, Text, Tuple
@@ -8,7 +8,9 @@ LAZY = {"◌&&◌", "◌||◌", "◌→◌", "◌×◌", "◌⊎◌"}
 
 
 def always_uses(term: Term, name: str) -> bool:
-    """Whether each evaluation of a term needs the variable. Shadowed names count as used, which costs only time."""
+    """Returns whether each evaluation of a term needs the variable of this name. Another variable of the same name inside
+    the term counts as well, which costs only time.
+    """
     if isinstance(term, Name):
         return term.name == name
     if isinstance(term, Field):
@@ -36,7 +38,7 @@ def parts_of(term: Term) -> list[Term]:
 
 
 def mentions(term: Term, names: set[str]) -> bool:
-    """Whether one of the names occurs in a term."""
+    """Returns whether one of the names occurs in a term."""
     if isinstance(term, Name):
         return term.name in names
     if isinstance(term, Field):
@@ -56,5 +58,5 @@ def mentions(term: Term, names: set[str]) -> bool:
 
 
 def is_cheap(term: Term) -> bool:
-    """Whether a term only names a value, or is a function."""
+    """Returns whether a term only names a value, or is a function, so that no work is saved by keeping its value."""
     return isinstance(term, (Name, Number, Text, Lambda)) or isinstance(term, Field) and is_cheap(term.of)
