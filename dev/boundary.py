@@ -2,8 +2,9 @@
 64 bits.
 
 On such a machine a call only passes its arguments on. On a machine with addresses of 32 bits, a length that is returned
-is narrowed. On a big-endian machine the bytes of each number that an argument points to are turned, which means put in the
-other order: those of a constant argument in a copy, all others in place, before the call and after it. packaging/portable/calls.c has the macros.
+is narrowed. On a big-endian machine the bytes of each number that an argument points to are turned, which means put in
+the other order: those of a constant argument in a copy, all others in place, before the call and after it.
+packaging/portable/calls.c has the macros.
 """
 from __future__ import annotations
 

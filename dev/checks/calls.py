@@ -60,7 +60,7 @@ def cited(text: str) -> dict[str, str]:
 def calls_of(
     path: str, text: str, block: str, start: int, owner: str, wanted: set[str] | None = None
 ) -> Iterator[Call]:
-    """Yields the calls of a block of a file, which begins at `start`: all for None, or the public ones of wanted names."""
+    """Yields the calls of a block of a file, which begins at `start`: all for None, or the public wanted ones."""
     names = cited(text)
     for head in HEAD.finditer(block):
         public = "pub " in head[0].split("fn ")[0] or wanted is None

@@ -191,7 +191,7 @@ class Instructions(Values):
         return found[1], f"insert_{kind}({self.value(found[1], found[2])}, {self.value('i8', found[3])}, {found[4]})"
 
     def do_shufflevector(self, text: str) -> tuple[str, str]:
-        """Translates two forms: a vector whose elements all are the first one of another, and 16 elements of one of 64."""
+        """Translates two forms: a vector of copies of the first element of another, and 16 elements of one of 64."""
         found = self.match(rf"(<(\d+) x i8>) ({VALUE}), \1 zeroinitializer, <(\d+) x i32> (zeroinitializer|<.*>)", text)
         value, kind = self.value(found[1], found[3]), f"<{found[4]} x i8>"
         if found[5] == "zeroinitializer" and kind == found[1]:

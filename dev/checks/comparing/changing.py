@@ -91,8 +91,8 @@ def random_pasts(dice: random.Random, core: int) -> list[Value]:
 
 
 def random_conditions(definitions: Evaluator, dice: random.Random, core: int) -> tuple[list[Value], list[Value]]:
-    """Returns conditions, and the numbers that a call gets for them. A few of the numbers stand for no condition; then the
-    conditions are only those before the first such numbers.
+    """Returns conditions, and the numbers that a call gets for them. A few of the numbers stand for no condition; then
+    the conditions are only those before the first such numbers.
     """
     values, rows = [], []
     for _ in range(dice.choice([0, 1, 1, 2, 3])):

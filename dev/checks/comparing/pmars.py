@@ -102,7 +102,7 @@ def reads_itself_changed(definitions: Evaluator, state: Value) -> bool:
 
 
 def compare_pmars(definitions: Evaluator, dice: random.Random) -> Iterator[Comparison]:
-    """The core after some turns of two random warriors, and who survives, up to a turn that pMARS executes differently."""
+    """The core after some turns of two random warriors, and who survives, unless pMARS executes a turn differently."""
     core, longest = dice.choice([8, 12, 20, 41]), dice.choice([1, 2, 4])
     bounds = {"core_size": core, "processes": dice.choice([1, 2, 8]), "cycles": dice.choice([5, 30])}
     bounds |= {"read_limit": core, "write_limit": core, "max_length": longest, "distance": longest}

@@ -8,8 +8,8 @@ LAZY = {"◌&&◌", "◌||◌", "◌→◌", "◌×◌", "◌⊎◌"}
 
 
 def always_uses(term: Term, name: str) -> bool:
-    """Returns whether each evaluation of a term needs the variable of this name. Another variable of the same name inside
-    the term counts as well, which costs only time.
+    """Returns whether each evaluation of a term needs the variable of this name. Another variable of the same name
+    inside the term counts as well, which costs only time.
     """
     if isinstance(term, Name):
         return term.name == name

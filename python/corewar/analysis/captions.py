@@ -34,8 +34,8 @@ def fate(history: History, warrior: int) -> str:
 
 
 def describe_settings(history: History) -> list[str]:
-    """Returns the settings of the battle with their names, except for limits and a position that are not given, and for the
-    seed if the position is given.
+    """Returns the settings of the battle with their names, except for limits and a position that are not given, and for
+    the seed if the position is given.
     """
     match = history.match
     numbers = {**vars(match.settings), "seed": match.seed, "position": match.position, "round": history.round}

@@ -42,8 +42,8 @@ def describe_cause(formatter: BattleFormatter, address: int, turn: int) -> list[
 
 
 def causes_of(history: History, address: int, turn: int) -> list[int]:
-    """Returns the last turn, up to this one, that changed a cell, and the turn that copied its instruction there if that
-    is another turn. A turn before an edit of the cell is left out.
+    """Returns the last turn, up to this one, that changed a cell, and the turn that copied its instruction there if
+    that is another turn. A turn before an edit of the cell is left out.
     """
     found, by_hand = last_change(history, address, turn), history.by_hand(address, turn)
     if found is None:

@@ -55,8 +55,8 @@ def describe_survivor(formatter: BattleFormatter, warrior: int) -> Iterator[str]
 
 @dataclass(frozen=True)
 class Executed:
-    """A line that a warrior executed in its last turns: the number of `turns` that executed it, the number of `cells` that
-    these wrote, and the line, or the cell if it has no line.
+    """A line that a warrior executed in its last turns: the number of `turns` that executed it, the number of `cells`
+    that these wrote, and the line, or the cell if it has no line.
     """
 
     turns: int
@@ -90,8 +90,8 @@ def describe_hits(formatter: BattleFormatter, warrior: int, cells: set[int]) -> 
 
 
 def summarize_last_turns(history: History, sources: Sources, names: Sequence[str], warrior: int) -> str:
-    """Returns in short what a survivor executed last: the lines of cells that still are as they were loaded or in which the
-    survivor changed only numbers, and the warriors that wrote the other cells. Names are in the order of turns.
+    """Returns in short what a survivor executed last: the lines of cells that still are as they were loaded or in which
+    the survivor changed only numbers, and the warriors that wrote the other cells. Names are in the order of turns.
     """
     last = last_executed(history, warrior)
     counts = Counter(what_executed(sources, warrior, last))
@@ -108,8 +108,8 @@ def summarize_last_turns(history: History, sources: Sources, names: Sequence[str
 
 
 def what_executed(sources: Sources, warrior: int, turns: Records) -> Iterator[int | Line | None]:
-    """Yields for each of these turns of a warrior the line of the cell that it executed, None if that has no line, or the
-    number of the warrior that wrote the cell. Turns that executed a cell that an edit changed are left out.
+    """Yields for each of these turns of a warrior the line of the cell that it executed, None if that has no line, or
+    the number of the warrior that wrote the cell. Turns that executed a cell that an edit changed are left out.
     """
     for address, (writer, changed, origin) in zip(turns["address"].tolist(), turns["past"].tolist()):
         # A warrior that changes numbers of its own code still executes the same line.

@@ -44,8 +44,8 @@ def pluralize(count: int, noun: str) -> str:
 
 
 def fitted(rows: Sequence[Sequence[str]], width: int) -> Iterator[str]:
-    """Returns rows of cells as lines. If one would be longer than `width`, unless that is 0, the columns are as narrow as
-    possible, and the last one is cut.
+    """Returns rows of cells as lines. If one would be longer than `width`, unless that is 0, the columns are as narrow
+    as possible, and the last one is cut.
     """
     # A painted name has more letters than it shows.
     lengths = [[len(COLOUR.sub("", text)) for text in row] for row in rows]

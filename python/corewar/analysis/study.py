@@ -36,8 +36,8 @@ Accesses = NDArray[Any]
 
 @dataclass(frozen=True)
 class Access:
-    """A line that writes or compares cells: how many `times`, how many `cells` it reaches, `by` which turn all of
-    them, the `strides` from one cell to the next, each with its share, and the line. A stride is None if none is frequent.
+    """A line that writes or compares cells: how many `times`, how many `cells` it reaches, `by` which turn all of them,
+    the `strides` from one cell to the next, each with its share, and the line. A stride is None if none is frequent.
     """
 
     times: int

@@ -109,8 +109,8 @@ def find(
 def places_in(
     history: History, joined: Joined, first: int = 0, last: int | None = None, forward: bool = True
 ) -> Iterator[Records]:
-    """Yields the places at which conditions hold, as `find` yields turns. A place is a number of executed turns: that of
-    the turn that meets the conditions or, for `at`, of the turn before it.
+    """Yields the places at which conditions hold, as `find` yields turns. A place is a number of executed turns: that
+    of the turn that meets the conditions or, for `at`, of the turn before it.
     """
     rows = [row for one in joined for row in one.rows(history.core)]
     for found in find(history, rows, first, last, forward):
@@ -127,8 +127,8 @@ def places(history: History, joined: Joined) -> Records:
 def search(
     history: History, conditions: Sequence[Joined], turn: int, forward: bool = True
 ) -> tuple[int, Joined] | None:
-    """Returns the first place after a turn at which one of some conditions holds, with the condition; if not `forward`, the
-    last place before it; or None if there is none.
+    """Returns the first place after a turn at which one of some conditions holds, with the condition; if not `forward`,
+    the last place before it; or None if there is none.
     """
     span = (turn, history.end) if forward else (0, turn)
     for parts in zip(*(places_in(history, joined, *span, forward) for joined in conditions)):
@@ -148,8 +148,8 @@ def last_change(history: History, address: int, turn: int) -> int | None:
 
 
 def last_copy(history: History, address: int, turn: int) -> int | None:
-    """Returns the last turn, up to this one, that copied to a cell the instruction that it has, in place of another one; or
-    None if there is no such turn.
+    """Returns the last turn, up to this one, that copied to a cell the instruction that it has, in place of another
+    one; or None if there is no such turn.
     """
     origin = int(history.pasts(turn)[address]["origin"])
     # A range whose end is below its start goes around.

@@ -23,8 +23,8 @@ class Frame:
 
 
 def part_ends(first: int, last: int, count: int) -> list[int]:
-    """Returns `first` and the last turn of each of `count` parts of the turns up to `last`, or of fewer parts if there are
-    fewer turns.
+    """Returns `first` and the last turn of each of `count` parts of the turns up to `last`, or of fewer parts if there
+    are fewer turns.
     """
     count = max(1, min(last - first, count))
     return [first + (last - first) * part // count for part in range(count + 1)]

@@ -107,8 +107,8 @@ class History:
         return [self._formatter.turn_of(turn) for turn in range(first, last + 1)]
 
     def find(self, *conditions: Condition) -> NDArray[np.int64]:
-        """Returns the numbers of the turns that meet all conditions, in order. If one of them is `at`, each number is one
-        less: that of the turn after which the cell is about to be executed, which may be 0.
+        """Returns the numbers of the turns that meet all conditions, in order. If one of them is `at`, each number is
+        one less: that of the turn after which the cell is about to be executed, which may be 0.
 
         Conditions with the same word are about the same cell. Raises `CorewarError` without a condition, or if the core
         has no such cell.
@@ -132,7 +132,7 @@ class History:
         return births_of(self.segments, turn, self.warrior(str(warrior)), index)
 
     def _load(self, module: str) -> Any:
-        """Returns a module of the package that itself imports this one. It is loaded here to avoid a cycle of imports."""
+        """Returns a module of the package that itself imports this one; so it is loaded only when it is needed."""
         return import_module(f"corewar.{module}")
 
     @cached_property
@@ -262,8 +262,8 @@ class History:
         return self.written(turn)[0]
 
     def written(self, turn: int) -> tuple[Owners, NDArray[np.int64]]:
-        """Returns the owner of each cell after a turn, as `owners`, and the turn that changed it last, or 0 if none did. For
-        a cell that an edit changed last it is the turn after which the edit was made.
+        """Returns the owner of each cell after a turn, as `owners`, and the turn that changed it last, or 0 if none
+        did. For a cell that an edit changed last it is the turn after which the edit was made.
         """
         pasts = self.pasts(turn)
         return pasts["owner"].astype(np.uint8), pasts["turn"].astype(np.int64)

@@ -70,8 +70,8 @@ class Sources:
         return {**alone, **{f"{number}.{label}": address for number, label, address in self._labels}}
 
     def addresses_at(self, address: int) -> dict[str, int]:
-        """Returns the addresses of labels for a line of source that is typed for an address: as `addresses`, and the labels
-        of the warrior that was loaded there need no number.
+        """Returns the addresses of labels for a line of source that is typed for an address: as `addresses`, and the
+        labels of the warrior that was loaded there need no number.
         """
         line = self.lines.get(address)
         own = {label: at for number, label, at in self._labels if line and number == line.warrior}

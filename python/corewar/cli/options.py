@@ -56,7 +56,9 @@ class BattleOptions:
         )
 
     def everywhere(self) -> BattleOptions:
-        """Returns the same options for matches from every position. Raises an error of click for options that draw some."""
+        """Returns the same options for matches from every position. Raises an error of click for options that draw
+        some.
+        """
         drawing = ("rounds", "seed", "position", "results", "same_seed", "pmars_position", "pmars_fixed")
         if given := options_given(*drawing):
             raise click.UsageError(f"--positions all and {given[0]} exclude each other")
@@ -293,8 +295,8 @@ def core_options(command: Callable[..., Any]) -> Callable[..., Any]:
 
 
 def positions_of(settings: Settings, position: int | None, fixed: bool) -> dict[str, Any]:
-    """Returns the values of BattleOptions that select the positions of pMARS: its options as `pmars`, or "" without them,
-    and the seed or the position. Raises an error of click.
+    """Returns the values of BattleOptions that select the positions of pMARS: its options as `pmars`, or "" without
+    them, and the seed or the position. Raises an error of click.
     """
     given = options_given("seed", "position", "pmars_position", "pmars_fixed")
     if len(given) > 1 and (fixed or position is not None):

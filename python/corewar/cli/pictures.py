@@ -32,8 +32,8 @@ def output_options(kind: Output, usual: str) -> tuple[Decorator, Decorator]:
 
 
 def frame_ends(history: History, first: int, turns: int | None, count: int) -> list[int]:
-    """Returns the turn before a part of a battle, which begins with `first`, and the turns at which its frames end: `count`
-    of them, or fewer if it has fewer turns.
+    """Returns the turn before a part of a battle, which begins with `first`, and the turns at which its frames end:
+    `count` of them, or fewer if it has fewer turns.
     """
     checked_turn(first, max(1, history.end), "--from")
     last = history.end if turns is None else min(history.end, first - 1 + turns)
@@ -130,8 +130,8 @@ def page(options: BattleOptions, turn: int, edits: tuple[str, ...], output: str 
 
 
 def edited(history: History, texts: Sequence[str]) -> History:
-    """Returns the history with the edits, which are made in the order of their turns. Raises an error of click if one is
-    impossible after the ones before it.
+    """Returns the history with the edits, which are made in the order of their turns. Raises an error of click if one
+    is impossible after the ones before it.
     """
     session = Session(history, Sources(history))
     for turn, line in sorted(map(split_edit, texts), key=itemgetter(0)):

@@ -26,8 +26,8 @@ MAX_STRIP = 100
 
 
 def rows_of(fought: Match, formula: str) -> tuple[list[Row], int]:
-    """Returns the rows of a match, whose rounds all processors share, and the number of rounds that were run before Ctrl-C,
-    or all. A terminal shows a bar.
+    """Returns the rows of a match, whose rounds all processors share, and the number of rounds that were run before
+    Ctrl-C, or all. A terminal shows a bar.
     """
     count, numbers = len(fought.warriors), (fought.rounds, fought.seed, fought.position)
     size = min(TURNS // (fought.settings.cycles * count), fought.rounds // (4 * PROCESSORS))

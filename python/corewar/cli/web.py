@@ -44,7 +44,8 @@ def web(port: int, browser: bool, results: str | None, files: tuple[str, ...]) -
     from ..web.folder import Folder, sources_of
     from ..web.server import ServedSite, serve
 
-    # SIGTERM ends the server as Ctrl-C does, so that the page with the token, which leads the browser there, is removed.
+    # SIGTERM ends the server as Ctrl-C does, so that the page with the token, which leads the browser there, is
+    # removed.
     signal.signal(signal.SIGTERM, signal.default_int_handler)
     for name in files:
         if not Path(name).exists():

@@ -36,7 +36,9 @@ def report_absence(client: Any, end: Event) -> None:
 
 @contextmanager
 def cluster(address: str) -> Iterator[Executor]:
-    """Yields the workers of a Dask scheduler. Matches that they have not run are dropped at the end. Raises CorewarError."""
+    """Yields the workers of a Dask scheduler. Matches that they have not run are dropped at the end. Raises
+    CorewarError.
+    """
     try:
         import distributed
     except ImportError:

@@ -31,8 +31,8 @@ class Comparison:
     - `opponents`: the opponents
     - `scores`: the points of each version against each opponent in each round
 
-    Both versions have the same positions in a round, unless the positions of the contest are `pmars`. Its text is the table that `corewar challenge --old` prints, and
-    `records` and `to_dict` are for programs.
+    Both versions have the same positions in a round, unless the positions of the contest are `pmars`. Its text is the
+    table that `corewar challenge --old` prints, and `records` and `to_dict` are for programs.
     """
 
     contest: Contest

@@ -58,8 +58,8 @@ class Execution:
 
     def check(self, contest: Terms) -> None:
         """Raises CorewarError if results of a contest cannot be stored."""
-        # The positions of `pmars -f` also depend on whether a source says CMP or SEQ, but stored results are found by cells,
-        # which are the same for both.
+        # The positions of `pmars -f` also depend on whether a source says CMP or SEQ, but stored results are found by
+        # cells, which are the same for both.
         if self.results is not None and contest.positions in ("pmars", "all"):
             raise CorewarError("results with the positions of `pmars -f`, or with every position, cannot be stored")
 

@@ -113,9 +113,9 @@ class Schedule:
         raise NotImplementedError
 
     def take_stored(self, stored: Iterator[tuple[Any, ...]]) -> int:
-        """Fills in what was stored. Returns how many of these matches are not stored themselves, but with the warriors in
-        the other order, and that as the result of none of these matches. Raises CorewarError if the results cannot be
-        those of a match.
+        """Fills in what was stored. Returns how many of these matches are not stored themselves, but with the warriors
+        in the other order, and that as the result of none of these matches. Raises CorewarError if the results cannot
+        be those of a match.
         """
         raise NotImplementedError
 
@@ -168,7 +168,8 @@ class Matches(Schedule):
         counts = check_counts([row[3:] for row in found] or np.empty((0, 5)), len(found), self.contest)
         rows, reversed_rows = self.rows_of(pairs), self.rows_of(pairs[:, ::-1])
         self.fill_in(rows[rows >= 0], counts[rows >= 0])
-        # If equal warriors occur, one may be before an opponent and the other after it, so that both orders have a match.
+        # If equal warriors occur, one may be before an opponent and the other after it, so that both orders have a
+        # match.
         is_own = np.isin(indices[:, 0], indices[rows >= 0])
         reversed_rows = np.unique(reversed_rows[(reversed_rows >= 0) & ~is_own])
         return int((~self.is_fought[reversed_rows]).sum())

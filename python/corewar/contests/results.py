@@ -34,7 +34,9 @@ Done = TypeVar("Done")
 
 @dataclass(frozen=True)
 class Table:
-    """The table of a kind of matches: its name, the digests by which a match is found, and its results and their type."""
+    """The table of a kind of matches: its name, the digests by which a match is found, and its results with their
+    type.
+    """
 
     name: str
     digests: tuple[str, ...]
@@ -93,7 +95,7 @@ class Results:
                 raise CorewarError(f"{self.path}: invalid result: {fault}") from None
 
     def keep(self, rows: Indices) -> None:
-        """Adds the results of some rows to those that wait, and writes all if the last time was a second ago or more."""
+        """Adds the results of some rows to those that wait; writes all if the last time was a second ago or more."""
         self.new += ((self.contest, *one) for one in self.matches.stored(rows))
         if time.monotonic() - self.written >= WRITE_SECONDS:
             self.write()

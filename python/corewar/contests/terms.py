@@ -51,8 +51,8 @@ class Terms:
             raise CorewarError(f"expected the positions {', '.join(most)} or {last}, not {positions!r}")
         if position is not None and positions in ("pmars", "all"):
             raise CorewarError(f"a position and the positions {positions} exclude each other")
-        # An invalid number, and a formula that is wrong or has no value for a win, are rejected here and not after hours of
-        # matches. If each match has its own seed, made from this one, no match would check this one.
+        # An invalid number, and a formula that is wrong or has no value for a win, are rejected here and not after
+        # hours of matches. If each match has its own seed, made from this one, no match would check this one.
         check_numbers(self.settings, rounds, seed, position)
         score_of(formula, 2, 1)
         if positions == "all":
@@ -95,8 +95,8 @@ class Terms:
         return np.array([*map(seed_of_cells, matches)], np.int64)
 
     def seeds_of(self, first: NDArray[np.uint64], second: NDArray[np.uint64]) -> Numbers:
-        """Returns a seed for each match, from two numbers of each: the first 8 bytes of the digests of its two warriors or,
-        in a melee, numbers that no other match has.
+        """Returns a seed for each match, from two numbers of each: the first 8 bytes of the digests of its two warriors
+        or, in a melee, numbers that no other match has.
         """
         start = mixed(np.full(len(first), self.seed, np.uint64))
         return 1 + (mixed(mixed(start ^ first) ^ second) % np.uint64(MAX_SEED)).astype(np.int64)

@@ -21,8 +21,8 @@ class Expired(BaseException):
 
 @contextmanager
 def deadline(limit: Limit) -> Iterator[None]:
-    """Raises `Overrun` in the `with` block once this process has taken the seconds of a limit there. Other threads than the
-    main one receive no signal, so they have no limit.
+    """Raises `Overrun` in the `with` block once this process has taken the seconds of a limit there. Other threads than
+    the main one receive no signal, so they have no limit.
     """
     if threading.current_thread() is not threading.main_thread():
         yield

@@ -125,8 +125,8 @@ def found_of(rows: Array, counts: bool, cycles: int, reduce: Callable[[Array], A
 
 @dataclass(frozen=True)
 class Run:
-    """What all matches have in common. `width` is the number of warriors of the longest lineup: the results of each match
-    have as many columns.
+    """What all matches have in common. `width` is the number of warriors of the longest lineup: the results of each
+    match have as many columns.
     """
 
     settings: Settings
@@ -177,8 +177,8 @@ def run_lineups(
 
 
 def part_of(warriors: Sequence[Warrior], table: Array, width: int, is_here: bool) -> tuple[list[Warrior], Array]:
-    """Returns the warriors that occur in some lineups, and these lineups with the indices of the returned warriors. If the
-    part does not run in this process, the warriors have no sources, which would be sent in vain.
+    """Returns the warriors that occur in some lineups, and these lineups with the indices of the returned warriors. If
+    the part does not run in this process, the warriors have no sources, which would be sent in vain.
     """
     indices = table["warrior"][:, :width]
     # An entry without a warrior has the index 0.

@@ -74,7 +74,9 @@ class Reader:
 
 
 class PmarsReader(Reader):
-    """Reads the tokens of an expression as `eval` of pMARS does: an operator that was read too early is saved, and sometimes lost."""
+    """Reads the tokens of an expression as `eval` of pMARS does: an operator that was read too early is saved, and
+    sometimes lost.
+    """
 
     saved = ""
 

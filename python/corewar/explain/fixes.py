@@ -140,8 +140,8 @@ def bound_counts(source: Source, lines: list[str], load: Load) -> None:
 
 
 def value_of(source: Source, number: int, expression: str, load: Load) -> int | None:
-    """Returns the value of a count at a line, at least 0, or None if it cannot be computed or is above MAX_ITERATIONS. The
-    instructions before it are replaced, since their operands may have names that are defined later.
+    """Returns the value of a count at a line, at least 0, or None if it cannot be computed or is above MAX_ITERATIONS.
+    The instructions before it are replaced, since their operands may have names that are defined later.
     """
     before = [replaced(line, source, "") if line.word in OPCODES else line.text for line in source.lines[: number - 1]]
 

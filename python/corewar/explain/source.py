@@ -80,8 +80,8 @@ class Line:
 
 @dataclass
 class Loop:
-    """A loop: the line of its FOR, its counter or "", and the number of the line of its ROF; without a ROF, one more than
-    the number of lines.
+    """A loop: the line of its FOR, its counter or "", and the number of the line of its ROF; without a ROF, one more
+    than the number of lines.
     """
 
     head: Line
@@ -116,7 +116,9 @@ class Source:
         return any(name in line.rest for line in self.lines)
 
     def equate(self, head: Line) -> list[Line]:
-        """Returns the lines of an EQU: the first one, and those without a name that follow. Empty lines may be between them."""
+        """Returns the lines of an EQU: the first one, and those without a name that follow. Empty lines may be between
+        them.
+        """
         found = [head]
         for line in self.lines[head.number :]:
             if line.word == "EQU" and not line.labels:

@@ -50,7 +50,8 @@ def warrior_of(assembler: Assembler, source: dict[str, str], contest: Contest) -
 
 def league(assembler: Assembler, given: dict[str, Any], results: str | None) -> Generator[list[list[int]], None, None]:
     """Runs a match of every two sources. Yields the results of matches as they end, first those that are stored: the
-    indices of the two sources, the points, wins, ties and losses of the first, and the points of the second. Raises CorewarError.
+    indices of the two sources, the points, wins, ties and losses of the first, and the points of the second. Raises
+    CorewarError.
     """
     contest = contest_of(given)
     warriors = [warrior_of(assembler, source, contest) for source in given["sources"]]
