@@ -142,7 +142,7 @@ def call(name: str, *given: Any) -> int:
 
 def read_text(room: int, fill: Callable[..., int]) -> bytes:
     """Returns the text that a call writes. `room` is the size of the first buffer in bytes; if it is too short, the
-    call is made again with a buffer of the size that it asked for.
+    call is made again with a buffer of the size that it requires.
     """
     length, buffer = library()[0].new("size_t *"), bytearray(room)
     if fill(*slice_of("uint8_t", buffer), length) == ROOM:
