@@ -90,7 +90,7 @@ export class Arrival {
     }
   }
 
-  /** The sources that are marked, as many as can fight. */
+  /** The sources that are marked, at most as many as can fight; if none is, the first source. */
   get #marked() {
     const { fighters, all } = this.page.shelf;
     return fighters.length ? fighters.slice(0, MAX_WARRIORS) : [all[0]];

@@ -10,7 +10,7 @@ import { atCell } from "../view/breaks.js";
  */
 
 const SPEED_FACTOR = 1.6;
-/** What keeps its keys: fields, but not the slider of time, and what is opened or scrolled by them. */
+/** What uses keys itself: fields, but not the slider of time, and what keys open or scroll. */
 const FIELDS = "input:not([type='range']), select, textarea, summary, :not(canvas)[tabindex='0'], .CodeMirror, dialog";
 
 /**
@@ -59,7 +59,7 @@ function keysOf({ session, theatre, another, round, edit }) {
 }
 
 /**
- * Pins the cell beside the one that is looked at, if the core has the focus. Returns whether that is so.
+ * Pins the cell beside the one that is looked at, if the key is an arrow. Returns whether it is.
  * @param {Acts} acts
  * @param {string} key
  */

@@ -11,7 +11,7 @@ import { number, pluralize } from "../words/battle.js";
  * A lesson, as site/lessons has them. `judge` is one of
  *
  * - `end`, `death`: the learner shows the last turn, or one in which a warrior dies
- * - `saved`: the learner's edits keep the warrior alive that died
+ * - `saved`: after edits of the learner no warrior dies
  * - `match`: the learner's warrior wins or survives a number of 100 rounds, with a maximum number of cells
  * @typedef {object} Lesson
  * @property {string} id
@@ -81,7 +81,7 @@ export class Lessons {
   }
 
   /**
-   * Returns what a lesson says, and a button that opens it; one that is open is checked.
+   * Returns what a lesson says, with a button that opens it; an open lesson also has a button that checks it.
    * @param {Lesson} lesson
    * @param {boolean} isOpen
    */
@@ -152,7 +152,7 @@ export class Lessons {
     if (entry) this.host.edit();
     this.show(this.lessons.indexOf(lesson) + 1);
     const fought = this.host.fight(sources, TERMS);
-    // On a narrow page it is one of the tabs, and leads to the others.
+    // On a narrow page the lesson is one of the tabs: it is read first, then the editor is shown.
     if (!isRead) this.host.read();
     else if (entry) this.host.edit();
     element("lesson-box").focus({ preventScroll: true });

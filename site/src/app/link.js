@@ -176,7 +176,7 @@ export async function unpack(text, selection = {}) {
 
 /**
  * Returns what an address carries after its `#`: a fight as `f`, and a selection: `w=0,5` of its warriors, `r=3` its
- * round, `t=100` its turn, `s=7` its seed; and whether it begins with `embed`: only the battle is shown.
+ * round, `t=100` its turn, `s=7` its seed; and whether it has `embed`: then only the battle is shown.
  * @param {string} hash
  * @returns {{text: string, selection: Selection, isEmbedded: boolean}}
  */

@@ -137,7 +137,7 @@ export class Page {
   }
 
   /**
-   * Shows terms in the fields, where the editor, the bench and the league have them from.
+   * Shows terms in the fields, from which the editor, the bench and the league take them.
    * @param {MatchTerms} terms
    */
   #showTerms(terms) {
@@ -146,9 +146,9 @@ export class Page {
   }
 
   /**
-   * Terms of a link or a lesson are not stored, only what the user changes.
+   * Stores terms that the user has changed and uses them; those of a link or a lesson are not stored.
    * @param {Partial<MatchTerms>} changes
-   * @param {boolean} isShown
+   * @param {boolean} isShown whether the battle that is shown depends on them
    */
   #changeTerms(changes, isShown) {
     keep({ terms: changes });
@@ -220,7 +220,7 @@ export class Page {
     return this.fight(fighters.length || !current ? fighters : [current]);
   }
 
-  /** Fights two examples from places, all picked by chance. */
+  /** Fights two examples with a seed, all picked by chance. */
   another() {
     const { examples } = this;
     const pick = (/** @type {number} */ count) => Math.floor(Math.random() * count);
@@ -326,7 +326,7 @@ export class Page {
     });
   }
 
-  /** Says to a newcomer what the page is, until it is closed or the first lesson begins. */
+  /** Shows to a newcomer a box that says what the page is, until the box is closed or the first lesson begins. */
   #welcome() {
     const close = () => {
       element("welcome").hidden = true;

@@ -32,7 +32,7 @@ export function placeOf(hash) {
 }
 
 export class Places {
-  /** How many addresses the page follows: then what it shows makes no entry of the history. */
+  /** How many calls of `arrive` are running: meanwhile a battle that is shown makes no entry of the history. */
   #arriving = 0;
   /** The address of the battle that is shown, and its terms and sources. */
   #battle = "";
@@ -108,7 +108,7 @@ export class Places {
     if (hash !== location.hash) this.#write(hash, true);
   }
 
-  /** Names the battle again, as its lesson has been closed. */
+  /** Names the battle again: its lesson has been closed, or the link in the address could not be opened. */
   rename() {
     const { fight } = this.session;
     if (fight) this.#key = this.#keyOf(fight);

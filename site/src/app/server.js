@@ -44,7 +44,7 @@ export class Server {
   }
 
   /**
-   * Saves a source. Returns null, or why it was not saved.
+   * Saves a source. Returns null, or why it was not saved; `isOther`: because something else changed the file.
    * @param {string} name
    * @param {string} text
    * @param {boolean} isForced whether a file that something else changed is overwritten

@@ -23,7 +23,7 @@ import { folderKey } from "./server.js";
 const NAME = `corewar ${folderKey}`.trim();
 /** Each source has a key of its own, so that a window never writes over what another one has written. */
 const SOURCE = `${NAME}: `;
-/** So has the league that was run last. Sources need the room of a larger one. */
+/** So has the league that was run last. One of more characters is not kept: sources need the room. */
 const LEAGUE = `${NAME}; league`;
 const MAX_LEAGUE_SIZE = 1_000_000;
 
@@ -217,7 +217,7 @@ renew();
 export const stored = read();
 
 /**
- * Returns whether the browser lets the page keep something: it may forbid that, or be full.
+ * Keeps what has changed. Returns whether the browser lets the page do that: it may forbid it, or be full.
  * @param {Kept} changes
  */
 export function keep(changes) {

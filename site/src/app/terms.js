@@ -21,8 +21,8 @@ export class Terms {
 
   /**
    * @param {{pool: Pool, meanings: Record<string, string>}} host
-   * @param {(changes: Partial<MatchTerms>, isShown: boolean) => void} changed the user has changed terms; `isShown`: so
-   *   has the battle that is shown
+   * @param {(changes: Partial<MatchTerms>, isShown: boolean) => void} changed the user has changed terms; `isShown`:
+   *   the battle that is shown depends on them
    */
   constructor(host, changed) {
     this.hill = typed("hill", HTMLSelectElement);

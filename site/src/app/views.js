@@ -8,7 +8,7 @@ import { buttons, element, isNarrow } from "../view/dom.js";
 /** @typedef {import("../view/theatre.js").Theatre} Theatre */
 
 export class Views {
-  /** What was looked at when the details were shown last. */
+  /** The cell and the death that were looked at last. */
   #looked = "";
 
   /**

@@ -42,7 +42,7 @@ const isAdded = (edit, warrior, place, count) =>
   edit.kind === "add" && edit.warrior === warrior && place === count - 1;
 
 /**
- * Returns whether an edit killed a process that was in the queue before the one at a place after the edit.
+ * Returns whether an edit killed a process that was ahead, in its queue, of the process at `place` after the edit.
  * @param {Edit} edit
  * @param {number} warrior
  * @param {number} place

@@ -33,7 +33,7 @@ const WAYS = { at: EXECUTES, changes: CHANGES, reads: READS };
 const MAX = 0xffffffff;
 
 /**
- * Returns the conditions of the library that a turn meets.
+ * Returns a condition as conditions of the library, all of which a turn has to meet.
  * @param {Condition} condition
  * @param {number} core
  * @returns {import("./records.js").Row[]}
@@ -47,7 +47,7 @@ function rowsOf({ word, cells, of, origin, was, becomes, by, and }, core) {
   if (of !== undefined) add(NUMBER_OWNER, of);
   if (origin) {
     add(NUMBER_ORIGIN, origin[0], origin[1]);
-    // A range around the end of the core has no cells that an edit set.
+    // A range around the end of the core would include the core size, which is the origin of edited cells.
     add(NUMBER_ORIGIN, 0, core - 1);
   }
   if (was) add(NUMBER_OPCODE, OPCODES.indexOf(was));
@@ -70,8 +70,8 @@ function rowsOf({ word, cells, of, origin, was, becomes, by, and }, core) {
 const isBefore = ({ word, and }) => word === "at" || (and !== undefined && isBefore(and));
 
 /**
- * Yields the places from one to another at which a condition holds, as `turn`, and the warriors: some at once, in order
- * or the latest first.
+ * Yields the places of a span at which a condition holds, as `turn`, and the warriors: several at once, which are in
+ * order; of these groups the earliest or the latest comes first.
  * @param {History} history
  * @param {Condition} condition
  * @param {{first: number, last: number, isForward: boolean}} span
@@ -99,7 +99,7 @@ function nearest(history, condition, span) {
 
 /**
  * Returns the place after a turn where one of the conditions holds next, or the one before it where one held last, and
- * which that is; null if there is none.
+ * the index of that condition; null if there is none.
  * @param {History} history
  * @param {Condition[]} conditions
  * @param {number} turn

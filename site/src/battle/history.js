@@ -115,7 +115,8 @@ export class History {
   }
 
   /**
-   * Returns the place of the battle after a turn and after the edits made there. It is used again by the next call.
+   * Returns the place of the battle after a turn and after the edits made there. The next call changes it: copy it to
+   * keep it.
    * @param {number} turn
    */
   place(turn) {
@@ -161,7 +162,7 @@ export class History {
   }
 
   /**
-   * Returns what a turn did, from 1.
+   * Returns what a turn did; turns count from 1.
    * @param {number} turn
    */
   deed(turn) {
@@ -170,8 +171,8 @@ export class History {
   }
 
   /**
-   * Yields the turns after `first`, up to `last`, that meet all conditions of the library, some at once, in order or
-   * the latest first.
+   * Yields the turns after `first`, up to `last`, that meet all conditions of the library: several at once, which are
+   * in order; of these groups the earliest or the latest comes first.
    * @param {import("./records.js").Row[]} conditions
    * @param {number} first
    * @param {number} last
@@ -264,7 +265,7 @@ export class History {
   }
 
   /**
-   * Reads a part of the story. Returns whether there is more of it.
+   * Reads the next part of the story. Returns false if none was left to read.
    * @returns {boolean}
    */
   readStory() {

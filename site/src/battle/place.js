@@ -74,7 +74,7 @@ export class Place {
   }
 
   /**
-   * Returns the address at which the instruction of a cell was at first; no address if an edit set it.
+   * Returns the address at which the instruction of a cell was at first; the core size if an edit set it.
    * @param {number} address
    */
   origin(address) {

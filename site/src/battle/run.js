@@ -9,7 +9,7 @@ import { EVENT, Story } from "./story.js";
 /** @typedef {import("./place.js").Place} Place */
 /** @typedef {import("./story.js").Event} Event */
 
-/** The distance of marks in turns, at least, and the bytes of all marks of a run. */
+/** The least distance of marks, in turns, and the most bytes that all marks of a run take. */
 const STRIDE = 16_384;
 const MAX_MARK_BYTES = 76 << 20;
 const TOO_LONG = `The battle is too long: the site shows at most ${MAX_TURNS.toLocaleString("en")} turns.`;

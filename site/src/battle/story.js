@@ -61,7 +61,7 @@ export class Story {
     const { processes, peaks, unsplit } = this;
     /** @type {Event[]} */
     const events = [];
-    // The turns that queue another number of processes than one.
+    // The turns that queue no process or two: a range whose end is below its start goes around.
     const rows = this.run.mars.find(mark, turns, [[EXECUTES, NUMBER_QUEUED, 2, 0]], turns);
     for (const { turn, warrior, queued, address } of foundIn(rows)) {
       const count = (processes[warrior] += queued - 1);

@@ -39,13 +39,14 @@ export class Call {
     this.#exports = exports;
   }
 
-  /** Gives back the memory. */
+  /** Frees all blocks of the call. */
   end() {
     for (const block of this.#blocks) this.#exports.mars_free(block);
   }
 
   /**
-   * Allocates a block until the end of the call. Throws a RangeError if the size is not one.
+   * Allocates a block until the end of the call. Throws a RangeError if the size is not an integer of 0 or more, and a
+   * MarsError if the memory is exhausted.
    * @param {number} size in bytes
    */
   allocate(size) {
@@ -57,8 +58,8 @@ export class Call {
   }
 
   /**
-   * Returns a view of the memory, as the next two do, until the next allocation: if the memory grows, its buffer is
-   * another one, and older views are empty.
+   * Returns a view of the memory. This view, like those of the next two methods, is valid until the next allocation: if
+   * the memory grows, it gets another buffer, and older views are empty.
    * @param {bigint} block
    * @param {number} length
    */
@@ -140,6 +141,7 @@ export class Call {
   }
 
   /**
+   * Copies settings into the memory, as a MarsSettings; returns their address.
    * @param {import("../model/settings.js").Settings} settings
    * @param {{rounds?: number, seed?: number, position?: number}} terms
    */

@@ -76,8 +76,8 @@ static void *cut(unsigned class)
     return (char *)header + HEADER;
 }
 
-/* Returns a block of a class from the smallest free block that is larger, whose rest becomes the region if it is the longer one;
- * returns 0 if there is no such block. */
+/* Returns a block of a class that is cut from the smallest larger free block, whose rest becomes the region; if the rest is not
+ * longer than the present region, returns the larger block whole. Returns 0 if there is no larger free block. */
 static void *split(unsigned class)
 {
     unsigned larger = class + 1;

@@ -22,7 +22,7 @@ const RECORD_WORDS = MarsRecord.size / 4;
 const TOUCHED_WORDS = MarsTouched.size / 4;
 const FOUND_WORDS = MarsFound.size / 4;
 const MOMENT_WORDS = MarsMoment.size / 4;
-/** The number of births for which `ancestors` has places at first. */
+/** The number of births for which `ancestors` allocates at first. */
 const BIRTHS = 1000;
 const KINDS = { cell: SET_CELL, move: MOVE_PROCESS, kill: KILL_PROCESS, add: ADD_PROCESS };
 
@@ -80,8 +80,8 @@ export class Machine {
   }
 
   /**
-   * Returns those of the next turns that meet all conditions, the first ones: the words of rows as MarsFound. The
-   * battle stays as it is.
+   * Returns which of the next `turns` turns meet all conditions, the first `most` of them: the words of rows as
+   * MarsFound. The battle stays as it is.
    * @param {Followed} followed
    * @param {number} turns
    * @param {Condition[]} conditions
@@ -169,7 +169,7 @@ export class Machine {
   }
 
   /**
-   * Returns what the debugger answers to its lines, over a battle, which stays as it is.
+   * Returns what the debugger prints for some lines of commands over a battle, which stays as it is.
    * @param {Battle} battle
    * @param {string} lines
    * @param {{history?: number}} size the number of places that can be walked back to

@@ -28,7 +28,8 @@ export { MarsError } from "../model/errors.js";
 
 const encoder = new TextEncoder();
 /**
- * Returns the bytes of a name. The library rejects one of more than 60 or with a control character, but 0 would end it.
+ * Returns the bytes of a name. The library rejects a name of more than 60 bytes or with a control character. It would
+ * take a zero character as the end of the name, so that becomes a line feed here, which it rejects.
  * @param {string} name
  */
 const nameBytes = (name) => encoder.encode(name.replaceAll("\0", "\n")).subarray(0, 64);
@@ -188,7 +189,7 @@ export class Mars extends Machine {
   }
 
   /**
-   * Returns the battle of a round, from 0, as it starts.
+   * Returns the battle at the start of a round; `round` is its number, from 0.
    * @param {Warrior[]} warriors
    * @param {Terms & {round?: number}} terms
    */

@@ -4,14 +4,15 @@ import { MODES, MODIFIERS, OPCODES } from "./layout.js";
 export { MODES, MODIFIERS, OPCODES };
 
 /**
- * A cell; its numbers are addresses relative to it, 0 to the core size less 1.
+ * A cell: indices of OPCODES, MODIFIERS and MODES, and the numbers `a` and `b`, which are addresses relative to the
+ * cell, 0 to the core size less 1.
  * @typedef {{op: number, modifier: number, aMode: number, bMode: number, a: number, b: number}} Cell
  */
 
-/** Words of a cell in a block. */
+/** The number of 32-bit words of a cell, in a battle and in a warrior. */
 export const CELL_WORDS = 3;
 
-/** The owner of a cell: the number of a warrior, or one of these. */
+/** Owners of a cell besides the numbers of warriors: of one that was never loaded or written, and of an edited one. */
 export const NOBODY = 255;
 export const BY_HAND = 254;
 

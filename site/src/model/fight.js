@@ -5,7 +5,8 @@ import { cellText, parseCell } from "./cells.js";
 /** @typedef {import("./settings.js").Settings} Settings */
 /** @typedef {{name: string, text: string}} Source a source or a load file, by the name of its file */
 /**
- * An edit of a battle. `place` is the index of a process in its queue, the next one first.
+ * An edit of a battle. "cell" sets the cells from `address` to `last`; "add" adds a process at `address`. `place` is
+ * the index of a process in its queue, 0 for the next one.
  * @typedef {{kind: "cell", address: number, last: number, cell: Cell}
  *   | {kind: "move", warrior: number, place: number, address: number}
  *   | {kind: "kill", warrior: number, place: number}
@@ -13,7 +14,7 @@ import { cellText, parseCell } from "./cells.js";
  */
 /** @typedef {{turn: number, edit: Edit}} Made an edit, and the turn after which it is made */
 /**
- * A round of a match, from 0.
+ * A round of a match; `round` is its number, from 0.
  * @typedef {object} Fight
  * @property {Settings} settings
  * @property {number} seed

@@ -13,7 +13,7 @@ import { MAX_CORE, MAX_CYCLES, MAX_PROCESSES } from "./layout.js";
  * @property {number} distance minimum distance between warriors, `longest` to the core size
  */
 
-/** The score of each survivor, in W warriors and S survivors. */
+/** The default score formula: the points of each survivor of a round of W warriors of which S survive. */
 export const FORMULA = "(W*W-1)/S";
 /** The maximum number of bytes of a source. */
 export const MAX_SOURCE_SIZE = 1_048_576;

@@ -3,7 +3,7 @@ import { BY_HAND, NOBODY, cellText, readCell } from "../model/cells.js";
 
 /** @typedef {import("../battle/story.js").Event} Event */
 /**
- * What a battle is called by: names in the order of turns, addresses of labels, and labels of addresses.
+ * What sentences about a battle need: names in the order of turns, addresses of labels, and labels of addresses.
  * @typedef {{names: string[], core: number, end: number, deaths: Event[], addresses: Map<string, number>,
  *   labels: Map<number, string>}} Known
  */
@@ -239,7 +239,7 @@ export const standingWords = (names, { processes, owned }) =>
   names.map((name, who) => `${name}: ${pluralize(processes[who], "process")}, ${pluralize(owned[who], "cell")}`);
 
 /**
- * Returns what a newcomer sees while the battle plays. `cells` and `processes` are those of each warrior.
+ * Returns the sentence that a newcomer reads while the battle plays. `cells` and `processes` are those of each warrior.
  * @param {number} turn
  * @param {Event[]} events
  * @param {Known} known

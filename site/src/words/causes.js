@@ -25,7 +25,7 @@ import {
  * @typedef {{number: number, column: number, word: string}} Place
  */
 /**
- * `place` is where the library has the error.
+ * Finds causes of an error in a line. `place` is the word at which the library reports it, or null.
  * @typedef {(source: Source, line: Line, place: Place | null) => Cause[]} Find
  */
 
@@ -43,7 +43,10 @@ const FIRST_WORDS = 20;
 /** An opcode before a name without a space. */
 const GLUED = new RegExp(`^(${OPCODES.join("|")})([A-Z_]\\w*)$`, "i");
 
-/** @param {string} text */
+/**
+ * Returns whether a line seems to have a comment as other languages write it, without a semicolon.
+ * @param {string} text
+ */
 const isComment = (text) => /\/\/|\/\*|^\s*#|,.*\w\s+#\s/.test(codeOf(text));
 
 /**
@@ -92,7 +95,7 @@ function notAscii(_, { number, text }, place) {
 }
 
 /**
- * Says why a word or sign is no token, or is not allowed. It may be in the definition of an EQU.
+ * Says why a word or sign is no token, or is not allowed. It may be in the definition of an EQU that the line uses.
  * @type {Find}
  */
 function badToken(source, line, place) {
@@ -175,7 +178,8 @@ function empty(source) {
 }
 
 /**
- * An operand is empty if it is the name of an EQU without a text; there are too many in two instructions.
+ * Says why a line has too few or too many operands: one is the name of an EQU without a text, or the line has two
+ * instructions.
  * @param {Source} source
  * @param {Line} line
  * @returns {Cause[]}
@@ -242,7 +246,7 @@ function joined(name, loops) {
 }
 
 /**
- * Returns why a name is in an earlier line.
+ * Returns why a name of a line is already the name of an earlier line, `other`.
  * @param {Source} source
  * @param {Line} line
  * @param {string} name
@@ -280,7 +284,7 @@ function syntax(source, line) {
 }
 
 /**
- * Says why a name has no value. It may be in the definition of an EQU, which has another line.
+ * Says why a name has no value. It may be in another line, in the definition of an EQU that this line uses.
  * @type {Find}
  */
 function unknown(source, { number }, place) {

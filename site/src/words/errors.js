@@ -8,8 +8,8 @@ import { NAME, codeOf, labelsOf, readSource, wordOf } from "./source.js";
 /** @typedef {import("./source.js").Line} Line */
 /** @typedef {import("./source.js").Source} Source */
 /**
- * An error at some columns of a line, and the cause if a word is in place of an operation. Lines are numbered from 1,
- * columns from 0.
+ * An error at some columns of a line, and its cause if that is a word in place of an operation. Lines are numbered from
+ * 1, columns from 0; `to` is the column after the last one.
  * @typedef {{line: number, from: number, to: number, text: string, misspelt?: Cause}} Explained
  */
 /**
@@ -63,7 +63,7 @@ export function explain(error, text, meanings) {
   }
   let meaning = meanings[name] ?? meanings[name.split(" ").slice(-2).join(" ")] ?? name;
   if (!causes.length && place && place.number !== number) {
-    // It is in the definition of an EQU.
+    // The error is in the definition of an EQU, in another line.
     number = place.number;
     if (!/^[A-Z]{2}/.test(meaning)) meaning = meaning[0].toLowerCase() + meaning.slice(1);
   }
@@ -75,8 +75,8 @@ export function explain(error, text, meanings) {
 }
 
 /**
- * Returns the word or sign at which the library has an error of a source, or null. A byte that is not ASCII stands for
- * its character.
+ * Returns the word or sign at which the library has an error of a source, or null. Of a character that is not ASCII the
+ * library reports one byte; here it is the whole character.
  * @param {string} text
  * @param {MarsError} error
  * @returns {Place | null}
@@ -92,7 +92,8 @@ function placeOf(text, { begin, end }) {
 }
 
 /**
- * Returns where a word is in a line, after a place of it if there is one; without a word the place, or else its code.
+ * Returns the columns of a word in a line: of the first one that ends after the start of `place`, or of the first one.
+ * Without a word, returns those of `place`, or else those of the code of the line.
  * @param {string} text
  * @param {string | undefined} word
  * @param {Place | null} place

@@ -1,4 +1,4 @@
-/** An instruction in plain English. If its address is given, cells have addresses, otherwise distances. */
+/** An instruction in plain English. Cells are called by the names of their addresses, or else by their distances. */
 import WORDS from "../../../python/corewar/explain/instructions.json";
 import { MODES, MODIFIERS, OPCODES, signed } from "../model/cells.js";
 

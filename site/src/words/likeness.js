@@ -43,7 +43,7 @@ const ratio = (one, other) => (2 * common(one, other)) / (one.length + other.len
 export const likeness = (word, choice) => (sorted(word) === sorted(choice) ? 1 : ratio(word.toUpperCase(), choice));
 
 /**
- * Returns whether two words of three letters differ in two places, as LDA and DAT do.
+ * Returns whether two words of three letters differ in two or three places, as LDA and DAT do.
  * @param {string} word
  * @param {string} choice
  */

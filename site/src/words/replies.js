@@ -31,7 +31,7 @@ export const some = (texts, most = MAX_LISTED, between = ", ") =>
   texts.slice(0, most).join(between) + (texts.length > most ? ` and ${texts.length - most} more` : "");
 
 /**
- * Returns what a turn executed, who, and what it read.
+ * Returns which warrior executed which instruction in a turn, and what the turn read.
  * @param {Move} move
  * @param {Known} known
  */

@@ -13,8 +13,8 @@ import { assembleAll, describe } from "../engine/warrior.js";
 /** @typedef {import("../model/fight.js").Fight} Fight */
 /**
  * A future as it is opened. Warriors are in the order of their turns; `order` says which source each is. `lines` has
- * the warrior and the line of each origin, and the address where it was loaded. `events` are those that are known
- * before the story is read.
+ * the warrior and the line of each loaded cell, and its address; origins are indices of it. `events` are those that are
+ * known before the story is read.
  * @typedef {object} Opened
  * @property {number} future
  * @property {import("./histories.js").Future[]} futures all of them
@@ -31,7 +31,8 @@ import { assembleAll, describe } from "../engine/warrior.js";
  */
 /**
  * A battle after a turn. `head` is the address that is executed next, or null at the end; `queues` has the addresses of
- * all processes, warrior by warrior, the next one first, and `processes` their numbers.
+ * all processes, warrior by warrior, the next one first, and `processes` how many each warrior has. `owner` and
+ * `written` have the owner of each cell and the turn that changed it last, `owned` the number of cells of each warrior.
  * @typedef {object} View
  * @property {number} turn
  * @property {number} cycle
@@ -45,7 +46,7 @@ import { assembleAll, describe } from "../engine/warrior.js";
  * @property {number[]} owned
  */
 
-/** About the milliseconds that a piece of a picture takes: meanwhile no turn is answered. */
+/** About the milliseconds that a piece of a picture takes; meanwhile the worker answers no other question. */
 const PIECE_TIME = 6;
 
 export class Desk {
@@ -60,8 +61,9 @@ export class Desk {
   }
 
   /**
-   * Opens a battle: a future for each of its edits, of which the last is returned. If a source has an error, which has
-   * its index as `warrior`, or an edit is impossible, the battle that was open stays.
+   * Opens a battle: future 0 without edits and one more future for each edit, of which the last is returned. If a
+   * source has an error (whose `warrior` is then the index of the source), or an edit is impossible, the battle that
+   * was open stays.
    * @param {Fight} fight
    */
   open(fight) {
@@ -286,7 +288,8 @@ export class Desk {
   }
 
   /**
-   * Returns the last turn up to another one that copied the instruction of a cell there, or 0.
+   * Returns the last turn, at most `turn`, that copied to a cell the instruction that it has after `turn`; 0 if the
+   * instruction was loaded or an edit set it.
    * @param {number} future
    * @param {number} address
    * @param {number} turn

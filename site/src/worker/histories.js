@@ -34,7 +34,7 @@ export class Histories {
   }
 
   /**
-   * Returns the history of a future; those that were used least recently are made again.
+   * Returns the history of a future, which is played again if it is not one of those that are kept.
    * @param {number} future
    * @returns {History}
    */

@@ -19,7 +19,7 @@ import { MarsError } from "../model/errors.js";
 export class Stopped extends Error {}
 /** What a call that takes too long fails with; its worker is ended. */
 class TimedOut extends Error {}
-/** What opening a battle fails with that the user does not wait for. */
+/** What opening a battle fails with if the user cancels it. */
 class Cancelled extends Error {}
 
 class WorkerClient {
@@ -85,7 +85,8 @@ class WorkerClient {
   }
 
   /**
-   * A worker can fail before anything waits for it: its script may be blocked.
+   * Fails the calls that wait, and all later ones. A worker can fail before anything waits for it: its script may be
+   * blocked.
    * @param {Error} error
    */
   #fail(error) {
@@ -205,11 +206,12 @@ export class Pool {
   }
 
   /**
+   * Runs a call of Jobs in the next idle worker, and returns its answer.
    * @template {keyof Work} K
    * @param {K} call
    * @param {Parameters<Work[K]>} given
    * @param {string} group what `drop` names; the group "lint" has a shorter timeout
-   * @param {number} urgency
+   * @param {number} urgency the job of the highest urgency is taken first
    * @returns {Promise<ReturnType<Work[K]>>}
    */
   ask(call, given, group, urgency = 0) {

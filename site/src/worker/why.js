@@ -12,8 +12,8 @@ const INDIRECT = "*@{<}>";
 
 /**
  * Returns the turns that led to the death of a warrior, in the order of time: those that aimed, wrote and changed the
- * cell in which it died, the one that led its process there, those that wrote the instruction of that if another
- * warrior did, and the death; none if it lives or an edit killed it.
+ * cell in which it died, the one that led its process there, those that wrote the instruction which led it there if
+ * another warrior did so, and the death; none if the warrior lives or an edit killed it.
  * @param {History} history
  * @param {number} warrior
  * @returns {Link[]}
@@ -34,8 +34,8 @@ export function chainOf(history, warrior) {
 }
 
 /**
- * Returns the turn before another one that copied its instruction to a cell, and the one that changed it last, each
- * after the one that aimed it; none if the cell was loaded or edited.
+ * Returns the turn that copied to a cell the instruction that it has in turn `before`, and the one that last changed
+ * the cell until then, each after the turn that aimed it; none if the cell was loaded or edited.
  * @param {History} history
  * @param {number} address
  * @param {number} before
@@ -50,7 +50,7 @@ function writesOf(history, address, before) {
 }
 
 /**
- * Returns the last turn up to another one that changed a cell; 0 if it was loaded or edited.
+ * Returns the last turn, at most `turn`, that changed a cell; 0 if the cell was loaded or an edit changed it since.
  * @param {History} history
  * @param {number} address
  * @param {number} turn
@@ -61,8 +61,8 @@ function changedIn(history, address, turn) {
 }
 
 /**
- * Returns the last turn up to another one that copied the instruction of a cell there in place of another one; 0 if it
- * was loaded or edited.
+ * Returns the last turn, at most `turn`, that copied to a cell the instruction that it has after `turn`, in place of a
+ * different one; 0 if the instruction was loaded or an edit set it.
  * @param {History} history
  * @param {number} address
  * @param {number} turn
@@ -110,8 +110,8 @@ function aimOf(history, { turn, address, target, executed }) {
 }
 
 /**
- * Returns the last turn before a death that queued the process, or null if it began there. The warrior has no other
- * process then, so that is its last turn that queued one.
+ * Returns the turn that led the process of a death to its cell, or null if it was loaded or moved there. The warrior
+ * has no other process when it dies, so this is its last turn that queued a process.
  * @param {History} history
  * @param {Event} death
  */
