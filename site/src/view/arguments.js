@@ -86,7 +86,7 @@ export function readAddress({ known, view }, text) {
 }
 
 /**
- * Returns the conditions of a text, which one turn meets.
+ * Returns the condition that a text states; one turn has to meet all parts that are joined by `and`.
  * @param {Session} session
  * @param {string} text
  * @returns {Condition}
@@ -212,7 +212,7 @@ export async function readCellEdit(session, line, address, last) {
 
 /**
  * Returns the cell of a line of Redcode for an address; labels of the warrior that was loaded there need no number.
- * Throws a CommandError if it is not one, or about a label that several warriors have.
+ * Throws a CommandError if the line is not one instruction, or if it has a label of several warriors.
  * @param {Session} session
  * @param {string} text
  * @param {number} address

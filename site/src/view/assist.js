@@ -37,7 +37,7 @@ function suggestionsFor(before, word, text) {
   return found.slice(0, MAX_SUGGESTIONS).map(([name, meaning]) => ({ word: cased(name), meaning }));
 }
 
-/** The list of words to which the one before the caret can be completed. Tab takes the first one. */
+/** The list of words to which the one before the caret can be completed. Tab takes the selected one, at first the top. */
 export class Completion {
   /** @type {Suggestion[]} */
   #found = [];
@@ -64,7 +64,7 @@ export class Completion {
 
   /**
    * Shows the list if there is something to complete.
-   * @param {boolean} isWanted whether the user wants it now
+   * @param {boolean} isWanted whether the user has asked for it by a key
    */
   open(isWanted) {
     const { line, ch } = this.mirror.getCursor();
@@ -130,7 +130,7 @@ export class Completion {
 }
 
 /**
- * Makes the selected lines comments, or no longer.
+ * Makes the selected lines comments, or, if all of them are, makes them code again.
  * @param {Mirror} mirror
  */
 export function toggleComment(mirror) {

@@ -9,7 +9,7 @@ export const inBatches = (all, size) =>
   Array.from({ length: Math.ceil(all.length / size) }, (_, at) => all.slice(size * at, size * (at + 1)));
 
 /**
- * Returns the numbers up to a count, first some that are far apart, then those between them.
+ * Returns the numbers from 0 to `count` less 1, first some that are far apart, then those between them.
  * @param {number} count
  */
 export function spread(count) {

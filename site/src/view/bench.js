@@ -46,7 +46,7 @@ export class Bench {
   #run = 0;
   #fought = "";
   #later = throttle(() => this.#draw(), 100);
-  /** The source in the editor has changed. */
+  /** Fights again soon, or says why not: the source in the editor has changed and was checked. */
   checked = debounce(() => {
     if (this.isOpen && this.host.shelf.checker.isBroken) element("bench-note").textContent = STALE;
     else if (this.isOpen) this.fight();
@@ -113,7 +113,7 @@ export class Bench {
   }
 
   /**
-   * Compares from now on with a version. The results that it has are those of the same text.
+   * Compares from now on with a version. If it is the source that was fought last, its results are taken over.
    * @param {Source} source
    */
   compare(source) {
@@ -171,8 +171,8 @@ export class Bench {
   }
 
   /**
-   * Fights a match with an opponent, and one of the version before if it has none. Both are ignored if another run has
-   * begun.
+   * Fights a match with an opponent, and one of the version before unless its result is known. If another run has
+   * begun meanwhile, only the result of the version before is kept.
    * @param {Warrior} own
    * @param {{base: Base, warrior: Warrior} | null} before
    * @param {Source} opponent

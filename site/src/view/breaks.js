@@ -24,7 +24,7 @@ export class Breaks {
   }
 
   /**
-   * Takes other breakpoints.
+   * Replaces all breakpoints. Those that stay keep their numbers.
    * @param {Condition[]} breaks
    */
   set(breaks) {

@@ -70,7 +70,7 @@ export class Cells {
     }
   }
 
-  /** The address that is looked at. */
+  /** The address that is looked at: the pinned one, the next one, or at the end that of the last death. */
   get focus() {
     const { pinned, view, known } = this.session;
     return pinned ?? view?.head ?? Math.max(0, known.deaths.at(-1)?.address ?? 0);
@@ -200,7 +200,7 @@ export class Cells {
   }
 
   /**
-   * Edits a cell by the text of a field. Returns whether that is an instruction.
+   * Edits a cell by the text of a field. Returns whether it could: otherwise the page says why.
    * @param {number} address
    * @param {HTMLInputElement} input
    */

@@ -11,11 +11,11 @@ import { BETWEEN, DARK, SHADES } from "./palette.js";
 /** @typedef {import("./marks.js").Marks} Marks */
 /** @typedef {import("./palette.js").Palette} Palette */
 
-/** The largest number of processes of a warrior with rings around them, and the cells in pixels that need none. */
+/** The most processes of a warrior that get rings, and the side in pixels from which cells need no rings. */
 const MAX_RINGED = 3;
 const LARGE = 16;
 const MARGIN = 8;
-/** The maximum number of cells of a breakpoint that are marked, and the colour of breakpoints. */
+/** The most cells of a breakpoint that are marked after its first one, and the colour of breakpoints. */
 const MAX_BREAKS = 100;
 export const BREAK = "#ff4f81";
 const RING = new Path2D("M1.2 0A1.2 1.2 0 1 0 -1.2 0A1.2 1.2 0 1 0 1.2 0");
@@ -29,7 +29,7 @@ export class Core {
   rows = 1;
   /** How strongly cells glow, 0 to 1. */
   shine = 0;
-  /** Pixels of a cell, and without its gap. */
+  /** The side of a cell in pixels of the canvas, the side without the gap to the next cell, and that gap. */
   cell = 1;
   #inner = 1;
   #gap = 0;
@@ -56,7 +56,7 @@ export class Core {
   }
 
   /**
-   * Takes the room that there is.
+   * Lays out the cells in the room that the page has for them.
    * @param {number} size of the core
    * @param {number} width in pixels of the page
    * @param {number} height
@@ -158,7 +158,7 @@ export class Core {
   }
 
   /**
-   * Draws a mark on each cell with processes. Returns the addresses of the warriors that are on few cells.
+   * Draws a mark on each cell with processes. Returns the addresses of the processes of warriors that have few.
    * @param {View} view
    * @param {Palette} palette
    */

@@ -2,7 +2,7 @@
 import { clamp, element } from "./dom.js";
 
 const LEAST = 260;
-/** What is left for the rest, and how far a key moves the divider. */
+/** What is left for the rest of the page, and how far a key moves the divider, in pixels. */
 const REST = 360;
 const STEP = 24;
 

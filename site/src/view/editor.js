@@ -96,9 +96,9 @@ export class Editor {
   }
 
   /**
-   * Shows a line, and writes on from a word of it if that is given.
-   * @param {number} line
-   * @param {number} [word] where it begins
+   * Shows a line, and gives the editor the focus at a word of it if that is given.
+   * @param {number} line from 1
+   * @param {number} [word] the column at which it begins, from 0
    */
   showLine(line, word) {
     this.mirror.refresh();

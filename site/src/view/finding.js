@@ -65,7 +65,8 @@ async function findInRounds(session, rest, tell) {
 }
 
 /**
- * Returns what arguments of commands are read by in another round, at whose end no cell is the next one.
+ * Returns as much of a session of another round as reading the arguments of commands takes. No cell is the next one in
+ * it, so `.` is an error.
  * @param {Session} session
  * @param {number} round
  * @param {number[]} starts where each warrior is loaded there

@@ -1,4 +1,4 @@
-/** What the sheets of the page ask of it, and what they share. */
+/** What the bench, the league and the lessons ask of the page, and what they share. */
 import { MarsError } from "../model/errors.js";
 import * as results from "../model/layout.js";
 import { explain } from "../words/errors.js";

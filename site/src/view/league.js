@@ -139,7 +139,7 @@ export class League {
   }
 
   /**
-   * Assembles the sources. One with an error is left out. The results of the same league that has not ended stay.
+   * Assembles the sources. One with an error is left out. If this league was stopped before its end, its results stay.
    * @param {Source[]} sources
    * @param {MatchTerms} terms
    * @param {number} run

@@ -10,7 +10,7 @@ import { standingOn } from "./standing.js";
 /** @typedef {import("./acts.js").Act} Act */
 /** @typedef {import("./session.js").Session} Session */
 
-/** The number of cells that `list` shows, around each warrior's next process, and of processes that are listed. */
+/** How many cells `list` shows, from an address and around each next process, and how many processes are listed. */
 const [CELLS, AROUND, LISTED] = [11, 7, 20];
 
 /**

@@ -10,7 +10,7 @@ export const SHADES = 24;
 const GROUND = [14, 19, 25];
 /** The colour of the stage: `--stage` of the style sheet. */
 const BACK = [6, 8, 12];
-/** The shades that glow, and how strongly the first one does. */
+/** The number of shades that glow, and how strongly the first one does. */
 const GLOWING = 9;
 const GLOW = 0.45;
 /** How strongly processes glow, and the part of its own glow that a cell has: it is brightest in the middle. */
@@ -41,7 +41,7 @@ function pixel(colour) {
 }
 
 /**
- * Returns a pixel that adds a colour to the glow below it: as clear as the colour allows.
+ * Returns a pixel that adds a colour to the glow below it: as transparent as the colour allows.
  * @param {Colour} colour
  */
 function clear(colour) {
@@ -67,7 +67,7 @@ export class Palette {
 
   /**
    * @param {number[]} order which source each warrior is; it has the same colour in all rounds
-   * @param {number} chosen the warrior that is shown chosen, or -1
+   * @param {number} chosen the only warrior in full colour, or -1 if all are
    * @param {number} shine how strongly cells glow, 0 to 1
    */
   constructor(order, chosen, shine) {

@@ -69,8 +69,8 @@ export function mean({ points, wins, ties, losses, values }) {
 }
 
 /**
- * Returns whether the best of `count` rows leads another row by more than chance: even if all are equally good, the best
- * one leads by some points, and by more if there are more rows.
+ * Returns whether the best of `count` rows leads another row by more than chance: even if all are equally good, the
+ * best one leads by some points, and by more if there are more rows.
  * @param {Counted} best
  * @param {Counted} other
  * @param {number} count of the rows
