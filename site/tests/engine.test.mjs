@@ -178,7 +178,7 @@ test("ancestors of processes are found", () => {
   assert.deepEqual(mars.ancestors(battle, 1, 0, 0), { births: new Uint32Array(0), first: 1 });
   assert.equal(battle.turns, 5);
   assert.throws(() => mars.ancestors(battle, 1, 0, 4), { code: PROCESS, message: "process" });
-  // There are more births than places for them at first.
+  // There are more births than `ancestors` allocates at first.
   const turns = (1100 * 1101) / 2;
   const settings = { ...DEFAULTS, cycles: turns };
   const last = mars.ancestors(mars.start([mars.assemble("SPL 0\nJMP 0\n")], { settings }), turns, 0, 1100);

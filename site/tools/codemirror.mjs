@@ -11,7 +11,7 @@ export { Pass } from "codemirror-src/util/misc.js";
 export { defineMode } from "codemirror-src/modes.js";
 export { CodeMirror, Doc };
 
-/** The methods of a document that an editor has not, or has as its own. */
+/** The methods of a document that an editor lacks, or has in a form of its own. */
 const OTHER = ["iter", "insert", "remove", "copy", "getEditor", "constructor"];
 
 defineOptions(CodeMirror);

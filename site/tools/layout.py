@@ -18,9 +18,10 @@ from cffi import FFI
 sys.path.insert(0, str(Path(__file__).resolve().parents[2] / "python"))
 from corewar.model.header import characters, content, declarations, enumerations, names  # noqa: E402
 
-# The enumerations of errors: those of results that have numbers, and of texts.
+# The enumerations of errors: by the results that have numbered errors, and those of expressions and of source texts.
 ERRORS = """SETTINGS PARAMETERS EXPRESSION ASSEMBLY TEXT LOAD PLACEMENT BATTLE BLOCK EDIT WARRIOR LINEUP""".split()
-# The lists of names of enumerations, by the first name. The numbers of cells have no names of their own.
+# The enumerations whose names are printed as lists, by their first name; and the enumerations of opcodes, modifiers and
+# modes, whose numbers are not printed one by one.
 LISTS = {"DAT": "OPCODES", "A": "MODIFIERS", "DONE": "RESULTS"}
 CELLS = "DAT", "A", "IMMEDIATE"
 

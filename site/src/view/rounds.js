@@ -173,7 +173,7 @@ function whysOf(rounds) {
 }
 
 /**
- * Returns how often warriors died on a line, and by what a line wrote.
+ * Returns for each line how often warriors died on it, and by a cell that it wrote.
  * @param {Why[]} whys
  * @param {string[]} names
  */

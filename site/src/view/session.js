@@ -29,7 +29,7 @@ export class Session extends Turns {
   meanings = {};
   /** @type {number | null} */
   pinned = null;
-  /** The warrior that is shown chosen, or -1. */
+  /** The only warrior that is shown in full colour, or -1 if all are. */
   chosen = -1;
   /** The number of battles and futures that are being opened, which `desk.cancel` stops. */
   pending = 0;

@@ -195,7 +195,7 @@ export class Shelf {
     if (entry === this.shown) this.show(this.sources[0]);
   }
 
-  /** Takes back the examples that were removed, or the changes of the one in the editor. */
+  /** Restores the text of the example in the editor if it was changed, otherwise the examples that were removed. */
   #restore() {
     const { shown } = this;
     if (shown && isEdited(shown)) shown.doc.setValue(shown.saved);

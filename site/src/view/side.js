@@ -57,14 +57,14 @@ export class Side {
     this.#rows = names.map((_, who) => this.#row(who));
     element("legend").className = names.length > MAX_LARGE_ROWS ? "many" : "";
     refill(element("legend"), ...this.#rows.map(({ row }) => row));
-    // Until it has been read, what is below stays in its place.
+    // Until the story has been read, what is below it stays in its place.
     this.#tell(`max(${STORY}, ${element("story").offsetHeight}px)`);
     this.#openFutures();
   }
 
   /**
    * Shows what is known of the story.
-   * @param {string} height which it has at least
+   * @param {string} height the least height of its list
    */
   #tell(height) {
     const events = this.session.opened?.events ?? [];

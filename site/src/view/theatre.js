@@ -20,7 +20,7 @@ const PAUSE = "M3 2h4v12H3zM9 2h4v12H9z";
 const BACKWARDS = "M12 2v12L2 8z";
 /** The speed at the right end of its slider, in turns a second; at the left end it is 1. */
 const FASTEST = 200_000;
-/** The maximum number of marks of breakpoints on the strip, and of turns that are searched for them. */
+/** The maximum number of marks of breakpoints on the strip, and of turns of a battle that is searched for them. */
 const MAX_HITS = 4000;
 const MAX_SCANNED = 4_000_000;
 /** The least height of the core on a narrow page, in pixels. */
@@ -96,7 +96,7 @@ export class Theatre {
   }
 
   /**
-   * Goes to the next or the last split, end of a process or death of any warrior.
+   * Goes to the next or the previous split, end of a process or death of any warrior.
    * @param {Word} word
    * @param {boolean} forward
    */

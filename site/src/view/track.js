@@ -40,7 +40,7 @@ export class Track {
   #film = document.createElement("canvas");
   /** @type {unknown[]} */
   #drawn = [];
-  /** Where the line was drawn. */
+  /** Where the line of the turn was drawn last, in pixels from the left edge. */
   #line = 0;
   /** Whether curves are shown in place of the picture. */
   hasCurves = false;
@@ -145,7 +145,7 @@ export class Track {
 
   /**
    * Shows a part of what is shown, or more than that, around a turn that stays in its place.
-   * @param {number} factor
+   * @param {number} factor by which the number of turns changes: below 1 zooms in
    * @param {number} turn
    */
   zoom(factor, turn) {
