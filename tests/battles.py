@@ -38,7 +38,7 @@ CELLS = st.builds(
 def warriors(draw: st.DrawFn) -> Warrior:
     cells = draw(st.lists(CELLS, min_size=1, max_size=8))
     origin = draw(st.integers(0, len(cells) - 1))
-    # The core of the match reads its numbers by value.
+    # The load file is read for the default core size; the smaller core of a match takes its numbers by value.
     return read_load("\n".join([f"ORG {origin}", *cells, ""]).encode())
 
 

@@ -9,7 +9,7 @@ UNSIGNED, SIGNED = ("eq", "ne", "ult", "ule", "ugt", "uge"), ("slt", "sle", "sgt
 WIDE = ("eq", "ne", "ult", "ule", "slt", "sle")
 # Both numbers as type {0}.
 CUT = "%a = trunc i64 %a0 to {0}\n%b = trunc i64 %a1 to {0}\n"
-# Both numbers in each other's halves, of which the second is negative if the first one is odd.
+# Two numbers of 128 bits: the product of both, the first of which is signed, and their exclusive or with its sign.
 BOTH = """%a2 = sext i64 %a0 to i128
 %a3 = zext i64 %a1 to i128
 %a = mul i128 %a2, %a3
@@ -138,7 +138,7 @@ def numbers() -> Iterator[tuple[str, str]]:
 
 
 def variables() -> Iterator[tuple[str, str]]:
-    """Places that are used as a whole, and others that look so."""
+    """Functions with places in memory that are used as a whole, and with others that only seem to be."""
     one = "%p = alloca i64, align 8\nstore i64 %a0, ptr %p, align 8\n"
     two = one + "%s = alloca i64, align 8\nstore i64 %a1, ptr %s, align 8\n"
     ends = "%x = load i64, ptr %p, align 8\n%y = load i64, ptr %s, align 8\n%r = sub i64 %x, %y\n"

@@ -197,7 +197,7 @@ def test_the_end_leads_to_the_death(page: Browser) -> None:
     page.until("!document.getElementById('ending').hidden")
     go_to_turn(page, 7700)
     assert page.value("document.getElementById('ending').hidden")
-    # Also if the end was not played to.
+    # Also if the end was reached by a key.
     page.press("End")
     page.until("!document.getElementById('ending').hidden")
     assert page.text("caption") == "Dwarf wins after 7,798 turns."
@@ -223,7 +223,7 @@ def test_the_end_leads_to_the_death(page: Browser) -> None:
 
 
 def test_breakpoints_stop_play(page: Browser) -> None:
-    """They are set beside a line or a cell and by a command, stop both ways of playing, and are marked."""
+    """Breakpoints are set beside a line or a cell and by a command, stop both ways of playing, and are marked."""
     page.run("corewar.session.jump(0); corewar.views.showDesk(true)")
     page.until("corewar.session.isSettled")
     gutter = "[...document.querySelectorAll('.CodeMirror-linenumber')].find(one => one.textContent === '11')"
@@ -278,7 +278,7 @@ def test_the_strip_is_a_picture_or_curves(page: Browser, site: str) -> None:
     page.mouse(1, 1)
     assert float(page.value("getComputedStyle(document.getElementById('curves')).opacity")) > 0.8
     page.run("document.getElementById('curves').click()")
-    # Samples have fewer. The story is read after the battle is drawn.
+    # Samples may miss the turn with the most processes. The story has it, and is read after the battle is drawn.
     page.until("corewar.session.opened.events.some(({kind}) => kind === 'most')")
     most = page.value("Math.max(...corewar.session.opened.events.map(({count, kind}) => kind === 'most' ? count : 0))")
     sampled = "(await corewar.session.desk.overview(corewar.session.future, 0, corewar.session.end)).processes"
@@ -353,7 +353,7 @@ def test_keys_that_are_pressed_quickly(page: Browser) -> None:
     page.run("document.activeElement.blur()")
     page.press("]", "]", "]", "]")
     page.until("corewar.session.fight.round === 4 && corewar.session.view")
-    # An edit of a battle is none of the next one.
+    # An edit that was meant for one battle is not made in the next one.
     code = """const {session} = corewar, opening = session.open({...session.fight, round: 5, edits: []});
       await corewar.console.run("edit 3 jmp 0");
       await opening;
@@ -363,7 +363,7 @@ def test_keys_that_are_pressed_quickly(page: Browser) -> None:
 
 
 def test_a_message_stays_until_the_turn_changes(page: Browser) -> None:
-    """It stays if the battle was playing, and if the pointer moves."""
+    """The message stays if the battle was playing, and if the pointer moves."""
     page.run("corewar.session.jump(7700); corewar.session.setRate(20); corewar.session.play(1)")
     page.press("s")
     caption = "document.getElementById('caption').textContent"
@@ -377,7 +377,7 @@ def test_a_message_stays_until_the_turn_changes(page: Browser) -> None:
 
 
 def test_a_cell_in_view_while_it_plays(page: Browser) -> None:
-    """Its text is that of a turn that is shown."""
+    """The text of the pinned cell is that of a turn that is shown."""
     page.run("corewar.session.jump(0); corewar.session.pin(3)")
     text = "document.querySelector('#listing .focus .text')?.textContent"
     page.until(f"{text} === 'DAT.F #0, #0'")
@@ -388,7 +388,7 @@ def test_a_cell_in_view_while_it_plays(page: Browser) -> None:
 
 
 def test_an_edit_while_it_plays(page: Browser) -> None:
-    """It is made in the turn that is shown when the line is entered, although the assembler takes some time."""
+    """The edit is made in the turn that is shown when the line is entered, although assembling takes some time."""
     turns = page.run(
         """const session = corewar.session, found = [];
         for (let k = 0; k < 8; k++) {
@@ -494,7 +494,7 @@ def test_replies_are_those_of_the_terminal(page: Browser) -> None:
 
 
 def test_a_warrior_may_be_called_as_a_word_of_conditions(page: Browser) -> None:
-    """As in `corewar debug`."""
+    """The name `of` in a condition is read as in `corewar debug`."""
     sources = [{"name": f"{name}.red", "text": f";name {name}\nJMP 0\n"} for name in ("of", "Stay")]
     page.run("await corewar.fight(given[0], false)", sources)
     for words in ("dies of", "dies of was MOV", "dies of and splits of", "splits of Stay", "dies Stay of of"):
@@ -503,12 +503,12 @@ def test_a_warrior_may_be_called_as_a_word_of_conditions(page: Browser) -> None:
 
 
 def test_labels_of_several_warriors(page: Browser) -> None:
-    """They require the number of their warrior, as in `corewar debug`, also in the list beside the core."""
+    """A shared label requires the number of its warrior, as in `corewar debug`, also in the list beside the core."""
     fight(page, "dwarf", "scanner")
     ask = functools.partial(answer, page)
     shared = "bomb is a label of several warriors; use 0.bomb or 1.bomb"
     assert ask("list bomb") == shared and ask("edit 700 jmp bomb") == shared
-    # In a warrior, labels are its own.
+    # In an edit of a cell that a warrior loaded, its own labels need no number.
     assert ask("edit 0 jmp bomb").endswith(" -> JMP.B $3, $0") and ask("undo")
     there = page.value("corewar.session.known.addresses.get('1.bomb')")
     assert ask("list 1.bomb 1").split()[:2] == [str(there), "1.bomb"]
@@ -522,7 +522,7 @@ def test_labels_of_several_warriors(page: Browser) -> None:
 
 
 def test_the_line_stays_in_view(page: Browser) -> None:
-    """Below replies of any length, and says how far a search in all rounds is."""
+    """The debugger's line is visible below replies of any length, and says how far a search in all rounds is."""
     page.run("rounds.value = '3'; rounds.dispatchEvent(new Event('change'))")
     fight(page, "dwarf", "imp")
     page.press(":")
@@ -696,7 +696,7 @@ def test_strangers_names_are_no_html(page: Browser, site: str) -> None:
 
 
 def test_the_list_has_the_names_of_warriors(page: Browser) -> None:
-    """The rest of the page knows sources by these."""
+    """The list shows the names of warriors, by which the rest of the page knows sources."""
     page.press("e")
     names = "[...document.querySelectorAll('#names button')].map(one => one.textContent)"
     found = page.value(names)
@@ -1311,7 +1311,7 @@ def test_a_number_is_tuned(page: Browser, tmp_path: Path) -> None:
     # A sweep can be cancelled.
     page.run("document.getElementById('tune-to').value = 19000; window.swept = corewar.bench.tune.sweep()")
     page.until("!document.getElementById('tune-stop').hidden")
-    # It is the longest job: a league does not wait for it.
+    # A sweep takes longer than any other job, so a league does not wait for it.
     page.run("document.getElementById('league-of').value = 'marked'; await corewar.league.runAll()")
     assert page.value("corewar.league.done === corewar.league.total && !document.getElementById('tune-stop').hidden")
     page.click("#tune-stop")
@@ -1371,7 +1371,7 @@ def test_a_league_that_fails_says_why(page: Browser) -> None:
 
 
 def test_a_league_that_runs_has_an_order(page: Browser) -> None:
-    """By points per round: some warriors have fought more matches than others."""
+    """The table is sorted by points per round, since some warriors have fought more matches than others."""
     page.run("corewar.terms.value = {...corewar.terms.value, rounds: 1}")
     page.run("corewar.views.show('league'); await corewar.league.runAll()")
     page.run(
@@ -1385,7 +1385,7 @@ def test_a_league_that_runs_has_an_order(page: Browser) -> None:
 
 
 def test_a_match_of_the_league_is_watched(page: Browser) -> None:
-    """Its first round is that of the league, also if the seed has changed since."""
+    """The round that is shown is the first one of the match, also if the seed has changed since."""
     page.run("corewar.terms.value = {...corewar.terms.value, seed: 7, rounds: 2}; corewar.views.show('league')")
     page.run("await corewar.league.runAll(); corewar.terms.value = {...corewar.terms.value, seed: 8}")
     page.run("document.querySelector('#league-table button').click()")
@@ -1573,7 +1573,7 @@ def narrow(page: Browser) -> Iterator[Browser]:
 
 
 def test_nothing_moves_while_the_page_begins(page: Browser, site: str) -> None:
-    """Browsers that measure it call more than 0.1 poor; and Play is visible in windows of all sizes."""
+    """Layout shifts are small (browsers call a sum above 0.1 poor), and Play is visible in windows of all sizes."""
     moved = """return new Promise(done => {
         let sum = 0;
         const add = list => { for (const entry of list.getEntries()) sum += entry.value };
@@ -1593,7 +1593,7 @@ def test_nothing_moves_while_the_page_begins(page: Browser, site: str) -> None:
 
 
 def test_a_narrow_page_shows_the_whole_strip(narrow: Browser) -> None:
-    """The core leaves room for it above the controls."""
+    """The core leaves room for the strip above the controls."""
     boxes = "['core', 'track', 'controls'].map(id => document.getElementById(id).getBoundingClientRect())"
     for width, height in ((390, 844), (412, 915), (768, 1024)):
         narrow.resize(width, height)
@@ -1647,7 +1647,7 @@ def test_a_narrow_page_shows_lessons(narrow: Browser) -> None:
     narrow.run("document.querySelector('#lessons .lesson button').click()")
     narrow.until("corewar.session.fight.warriors.length === 1 && corewar.session.isSettled")
     narrow.until("document.getElementById('lesson-box').checkVisibility()")
-    # Its button leads to the battle.
+    # The button of the lesson leads to the battle.
     narrow.run("document.querySelector('#lesson-box button').click()")
     narrow.until("document.getElementById('battle').checkVisibility() && corewar.session.way === 1")
     narrow.run("document.querySelector('[data-tab=lesson]').click(); corewar.session.jump(corewar.session.end)")
@@ -1661,7 +1661,7 @@ def test_a_narrow_page_shows_lessons(narrow: Browser) -> None:
 
 
 def test_a_narrow_page_begins_with_its_battle(narrow: Browser, site: str) -> None:
-    """Also if the editor was open before."""
+    """The page shows its battle first, also if the editor was open before."""
     narrow.run("corewar.views.showDesk(true)")
     narrow.open(f"{site}?narrow")
     narrow.until("window.corewar?.session.view")

@@ -67,7 +67,7 @@ def test_a_fork_that_ends_ends_no_assembler_of_its_parent() -> None:
 
 @pytest.mark.parametrize("way", ("fork", "spawn", "forkserver"))
 def test_a_pool(way: str) -> None:
-    """Its workers, which may start no other processes, have an assembler each."""
+    """The workers of a pool, which may start no other processes, have an assembler each."""
     ask(0)
     with multiprocessing.get_context(way).Pool(2) as pool:
         assert pool.map_async(ask, range(200), chunksize=5).get(120) == [(number, number) for number in range(200)]
@@ -92,7 +92,7 @@ def test_a_fork_while_a_thread_asks() -> None:
 
 
 def test_threads() -> None:
-    """All get their own answers from one process."""
+    """All threads get their own answers from one process."""
     wrong: list[tuple[int, int]] = []
 
     def work(first: int) -> None:
@@ -108,7 +108,7 @@ def test_threads() -> None:
 
 
 def test_files(tmp_path: Path) -> None:
-    """They are read as by `corewar.read`, and a source that takes more than a limit is an error of its file."""
+    """Files are read as by `corewar.read`, and a source that takes more than a limit is an error of its file."""
     (tmp_path / "slow.red").write_text(slow())
     (tmp_path / "bad.red").write_text("foo 1\n")
     (tmp_path / "imp.load").write_bytes(corewar.read(EXAMPLES / "imp.red").load)

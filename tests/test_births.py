@@ -92,7 +92,7 @@ def test_a_paper() -> None:
 
 
 def heads(session: Session, line: str) -> list[str]:
-    """Executes a line, and returns the numbers of the turns in place of the turns."""
+    """Returns the reply to a line, in which `turn N` stands for each line that describes a turn."""
     return [text.split(":")[0] if text.startswith("turn") else text for text in execute(session, line)]
 
 
@@ -130,7 +130,7 @@ def test_after_edits() -> None:
 
 
 def test_a_long_chain() -> None:
-    """Eight turns are listed."""
+    """At most eight births are listed; a line says how many are left."""
     session = session_of(CHAIN)
     turns = [number * (number + 1) // 2 for number in range(1, 12)]
     cases: dict[int, list[str]] = {7: [], 8: [], 9: ["and 1 earlier turn"], 11: ["and 3 earlier turns"]}
@@ -152,7 +152,7 @@ def test_a_dead_warrior() -> None:
 
 
 def test_a_history_is_asked() -> None:
-    """By the number or the name of a warrior; there must be such a turn, warrior and process."""
+    """A warrior is given by its number or its name; an unknown turn, warrior or process is an error."""
     history = session_of(PAPER, "JMP 0").history
     assert history.born(20, 0, 2) == history.born(20, "Paper", 2) == ([13, 5, 1], None)
     after = history.edited(20, Edit.kill(0, 1)).edited(30, Edit.add(0, 50))

@@ -143,7 +143,7 @@ ROWS = [
 
 
 def test_formats_for_programs(run: Run) -> None:
-    """They have a row for each match, with the opponent and the results of the candidate, and a row with the sums."""
+    """CSV and JSON have a row for each match, with its opponent and the candidate's results, and a row of sums."""
     words, files = ["challenge", "-r", 4], ["stay.red", "stay.red", "dead.red"]
     table = [*csv.reader(io.StringIO(run(*words, "--format", "csv", *files).stdout))]
     assert table == [HEADS, *ROWS]

@@ -35,7 +35,7 @@ def warriors() -> list[corewar.Warrior]:
 
 @pytest.mark.parametrize("command", CALLS)
 def test_results_are_those_of_the_command(run: Run, command: str) -> None:
-    """Its text, its dictionary and its rows are the formats of the command, whatever runs the matches."""
+    """The text, the dictionary and the rows of a result are what the command prints, whatever runs the matches."""
     result, files = CALLS[command](warriors()), [f"{name}.red" for name in NAMES]
     words = [*command.split(), *([files.pop(1)] if "--old" in command else []), "-r", 6, "--seed", 3, *files]
     assert run(*words, cwd=EXAMPLES).stdout.split() == str(result).replace(str(EXAMPLES) + "/", "").split()
@@ -140,7 +140,7 @@ class Broken(Executor):
 
 
 def test_errors_of_executors() -> None:
-    """Each is an error of one line."""
+    """Each error of an executor is reported in one line."""
     for fault, text in (
         (ModuleNotFoundError("No module named 'corewar'"), "this package is not installed on a worker: No module"),
         (OSError("two\nlines"), "error on the workers: two lines"),
@@ -206,7 +206,7 @@ def test_waiting_takes_no_locks() -> None:
 
 
 def test_seeds_of_matches() -> None:
-    """They depend on the seed, on both warriors and on their order, and not on names; all are valid and differ."""
+    """Seeds depend on the contest's seed, on both warriors and their order, not on names; all are valid and differ."""
     dice = random.Random(5)
     made = [
         corewar.Warrior.from_cells([tuple(map(dice.randrange, (16, 7, 8, 8, 80, 80)))], settings="nano")  # type: ignore

@@ -411,7 +411,7 @@ def test_at_a_terminal(tmp_path: object) -> None:
 
 
 def test_a_terminal_with_bytes_that_are_not_utf_8(tmp_path: Path) -> None:
-    """They are refused, and the debugger continues, also if the history of lines cannot be written."""
+    """A line with these bytes is refused; the debugger continues, also if the history of lines cannot be written."""
     pexpect = pytest.importorskip("pexpect", reason="package python3-pexpect")
     environment = {**os.environ, "XDG_STATE_HOME": str(tmp_path), "TERM": "xterm"}
     words = ["debug", str(EXAMPLES / "imp.red")]
@@ -489,7 +489,7 @@ def test_labels_of_several_warriors() -> None:
 
 
 def test_the_status_of_a_script(run: Run) -> None:
-    """It is 1 if any command fails; the others are executed."""
+    """The exit status is 1 if any command fails; the other commands are executed."""
     done = run("debug", "@imp", input="foo\nstep\n")
     assert done.returncode == 1 and done.stdout.splitlines()[1].startswith("turn 1: ")
     assert run("debug", "@imp", input="step\nquit\nfoo\n").returncode == 0

@@ -41,7 +41,7 @@ def test_each_position(names: tuple[str, str]) -> None:
 
 
 def test_what_has_no_every_position(tmp_path: Path) -> None:
-    """A league, a melee and stored results."""
+    """A league, a melee and stored results reject `positions="all"`."""
     contest, warriors = Contest(SMALL, positions="all"), fighters("dwarf", "imp")
     with pytest.raises(CorewarError):
         contest.league(warriors)
@@ -52,7 +52,7 @@ def test_what_has_no_every_position(tmp_path: Path) -> None:
 
 
 def test_strips() -> None:
-    """From a loss to a win; a formula without a value for a win is scaled by what occurs."""
+    """The marks of a strip go from a loss to a win, or to the best score that occurs if a win has no value."""
     scores = np.array([0.0, 1.0, 3.0, 3.0])
     assert strip_of(scores, "(W*W-1)/S", 4) == LEVELS[0] + LEVELS[2] + LEVELS[7] * 2
     assert strip_of(scores[:1], "(W*W-1)/S", 9) == LEVELS[0] and strip_of(np.array([2.0]), "S", 9) == LEVELS[7]

@@ -323,7 +323,7 @@ def test_a_battle_is_a_value(fight: Match, round: int, first: int, more: int, li
 
 
 def test_records_are_returned_in_portions(monkeypatch: pytest.MonkeyPatch) -> None:
-    """They are the same, and need memory only for the turns that are left."""
+    """Records in portions are the same as those at once, and need memory only for the turns that are left."""
     fight = dwarf_and_imp().match
     records, touched = Battle(fight).play(records=9000, touched=50)
     for size in (100, 7000):
@@ -341,7 +341,7 @@ def test_a_battle_is_checked() -> None:
         with pytest.raises(MarsError) as fault:
             Battle.of_bytes(bytes(battle)[:length])
         assert (fault.value.kind, fault.value.name) == ("block", name)
-    # A number is not as many bytes.
+    # A number does not stand for as many zero bytes.
     with pytest.raises(TypeError):
         Battle.of_bytes(1 << 40)  # type: ignore[arg-type]
     with pytest.raises(MarsError, match="^block 2 Mark$"):

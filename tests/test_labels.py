@@ -74,7 +74,7 @@ PAIRS = ["dwarf imp", "silk imp", "paper imp", "scanner silk", "vampire spiral",
 
 
 def test_the_line_of_nearly_each_turn_is_known() -> None:
-    """Also the lines of copies. The rest is empty core."""
+    """The line is known for copies of loaded cells, too. The other turns execute empty core."""
     known, turns = 0, 0
     for names in PAIRS:
         history = History(Match(tuple(read(str(EXAMPLES / f"{name}.red")) for name in names.split())))

@@ -217,7 +217,7 @@ def test_the_errors_are_how_seeds_differ(warriors: list[corewar.Warrior]) -> Non
     scores, errors = (np.array([getattr(one, name) for one in found]) for name in ("scores", "errors"))
     ratio = np.std(scores, axis=0, ddof=1) / errors.mean(axis=0)
     assert 0.85 < np.median(ratio) < 1.15
-    # The lead of one rank over the next is that of different warriors, so it is taken as one number of both.
+    # Ranks change from seed to seed, so the lead is measured between two fixed warriors.
     first, second = np.argsort(-scores.mean(axis=0), kind="stable")[[0, -1]]
     leads = scores[:, first] - scores[:, second]
     assert 0.7 < np.std(leads, ddof=1) / np.hypot(*errors[:, [first, second]].mean(axis=0)) < 1.4
@@ -319,7 +319,7 @@ def test_errors_of_arguments(run: Run, folder: Path, words: str, status: int, er
 
 
 def test_a_wrong_formula_is_reported_before_matches(run: Run, folder: Path) -> None:
-    """Also if no warrior survives, so that it would never be evaluated; and if it is not text."""
+    """A formula is checked also if no warrior survives, so that it would never be evaluated; and if it is not text."""
     long, files = ["-c", 10_000_000, "-r", 100_000], ["stay.red", "same.red", "late.red"]
     for command in ("league --results kept", "challenge", "challenge --old late.red", "melee --size 2"):
         for formula in (b"W+", b"W\xff"):
@@ -550,7 +550,7 @@ def test_texts_in_a_results_file(run: Run, folder: Path) -> None:
     "sent", [None, "text", [[1, 2]], [[0, 2, 0, 0, 0]], [[0.5] * 5], [], [[99, 99, 99, 99, 0]], [[3, 0, 1, 0, 1]]]
 )
 def test_counts_of_a_worker_are_checked(sent: object) -> None:
-    """Those of an executor are not believed."""
+    """Counts that an executor returns are not trusted."""
 
     class Liar(Executor):
         def submit(self, *given: Any, **named: Any) -> Future[Any]:
@@ -599,7 +599,7 @@ def test_a_large_league() -> None:
 def test_a_contest_is_words() -> None:
     words = "-s=8000 -p=8000 -c=80000 -l=100 -d=100 -r=1 --seed=1 -F=200 --score=(W*W-1)/S"
     assert Contest(position=200).words == words.split()
-    # A seed of its own is not that of all matches.
+    # Each match has a seed of its own by default, so the arguments name no seed for all matches.
     assert Contest().words == [word for word in Contest(positions="same").words if word != "--seed=1"]
 
 

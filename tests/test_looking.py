@@ -194,7 +194,7 @@ def test_arguments_are_printed_safely(run: Run, tmp_path: Path) -> None:
 
 
 def test_a_library_that_is_none_is_reported(run: Run, tmp_path: Path) -> None:
-    """Another library, and another header."""
+    """Another library and another header are reported by their file names."""
     (tmp_path / "other.h").write_text("int other;\n")
     for name, path, error in (
         ("MARS_LIBRARY", "libc.so.6", "corewar: libc.so.6: "),
@@ -234,7 +234,7 @@ def test_impossible_numbers_and_names(run: Run) -> None:
 
 
 def test_ctrl_c_while_it_is_loaded(tmp_path: Path) -> None:
-    """It ends without a traceback, wherever it was."""
+    """The command ends without a traceback, whichever module it is importing."""
     environment = {**ENVIRONMENT, "PYTHONPROFILEIMPORTTIME": "1"}
     for module in ("corewar.model", "numpy", "cffi", "click", "corewar.cli.options", "prompt_toolkit.shortcuts"):
         with begin("debug", EXAMPLES / "imp.red", env=environment, stdin=subprocess.PIPE) as one:

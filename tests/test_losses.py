@@ -170,7 +170,7 @@ def test_a_terminal_breaks_lines_at_spaces(run: Run, tmp_path: Path) -> None:
 
 
 def test_colours(run: Run) -> None:
-    """They are for terminals, and can be forced or turned off."""
+    """Colours are for terminals, and can be forced or turned off."""
     forced = run("--color", "always", "trace", "--turns", 1, "@dwarf", "@imp").stdout
     plain = run("trace", "--turns", 1, "@dwarf", "@imp").stdout
     assert "\x1b[94mImp\x1b[0m" in forced and re.sub(r"\x1b\[\d*m", "", forced) == plain
@@ -208,7 +208,7 @@ def test_a_first_folder(run: Run, tmp_path: Path) -> None:
 
 
 def test_positions_of_rounds(run: Run) -> None:
-    """They are what `-F` accepts, and for more warriors the addresses of all but the first."""
+    """The positions of two warriors are what `-F` accepts; of more warriors, the addresses of all but the first."""
     lines = run("rounds", "-r", 2, "@dwarf", "@imp").stdout.splitlines()
     assert lines[1:3] == ["warrior 1: Imp by A. K. Dewdney, 1 cell", lines[2]] and "position" in lines[2]
     for number, line in enumerate(lines[3:5]):

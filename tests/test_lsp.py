@@ -108,7 +108,7 @@ GOOD = BAD.replace("stpe", "step").replace("MVO", "MOV").replace("lop", "loop")
 
 
 def test_errors_have_the_version_of_their_text(editor: Editor) -> None:
-    """By it an editor leaves out the errors of an older text."""
+    """By the version an editor leaves out the errors of an older text."""
     editor.notify("textDocument/didOpen", textDocument={"uri": URI, "version": 7, "text": BAD})
     document = {"uri": URI, "version": 8}
     for number in (7, 8):
@@ -174,7 +174,7 @@ def test_corrections(source: str, title: str, expected: str) -> None:
     ],
 )
 def test_an_error_is_at_its_word(source: str, line: int, first: int, last: int) -> None:
-    """At the word or sign where the library has it, which may be in the definition of an EQU."""
+    """The range of an error is its word or sign, which may be in the definition of an EQU."""
     (error,) = (text := text_of(source)).errors
     assert text.error_range(error) == {
         "start": {"line": line, "character": first},
@@ -267,7 +267,7 @@ def begin_words(*words: str) -> list[str]:
 
 
 def test_a_source_that_costs_too_much(editor: Editor) -> None:
-    """It is reported, and the server continues."""
+    """The source is reported, and the server continues."""
     (found,) = editor.write(costly.slow())
     assert found["message"] == "assembling takes more than 2 s of CPU time" and found["range"]["start"]["line"] == 0
     assert editor.about("codeAction", range=found["range"])["result"] == []

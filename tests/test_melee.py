@@ -127,7 +127,7 @@ def test_the_command(run: Run, tmp_path: Path) -> None:
 
 
 def test_it_can_be_stopped() -> None:
-    """Ctrl-C ends it at once."""
+    """Ctrl-C ends a melee at once."""
     files = [EXAMPLES / f"{name}.red" for name in NAMES]
     start_time = time.monotonic()
     begin("melee", "--lineups", 1, *files).communicate()

@@ -156,7 +156,7 @@ def test_lineups_of_different_lengths() -> None:
 
 @pytest.mark.parametrize("formula", ["(W*W-1)/S", "5-S*W"])
 def test_points(formula: str) -> None:
-    """Their sums are the points of matches; a formula without a value for a round is an error."""
+    """Points of rounds add up to the points of matches; a formula without a value for a round is an error."""
     warriors = [corewar.read(EXAMPLES / f"{name}.red") for name in ("dwarf", "imp", "clear", "paper")]
     made = corewar.outcomes(warriors, [[0, 1, 2, 3]], rounds=12)
     rows = corewar.match(warriors, rounds=12, formula=formula)
@@ -198,7 +198,7 @@ def test_executors(monkeypatch: pytest.MonkeyPatch) -> None:
 
 
 def test_a_worker_of_another_version() -> None:
-    """It runs nothing; its answer names both versions."""
+    """A worker of another version runs nothing; its answer names both versions."""
     answer = call_there("corewar 0.9, library 900", len, "abc")
     assert str(answer).startswith("a worker has corewar 2.0, library 2000, but this is corewar 0.9, library 900")
     assert call_there(versions(), len, "abc") == 3
@@ -254,7 +254,7 @@ CALLS = [
 
 @pytest.mark.parametrize("call", CALLS)
 def test_ctrl_c(call: str) -> None:
-    """It ends a call within half a second of a free processor, and its threads."""
+    """Ctrl-C ends a call and its threads, within half a second on a free processor."""
     program = f"""
 import corewar, threading, time, os, signal
 two = [corewar.assemble("JMP 0")] * 2

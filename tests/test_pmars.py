@@ -38,7 +38,7 @@ def fought(pmars: Path, settings: Settings, files: Sequence[object], *words: obj
 def ours(
     warriors: Sequence[Warrior], settings: Settings, rounds: int, seed: int, position: int
 ) -> list[tuple[int, ...]]:
-    """Returns the same of this kit. The seed 0 stands for the position."""
+    """Returns the wins and the ties of each warrior in this kit, by the seed or, if that is 0, by the position."""
     given = {"seed": seed} if seed else {"position": position}
     rows = match(warriors, settings=settings, rounds=rounds, **given)  # type: ignore[arg-type]
     return [(row.wins, row.ties) for row in rows]
@@ -76,7 +76,7 @@ def different(pmars: Path, file: Path, warrior: Warrior) -> list[tuple[str, str]
 def test_matches_by_both_series(pmars: Path) -> None:
     """Every pair of sources in both orders, 40 rounds by a position and 40 by the cells."""
     settings, dice = HILLS["94nop"], random.Random(1)
-    # The sum of other cells is another one.
+    # One series begins with a sum of the cells, so both programs need the same cells.
     sources = [(file, warrior) for file, warrior in readable(settings) if not different(pmars, file, warrior)]
     for (one, first), (other, second) in permutations(sources, 2):
         position, warriors = dice.randrange(100, 7901), [first, second]

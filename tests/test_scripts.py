@@ -47,7 +47,7 @@ def test_a_hill(tmp_path: Path) -> None:
 
 
 def test_a_hill_is_ordered_by_the_scores_that_it_shows(tmp_path: Path) -> None:
-    """They change when a warrior is pushed off."""
+    """Scores change when a warrior is pushed off, and the order with them."""
     for number, name in enumerate(["dwarf", "imp", "silk", "paper"] * 2, 1):
         done = run("hill.py", "--size", 3, "--rounds", 100, "hill.json", EXAMPLES / f"{name}.red", cwd=tmp_path)
         scores = [float(line.split()[1]) for line in done.stdout.partition(HEAD)[2].splitlines()[1:]]

@@ -19,7 +19,7 @@ COMMANDS = (
 
 @pytest.fixture(params=("windows", "macos"))
 def environment(request: pytest.FixtureRequest) -> dict[str, str]:
-    """The environment of a system."""
+    """The variables with which the package lacks what a system lacks."""
     path, library = f"{SIMULATED}:{ENVIRONMENT['PYTHONPATH']}", str(TOP / "build" / "libmars.so.2")
     return {**ENVIRONMENT, "PYTHONPATH": path, "SIMULATED": request.param, "MARS_LIBRARY": library, "NO_COLOR": "1"}
 

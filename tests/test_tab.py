@@ -93,7 +93,7 @@ def test_warriors_and_hills(shell: str, folder: Path) -> None:
 
 
 def test_arguments_of_mars() -> None:
-    """They are not checked while they are typed, and options are those of `mars`, not of `explain`."""
+    """Arguments of `mars` are not checked while they are typed; its options are offered, not those of `explain`."""
     words = {"COMP_WORDS": "corewar explain mars di", "COMP_CWORD": "3", "_COREWAR_COMPLETE": "bash_complete"}
     done = subprocess.run(COMMAND, env={**ENVIRONMENT, **words}, capture_output=True, text=True)
     assert (done.stdout, done.stderr) == ("file,di\n", "")

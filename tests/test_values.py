@@ -86,7 +86,7 @@ def test_rounds() -> None:
 
 @pytest.mark.parametrize("words", ["why", "why -r 5", "trace --turns 3", "study", "rounds -r 3", "explain"])
 def test_json(run: Run, words: str, tmp_path: Path) -> None:
-    """It is that of the values."""
+    """The JSON that a command prints is that of the values."""
     files = ["@dwarf"] if "study" in words else ["@dwarf", "@imp"]
     (tmp_path / "wrong.red").write_text("mvo 0, 1\n")
     files = ["wrong.red"] if "explain" in words else files
@@ -122,7 +122,7 @@ def test_explain_as_json(run: Run) -> None:
 
 
 def test_a_history_is_pickled() -> None:
-    """With its edits, after questions that filled its caches."""
+    """A history is pickled with its edits, also after questions that filled its caches."""
     dat = corewar.cell_of("DAT.F $0, $0", 8000)
     history = History(fight("dwarf", "imp")).edited(100, corewar.Edit.set(2000, dat))
     history.owners(150)

@@ -148,14 +148,14 @@ def test_a_core_without_cells() -> None:
 @pytest.mark.parametrize("text", ("A\0", "A\0B", "\0", "A\n"))
 @pytest.mark.parametrize("field", ("name", "author"))
 def test_names_with_control_characters(field: str, text: str) -> None:
-    """They are refused, and not cut off at a 0."""
+    """A name with a control character is refused, and not cut off at a zero character."""
     warrior = Warrior.from_cells(assemble_cells(), **{field: text})  # type: ignore[arg-type]
     with pytest.raises(MarsError, match="warrior 5 Name"):
         str(warrior)
 
 
 def test_an_assembler_is_as_the_call() -> None:
-    """It returns the same warriors and raises the same errors, and continues after an error."""
+    """It returns the warriors and raises the errors of `corewar.assemble`, and continues after an error."""
     sources: list[Any] = ["DAT WARRIORS", b"DAT 0 ; \xff", os.fsdecode(b"DAT 0 ; \xff"), "FOO 1", "MOV 0, 1", 5]
     words: dict[str, Any] = {"settings": "nano", "rounds": 3, "warriors": 4, "file": Path("a.red")}
     with corewar.Assembler(corewar.Limit(5, 500)) as assembler:

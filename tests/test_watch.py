@@ -51,7 +51,7 @@ def test_each_cell_is_drawn(columns: int, rows: int) -> None:
 
 
 def test_keys() -> None:
-    """They stop the battle, go back, to the end, to a death and to another round."""
+    """Keys stop the battle, go back, to the end, to a death and to another round."""
     fight = Match([read(EXAMPLES / f"{name}.red") for name in ("dwarf", "imp")], rounds=2)
     show = Show(fight, History(fight), 0, 1)
     bindings = {str(getattr(one.keys[0], "value", one.keys[0])): one.handler for one in keys_of(show).bindings}

@@ -196,7 +196,7 @@ def test_a_file_that_is_too_large_is_not_read(site: Site) -> None:
 
 
 def test_a_new_source_does_not_change_the_key_of_the_folder(tmp_path: Path) -> None:
-    """A browser keeps unsaved texts by it."""
+    """A browser keeps unsaved texts by this key."""
     (tmp_path / "imp.red").write_text("MOV 0, 1\n")
     for site in served("--port", 0, tmp_path / "imp.red"):
         key = re.search(rb'data-key="\w+"', site.ask("")[1])
@@ -256,7 +256,7 @@ def page(browser: Browser, site: Site) -> Browser:
 
 
 def test_the_page_saves_to_the_folder(page: Browser, site: Site) -> None:
-    """Its first source fights another one; a file that has changed on disk is overwritten only if the user says so."""
+    """The first file fights another source; a file that has changed on disk is overwritten only if the user says so."""
     assert page.value("document.title") == "Dwarf against Imp · Core War"
     (site.folder / "own.red").write_bytes(b";name Own\n; caf\xe9\nmov 0, 1\n")
     page.open(site.address + "?again")
@@ -324,7 +324,7 @@ def test_drafts_are_found_again(page: Browser, site: Site) -> None:
 
 
 def test_a_file_is_saved_under_its_own_name(browser: Browser, tmp_path: Path) -> None:
-    """Its name need not end in .red; unsaved changes of it are found again."""
+    """The name of a file need not end in .red; its unsaved changes are found again."""
     (tmp_path / "first.txt").write_text("MOV 0, 1\n")
     for site in served("--port", 0, tmp_path / "first.txt"):
         for address in (site.address, site.address + "?again"):

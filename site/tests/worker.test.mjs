@@ -81,7 +81,7 @@ test("a chain has the bomb on an equal opcode, and what changed a number of it",
     ["death", 6, 1],
   ]);
   assert.deepEqual([desk.copied(0, 60, 5), desk.copied(0, 61, 5)], [1, 0]);
-  // What was copied before an edit of the cell led to nothing.
+  // A copy before an edit of the cell does not count.
   const { future } = desk.edit(0, 3, { kind: "cell", address: 60, last: 60, cell: desk.cellOf("DAT 7") });
   assert.equal(desk.copied(future, 60, 5), 0);
 });
@@ -135,7 +135,7 @@ test("a picture shows where warriors were", () => {
   const frame = { first: 0, last: 8000, columns: 80, rows: 80 };
   const at = painted(desk, frame);
   for (const column of [10, 40, 79]) {
-    // After 100 turns for each column the imp has made 50 times as many steps, at 100 cells for each row.
+    // A column is 100 turns, in which the imp makes 50 steps, and a row is 100 cells.
     const row = Math.floor((50 * (column + 1) - 1) / 100);
     assert.equal(at(column, row).owner, 0);
     assert.equal(at(column, row + 3).owner === 0, false);

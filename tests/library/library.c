@@ -56,7 +56,7 @@ static uint8_t load[1024];
 static size_t load_length;
 static const MarsLineup LINEUPS[] = {{5, 3, {0, 1, 2}, 1}, {0, 2, {2, 0}, 0}};
 
-/* What a call left. */
+/* The buffers that a call writes. */
 typedef struct {
     uint8_t text[2048];
     size_t length;
@@ -79,7 +79,7 @@ typedef struct {
     uint32_t answer;
 } Left;
 
-/* What is there before a call: most of the calls from 9 on take a battle. */
+/* Fills the buffers before a call: most of the calls from 9 on take a battle. */
 static void prepare(int which, Left *got) {
     memset(got, 7, sizeof *got);
     if (which >= 9) memcpy(got->battle, block, sizeof block);

@@ -110,7 +110,7 @@ def histories(draw: st.DrawFn) -> History:
 def test_pasts(history: History, parts: list[float]) -> None:
     for turn in [history.end, *(int(part * history.end) for part in parts)]:
         battle, pasts = history.followed(turn)
-        # The origins of edited cells are one here.
+        # Here all edited cells have the same origin, the core size.
         found = [(owner, when, min(origin, history.core)) for owner, when, origin in pasts.tolist()]
         assert found == read(history, turn)[0] and battle == history.state(turn)
 
@@ -121,7 +121,7 @@ ROWS = st.tuples(st.integers(1, 3), st.integers(1, 9), NUMBERS, NUMBERS)
 
 @given(histories(), st.lists(ROWS, min_size=1, max_size=3), st.floats(0, 1), st.booleans())
 def test_searches(history: History, rows: list[Row], part: float, forward: bool) -> None:
-    # Origins of edited cells are numbered here in another way.
+    # A history numbers the origins of edited cells, which are all the same here: conditions on them are left out.
     rows = [row for row in rows if row[1] != ORIGIN or max(row[2:]) < history.core]
     facts, first = read(history, history.end)[1], int(part * part * history.end)
     spans = [found["turn"].tolist() for found in find(history, rows, first, None, forward)]
@@ -133,7 +133,7 @@ def test_searches(history: History, rows: list[Row], part: float, forward: bool)
 def test_executed_cells(history: History, part: float) -> None:
     facts, first = read(history, history.end)[1], int(part * part * history.end)
     numbers = [one.numbers[one.uses[EXECUTES][0]] for one in facts[first:]]
-    # The origins of edited cells are one here.
+    # Here all edited cells have the same origin, the core size.
     found = [
         (turn, warrior, queued, address, owner, when, min(origin, history.core))
         for turn, warrior, queued, address, (owner, when, origin) in conditions.executed(
