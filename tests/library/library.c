@@ -368,7 +368,7 @@ static int are_lines_reported(void) {
     return 1;
 }
 
-/* Whether these calls are refused for this setting, whatever else is wrong. */
+/* Whether these calls report the error `number` of these settings, although the formula is wrong, too. */
 static int is_refused_for(uint32_t number, const MarsSettings *settings, size_t count, size_t rows) {
     Left got;
     const uint8_t *wrong = (const uint8_t *)"W+";
@@ -379,7 +379,8 @@ static int is_refused_for(uint32_t number, const MarsSettings *settings, size_t 
     return is_so && started == MARS_SETTINGS && got.fault.number == number;
 }
 
-/* An error has the same number in each call, before the parameters, or after them and before the formula and the warriors. */
+/* Of two errors each call reports the first: those of the numbers of warriors and rows and of lineups come before those of the parameters,
+ * then come the position, the formula and the lengths. */
 static int are_mistakes_reported_in_order(void) {
     MarsSettings bad = SETTINGS, placed = SETTINGS, both = SETTINGS;
     bad.core = 0, placed.position = 1, both.position = 1, both.distance = 0;

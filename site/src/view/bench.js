@@ -46,7 +46,7 @@ export class Bench {
   #run = 0;
   #fought = "";
   #later = throttle(() => this.#draw(), 100);
-  /** Fights again soon, or says why not: the source in the editor has changed and was checked. */
+  /** Fights again soon, or says that the source has an error: it was checked, or other sources fight. */
   checked = debounce(() => {
     if (this.isOpen && this.host.shelf.checker.isBroken) element("bench-note").textContent = STALE;
     else if (this.isOpen) this.fight();

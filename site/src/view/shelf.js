@@ -15,7 +15,7 @@ import { lineOf, titleOf } from "./names.js";
  * @typedef {"own" | "example" | "guest" | "lesson"} Kind
  */
 /**
- * `made` is when it was made.
+ * `made` is when it was made, in milliseconds; for a source of an older store, its index there.
  * @typedef {{name: string, doc: Document, saved: string, kind: Kind, fights: boolean, made: number}} OpenSource
  */
 /**

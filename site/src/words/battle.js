@@ -9,8 +9,8 @@ import { BY_HAND, NOBODY, cellText, readCell } from "../model/cells.js";
  */
 /** @typedef {{address: number, name: string, warrior: number}} Label */
 /**
- * What a turn did. Cells are three words; `origin` is the loaded cell of which the instruction is a copy, `owner` the
- * owner of a cell before, and `left` the number of processes that the warrior has left.
+ * What a turn did. Cells are three words; `origin` is the index of the loaded cell of which the instruction is a copy,
+ * `owner` the owner of a cell before the turn, and `left` the number of processes that the warrior has left.
  * @typedef {object} Move
  * @property {number} turn
  * @property {number} warrior

@@ -7,7 +7,7 @@ import { place } from "./battle.js";
  * A turn that led to a death. It `aim`ed by setting the pointer of the write, it was the `write` that copied the
  * instruction, a `change` of a number after that, the `arrival` of the process at the cell, or the `death`. `target` is
  * the cell that it set, wrote, changed or led to, with `after` in it; `executed` is the instruction, at `address`, and
- * `origin` the loaded cell of which that is a copy.
+ * `origin` the index of the loaded cell of which that is a copy.
  * @typedef {object} Link
  * @property {"aim" | "write" | "change" | "arrival" | "death"} kind
  * @property {number} turn
