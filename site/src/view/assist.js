@@ -64,7 +64,7 @@ export class Completion {
 
   /**
    * Shows the list if there is something to complete.
-   * @param {boolean} isWanted whether the user has asked for it by a key
+   * @param {boolean} isWanted whether the user requests it by a key
    */
   open(isWanted) {
     const { line, ch } = this.mirror.getCursor();

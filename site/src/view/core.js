@@ -56,7 +56,7 @@ export class Core {
   }
 
   /**
-   * Lays out the cells in the room that the page has for them.
+   * Fits the cells into the room that the page has for them.
    * @param {number} size of the core
    * @param {number} width in pixels of the page
    * @param {number} height

@@ -118,7 +118,7 @@ export class Tune {
     return this.sweep();
   }
 
-  /** The values that the fields ask for, the first one first. Throws an error if the fields are not valid. */
+  /** The values that the fields give, in their order. Throws an error if the fields are not valid. */
   get #values() {
     const [first, last, step] = ["from", "to", "step"].map((id) => Number(typed(`tune-${id}`, HTMLInputElement).value));
     const count = Math.floor((last - first) / step) + 1;
