@@ -2,7 +2,7 @@
 //
 //     node site/build.mjs MARS.wasm FOLDER [CODEMIRROR]
 //
-// CODEMIRROR is the folder of Debian's libjs-codemirror. esbuild and Debian's binaryen have to be on the path.
+// CODEMIRROR is the folder of Debian's libjs-codemirror. esbuild, terser and Debian's binaryen have to be on the path.
 import { execFileSync } from "node:child_process";
 import fs from "node:fs";
 import path from "node:path";
@@ -19,6 +19,15 @@ const read = (file) => fs.readFileSync(file, "utf8");
 const write = (name, content) => fs.writeFileSync(output(name), content);
 const filesOf = (place, ending) => fs.readdirSync(place).filter((name) => name.endsWith(ending)).sort();
 
+/** Where Debian has the modules that terser imports. Only Debian's own Node looks there by itself. */
+const NODE_PATH = "/usr/share/nodejs:/usr/lib/nodejs";
+
+/** Makes a minified bundle smaller: both by 4 kB, compressed. The comment of several lines stays, the licence. */
+function shorten(file) {
+  const words = [file, "--compress", "passes=2,toplevel", "--mangle", "--toplevel", "--comments", "/^\\n/"];
+  execFileSync("terser", [...words, "--output", file], { env: { ...process.env, NODE_PATH } });
+}
+
 /** Bundles a module with everything that it imports. */
 function bundle(from, name, banner) {
   const words = [inside("src", from), "--bundle", "--minify", "--format=iife", "--target=es2022", "--charset=utf8"];
@@ -26,6 +35,7 @@ function bundle(from, name, banner) {
   words.push(`--alias:codemirror-src=${path.join(codemirror, "src")}`);
   words.push("--log-level=warning", `--banner:js=${banner}`, `--outfile=${output(name)}`);
   execFileSync("esbuild", words);
+  shorten(output(name));
 }
 
 /** Styles of what the site lacks of the editor: Vim mode, theme, addons, wrapped lines, widgets, searches. */
