@@ -181,10 +181,10 @@ static int is_error_at(const char *source, uint64_t begin, uint64_t end) {
     return answer == MARS_ASSEMBLY && got.fault.begin == begin && got.fault.end == end;
 }
 
-/* A name in the text of an EQU, a word in a loop, an opcode, and errors without a word. */
+/* A name in the text of an EQU, a word in a loop, an opcode, a word that is none, and an error without a word. */
 static int are_places_reported(void) {
     return is_error_at("x EQU 1+yy\nNOP 7, x", 8, 10) && is_error_at("i FOR 2\nNOP z&i\nROF", 12, 15)
-        && is_error_at("here MVO 1, 2", 5, 8) && is_error_at("NOP 1x", 0, 0) && is_error_at("", 0, 0);
+        && is_error_at("here MVO 1, 2", 5, 8) && is_error_at("NOP 1x", 4, 6) && is_error_at("", 0, 0);
 }
 
 /* A program is what its load file says, and the other way round. */

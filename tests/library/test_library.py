@@ -350,7 +350,7 @@ def test_structures_in_rust() -> None:
     """The structures of the example in Rust have the sizes of those in the header."""
     text = Path(TOP, "examples", "rust", "src", "mars.rs").read_text()
     sizes = {"u8": 1, "u32": 4, "u64": 8, "i64": 8, "[u8; 64]": 64, "Extent": 8}
-    found = re.findall(r"#\[repr\(C\)\]\n(?:#.*\n)?(?:pub )?struct (\w+) \{\n(.*?)\n\}", text, re.S)
+    found = re.findall(r"#\[repr\(C\)\]\n(?:#[^\n]*\n)?(?:pub )?struct (\w+) \{\n(.*?)\n\}", text, re.S)
     assert len(found) == text.count("#[repr(C)]")
     for name, fields in found:
         size = sum(sizes[kind] for kind in re.findall(r"^ *(?:pub )?\w+: (.*),$", fields, re.M))
@@ -382,7 +382,7 @@ def test_header() -> None:
     compiled = {name: getattr(library()[1], f"MARS_{name}") for name in numbers()}
     assert compiled == numbers() and len(compiled) > 100
     nameless = {kind for kind, enumeration in errors.KINDS.values() if not names(enumeration)}
-    assert nameless == {"done", "out of memory", "room", "condition"}
+    assert nameless == {"done", "out of memory", "room", "condition", "process"}
     assert (len(cells.OPCODES), len(cells.MODIFIERS), cells.MODES) == (16, 7, "#$*@{<}>")
     words = [sys.executable, f"{TOP}/python/corewar/__main__.py", "--help"]
     environment = {**os.environ, "PYTHONPATH": f"{TOP}/python", "MARS_HEADER": "none.h"}
