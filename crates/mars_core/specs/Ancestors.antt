@@ -4,21 +4,22 @@ use Rattle.std.specs.Prelude.{ℕ, zero, suc, ◌+◌, ◌<◌, ◌==◌, nat_lt
 use Rattle.mars_core.specs.State.{State, queue_of, is_over_of}
 use Rattle.mars_core.specs.Turn.{after_turns, turn_of}
 
--- The lineage of a process from a state on: the turns in which it and its ancestors were born, its own birth first, and the place in the
--- queue, at the state, of the process from which all of them descend.
+-- The lineage of a process from a state on. `births` are the turns in which the process and its ancestors were born, its own birth first.
+-- `place` is the place in the queue, at that state, of the process from which all of them descend.
 pub record Lineage : Type 0 where
   pub births : List ℕ
   pub place : ℕ
 
--- The lineage from before a turn of the warrior on, where that from after it is `later`. `turn` is the number of the turn, and `waiting`
--- that of the processes that it leaves in the queue. These move up by a place; those that it queues come after them.
+-- The lineage from before a turn of the warrior on, from the lineage `later` from after it. `turn` is the number of the turn, and `waiting`
+-- the number of processes besides the one that it executes. The waiting processes move up by a place, and the processes that the turn
+-- queues come after them.
 abbrev pub traced : ℕ → ℕ → Lineage → Lineage
 traced turn waiting later =
     if nat_lt later.place waiting then record { births = later.births; place = later.place + 1 }
     else if later.place == waiting then record { births = later.births; place = 0 }
     else record { births = later.births ++ turn ∷ []; place = 0 }
 
--- The lineage of a process of the warrior from the state `s` on, where that from after the next turn is `later`.
+-- The lineage of a process of the warrior from the state `s` on, from its lineage `later` from after the next turn.
 abbrev pub traced_in_turn : State → ℕ → Lineage → Lineage
 traced_in_turn s warrior later =
     if s.next == warrior then traced (s.turns + 1) (length (drop 1 (queue_of s.queues warrior))) later else later

@@ -13,44 +13,49 @@ use Rattle.mars_core.specs.declared.battle.block.BlockFault.{BlockFault}
 use Rattle.mars_core.specs.declared.battle.block.BlockFault.TheVariants.{Short, Mark, Parameters as OfParameters, Warriors, Cell as OfCell, Queue, Deaths, Clock, Head, OutOfMemory}
 use Rattle.mars_core.specs.declared.deaths.Death.{Death}
 
--- The header, and a word of it.
+-- The header of the words.
 abbrev pub head_in : List ℕ → List ℕ
 head_in words = take head_words words
 
+-- The word of the header at an index from 0.
 abbrev pub word_in : List ℕ → ℕ → ℕ
 word_in words place = slice_index_or (head_in words) place 0
 
--- The number of words of the cells, and the number of processes of each warrior.
+-- The number of words that the cells take.
 abbrev pub cell_words_in : List ℕ → ℕ
 cell_words_in words = 3 * (params_in (head_in words)).core_size
 
+-- The number of processes of each warrior.
 abbrev pub counts_in : List ℕ → List ℕ
 counts_in words = take (word_in words 9) (drop 16 (head_in words))
 
--- The words of the cells, and those of the processes.
+-- The words of the cells.
 abbrev pub cells_in : List ℕ → List ℕ
 cells_in words = take (cell_words_in words) (drop head_words words)
 
+-- The words of the processes.
 abbrev pub processes_in : List ℕ → List ℕ
 processes_in words = take (sum (counts_in words)) (drop (cell_words_in words) (drop head_words words))
 
--- The words of the cell at an address are those of no cell of the core, and those before them are the words of such cells.
+-- In `words`, the words of all cells, the three words at the address are not those of a cell that fits the core, and all words before them
+-- belong to cells that do.
 pub record IsFirstWrongCell (core_size : ℕ) (words : List ℕ) (address : ℕ) : Type 0 where
   pub before : (cells : List Cell) × All (FitsCore core_size) cells × (core_words cells ≡ take (3 * address) words)
   pub wrong : (c : Cell) → FitsCore core_size c → cell_words c ≢ slice_index_or words (3 * address) 0
       ∷ slice_index_or words (3 * address + 1) 0 ∷ slice_index_or words (3 * address + 2) 0 ∷ []
 
--- A warrior has too many processes or one outside the core, and the warriors before it have not.
+-- The warrior has too many processes or a process outside the core, and no warrior before it has. `counts` are the numbers of processes of
+-- all warriors, and `words` the addresses of these processes.
 pub record IsFirstWrongQueue (p : Parameters) (counts words : List ℕ) (warrior : ℕ) : Type 0 where
   pub before : (queues : List (List ℕ)) × All (IsQueue p.core_size p.processes) queues × (lengths_of queues ≡ take warrior counts)
       × (concat queues ≡ take (sum (take warrior counts)) words)
   pub wrong : IsQueue p.core_size p.processes (take (slice_index_or counts warrior 0) (drop (sum (take warrior counts)) words)) → ⊥
 
--- The queues of all warriors.
+-- `queues` are the queues of all warriors in the words.
 abbrev pub AreQueues : List ℕ → List (List ℕ) → Type 0
 AreQueues words queues = (lengths_of queues ≡ counts_in words) × (concat queues ≡ processes_in words)
 
--- What `fault` says is wrong with the words.
+-- The words have this error. `OutOfMemory` says nothing about them.
 abbrev pub IsWrong : List ℕ → BlockFault → Type 0
 IsWrong words Short = (length words < head_words) ⊎ (length words < head_words + cell_words_in words + sum (counts_in words))
 IsWrong words Mark = word_in words 0 ≢ block_mark

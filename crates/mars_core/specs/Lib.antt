@@ -21,7 +21,7 @@ pub mod Marks
 pub mod Search
 pub mod Moments
 pub mod Ancestors
--- Definitions that only the laws use, and no contract of a call.
+-- Definitions that only laws use.
 pub mod Moved
 pub mod Reach
 pub mod Apart

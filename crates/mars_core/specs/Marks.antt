@@ -1,4 +1,4 @@
--- The marks of the cells that turns execute, write and touch: for each cell three, which are set and never cleared.
+-- The marks of the cells that turns execute, write and touch. Each cell has three marks, which are set and never cleared.
 use Rattle.std.specs.Prelude.{ℕ, Bool, true, List, [], ◌∷◌, map, slice_set}
 use Rattle.mars_core.specs.State.{State, queue_of}
 use Rattle.mars_core.specs.Touched.{touched_in_turn}
@@ -6,13 +6,13 @@ use Rattle.mars_core.specs.Turn.{front_of, turn_record}
 use Rattle.mars_core.specs.declared.machine.marks.Mark.{Mark}
 use Rattle.mars_core.specs.declared.machine.writes.CellChange.{CellChange}
 
--- The marks of all cells, each kind by itself.
+-- The marks of all cells, a list for each kind.
 pub record Marks : Type 0 where
   pub executed : List Bool
   pub written : List Bool
   pub touched : List Bool
 
--- The same marks, each kind by itself.
+-- The lists of each kind, from a list with the three marks of each cell.
 abbrev pub marks_of : List Mark → Marks
 marks_of marks = record {
   executed = map (λ (m : Mark). m.executed) marks;
@@ -29,7 +29,8 @@ marked (a ∷ addresses) marks = marked addresses (slice_set marks a true)
 abbrev pub written_at : List CellChange → List ℕ
 written_at changes = map (λ (change : CellChange). change.address) changes
 
--- The marks after the next turn, of the cell that it executes, of those that it writes, and of those that it touches.
+-- The marks after the next turn, which sets those of the cell that it executes, of the cells that it writes, and of the cells that it
+-- touches.
 abbrev pub marks_after : State → Marks → Marks
 marks_after s marks = record {
   executed = marked (front_of (queue_of s.queues s.next) ∷ []) marks.executed;

@@ -1,4 +1,5 @@
--- A battle at moments, in equal steps of turns: what each warrior has, and how many turns of the step meet conditions.
+-- A battle at moments, which are equally many turns apart: how many cells and processes each warrior has, and how many turns since the
+-- previous moment meet conditions.
 use Rattle.std.specs.Prelude.{ℕ, zero, suc, ◌==◌, List, [], ◌∷◌, length, map, filter}
 use Rattle.std.specs.List.{range_with_len}
 use Rattle.mars_core.specs.Block.{lengths_of, padded}
@@ -15,8 +16,8 @@ use Rattle.mars_core.specs.declared.search.Condition.{Condition}
 abbrev pub owned_by : List Past → ℕ → ℕ
 owned_by pasts warrior = length (filter (λ (past : Past). past.owner == warrior) pasts)
 
--- The moment of the state `s`, after a step of which `found` turns met the conditions. It has a place for each of the most warriors that
--- a battle can have.
+-- The moment of the state `s`, after a step of which `found` turns met the conditions. Its lists have an entry for each of the maximum
+-- number of warriors.
 abbrev pub moment_of : State → List Past → ℕ → Moment
 moment_of s pasts found = record {
   turns = s.turns;

@@ -18,13 +18,13 @@ use Rattle.mars_core.specs.declared.past.Past.{Past}
 abbrev pub past_at : List Past → ℕ → Past
 past_at pasts address = slice_index_or pasts address (record { owner = 0; turn = 0; origin = 0 })
 
--- The next turn changes the cell at the address: it is another cell afterwards. Several writes are one change, and a write of the
--- same cell is none.
+-- The next turn changes the cell at the address: the cell is another one afterwards. Several writes are one change, and a write of the same
+-- cell is none.
 abbrev pub changes : State → ℕ → Bool
 changes s address = not (are_equal_cells (cell_at s.core address) (cell_at (turn_of s).core address))
 
--- The instruction is MOV.I, which writes a copy of a whole cell. Every other one keeps the opcode, the modifier and the modes of the
--- cells that it writes.
+-- The instruction is MOV.I, which writes a copy of a whole cell. Every other instruction keeps the opcode, the modifier and the modes of
+-- the cells that it writes.
 abbrev pub copies : Op → Modifier → Bool
 copies Mov modifier = takes_whole_cells modifier
 copies _ modifier = false
@@ -44,13 +44,13 @@ copy_by p core pc =
 abbrev pub copy_in_turn : State → Option CellCopy
 copy_in_turn s = copy_by s.params s.core (front_of (queue_of s.queues s.next))
 
--- The address from which the cell at an address comes: if it is written by a copy, that from which it is copied, otherwise its own.
+-- The address from which the cell at an address comes: if the copy writes this cell, the address that is copied, otherwise its own.
 abbrev pub comes_from : Option CellCopy → ℕ → ℕ
 comes_from None address = address
 comes_from (Some copy) address = if copy.to == address then copy.from else address
 
--- The past of the cell at an address after the next turn. A change makes the warrior of the turn the owner; a copy has the origin of
--- what it is a copy of.
+-- The past of the cell at an address after the next turn. A change makes the warrior of the turn the owner; a copy has the origin of the
+-- cell that is copied.
 abbrev pub past_after : State → List Past → ℕ → Past
 past_after s pasts address =
     let before = past_at pasts address in

@@ -54,7 +54,7 @@ abbrev pub with_queue : Option ℕ → (List ℕ → List ℕ) → List (List �
 with_queue None f queues = queues
 with_queue (Some w) f queues = slice_set queues w (f (queue_of queues w))
 
--- The deaths, followed by that of the warrior if it died.
+-- The deaths, followed by the death of the warrior after `turns` turns, if there is a warrior and `died`.
 abbrev pub deaths_after : Option ℕ → Bool → ℕ → List Death → List Death
 deaths_after None died turns deaths = deaths
 deaths_after (Some w) died turns deaths = with_death died w turns deaths

@@ -19,13 +19,14 @@ use Rattle.mars_core.specs.declared.search.Way.TheVariants.{Executes, Changes, R
 abbrev pub writes : State → ℕ → Bool
 writes s address = list_any (λ (write : CellChange). write.address == address) (turn_record s).cells.items
 
--- The turn uses the cell in this way. What it writes, also if that changes nothing, it does not read.
+-- The turn of the state `s` uses the cell at the address in this way. A cell that it writes is not read, even if the write changes nothing.
 abbrev pub uses : Way → State → ℕ → Bool
 uses Executes s address = front_of (queue_of s.queues s.next) == address
 uses Changes s address = changes s address
 uses Reads s address = list_any (λ touched. touched == address) (touched_in_turn s) && not (writes s address)
 
--- A number of the turn and of a cell that it uses. The owner, the turn and the origin are those before the turn.
+-- A number of the turn of the state `s`, or of the cell at the address, which the turn uses. The owner, the turn and the origin of the cell
+-- are those before the turn.
 abbrev pub number_of : Number → State → List Past → ℕ → ℕ
 number_of Warrior s pasts address = s.next
 number_of Queued s pasts address = length (turn_record s).queued.items
@@ -37,12 +38,13 @@ number_of Origin s pasts address = (past_at pasts address).origin
 number_of Opcode s pasts address = op_index (cell_at s.core address).op
 number_of NewOpcode s pasts address = op_index (cell_at (turn_of s).core address).op
 
--- The number is one from `first` to `last`, or, if `last` is the smaller one, not between them.
+-- The number is in the range from `first` to `last`, both included. If `last` is less than `first`, the range wraps around: it has the
+-- numbers from `first` on and those up to `last`.
 abbrev pub is_within : ℕ → ℕ → ℕ → Bool
 is_within first last number =
     if nat_le first last then nat_le first number && nat_le number last else nat_le first number || nat_le number last
 
--- The condition holds for a cell that the turn uses.
+-- The condition holds for the cell at the address, which the turn of the state `s` uses.
 abbrev pub holds : State → List Past → ℕ → Condition → Bool
 holds s pasts address condition = is_within condition.first condition.last (number_of condition.number s pasts address)
 
@@ -53,15 +55,15 @@ is_same Changes Changes = true
 is_same Reads Reads = true
 is_same _ _ = false
 
--- Any of the conditions is on a cell that a turn uses in this way.
+-- Any of the conditions is on this way of using a cell.
 abbrev pub are_on : Way → List Condition → Bool
 are_on way conditions = list_any (λ (condition : Condition). is_same way condition.way) conditions
 
--- The conditions on a cell that a turn uses in this way.
+-- The conditions on this way of using a cell.
 abbrev pub on : Way → List Condition → List Condition
 on way conditions = filter (λ (condition : Condition). is_same way condition.way) conditions
 
--- The turn uses a cell in this way that meets all conditions on a cell used so.
+-- The turn uses a cell in this way for which all conditions on this way hold.
 abbrev pub one_meets : Way → List Condition → State → List Past → Bool
 one_meets way conditions s pasts =
     list_any (λ address. uses way s address && list_all (holds s pasts address) (on way conditions)) (range_with_len 0 s.params.core_size)
@@ -74,8 +76,8 @@ meets conditions s pasts =
     && (not (are_on Changes conditions) || one_meets Changes conditions s pasts)
     && (not (are_on Reads conditions) || one_meets Reads conditions s pasts)
 
--- What is found of the turn: its number, its warrior, how many processes it queues, the address that it executes, and the past of the
--- cell there before it.
+-- The row for the turn of the state `s`, if it meets the conditions: its number, its warrior, how many processes it queues, the address
+-- that it executes, and the past of the cell there before the turn.
 abbrev pub found_turn : State → List Past → Found
 found_turn s pasts =
     let address = front_of (queue_of s.queues s.next) in
@@ -87,13 +89,13 @@ found_turn s pasts =
       past = past_at pasts address;
     }
 
--- Those of the next `n` turns that meet all conditions.
+-- The turns among the next `n` that meet all conditions.
 abbrev pub found_in : List Condition → ℕ → State → List Past → List Found
 found_in conditions zero s pasts = []
 found_in conditions (suc n) s pasts =
     if is_over_of s then []
     else (if meets conditions s pasts then found_turn s pasts ∷ [] else []) ++ found_in conditions n (turn_of s) (pasts_after s pasts)
 
--- The rows with what was found in the first ones, as far as there are rows.
+-- The rows, of which the first are replaced by `found`. What exceeds the number of rows is left out.
 abbrev pub filled : {X : Type 0} → List X → List X → List X
 filled found rows = take (length rows) found ++ drop (length found) rows

@@ -1,5 +1,5 @@
--- How a battle starts: warriors are loaded into a core of `DAT.F $0, $0` (sections 4 and 5 of the ICWS'94 draft); and the errors
--- for which it can't start.
+-- How a battle starts: warriors are loaded into a core of `DAT.F $0, $0` (sections 4 and 5 of the ICWS'94 draft), and the errors for which
+-- it cannot start.
 use Rattle.std.specs.Prelude.{ℕ, zero, suc, ◌+◌, ◌%◌, Bool, true, false, ◌&&◌, ◌||◌, not, ◌==◌, nat_lt, if◌then◌else◌, List, [], ◌∷◌, ◌++◌, length, map, Option, None, Some, slice_set, replicate}
 use Rattle.std.specs.List.{list_all, list_any}
 use Rattle.mars_cell.specs.declared.instruction.Cell.{Cell}
@@ -44,7 +44,7 @@ abbrev pub fields_inside : ℕ → List WarriorValue → Bool
 fields_inside m [] = true
 fields_inside m (w ∷ warriors) = list_all (is_inside m) w.cells && fields_inside m warriors
 
--- The first error for which the battle can't start.
+-- The first error for which the battle cannot start.
 abbrev pub start_fault : Parameters → List WarriorValue → List ℕ → Option BattleFault
 start_fault p warriors starts =
     if length warriors == 0 then Some NoWarrior
@@ -54,7 +54,7 @@ start_fault p warriors starts =
     else if not (fields_inside p.core_size warriors) then Some FieldOutside
     else None
 
--- The core with the cells loaded from `address` on.
+-- The core of `m` cells with the cells loaded from `address` on, modulo `m`.
 abbrev pub with_warrior : ℕ → ℕ → List Cell → List Cell → List Cell
 with_warrior m address [] core = core
 with_warrior m address (cell ∷ cells) core = with_warrior m (address + 1) cells (slice_set core (address % m) cell)
