@@ -96,6 +96,6 @@ found_in conditions (suc n) s pasts =
     if is_over_of s then []
     else (if meets conditions s pasts then found_turn s pasts ∷ [] else []) ++ found_in conditions n (turn_of s) (pasts_after s pasts)
 
--- The rows, of which the first are replaced by `found`. What exceeds the number of rows is left out.
+-- The rows, of which the first are replaced by `found`. Items of `found` beyond the number of rows are left out.
 abbrev pub filled : {X : Type 0} → List X → List X → List X
 filled found rows = take (length rows) found ++ drop (length found) rows

@@ -5,17 +5,17 @@ use Rattle.mars_core.specs.State.{State, queue_of, is_over_of}
 use Rattle.mars_core.specs.Turn.{turn_of}
 use Rattle.mars_core.specs.declared.battle.ancestors.OwnTurn.{OwnTurn}
 
--- What is kept of the next turn of the state `s`, which is one of the warrior.
+-- What the code keeps of the next turn of the state `s`, which is a turn of the warrior.
 abbrev pub own_turn : State → ℕ → OwnTurn
 own_turn s warrior = record { turn = s.turns + 1; waiting = length (drop 1 (queue_of s.queues warrior)) }
 
--- What is kept of the warrior's turns among the next `n`, or among those up to the end of the battle if there are fewer.
+-- What the code keeps of the warrior's turns among the next `n`, or among those up to the end of the battle if there are fewer.
 abbrev pub own_turns : ℕ → State → ℕ → List OwnTurn
 own_turns zero s warrior = []
 own_turns (suc n) s warrior =
     if is_over_of s then [] else (if s.next == warrior then own_turn s warrior ∷ [] else []) ++ own_turns n (turn_of s) warrior
 
--- The lineage from before these turns on, where that from after them is `later`.
+-- The lineage from before the turns on, from the lineage `later` from after them.
 abbrev pub traced_back : List OwnTurn → Lineage → Lineage
 traced_back [] later = later
 traced_back (own ∷ turns) later = traced own.turn own.waiting (traced_back turns later)

@@ -1,4 +1,4 @@
--- What is wrong with the parts of a block.
+-- The errors of the parts of a block.
 use Rattle.std.specs.Prelude.{ℕ, ⊤, List}
 use Rattle.mars_cell.specs.Parameters.{Parameters}
 use Rattle.mars_core.specs.BlockFaults.{IsFirstWrongCell, IsFirstWrongQueue}
@@ -8,19 +8,19 @@ use Rattle.mars_core.specs.declared.battle.block.BlockFault.TheVariants as fault
 use Rattle.mars_core.specs.declared.deaths.Death.{Death}
 use Rattle.mars_core.specs.declared.machine.clock.Clock.{Clock}
 
--- The error concerns these words of cells.
+-- The error is one of these words of cells, or out of memory.
 abbrev pub IsCellFault : ℕ → List ℕ → BlockFault → Type 0
 IsCellFault core_size words (fault.Cell address) = IsFirstWrongCell core_size words address
 IsCellFault core_size words fault.OutOfMemory = ⊤
 IsCellFault core_size words other = ⊥
 
--- The error concerns these words of queues.
+-- The error is one of the queues with these lengths and words, or out of memory.
 abbrev pub IsQueueFault : Parameters → List ℕ → List ℕ → BlockFault → Type 0
 IsQueueFault p counts words (fault.Queue warrior) = IsFirstWrongQueue p counts words warrior
 IsQueueFault p counts words fault.OutOfMemory = ⊤
 IsQueueFault p counts words other = ⊥
 
--- The error concerns these deaths or this clock.
+-- The error is one of these deaths or of this clock.
 abbrev pub IsStateFault : ℕ → List (List ℕ) → Clock → ℕ → List Death → BlockFault → Type 0
 IsStateFault cycles queues clock turns deaths fault.Deaths = AreDeaths queues deaths → ⊥
 IsStateFault cycles queues clock turns deaths fault.Clock = IsClock cycles queues clock turns → ⊥

@@ -31,7 +31,7 @@ pub the_last_birth_is_first : lineage 3 splitting_alone 0 2 ≡ descent (3 ∷ 1
 unfolding the_machine
 the_last_birth_is_first = refl
 
--- Turns are numbered from those that the battle has executed before.
+-- The number of a turn includes the turns that the battle executed before.
 pub births_are_turns_of_the_battle : lineage 1 (lone_after of_eight splitting (0 ∷ [])) 0 1 ≡ descent (2 ∷ []) 0
 unfolding the_machine
 births_are_turns_of_the_battle = refl
@@ -41,7 +41,7 @@ pub no_birth_in_a_full_queue : lineage 1 (lone (sizes 8 1 8 8) splitting (0 ∷ 
 unfolding the_machine
 no_birth_in_a_full_queue = refl
 
--- In turn 1 the process at the front dies, at a DAT. That with place 1, which moved up, splits in turn 2.
+-- In turn 1 the process at the front dies, at a DAT. The process with place 1 moves up and splits in turn 2.
 pub processes_move_up_after_a_death : lineage 2 (lone of_eight splitting (7 ∷ 0 ∷ [])) 0 1 ≡ descent (2 ∷ []) 1
 unfolding the_machine
 processes_move_up_after_a_death = refl

@@ -113,7 +113,7 @@ each_fights_as_alone law valid valid_imp valid_dwarf =
       law owner 1 200 fight lone_dwarf valid valid_dwarf refl cycle each_starts_as_alone.1 each_keeps_to_its_own,
     )
 
--- Computing the battles confirms it.
+-- Computing the battles confirms this.
 pub each_is_as_alone :
     ((after_turns 200 fight).queues ≡ (100 ∷ []) ∷ (201 ∷ []) ∷ [])
     × ((after_turns 100 lone_imp).queues ≡ (100 ∷ []) ∷ [])

@@ -12,7 +12,7 @@ use Rattle.mars_core.specs.declared.battle.block.BlockFault.TheVariants as fault
 abbrev header : List ℕ → List ℕ
 header first = first ++ replicate (64 - length first) 0
 
--- The header of a battle in a core of eight cells, in which this many warriors have no process.
+-- The header of a battle of `count` warriors without processes, in a core of eight cells.
 abbrev of_warriors : ℕ → List ℕ
 of_warriors count = header (block_mark ∷ 88 ∷ 8 ∷ 8 ∷ 8 ∷ 8 ∷ 8 ∷ 8 ∷ 8 ∷ count ∷ [])
 

@@ -9,12 +9,12 @@ use Rattle.mars_core.specs.Examples.{the_machine}
 use Rattle.mars_core.specs.Examples.Pasts.{all_loaded}
 use Rattle.mars_core.specs.Examples.Searches.{two_imps, where_}
 
--- The second warrior owns some cells, and 9, who is no warrior, others.
+-- The cells that each warrior owns: the second owns `second` cells. The `others` have the owner 9, which stands for no warrior.
 abbrev owned : ℕ → ℕ → List ℕ
 owned second others = 0 ∷ second ∷ replicate 7 0 ++ others ∷ replicate 6 0
 
--- Two imps in turn, in steps of three turns: the second one's are 2, 4 and 6. It copies itself to a new cell in each; the first one runs
--- after it and changes nothing.
+-- Two imps in turn, in steps of three turns. The turns of the second one are 2, 4 and 6, and in each it copies itself to a new cell. The
+-- first one runs after it and changes nothing.
 pub moments_are_after_each_step : moments_after 2 3 (where_ Executes Warrior 1 1 ∷ []) two_imps all_loaded
     ≡ record { turns = 3; found = 1; cells = owned 1 7; processes = 1 ∷ 1 ∷ replicate 14 0 }
     ∷ record { turns = 6; found = 2; cells = owned 3 5; processes = 1 ∷ 1 ∷ replicate 14 0 } ∷ []

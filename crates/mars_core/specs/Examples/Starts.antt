@@ -1,4 +1,4 @@
--- How warriors are loaded into the core, and why they can't be.
+-- How warriors are loaded into the core, and the errors for which they are not.
 use Rattle.std.specs.Prelude.{◌≡◌, ℕ, List, [], ◌∷◌, None, Some, refl}
 use Rattle.std.proofs.Common.{replicate}
 use Rattle.mars_cell.specs.declared.instruction.Cell.{Cell}

@@ -84,17 +84,17 @@ a_turn_of_the_dead v = v.clock.next_lives (omega arith) refl
 pub a_cycle_too_many : IsValid (record two { cycle = 11; turns = 20 }) → ⊥
 a_cycle_too_many v = let e : 11 ≤ 10 = v.clock.cycle in omega (arith, e)
 
--- After the last cycle the first living warrior would be next.
+-- After the last cycle, the first living warrior is next.
 pub half_a_cycle_too_many : IsValid (record two { cycle = 10; next = 1; turns = 20 }) → ⊥
 half_a_cycle_too_many v =
     let first : Some 0 ≡ Some 1 = v.clock.last_cycle refl (omega arith) in
     let e : 0 ≡ 1 = ap (λ o. unwrap_or o 0) first in
     omega (arith, e)
 
--- Two turns of each cycle, and one of the cycle that has begun.
+-- After a complete cycle and one turn of the next, two warriors have executed three turns.
 pub a_turn_too_many : IsValid (record two { cycle = 1; next = 1; turns = 4 }) → ⊥
 a_turn_too_many v = let e : 4 ≤ 3 = v.clock.turns_alive (omega arith) in omega (arith, e)
 
--- The turn in which the last warrior died is one more.
+-- After a complete cycle and the turn in which the last warrior died, two warriors have executed three turns.
 pub a_turn_of_two_dead_too_many : IsValid (both_dead 4) → ⊥
 a_turn_of_two_dead_too_many v = let e : 4 ≤ 3 = v.clock.turns in omega (arith, e)
