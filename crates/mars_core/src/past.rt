@@ -12,15 +12,16 @@ use crate::machine::places::cell_at;
 use crate::machine::writes::CellChange;
 use crate::packed::PackedCell;
 
-/// The past of a cell.
+/// The past of a cell. The caller chooses the first values. A turn that changes the cell sets `owner` and `turn`, and a
+/// turn that copies an instruction to the cell copies `origin`.
 #[repr(C)]
 #[derive(Clone, Copy, Debug, PartialEq, Eq)]
 pub struct Past {
-    /// The warrior that changed the cell last, or was loaded there.
+    /// The warrior that changed the cell last.
     pub owner: u32,
     /// The number of the turn that changed it last, from 1.
     pub turn: u32,
-    /// Where its instruction comes from: the address at which it was loaded.
+    /// The address at which the instruction of the cell was at first.
     pub origin: u32,
 }
 
@@ -51,7 +52,7 @@ pub fn cell_before(core: &[PackedCell], writes: &[CellChange], address: u32) -> 
     cell_at(core, address)
 }
 
-/// Returns whether the cell at an address is another one than before the writes that led to the core.
+/// Returns whether the cell at an address differs from the cell before the writes that led to the core.
 #[inline(always)]
 pub fn is_changed(core: &[PackedCell], writes: &[CellChange], address: u32) -> bool
     requires inside { address < length core.now }
@@ -60,7 +61,7 @@ pub fn is_changed(core: &[PackedCell], writes: &[CellChange], address: u32) -> b
     !cell_before(core, writes, address).equals(cell_at(core, address))
 }
 
-/// Notes the owner and the turn of each cell that is another one than before the writes that led to the core.
+/// Notes the owner and the turn of each cell that differs from the cell before the writes that led to the core.
 #[inline(always)]
 pub fn note_changes(
     pasts: &mut [Past],

@@ -20,15 +20,15 @@ use arrayvec::ArrayVec;
 /// A way in which a turn uses a cell.
 #[derive(Clone, Copy, Debug)]
 pub enum Way {
-    /// The turn executes it.
+    /// The turn executes the cell.
     Executes,
-    /// It is another cell after the turn.
+    /// The cell is another one after the turn.
     Changes,
-    /// The turn touches it, and does not write it.
+    /// The turn touches the cell and does not write it.
     Reads,
 }
 
-/// A number of a turn and of a cell that the turn uses.
+/// A number of a turn, or of a cell that the turn uses.
 #[derive(Clone, Copy, Debug)]
 pub enum Number {
     /// The warrior of the turn.
@@ -41,18 +41,18 @@ pub enum Number {
     Address,
     /// The owner of the cell before the turn.
     Owner,
-    /// The turn that had changed the cell last before the turn.
+    /// The number of the turn that changed the cell last before the turn.
     Turn,
     /// The origin of the cell before the turn.
     Origin,
-    /// The index of its opcode before the turn.
+    /// The index of the opcode of the cell before the turn.
     Opcode,
-    /// The index of its opcode after the turn.
+    /// The index of the opcode of the cell after the turn.
     NewOpcode,
 }
 
-/// A condition on a cell that a turn uses: a number is one from `first` to `last`, or, if `last` is smaller, one that is
-/// not between them.
+/// A condition on a cell that a turn uses: a number is in the range from `first` to `last`, both included. If `last` is
+/// less than `first`, the range wraps around: it has the numbers from `first` on and those up to `last`.
 #[derive(Clone, Copy, Debug)]
 pub struct Condition {
     pub way: Way,
@@ -65,13 +65,13 @@ pub struct Condition {
 #[repr(C)]
 #[derive(Clone, Copy, Debug, PartialEq, Eq)]
 pub struct Found {
-    /// Its number, from 1.
+    /// The number of the turn, from 1.
     pub turn: u32,
-    /// Its warrior.
+    /// The warrior of the turn.
     pub warrior: u32,
-    /// The number of processes that it queued: 2 if it split, 0 if its process ended.
+    /// The number of processes that the turn queued: 2 if it split, 0 if its process ended.
     pub queued: u32,
-    /// The address of the cell that it executed.
+    /// The address of the cell that the turn executed.
     pub address: u32,
     /// The past of that cell before the turn.
     pub past: Past,
@@ -85,7 +85,7 @@ pub struct Seen<'t> {
     pub pasts: &'t [Past],
 }
 
-/// Returns whether a number is one from `first` to `last`, or, if `last` is smaller, not between them.
+/// Returns whether a number is in the range from `first` to `last`, which wraps around if `last` is less than `first`.
 fn is_within(first: u32, last: u32, number: u32) -> bool
     ensures { result ≡ spec_is_within first last number }
 {
@@ -96,7 +96,7 @@ fn is_within(first: u32, last: u32, number: u32) -> bool
     }
 }
 
-/// Returns whether a condition is on cells that are used in this way.
+/// Returns whether a condition is on this way of using a cell.
 fn is_on(way: Way, condition: Condition) -> bool
     ensures { result ≡ is_same way condition.way }
 {
@@ -107,7 +107,7 @@ fn is_on(way: Way, condition: Condition) -> bool
     }
 }
 
-/// Returns whether any of the conditions is on cells that are used in this way.
+/// Returns whether any of the conditions is on this way of using a cell.
 pub fn are_on(way: Way, conditions: &[Condition]) -> bool
     ensures { result ≡ spec_are_on way conditions.now }
 {
@@ -119,7 +119,7 @@ pub fn are_on(way: Way, conditions: &[Condition]) -> bool
     false
 }
 
-/// Returns a number of a turn and of the cell at an address.
+/// Returns a number of a turn, or of the cell at an address that the turn uses.
 fn number_in(seen: Seen<'_>, number: Number, address: u32) -> u32
     requires inside { address < length seen.core.now }
     requires size { length seen.pasts.now ≡ length seen.core.now }
@@ -145,7 +145,7 @@ fn opcode(cell: PackedCell) -> u32
     u32::from(cell.op().index())
 }
 
-/// Returns whether all those of the conditions hold that are on a cell that is used in this way, for the one at an address.
+/// Returns whether all conditions on this way of using a cell hold for the cell at an address.
 fn all_hold(way: Way, conditions: &[Condition], seen: Seen<'_>, address: u32) -> bool
     requires inside { address < length seen.core.now }
     requires size { length seen.pasts.now ≡ length seen.core.now }
@@ -166,8 +166,8 @@ fn all_hold(way: Way, conditions: &[Condition], seen: Seen<'_>, address: u32) ->
     true
 }
 
-/// Returns whether a turn uses a cell for which all conditions on cells that are used in this way hold. `used` has the
-/// addresses of all cells that it uses in this way.
+/// Returns whether a turn uses a cell in this way for which all conditions on this way hold. `used` has the addresses
+/// of all cells that the turn uses in this way.
 fn one_meets(way: Way, conditions: &[Condition], seen: Seen<'_>, used: &[u32]) -> bool
     requires inside { All (λ address. address < length seen.core.now) used.now }
     requires size { length seen.pasts.now ≡ length seen.core.now }

@@ -10,12 +10,12 @@ use crate::battle::Battle;
 use crate::battle::follow::put;
 use std::alloc::{AllocError, Global};
 
-/// What is known of the ancestors of a process, besides the turns in which they were born.
+/// The number of births from which a process descends, and its first ancestor.
 #[derive(Clone, Copy, Debug, PartialEq, Eq)]
 pub struct Ancestors {
     /// The number of turns in which the process and its ancestors were born.
     pub count: u32,
-    /// The place of the first ancestor in its queue before the turns; that of the process itself if it has no ancestor.
+    /// The place of the first ancestor in its queue before the turns, or of the process itself if it has no ancestor.
     pub first: u32,
 }
 
@@ -45,7 +45,9 @@ impl Battle {
     ///
     /// # Errors
     ///
-    /// Returns `NoSuchProcess` if there is no such process after the turns, and `OutOfMemory` if an allocation fails.
+    /// - `OutOfMemory` if an allocation fails
+    /// - `NoSuchProcess` if there is no such process after the turns
+    ///
     /// `births` is unchanged then.
     pub fn ancestors(
         &self,
@@ -97,7 +99,7 @@ impl Battle {
         Ok(own)
     }
 
-    /// Executes a turn of a battle that is not over, and returns it if it is one of the warrior.
+    /// Executes a turn of a battle that is not over, and returns it if it is a turn of the warrior.
     fn own_turn(&mut self, warrior: u32) -> Option<OwnTurn>
         requires running { is_over_of self.old ≡ false }
         ensures turn { result ≡ (if self.old.next == warrior then Some (spec_own_turn self.old warrior) else None) }
@@ -114,8 +116,8 @@ impl Battle {
     }
 }
 
-/// Traces the process with this place after the turns of its warrior back to before them, and writes the turns in which it
-/// and its ancestors were born.
+/// Traces a process back over the turns `own` of its warrior, from its place in the queue after them. Writes the turns
+/// in which the process and its ancestors were born.
 fn trace_back(own: &[OwnTurn], place: u32, births: &mut [u32]) -> Ancestors
     requires few { length own.now < 2 ^ 32 }
     ensures count { result.count ≡ length (traced_back own.now (record { births = []; place = place })).births }

@@ -175,9 +175,9 @@ impl Battle {
     ///
     /// # Errors
     ///
-    /// What each says is wrong with the words (`specs/BlockFaults`). They are checked in this order: `Short` (the header),
-    /// `Mark`, `Parameters`, `Warriors`, `Short` (the rest), `Deaths` (more than 16), `Cell`, `Queue`, `Deaths`, `Clock` and
-    /// `Head`. `OutOfMemory` replaces any error that would have been found after the allocation.
+    /// `specs/BlockFaults` states what each error says of the words. They are checked in this order: `Short` (the
+    /// header), `Mark`, `Parameters`, `Warriors`, `Short` (the rest), `Deaths` (more than 16), `Cell`, `Queue`,
+    /// `Deaths`, `Clock` and `Head`. `OutOfMemory` replaces any error that would have been found after the allocation.
     pub fn read_block(alloc: Global, words: &[u32]) -> Result<Battle, BlockFault>
         ensures battle { IfOk result (λ battle. Spells battle words.now) }
         ensures only { IfOk result (λ battle. (s : State) → Spells s words.now → battle ≡ s) }

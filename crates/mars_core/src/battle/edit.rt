@@ -129,7 +129,7 @@ impl Battle {
 
     /// Executes an edit and returns a record of the changes. Does not allocate.
     ///
-    /// A battle that is over can be edited. A dead warrior can't be revived.
+    /// A battle that is over can be edited. A dead warrior cannot be revived.
     ///
     /// # Errors
     ///

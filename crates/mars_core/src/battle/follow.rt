@@ -22,10 +22,11 @@ use arrayvec::ArrayVec;
 use mars_cell::{Cell, Params};
 
 impl Battle {
-    /// Executes `turns` turns, or as many as are left, keeps the past of each cell, and searches for the turns that meet
-    /// all conditions. Does not fail or allocate.
+    /// Executes `turns` turns, or as many as are left, keeps the past of each cell, and searches for the turns that
+    /// meet all conditions. Does not fail or allocate. `pasts` has an entry for each cell.
     ///
-    /// Returns the count of those turns. They are written to the front of `found`, as far as there are places.
+    /// Returns the number of turns that meet all conditions. They are written to the front of `found`, as far as there
+    /// are places.
     pub fn follow(
         &mut self,
         turns: u32,
@@ -87,8 +88,8 @@ impl Battle {
     }
 }
 
-/// Returns the addresses that the execution of an instruction at `pc` with these operands touches, or none if no condition
-/// is on cells that it reads.
+/// Returns the addresses that the execution of an instruction at `pc` with these operands touches. Returns none if no
+/// condition is on cells that a turn reads.
 #[inline(always)]
 fn touched_for(
     params: &Params,

@@ -1,4 +1,4 @@
-//! Turns without records: those that a run executes one by one, and those that mark the cells that they execute, write and touch.
+//! Turns without records, for runs and for marking the cells that turns execute, write and touch.
 ghost use Rattle.std.specs.Prelude.{◌≡◌, ◌==◌, false, length};
 ghost use Rattle.mars_core.specs.Code.Operands.{AreOperands, IsUnlimited};
 ghost use Rattle.mars_core.specs.Code.Turns.{addresses_to};
@@ -16,8 +16,8 @@ use crate::queue::Continuation;
 use arrayvec::ArrayVec;
 
 impl Battle {
-    /// Executes a turn like [`Battle::turn`], but without its record: marks the cells that the warrior executes, writes and touches, and
-    /// returns whether two processes were queued.
+    /// Executes a turn like [`Battle::turn`], but without a record: marks the cells that the warrior executes, writes
+    /// and touches, and returns whether two processes were queued.
     ///
     /// There must be a mark for each cell. The battle must not be over.
     #[inline(never)]

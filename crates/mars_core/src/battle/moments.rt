@@ -1,4 +1,4 @@
-//! A battle at moments, in equal steps of turns.
+//! A battle at moments, which are equally many turns apart (`specs/Moments`).
 ghost use Rattle.std.specs.Prelude.{◌≡◌, ◌≤◌, ◌*◌, length, map};
 ghost use Rattle.std.specs.List.{range_with_len};
 ghost use Rattle.mars_cell.specs.Limits.{max_core_size};
@@ -20,9 +20,9 @@ use crate::search::Condition;
 pub struct Moment {
     /// The number of turns that all warriors together have executed.
     pub turns: u32,
-    /// The number of turns since the moment before that meet the conditions.
+    /// The number of turns since the previous moment that meet the conditions.
     pub found: u32,
-    /// The number of cells that each warrior owns.
+    /// The number of cells with each owner from 0 to 15.
     pub cells: [u32; MAX_WARRIORS],
     /// The number of processes of each warrior; 0 after the last warrior.
     pub processes: [u32; MAX_WARRIORS],
@@ -65,7 +65,7 @@ impl Battle {
     }
 }
 
-/// Returns the number of cells that each warrior owns.
+/// Returns the number of cells with each owner from 0 to 15.
 fn owned_cells(pasts: &[Past]) -> [u32; MAX_WARRIORS]
     requires few { length pasts.now ≤ max_core_size }
     ensures { result ≡ map (owned_by pasts.now) (range_with_len 0 max_warriors) }

@@ -195,8 +195,8 @@ pub fn reload(core: &mut [PackedCell], params: &Params, warriors: &[Warrior], st
     lay_warriors(core, params.core_size(), warriors, starts);
 }
 
-/// Empties cells: the first half in the same way, and the rest as a copy of it, since copying many cells costs less than
-/// writing each.
+/// Empties cells: the first half by a recursive call, and the rest as a copy of it, since copying many cells costs less
+/// than writing each.
 fn clear(cells: &mut [PackedCell])
     ensures { cells.new ≡ replicate (length cells.old) empty_cell }
 {

@@ -72,7 +72,8 @@ pub fn folded<const LIMITED: bool>(core_size: u32, limit: u32, pointer: u32) -> 
     }
 }
 
-/// Returns the number of an instruction as a pointer folded by a limit.
+/// Returns a number of an instruction, folded as a pointer by a limit. Without `LIMITED`, the limit must be the size of
+/// the core.
 #[inline(always)]
 #[tactic(auto, using(crate::proofs::Folding::fold_inside))]
 pub fn folded_number<const LIMITED: bool>(core_size: u32, limit: u32, number: u32) -> u32

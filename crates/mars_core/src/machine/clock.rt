@@ -14,7 +14,7 @@ pub struct Clock {
     pub cycle: u32,
 }
 
-/// Returns the clock after a turn. In most cases the next warrior lives.
+/// Returns the clock after a turn. The next warrior is tested first, because it lives in most cases.
 #[inline(always)]
 #[tactic(auto, using(crate::proofs::Live::advanced_next, crate::proofs::Live::advanced_round))]
 pub fn clock_after_turn(queues: &[ProcessQueue], clock: Clock) -> Clock

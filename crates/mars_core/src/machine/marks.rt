@@ -51,7 +51,8 @@ pub fn mark_turn<const LIMITED: bool>(
     mark_target(marks, operands.b_write, operands.written);
 }
 
-/// Marks the cells to which the number of an indirect mode leads, and that of which the mode writes a field.
+/// Marks the cells to which the number of an indirect mode leads as touched, and the cell of which the mode writes a
+/// field also as written.
 #[inline(always)]
 #[tactic(auto, unfolding(crate::specs::Touched::pointed_addresses))]
 fn mark_pointed<const LIMITED: bool>(

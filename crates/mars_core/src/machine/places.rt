@@ -40,7 +40,7 @@ pub fn place_of<const LIMITED: bool, const CALLER: u8, const GROUP: u8, const OP
     ensures core_is { core.new ≡ (evaluated params.now (unwritten core.old) pc mode number).written.core }
     ensures place { result ≡ placed params.now.core_size pc (evaluated params.now (unwritten core.old) pc mode number).operand }
 
-    // What callers need of it.
+    // What callers need.
     ensures core { IsCore params.now.core_size core.new }
     ensures fits { IsPlace params.now.core_size result }
 {
