@@ -1,4 +1,4 @@
--- What is wrong with the state of a block is wrong with its words.
+-- The errors of the state of a block are errors of the words of the block.
 use Rattle.std.proofs.Common.{◌≡◌, ◌*◌, ℕ, List, inr, subst, sym, take, drop}
 use Rattle.std.specs.Prelude.{slice_index_or}
 use Rattle.std.specs.List.{concat}

@@ -1,4 +1,4 @@
--- Lemmas about turns, edits and records for the crates above, which can't unfold these definitions.
+-- Lemmas about turns, edits and records for the crates above, which cannot unfold these definitions.
 use Rattle.std.specs.Prelude.{◌≡◌, ℕ, ◌+◌, ◌≤◌, Option, None, Some, refl, List, [], ◌∷◌, remove, slice_set}
 use Rattle.std.proofs.Common.{arith, sym, ◌∙◌}
 use Rattle.std.proofs.lemmas.List.{length-set}

@@ -1,4 +1,4 @@
--- An edit of the code's battle is the edit of its state.
+-- The code executes an edit as the specification states.
 use Rattle.std.proofs.Common.{◌≡◌, ◌≢◌, ℕ, ◌+◌, ◌<◌, List, [], ◌∷◌, ◌++◌, length, get_or, set, All, refl, ap, sym, ◌∙◌, arith, Bool, false}
 use Rattle.std.specs.Prelude.{remove, if◌then◌else◌, not, ◌==◌}
 use Rattle.std.proofs.lemmas.List.{length-set, length-map}

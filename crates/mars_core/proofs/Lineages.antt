@@ -56,7 +56,7 @@ module _ (turns : ℕ) (first : State) (warrior : ℕ) where
   }
 
   module _ (made : ℕ) (s : State) (own : List OwnTurn) (k : AreKept turns first warrior made s own) where
-    -- The turns are over.
+    -- All turns are executed, or the battle is over.
     pub all_kept : (turns - made ≡ 0) ⊎ (is_over_of s ≡ true) → (own ≡ own_turns turns first warrior) × (s ≡ after_turns turns first)
     all_kept (inl none) = (
       sym (k.own_are ∙ rw none (append-nil own)),

@@ -1,4 +1,4 @@
--- Battles at moments: the cells that were counted, and the steps that were made.
+-- Battles at moments: the cells that are counted, and the steps that are made.
 use Rattle.std.proofs.Common.{◌≡◌, ◌≢◌, ℕ, zero, suc, ◌<◌, ◌≤◌, ◌==◌, ◌+◌, ◌-◌, ◌*◌, true, false, not, cond, if◌then◌else◌, List, [], ◌∷◌, ◌++◌, get_or, length, set, take, map, replicate, append_assoc, append-nil, refl, subst, sym, ap, ◌∙◌, arith}
 use Rattle.std.proofs.Math.Nat.{add_comm, suc-mul, zero-mul}
 use Rattle.std.specs.List.{range_with_len}

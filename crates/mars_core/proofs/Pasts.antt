@@ -41,7 +41,7 @@ other_write writes core i a w inside is other =
     ap (λ l. cell_at l a) (rest writes core i w inside is)
     ∙ get_or-set_other (restored (drop (i + 1) writes) core) w.address a w.before empty_cell (λ e. other (sym e))
 
--- The cell at the address is another one than before the writes.
+-- The cell at the address `a` of the core differs from the cell before the writes.
 abbrev pub differs : List CellChange → List Cell → ℕ → Bool
 differs writes core a = not (are_equal_cells (cell_at (restored writes core) a) (cell_at core a))
 
@@ -75,7 +75,7 @@ written_if_differs (w ∷ writes) core a d there e =
           (suc found.0, omega (arith, found.1), found.2)
     ] refl
 
--- Of the changes by the writes before the index `i`, the past of each cell is noted; `old` is what was noted before.
+-- The pasts after the changes by the writes before the index `i` are noted; `old` are the pasts from before all of them.
 pub record AreNoted (owner turn : ℕ) (writes : List CellChange) (core : List Cell) (old : List Past) (i : ℕ) (pasts : List Past) : Type 0 where
   pub size : length pasts ≡ length old
   pub origins : (a : ℕ) → a < length old → (past_at pasts a).origin ≡ (past_at old a).origin
@@ -100,7 +100,7 @@ module _ (owner turn : ℕ) (writes : List CellChange) (core : List Cell) (old :
         ] refl;
   }
 
-  -- The next write is at a cell that is another one.
+  -- The next write is at a cell that all writes together change.
   pub note_change : (origin : ℕ) → w.address < length old → origin ≡ (past_at pasts w.address).origin → differs writes core w.address ≡ true
       → AreNoted owner turn writes core old (i + 1) (set pasts w.address (record { owner = owner; turn = turn; origin = origin }))
   note_change origin here origin_is differ =
@@ -143,7 +143,7 @@ all_noted owner turn writes core old pasts size n a there =
       | false ↦ λ e. n.kept a there e
     ] refl
 
--- A change of the owner and the turn, and of the origin.
+-- A past with another owner and turn if the test succeeds, and with another origin in any case.
 joined : (test : Bool) (owner turn origin : ℕ) (past : Past)
     → (if test then record { owner = owner; turn = turn; origin = origin } else record past { origin = origin })
     ≡ record { owner = if test then owner else past.owner; turn = if test then turn else past.turn; origin = origin }
@@ -177,7 +177,7 @@ module _ (s : State) where
       changed a (rw size_copied there)
       ∙ rw (test, copied_is, owner_is, turn_is) (joined (changes s a) s.next (s.turns + 1) (past_at old (comes_from (copy_in_turn s) a)).origin (past_at old a)))
 
--- One of the turns that are left.
+-- The first of the turns that are left.
 pub followed-turn : (n k : ℕ) (s : State) (pasts : List Past) → n ≡ k + 1 → is_over_of s ≡ false → followed n s pasts ≡ followed k (turn_of s) (pasts_after s pasts)
 followed-turn n k s pasts e running = ap (λ m. followed m s pasts) e ∙ rw (add-one, running) refl
 

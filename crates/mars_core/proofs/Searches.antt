@@ -33,7 +33,7 @@ use Rattle.mars_core.proofs.Turns.{same_eq}
 pub seen_before : (s : State) (core : List Cell) (atom : Atom) → IsSeen s core atom → restored atom.cells.items core ≡ s.core
 seen_before s core atom seen = rw (seen.atom_is, seen.core_is) (undone s)
 
--- Two tests that succeed together.
+-- Two tests are equal if each succeeds when the other does.
 alike : (b c : Bool) → (b ≡ true → c ≡ true) → (c ≡ true → b ≡ true) → b ≡ c
 alike true c there back = sym (there refl)
 alike false true there back = back refl
@@ -115,7 +115,7 @@ all_changed writes core a inside =
       | false ↦ λ e. and_right _ false refl
     ] refl
 
--- What differs from before the writes is what the turn changes.
+-- The turn changes the cells that differ from the cells before its writes.
 pub differs_changes : (s : State) (core : List Cell) (atom : Atom) (a : ℕ) → IsSeen s core atom → differs atom.cells.items core a ≡ changes s a
 differs_changes s core atom a seen =
     ap (λ c. not (are_equal_cells (cell_at c a) (cell_at core a))) (seen_before s core atom seen)
@@ -144,7 +144,7 @@ pub record IsFollowed (conditions : List Condition) (turns : ℕ) (first : State
   pub few : count ≤ made
   pub pasts_are : followed turns first pasts_first ≡ followed (turns - made) s pasts
   pub battle_is : after_turns turns first ≡ after_turns (turns - made) s
-  -- Those that were found so far, then those that are left.
+  -- The turns that are found so far; those that are found in the turns that are left come after them.
   pub found : List Found
   pub all_are : found_in conditions turns first pasts_first ≡ found ++ found_in conditions (turns - made) s pasts
   pub count_is : count ≡ length found
@@ -182,7 +182,7 @@ module _ (conditions : List Condition) (turns : ℕ) (first : State) (pasts_firs
 
   module _ (made : ℕ) (s : State) (pasts : List Past) (rows : List Found) (count : ℕ)
       (f : IsFollowed conditions turns first pasts_first rows_first made s pasts rows count) where
-    -- The turns are over: nothing more is found.
+    -- All turns are executed, or the battle is over: no more turns are found.
     pub followed-all : (turns - made ≡ 0) ⊎ (is_over_of s ≡ true)
         → (found_in conditions turns first pasts_first ≡ f.found) × (followed turns first pasts_first ≡ pasts) × (after_turns turns first ≡ s)
     followed-all (inl none) = (

@@ -1,7 +1,7 @@
--- A warrior that keeps to a part of the core which the other warriors leave to it fights alike in all battles.
--- `fights_alike` follows the turns of the first battle, and passes its recursive call to a lemma that follows the turns of the
--- second (`meets`). That lemma skips the turns of the other warriors until both battles are at a turn of the warrior. So neither
--- the clocks nor the numbers of warriors have to be the same.
+-- A warrior that keeps to a part of the core in which the other warriors change no cell fights alike in all battles. `fights_alike` follows
+-- the turns of the first battle, and passes its recursive call to a lemma that follows the turns of the second (`meets`). That lemma skips
+-- the turns of the other warriors until both battles are at a turn of the warrior. So neither the clocks nor the numbers of warriors have
+-- to be the same.
 use Rattle.std.proofs.Common.{◌≡◌, ◌≢◌, ℕ, zero, suc, ◌+◌, ◌<◌, Bool, true, false, cond, List, [], length, All, refl, ap, sym, ◌∙◌, subst, arith, inl, inr}
 use Rattle.std.specs.Prelude.{◌==◌, if◌then◌else◌}
 use Rattle.std.specs.List.{AllPass}
@@ -24,7 +24,7 @@ use Rattle.mars_core.proofs.ForLaws.Touched.{Near, itself, both, untouched_stays
 use Rattle.mars_core.proofs.TouchedInside.{front_inside}
 use Rattle.mars_core.proofs.Turns.{turn_valid, same_eq, eq_same, other_eq}
 
--- One process in two cores that are the same in a part that contains all that it touches.
+-- A process whose instruction touches only a part of the core, in two cores that are the same in this part.
 module _ (p : Parameters) (r : AreInRange p) (part : ℕ → Bool) (q : List ℕ) (core other : List Cell) (fits : IsCore p.core_size core) (fits_other : IsCore p.core_size other) (start : front_of q < p.core_size) (keeps : All (λ a. part a ≡ true) (touched p core (front_of q))) (same : (a : ℕ) → part a ≡ true → cell_at core a ≡ cell_at other a) where
   alike : AlikeExecution p (λ a. a) (Near p r (front_of q) start (λ a. part a ≡ true) core other fits.size fits_other.size keeps same) (front_of q) (front_of q)
       (itself p r (front_of q) start (λ a. part a ≡ true) core other fits.size fits_other.size keeps same) (front_execution p core q) (front_execution p other q)

@@ -71,7 +71,7 @@ one_lives (q ∷ r ∷ qs) one lives = absurd (omega (arith, one))
 lone_runs : (cycles cycle n alive : ℕ) → n ≡ 1 → cycle < cycles → 1 ≤ alive → ((cycle == cycles) || (nat_le 2 n && nat_le alive 1) || (n == 1 && alive == 0)) ≡ false
 lone_runs cycles cycle n alive one less lives = grind (arith, nat_tests)
 
--- The battle of its own is not over whenever the warrior has a turn.
+-- The battle `t` of a single warrior is not over if this warrior has a turn in the battle `s`.
 lone_goes_on : (part : ℕ → Bool) (s t : State) → IsValid s → is_over_of s ≡ false → length t.queues ≡ 1 → t.cycle ≤ s.cycle → AgreesOn part s.next s 0 t → is_over_of t ≡ false
 unfolding ends
 lone_goes_on part s t v over one behind g =
@@ -126,7 +126,7 @@ pub undisturbed_alone : (w n : ℕ) (s t : State) → IsValid s → IsValid t �
 undisturbed_alone w n s t v u one early g left =
     fights_alone (is_in (touched_in w n s)) w n s t v u one early g (each_is_in (touched_in w n s)) left
 
--- A warrior that doesn't exist touches nothing.
+-- A warrior that does not exist touches nothing.
 nobody_keeps : (part : ℕ → Bool) (w n : ℕ) (s : State) → IsValid s → length s.queues ≤ w → StaysWithin part w n s
 nobody_keeps part w zero s v past = All-nil (λ a. part a ≡ true)
 nobody_keeps part w (suc n) s v past =

@@ -43,7 +43,7 @@ abbrev if_over : Bool → ℕ → State → ℕ → ℕ → Lineage
 if_over over n s warrior place =
     if over then record { births = []; place = place } else traced_in_turn s warrior (lineage n (turn_of s) warrior place)
 
--- A turn leads back to a process of the warrior.
+-- Traced back over a turn, a process of the warrior leads to a process of the warrior.
 back_inside : (s : State) (warrior : ℕ) (later : Lineage) → IsValid s → is_over_of s ≡ false → later.place < length (queue_of (turn_of s).queues warrior)
     → (traced_in_turn s warrior later).place < length (queue_of s.queues warrior)
 back_inside s warrior later v running inside =
@@ -66,7 +66,7 @@ first_ancestors_are_there (suc n) warrior place s v inside =
           (first_ancestors_are_there n warrior place (turn_of s) (turn_valid s v e) there)
     ] refl inside
 
--- A birth in a later turn.
+-- A birth in a turn after the next one.
 later_split : (s : State) (n warrior turn : ℕ) → is_over_of s ≡ false → (k : ℕ) × IsSplit (turn_of s) n warrior k turn → (k : ℕ) × IsSplit s (suc n) warrior k turn
 later_split s n warrior turn running (k, b) =
     let e : after_turns (suc k) s ≡ after_turns k (turn_of s) = after-turn (suc k) k s (omega arith) running in (
@@ -80,7 +80,7 @@ later_split s n warrior turn running (k, b) =
       },
     )
 
--- The processes that wait, and those that the turn queues.
+-- After a turn, the queue has the processes that waited and those that the turn queued.
 queue_length : (s : State) → IsValid s
     → length (queue_of (turn_of s).queues s.next) ≡ length (drop 1 (queue_of s.queues s.next)) + length (turn_record s).queued.items
 unfolding turn_of executed turn_record
@@ -92,7 +92,7 @@ module _ (s : State) (n warrior : ℕ) (v : IsValid s) (running : is_over_of s �
   abbrev IsBirth : ℕ → Type 0
   IsBirth turn = (k : ℕ) × IsSplit s (suc n) warrior k turn
 
-  -- A birth in this turn.
+  -- A process that comes after the first one that the turn queues was born in this turn.
   this_split : (place : ℕ) → s.next ≡ warrior → length (drop 1 (queue_of s.queues warrior)) < place → place < length (queue_of (turn_of s).queues warrior) → IsBirth (s.turns + 1)
   this_split place own after inside =
       let waiting : length (drop 1 (queue_of s.queues s.next)) < place = subst (λ w. length (drop 1 (queue_of s.queues w)) < place) (sym own) after in

@@ -1,4 +1,4 @@
--- Each instruction is a copy of the one of its origin, and each owner changed its cell last.
+-- Each instruction is a copy of the instruction at its origin, and each owner changed its cell last.
 use Rattle.std.proofs.Common.{◌≡◌, ℕ, zero, suc, ◌+◌, ◌-◌, ◌*◌, ◌/◌, ◌%◌, ◌<◌, ◌≤◌, ◌==◌, true, false, if◌then◌else◌, Some, None, List, [], ◌∷◌, length, set, refl, ap, sym, ◌∙◌, subst, arith}
 use Rattle.std.proofs.lemmas.Bool.{eqb-true, eqb-false, false_from_ne_true, true≢false}
 use Rattle.std.proofs.lemmas.List.{length-set, get_or-set_same, get_or-set_other}
@@ -216,7 +216,7 @@ past_is : (s : State) (pasts : List Past) (a : ℕ) → a < length pasts → pas
 unfolding pasts_after
 past_is s pasts a inside = get_or-map-range_with_len (past_after s pasts) 0 (length pasts) a a _ inside (omega arith)
 
--- If the kind of each cell is one that its origin determines, it is so after any turns.
+-- If the origin of each cell determines its kind by the function `kind`, it does so after any turns.
 kinds_followed : (n : ℕ) (kind : ℕ → Cell) (s : State) (pasts : List Past) → IsValid s → length pasts ≡ s.params.core_size
     → ((a : ℕ) → a < s.params.core_size → kind_at s.core a ≡ kind (past_at pasts a).origin)
     → (a : ℕ) → a < s.params.core_size → kind_at (after_turns n s).core a ≡ kind (past_at (followed n s pasts) a).origin
@@ -259,7 +259,7 @@ changes_down s n a j running c = record {
   changes_it = ap (λ (t : State). changes t a) (sym (later s j running)) ∙ c.changes_it;
 }
 
--- The owner and the turn of the past.
+-- The past has this owner and this turn.
 abbrev Noted : Past → ℕ → ℕ → Type 0
 Noted past owner turn = (past.owner ≡ owner) × (past.turn ≡ turn)
 
@@ -275,7 +275,7 @@ over_always : (s : State) (n a k : ℕ) → is_over_of s ≡ true → ChangesIn 
 over_always s n a zero over c = true≢false (sym over ∙ c.running)
 over_always s n a (suc k) over c = true≢false (sym over ∙ ap is_over_of (sym (after-over (suc k) s over)) ∙ c.running)
 
--- Without a change.
+-- If no turn changes a cell, its owner and its turn stay the same.
 unchanged : (n a : ℕ) (s : State) (pasts : List Past) → a < length pasts → ((k : ℕ) → ChangesIn s n a k → ⊥)
     → Noted (past_at (followed n s pasts) a) (past_at pasts a).owner (past_at pasts a).turn
 unchanged zero a s pasts inside none = (refl, refl)
@@ -290,7 +290,7 @@ unchanged (suc n) a s pasts inside none =
           (then_.0 ∙ now.0, then_.1 ∙ now.1)
     ] refl
 
--- After the last change.
+-- After the last turn that changes a cell, its owner and its turn are those of this turn.
 changed_last : (n a k : ℕ) (s : State) (pasts : List Past) → a < length pasts → ChangesIn s n a k → ((j : ℕ) → k < j → ChangesIn s n a j → ⊥)
     → Noted (past_at (followed n s pasts) a) (after_turns k s).next ((after_turns k s).turns + 1)
 changed_last zero a k s pasts inside c last = let below = c.below in absurd (omega arith)

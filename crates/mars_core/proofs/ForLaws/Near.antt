@@ -51,7 +51,7 @@ writes_near s v =
     (pointed_reached p.core_size p.write_limit pc v.params.write_least v.params.write_most)
     (here_reached p.core_size p.write_limit pc v.params.write_least v.params.write_most) s.core
 
--- A turn changes no cell that the write limit doesn't reach.
+-- A turn changes no cell that the write limit does not reach.
 pub far_cell_stays : (s : State) (a : ℕ) → IsValid s → (Reaches s.params.core_size s.params.write_limit (front_of (queue_of s.queues s.next)) a → ⊥) → cell_at (turn_of s).core a ≡ cell_at s.core a
 unfolding turn_of executed turn_record
 far_cell_stays s a v far =

@@ -16,7 +16,7 @@ use Rattle.mars_core.proofs.Rewritten.{execution_replays}
 use Rattle.mars_core.proofs.TouchedInside.{front_inside, touched_inside}
 
 module _ (p : Parameters) (r : AreInRange p) (pc : ℕ) (start : pc < p.core_size) where
-  -- One instruction in two cores that are the same wherever `Holds` does; it holds for all that is touched in the first core.
+  -- An instruction in two cores that are the same wherever `Holds` does, which is so for all cells that it touches in the first core.
   module _ (Holds : ℕ → Type 0) (core other : List Cell) (size : length core ≡ p.core_size) (size_there : length other ≡ p.core_size)
       (holds : All Holds (touched p core pc)) (same : (a : ℕ) → Holds a → cell_at core a ≡ cell_at other a) where
     abbrev pub Near : ℕ → Type 0
@@ -44,7 +44,7 @@ module _ (p : Parameters) (r : AreInRange p) (pc : ℕ) (start : pc < p.core_siz
     pub same_touched : touched p core pc ≡ touched p other pc
     same_touched = sym (touched_alike p (λ a. a) Near pc pc itself core other cores near ∙ map-id (touched p core pc))
 
--- Cells that are not touched don't matter.
+-- Cells that are not touched do not matter.
 pub untouched_cells : (p : Parameters) (core other : List Cell) (pc : ℕ) → AreInRange p → IsCore p.core_size core → IsCore p.core_size other → pc < p.core_size → All (λ a. cell_at core a ≡ cell_at other a) (touched p core pc) → ((execution_of p core pc).queued ≡ (execution_of p other pc).queued) × ((execution_of p core pc).written.changes ≡ (execution_of p other pc).written.changes) × (touched p core pc ≡ touched p other pc)
 untouched_cells p core other pc r fits fits_other start all =
     let e = both p r pc start (λ a. cell_at core a ≡ cell_at other a) core other fits.size fits_other.size all (λ a same. same) in (
@@ -60,7 +60,7 @@ rewritten_beside (c ∷ changes) core a all =
     rewritten_beside changes _ a (All-tail (λ (c : CellChange). a ≢ c.address) c changes all)
     ∙ get_or-set_other core c.address a c.after empty_cell (All-head (λ (c : CellChange). a ≢ c.address) c changes all)
 
--- A turn changes no cell that it doesn't touch.
+-- A turn changes no cell that it does not touch.
 pub untouched_stays : (s : State) (a : ℕ) → IsValid s → All (λ b. a ≢ b) (touched_in_turn s) → cell_at (turn_of s).core a ≡ cell_at s.core a
 unfolding turn_of executed
 untouched_stays s a v beside =

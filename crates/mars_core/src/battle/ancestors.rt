@@ -10,7 +10,7 @@ use crate::battle::Battle;
 use crate::battle::follow::put;
 use std::alloc::{AllocError, Global};
 
-/// The number of births from which a process descends, and its first ancestor.
+/// The number of births in the lineage of a process, and its first ancestor.
 #[derive(Clone, Copy, Debug, PartialEq, Eq)]
 pub struct Ancestors {
     /// The number of turns in which the process and its ancestors were born.

@@ -242,7 +242,7 @@ fn lay_warrior(core: &mut [PackedCell], core_size: u32, start: u32, cells: &[Cel
     }
 }
 
-/// Returns a queue with the first process for each warrior.
+/// Returns a queue for each warrior, with its first process.
 pub fn first_queues(
     alloc: Global,
     params: &Params,

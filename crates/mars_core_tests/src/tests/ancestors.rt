@@ -14,7 +14,7 @@ fn splitting(alloc: Global, processes: u32) -> Result<Battle, Fail> {
     lone_battle(alloc, sizes, &SPLITTING)
 }
 
-/// Returns the answer for a process after turns, and the births, of which three fit.
+/// Returns the result of `ancestors` for a process after turns, with room for three births.
 fn asked(
     alloc: Global,
     battle: &Battle,
@@ -49,7 +49,7 @@ fn births_are_found_back_to_the_first(rt: HostRuntime) -> Result<(), Fail> {
     assert_eq!(&rt; asked(rt.alloc(), &battle, 3, 0, 1), found(1, 0, [1, 9, 9]));
     assert_eq!(&rt; asked(rt.alloc(), &battle, 3, 0, 2), found(2, 0, [3, 1, 9]));
     assert_eq!(&rt; asked(rt.alloc(), &battle, 6, 0, 3), found(3, 0, [6, 3, 1]));
-    // There is one more birth than places.
+    // There is room for three of the four births.
     assert_eq!(&rt;
         asked(rt.alloc(), &battle, 10, 0, 4),
         found(4, 0, [10, 6, 3])

@@ -1,6 +1,6 @@
-//! Calls that don't allocate. Each test makes its objects, then makes one request for memory, then makes the calls.
+//! Calls that do not allocate. Each test makes its objects, then makes one request for memory, then makes the calls.
 //! dev/checks/memory lets each request fail in turn, together with all later ones; a test must pass whether its last
-//! request fails or not. If its objects can't be allocated, a test shows nothing.
+//! request fails or not. If its objects cannot be allocated, a test shows nothing.
 ghost use Rattle.std.specs.Prelude.{◌≡◌, IfSome};
 ghost use Rattle.mars_core.specs.Leads.{Leads};
 

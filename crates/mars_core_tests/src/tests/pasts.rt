@@ -14,8 +14,8 @@ fn is(number: Number, value: u32) -> Condition {
     }
 }
 
-/// A turn of the second imp that executes an instruction of the first one at an address, after its owner changed it in a
-/// turn.
+/// Returns a turn of the second imp that executes the cell at an address, whose origin is 0 and which `owner` changed
+/// last in turn `changed`.
 fn found(turn: u32, address: u32, owner: u32, changed: u32) -> Found {
     let past = Past {
         owner,
@@ -31,7 +31,7 @@ fn found(turn: u32, address: u32, owner: u32, changed: u32) -> Found {
     }
 }
 
-/// Two imps, and the past of each cell: each was loaded by warrior 9.
+/// Returns a battle of two imps, and the past of each cell, with the owner 9 and its own address as the origin.
 fn two_imps(rt: &HostRuntime) -> Result<(Battle, Vec<Past>), Fail> {
     let imps = &[(0, "MOV.I $0, $1"), (1, "MOV.I $0, $1")];
     let battle = battle_of(rt.alloc(), (8, 8, 8, 8), imps)?;
@@ -57,7 +57,8 @@ fn imps_are_followed_and_found(rt: HostRuntime) -> Result<(), Fail> {
     }
     let count = battle.follow(6, &mut pasts, &conditions, &mut turns);
     assert_eq!(&rt; count, 3);
-    // In turn 2 it executes the cell at which it was loaded, which is an equal copy of the first imp.
+    // In turn 2 the second imp executes the cell at which it was loaded, which is an equal copy of the first imp by
+    // then.
     assert_eq!(&rt;
         turns,
         [
@@ -90,7 +91,8 @@ fn moments_are_after_each_step(rt: HostRuntime) -> Result<(), Fail> {
     if pasts.len() != battle.params().core_size() as usize {
         return Err("core size".into());
     }
-    // Turns 2, 4, 6 and 8 are the second one's, and each changes a cell. The last step is cut off by the end.
+    // The turns 2, 4, 6 and 8 are those of the second imp, and each changes a cell. The last step is cut off by the
+    // end.
     battle.moments(7, &mut pasts, &[is(Number::Warrior, 1)], &mut moments);
     assert_eq!(&rt; moments[0].turns, 7);
     assert_eq!(&rt;

@@ -57,7 +57,7 @@ fn a_death_adds_a_cycle_and_takes_it_back(rt: HostRuntime) -> Result<(), Fail> {
     Ok(())
 }
 
-/// Edits of the second of three warriors that it survives.
+/// Edits that the second of three warriors survives.
 const EDITS: &[Edit] = &[
     Edit::Spawn(1, 5),
     Edit::Spawn(1, 6),

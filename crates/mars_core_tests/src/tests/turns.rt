@@ -26,7 +26,7 @@ fn check_record(rt: &impl Abort, atom: &Atom, case: &Case) {
     assert_eq!(rt; atom.died, case.queue.is_empty());
 }
 
-/// Checks that the turn is as its case says, and that its record leads back and forth again.
+/// Checks a turn against its case, and checks that its record leads back and forth again.
 fn check(rt: &impl Abort, alloc: Global, case: &Case) -> Result<(), Fail> {
     let mut battle = lone_battle(alloc, case.sizes, case.before)?;
     let atom = turn_and_back(rt, alloc, &mut battle)?;
@@ -70,7 +70,7 @@ const ARITHMETIC: &[Case] = &[
         queue: &[1],
         changes: 1,
     },
-    // One field is not zero, so it jumps.
+    // One field is not zero, so DJN jumps.
     Case {
         sizes: OF_EIGHT,
         before: &[(0, "DJN.F $3, $1"), (1, "DAT.F $1, $2")],

@@ -222,7 +222,7 @@ const INDIRECT_OPERANDS: &[Case] = &[
         queue: &[1],
         changes: 2,
     },
-    // Operands that aren't used are evaluated.
+    // Operands that are not used are evaluated.
     Case {
         sizes: OF_EIGHT,
         before: &[(0, "DAT.F >1, <2")],
