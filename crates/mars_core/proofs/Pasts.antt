@@ -52,7 +52,7 @@ changed_by owner turn past = record { owner = owner; turn = turn; origin = past.
 same_cell : (x : Cell) → are_equal_cells x x ≡ true
 same_cell x = (equal_cells_same x x).1 refl
 
--- A test of equality is that of the definition.
+-- A test of equality succeeds exactly if the test of the definition does.
 pub equal_test : (test : Bool) (x y : Cell) → (test ≡ true ↔ (x ≡ y)) → are_equal_cells x y ≡ test
 equal_test true x y same = (equal_cells_same x y).1 (same.0 refl)
 equal_test false x y same =

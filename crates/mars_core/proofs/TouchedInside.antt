@@ -1,4 +1,4 @@
--- The addresses that an execution touches, and that of the process that is executed, are in the core.
+-- The addresses that an execution touches, and the address of the executed process, are in the core.
 use Rattle.std.proofs.Common.{ℕ, ◌<◌, List, [], ◌∷◌, All}
 use Rattle.std.proofs.lemmas.List.Elements.{All-cons, All-head, All-nil}
 use Rattle.mars_cell.specs.declared.instruction.Cell.{Cell}

@@ -1,4 +1,4 @@
--- How the code represents what is defined. These definitions serve only the proofs.
+-- How the code represents what the specification defines. These definitions serve only the proofs.
 pub mod Operands
 pub mod Opcodes
 pub mod Turns

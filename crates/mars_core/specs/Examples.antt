@@ -46,7 +46,7 @@ the_machine = tt
 abbrev pub cell_of : Op → Modifier → Mode → ℕ → Mode → ℕ → Cell
 cell_of op modifier a_mode a b_mode b = record { op = op; modifier = modifier; a_mode = a_mode; a = a; b_mode = b_mode; b = b }
 
--- A cell that does nothing and holds the numbers `a` and `b`.
+-- The cell `DAT.F $a, $b`.
 abbrev pub numbers : ℕ → ℕ → Cell
 numbers a b = cell_of Dat F Direct a Direct b
 

@@ -1,5 +1,5 @@
--- A battle at moments, which are equally many turns apart: how many cells and processes each warrior has, and how many turns since the
--- previous moment meet conditions.
+-- A battle at moments after equal steps of turns: how many cells and processes each warrior has, and how many turns of the step meet
+-- conditions.
 use Rattle.std.specs.Prelude.{ℕ, zero, suc, ◌==◌, List, [], ◌∷◌, length, map, filter}
 use Rattle.std.specs.List.{range_with_len}
 use Rattle.mars_core.specs.Block.{lengths_of, padded}

@@ -1,4 +1,4 @@
--- The cells that an execution reads or writes, among all those that the limits let it reach.
+-- The cells that an execution reads or writes, among all cells that the limits let it reach.
 use Rattle.std.specs.Prelude.{ℕ, List, [], ◌∷◌, ◌++◌}
 use Rattle.mars_cell.specs.declared.instruction.Cell.{Cell}
 use Rattle.mars_cell.specs.declared.instruction.Mode.{Mode}

@@ -76,7 +76,7 @@ impl Battle {
         Ok(trace_back(&own, place, births))
     }
 
-    /// Executes `turns` turns, or as many as are left, and returns those of the warrior.
+    /// Executes `turns` turns, or as many as are left, and returns the turns of the warrior among them.
     fn own_turns(
         &mut self,
         alloc: Global,

@@ -1,4 +1,4 @@
-//! A battle at moments, which are equally many turns apart (`specs/Moments`).
+//! A battle at moments after equal steps of turns (`specs/Moments`).
 ghost use Rattle.std.specs.Prelude.{◌≡◌, ◌≤◌, ◌*◌, length, map};
 ghost use Rattle.std.specs.List.{range_with_len};
 ghost use Rattle.mars_cell.specs.Limits.{max_core_size};

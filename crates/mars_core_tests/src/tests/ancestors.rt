@@ -43,7 +43,8 @@ const NO_SUCH_PROCESS: (Result<Ancestors, AncestorsFault>, [u32; 3]) = (
 #[test]
 fn births_are_found_back_to_the_first(rt: HostRuntime) -> Result<(), Fail> {
     let battle = splitting(rt.alloc(), 8)?;
-    // The process at address 0 splits in turns 1, 3 and 6, and so on; the ones that it leaves jump.
+    // In the turns 1, 3 and 6, and so on, the process at address 0 splits: it continues at the jump, and the new
+    // process is at address 0.
     assert_eq!(&rt; asked(rt.alloc(), &battle, 0, 0, 0), found(0, 0, [9, 9, 9]));
     assert_eq!(&rt; asked(rt.alloc(), &battle, 3, 0, 0), found(0, 0, [9, 9, 9]));
     assert_eq!(&rt; asked(rt.alloc(), &battle, 3, 0, 1), found(1, 0, [1, 9, 9]));
