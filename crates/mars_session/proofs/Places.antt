@@ -26,7 +26,7 @@ found : (P : Option History → Type 0) (b : Bool) (x y : Option History) → (b
 found P true x y h k = h refl
 found P false x y h k = k refl
 
--- A history that was found has this first place.
+-- A history that was found has the same first place as the given one.
 abbrev pub SameStart : History → Option History → Type 0
 SameStart r None = Unit {0}
 SameStart r (Some to) = rewound to ≡ r

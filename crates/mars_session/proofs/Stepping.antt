@@ -208,7 +208,7 @@ pub gone_on : (es : List (Atom × Bool)) (at : ℕ) (s t : State) (a : Atom) →
     → ((after : State) → Leads s a after → t ≡ after) → t ≡ applied (entry_at es at).0 s
 gone_on es at s t a l d read is = is (applied (entry_at es at).0 s) (rw read (leads_on es at s l d))
 
--- The record that was read is that of the entry.
+-- A pair that was read at index `i` has the record of the entry at `i`.
 pub read_entry : (es : List (Atom × Bool)) (i : ℕ) (x : Atom × Bool) → i < length es → x ≡ get_or es i x → x.0 ≡ (entry_at es i).0
 read_entry es i x l e = ap (λ (y : Atom × Bool). y.0) (get_or_read es i x l e no_entry)
 

@@ -17,7 +17,7 @@ use Rattle.std.proofs.lemmas.Bool.{le-ltb}
 use Rattle.mars_session.specs.Commands.{command_limit, turns_until, fills, cells_between, fill_states}
 use Rattle.mars_session.specs.Code.Appending.{Kept, go_on, go_on_all}
 
--- If a turn is left and the state is not done, the turns start with that of the state.
+-- If a turn is left and the state `s` is not done, the first turn is the turn of `s`.
 pub turns_until_more : (done : State → Bool) (n : ℕ) (s : State) → 0 < n → done s ≡ false → turns_until done n s ≡ turn_of s ∷ turns_until done (n - 1) (turn_of s)
 turns_until_more done zero s h e = absurd (omega arith)
 turns_until_more done (suc n) s h e = rw (e, sub-one) refl
@@ -62,7 +62,7 @@ pub fault_below : (s : State) (a b : ℕ) (cell : Cell) → a ≤ b → edit_fau
 unfolding edit_fault
 fault_below s a b cell l h = inside-below a b s.params.core_size (cell_fault s.params.core_size cell) l h
 
--- The cells from one address to another, if they can be set.
+-- The states of a fill whose last cell can be set.
 pub filled : (from to : ℕ) (cell : Cell) (s : State) → from ≤ to → to - from < command_limit → edit_fault s (edits.SetCell to cell) ≡ None
     → let one = edited s (edits.SetCell from cell) in fill_states from to cell s ≡ Ok (one, fills (to - from) (from + 1) cell one)
 filled from to cell s l few none =

@@ -49,7 +49,7 @@ base_accepted h s ss =
     let end : History = after_command h s ss in
     ap (λ (a : List Place). record { before = end.before; present = end.present; after = a }) (sym (after_append_all (append (cut (marked h)) s) ss refl))
 
--- One more repetition, at the end.
+-- `n + 1` moves are `n` moves and one more.
 some_again : (x : Option History) → option_and_then (λ k. Some k) x ≡ x
 some_again None = refl
 some_again (Some k) = refl
@@ -62,7 +62,7 @@ pub times_more : (n : ℕ) (move : History → Option History) (h : History) →
 times_more zero move h = some_again (move h)
 times_more (suc n) move h = more_from n move (times_more n move) (move h)
 
--- Either the place is marked and is the one found, or the search continues.
+-- Either this place is marked, so the search ends here, or the search continues.
 found_again : (m : Bool) (here : History) (further on : Option History) (h back : History) → (if m then Some here else further) ≡ Some back → on ≡ Some h → redo here ≡ on
     → (further ≡ Some back → (if m then Some here else on) ≡ Some h → redo back ≡ Some h) → redo back ≡ Some h
 found_again true here further on h back u r e more = let same : here ≡ back = cc in rw (sym same) (e ∙ r)

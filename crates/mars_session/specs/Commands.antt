@@ -65,12 +65,12 @@ refusal_of faults.NoSuchProcess = NoSuchProcess
 refusal_of faults.WarriorDead = WarriorDead
 refusal_of faults.QueueFull = QueueFull
 
--- These states, unless the edit has an error.
+-- `states`, or the refusal if the edit has an error.
 abbrev pub unless_fault : Option EditFault → States → Result States Refusal
 unless_fault None states = Ok states
 unless_fault (Some fault) states = Err (refusal_of fault)
 
--- The state that an edit reaches.
+-- The state that the edit `e` of the state `s` reaches.
 abbrev pub edit_states : Edit → State → Result States Refusal
 edit_states e s = unless_fault (edit_fault s e) (edited s e, [])
 
@@ -80,7 +80,7 @@ fills zero address cell s = []
 fills (suc n) address cell s =
     let next = edited s (edits.SetCell address cell) in next ∷ fills n (address + 1) cell next
 
--- The number of cells from one address to another, both included.
+-- The number of cells from the address `from` to the address `to`, both included.
 abbrev pub cells_between : ℕ → ℕ → ℕ
 cells_between from to = (to + 1) - from
 

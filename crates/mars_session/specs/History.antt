@@ -1,4 +1,5 @@
--- A history of whole states with marks, and the operations on it.
+-- A history of whole states with marks, and the operations on it. Functions with the parameters `before`, `p` and `after` take
+-- the three parts of a history: the places before the present one, the present one, and those after it.
 use Rattle.std.specs.Prelude.{ℕ, Bool, true, false, ◌+◌, ◌==◌, List, [], ◌∷◌, ◌++◌, length, reverse, Option, Some, None, if◌then◌else◌}
 use Rattle.mars_core.specs.State.{State}
 
@@ -76,7 +77,7 @@ step_forward before p (a ∷ after) = record { before = p ∷ before; present = 
 abbrev pub forward : History → History
 forward h = step_forward h.before h.present h.after
 
--- Back from `p` to the nearest marked place.
+-- Back from `p` to the nearest marked place, or None if there is none.
 abbrev pub marked_before : List Place → Place → List Place → Option History
 marked_before [] p after = None
 marked_before (b ∷ before) p after =
@@ -87,7 +88,7 @@ marked_before (b ∷ before) p after =
 abbrev pub undo : History → Option History
 undo h = marked_before h.before h.present h.after
 
--- Forward from `p` to the nearest marked place.
+-- Forward from `p` to the nearest marked place, or None if there is none.
 abbrev pub marked_after : List Place → Place → List Place → Option History
 marked_after before p [] = None
 marked_after before p (a ∷ after) =
@@ -107,7 +108,7 @@ rewound_from (b ∷ before) p after = rewound_from before b (p ∷ after)
 abbrev pub rewound : History → History
 rewound h = rewound_from h.before h.present h.after
 
--- Forward from `p` to the first place with `t` turns; `p` itself is included.
+-- Forward from `p` to the first place with `t` turns, or None if there is none; `p` itself is included.
 abbrev pub first_at_turn_from : ℕ → List Place → Place → List Place → Option History
 first_at_turn_from t before p [] =
     if p.state.turns == t then Some (record { before = before; present = p; after = [] }) else None
@@ -115,11 +116,11 @@ first_at_turn_from t before p (a ∷ after) =
     if p.state.turns == t then Some (record { before = before; present = p; after = a ∷ after })
     else first_at_turn_from t (p ∷ before) a after
 
--- Forward from the present place to the first place with `t` turns; the present place is included.
+-- Forward from the present place to the first place with `t` turns, or None; the present place is included.
 abbrev pub first_at_turn : ℕ → History → Option History
 first_at_turn t h = first_at_turn_from t h.before h.present h.after
 
--- The first place of the whole history with `t` turns.
+-- From any place to the first place of the whole history with `t` turns, or None if there is none.
 abbrev pub goto : ℕ → History → Option History
 goto t h = first_at_turn t (rewound h)
 

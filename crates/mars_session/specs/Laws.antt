@@ -32,21 +32,21 @@ abbrev pub is_command : CallKind → Bool
 is_command (Command bound states) = true
 is_command (Move refusal move) = false
 
--- All calls are commands, and each is accepted.
+-- All calls, executed from `h` on while all places are kept, are commands, and each is accepted.
 abbrev pub AllAccepted : ℕ → List Call → List Bool → History → Type 0
 AllAccepted limit [] poor h = Unit {0}
 AllAccepted limit (call ∷ calls) poor h =
     IsTrue (is_command (kind_of call)) × IsOk (outcome never limit call (first poor) h).reply
     × AllAccepted limit calls (rest poor) (outcome never limit call (first poor) h).history
 
--- If all places are kept, the same number of undos is accepted after accepted commands, and restores the state and the position.
+-- If all places are kept: after accepted commands, as many undos are accepted, and restore the state and the position.
 abbrev pub UndosGiveBack : Type 0
 UndosGiveBack = (limit : ℕ) (calls : List Call) (poor : List Bool) (h : History) → AllAccepted limit calls poor h
     → IsSomeAnd (times (length calls) undo (script never limit calls poor h).history)
     (λ back. (back.present.state ≡ h.present.state) × (position_of back ≡ position_of h))
 
--- If all places are kept, the same number of redos is accepted after those undos, and restores the history after the commands
--- exactly.
+-- If all places are kept: after accepted commands and as many undos, as many redos are accepted, and restore the history after the
+-- commands exactly.
 abbrev pub RedosGiveAgain : Type 0
 RedosGiveAgain = (limit : ℕ) (calls : List Call) (poor : List Bool) (h back : History) → AllAccepted limit calls poor h
     → times (length calls) undo (script never limit calls poor h).history ≡ Some back
@@ -102,8 +102,8 @@ total_appended m limit (call ∷ calls) poor h =
     let one = outcome m limit call (first poor) h in
     appended_by (kind_of call) h.present.state + total_appended one.retention limit calls (rest poor) one.history
 
--- If `k` places are kept, commands that append at most `k` places together can be undone and redone, as in `CommandsAreUndone`.
--- The position may be another one, because places may be evicted.
+-- If `k` places are kept beside the last one, commands that append at most `k` places together can be undone and redone, as in
+-- `CommandsAreUndone`. The position may be another one, because places may be evicted.
 abbrev pub FewCommandsAreUndone : Type 0
 FewCommandsAreUndone = (k : ℕ) (forgotten : Bool) (limit : ℕ) (calls : List Call) (poor undo_poor redo_poor : List Bool) (h : History) → IsTrue (list_all is_command (map kind_of calls))
     → let m : Retention = record { most = Some k; forgotten = forgotten } in
@@ -118,7 +118,7 @@ FewCommandsAreUndone = (k : ℕ) (forgotten : Bool) (limit : ℕ) (calls : List 
 abbrev pub RedoAfterUndo : Type 0
 RedoAfterUndo = (h back : History) → h.present.mark ≡ true → undo h ≡ Some back → redo back ≡ Some h
 
--- If a battle is valid, the history of its first place only is a tape, for each number `k` of places that may be kept.
+-- The history whose only place is marked and has the valid state `s` is a tape, if all places are kept and if `k` are kept.
 abbrev pub BeginningIsTape : Type 0
 BeginningIsTape = (s : State) → IsValid s → IsTape (beginning s) × ((k : ℕ) → IsTapeOf k (beginning s))
 
@@ -134,7 +134,8 @@ ScriptsKeepTapes = (limit : ℕ) (calls : List Call) (poor : List Bool) (h : His
 abbrev pub CallsKeepLimit : Type 0
 CallsKeepLimit = (limit : ℕ) (call : Call) (poor : Bool) (h : History) → IsTape h → last_of h ≤ limit → last_of (outcome never limit call poor h).history ≤ limit
 
--- If `k` places are kept beside the last one, every list of calls turns a tape of at most that many places into such a tape.
+-- If `k` places are kept beside the last one, every list of calls turns a tape with at most `k` places before the last one into
+-- another one with at most `k`.
 abbrev pub ScriptsForgetTapes : Type 0
 ScriptsForgetTapes = (k : ℕ) (forgotten : Bool) (limit : ℕ) (calls : List Call) (poor : List Bool) (h : History)
     → IsTapeOf k h → IsTapeOf k (script (record { most = Some k; forgotten = forgotten }) limit calls poor h).history
@@ -156,7 +157,7 @@ TurnsAndCyclesRise = (h : History) → Steps h → GrowsByAtMostOne (λ (s : Sta
 abbrev pub GotoBetween : Type 0
 GotoBetween = (h : History) (t : ℕ) → Steps h → IsSome (goto t h) ↔ ((first_turns h ≤ t) × (t ≤ last_turns h))
 
--- There is a place with this number, and it passes the test.
+-- There is a place with number `i`, and it passes the test.
 abbrev pub holds_at : (Place → Bool) → List Place → ℕ → Bool
 holds_at test [] i = false
 holds_at test (p ∷ ps) zero = test p
@@ -200,11 +201,11 @@ CommandsAppend = (h : History) (s : State) (ss : List State)
     → (places (after_command h s ss) ≡ take (position_of h) (places h) ++ record { state = h.present.state; mark = true } ∷ command_places s ss)
     × (position_of (after_command h s ss) + 1 ≡ length (places (after_command h s ss)))
 
--- The last state of a command.
+-- The last of the states that a command reaches.
 abbrev pub last_state : State → List State → State
 last_state s [] = s
 last_state s (t ∷ ss) = last_state t ss
 
--- After turns up to a cycle, the battle is in that cycle or is over.
+-- After an accepted `until c`, the battle is in cycle `c` or is over.
 abbrev pub UntilArrives : Type 0
 UntilArrives = (c : ℕ) (s : State) (states : States) → IsValid s → until_states c s ≡ Ok states → IsTrue (in_cycle c (last_state states.0 states.1))

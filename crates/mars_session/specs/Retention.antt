@@ -13,12 +13,12 @@ pub record Retention : Type 0 where
 abbrev pub never : Retention
 never = record { most = None; forgotten = false }
 
--- The places before the present one that are kept if no place follows it. The nearest come first.
+-- Of the places `before` the present one, the nearest first, those that are kept if no place follows the present one.
 abbrev pub left : Option ℕ → List Place → List Place
 left None before = before
 left (Some k) before = take k before
 
--- The history after the places that are too many before the present one are evicted.
+-- The history `h` without the places before the present one that are too many.
 abbrev pub retained : Option ℕ → History → History
 retained most h = record h { before = left most h.before }
 
@@ -27,6 +27,6 @@ abbrev pub too_many : Option ℕ → ℕ → Bool
 too_many None n = false
 too_many (Some k) n = nat_lt k n
 
--- The retention after the places of `h` that are too many are evicted: `forgotten` is true from then on if there were any.
+-- The retention after the excess places of `h` are evicted. If there are any, `forgotten` is true from then on.
 abbrev pub retention_after : Retention → History → Retention
 retention_after m h = record m { forgotten = m.forgotten || too_many m.most (position_of h) }

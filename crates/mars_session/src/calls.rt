@@ -3,7 +3,7 @@
 use mars_cell::Cell;
 use thiserror::Error;
 
-/// A call: a command or a move.
+/// A call: a command or a move. Warriors, and the processes of a queue, are counted from 0.
 #[derive(Clone, Copy, Debug, PartialEq, Eq)]
 pub enum Call {
     /// Executes one turn.
@@ -37,13 +37,13 @@ pub struct Standing {
     pub turns: u64,
     /// Number of complete cycles.
     pub cycle: u64,
-    /// Warrior whose turn is next.
+    /// Number of the warrior whose turn is next, counted from 0.
     pub next: u64,
     /// Number of living warriors.
     pub alive: u64,
     /// Number of the present place in the history, counted from 0.
     pub position: u64,
-    /// Number of the last place.
+    /// Number of the last place, counted from 0.
     pub last: u64,
 }
 

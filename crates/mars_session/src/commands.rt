@@ -40,12 +40,12 @@ pub fn standing<T: Tape>(tape: &T) -> Standing
 fn prepare<T: Tape>(tape: &mut T, limit: u64, bound: u64) -> Result<(), Refusal>
     requires { 1 ≤ bound }
 
-    // There is room as the specification says. `OutOfMemory` is possible only if the tape has less room than `bound`.
+    // `room_refusal` defines the result. `OutOfMemory` is possible only if the tape has less room than `bound`.
     ensures room { OnOk result (room_refusal (T.retention tape.old) limit bound false (T.history tape.old) ≡ None) }
     ensures refused { IfErr result (λ r. room_refusal (T.retention tape.old) limit bound (is_out_of_memory r) (T.history tape.old) ≡ Some r) }
     ensures memory { result ≡ Err Refusal.OutOfMemory → T.room tape.old < bound }
 
-    // If it succeeds, the place is marked and the places after it are dropped; otherwise nothing changes.
+    // On success, the present place is marked and the places after it are dropped; otherwise nothing changes.
     ensures ok { OnOk result (T.history tape.new ≡ cut (marked (T.history tape.old))) }
     ensures reserved { OnOk result (bound ≤ T.room tape.new) }
     ensures kept { T.retention tape.new ≡ T.retention tape.old }

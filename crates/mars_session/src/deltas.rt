@@ -37,7 +37,7 @@ impl Model for DeltaTape {
 }
 
 impl DeltaTape {
-    /// Creates a tape at the only place of a battle, which is marked.
+    /// Creates a tape whose only place has this battle. The place is marked.
     ///
     /// Does not allocate yet, so it never fails. It returns a `Result` like `new` of the other tapes, so that one tape can
     /// replace another.

@@ -6,14 +6,13 @@ pub fn calls_are_scripts()
     ensures { CallsAreScripts }
 {}
 
-/// If all places are kept, the same number of undos is accepted after accepted commands, and restores the state and the
-/// position.
+/// If all places are kept: after accepted commands, as many undos are accepted, and restore the state and the position.
 pub fn undos_give_back()
     ensures { UndosGiveBack }
 {}
 
-/// If all places are kept, the same number of redos is accepted after those undos, and restores the history after the commands
-/// exactly.
+/// If all places are kept: after accepted commands and as many undos, as many redos are accepted, and restore the
+/// history after the commands exactly.
 pub fn redos_give_again()
     ensures { RedosGiveAgain }
 {}
@@ -71,8 +70,7 @@ pub fn commands_append()
     ensures { CommandsAppend }
 {}
 
-/// The history of only one place, which is marked and whose battle is valid, is a tape, for each number of places that may be
-/// kept.
+/// The history whose only place is marked and has a valid battle is a tape, however many places are kept.
 pub fn beginning_is_tape()
     ensures { BeginningIsTape }
 {}
@@ -89,8 +87,8 @@ pub fn scripts_keep_tapes()
     ensures { ScriptsKeepTapes }
 {}
 
-/// If `k` places are kept beside the last one, every list of calls keeps a tape of at most that many: each place is a turn or
-/// an edit of the one before it, and the last is marked.
+/// If `k` places are kept beside the last one, every list of calls keeps a tape with at most `k` places before the last
+/// one: each place is a turn or an edit of the one before it, and the last is marked.
 pub fn scripts_forget_tapes()
     ensures { ScriptsForgetTapes }
 {}
@@ -105,7 +103,7 @@ pub fn goto_between()
     ensures { GotoBetween }
 {}
 
-/// After turns up to a cycle, the battle is in that cycle or is over.
+/// After an accepted `until`, the battle is in the requested cycle or is over.
 pub fn until_arrives()
     ensures { UntilArrives }
 {}

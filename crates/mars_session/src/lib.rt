@@ -16,12 +16,12 @@
 //! All of these are proved.
 //!
 //! - Each call of [`Session`] is one step of the definition `outcome` (`specs/Script.antt`) on a history of whole states,
-//!   whatever the tape is. `apply_all` is a list of such steps.
+//!   whatever the tape is. `apply_all` is a list of these steps.
 //! - The laws in [`laws`] hold for that definition.
-//! - Each tape is a history as [`Tape`] says.
-//! - Only commands run out of memory, and only before any change and if they may need more places than the tape has room for.
-//!   There is always room for as many places as follow the present one. A command on a tape that evicts never runs out of
-//!   memory.
+//! - Each tape meets the contracts of [`Tape`], which describe it as a history.
+//! - Only commands run out of memory. They do so before any change, and only if they may need more places than the tape
+//!   has room for. There is always room for as many places as follow the present one. A command on a tape that evicts
+//!   never runs out of memory.
 #![tactic(auto)]
 
 mod calls;

@@ -87,8 +87,8 @@ fn turns_now<T: Tape>(tape: &T) -> u64
 
 /// Returns whether the target of `goto` may be before the present place.
 ///
-/// It can't be if the present place is the first one or has fewer turns than the target, because the number of turns never
-/// decreases along a history.
+/// No target precedes the present place if that is the first one or has fewer turns than the target, because the number
+/// of turns never decreases along a history.
 fn target_may_precede<T: Tape>(tape: &T, turns: u64) -> bool
     ensures back { result ≡ true → 0 < position_of (T.history tape.now) }
     ensures here { result ≡ false → goto turns (T.history tape.now) ≡ first_at_turn turns (T.history tape.now) }
@@ -120,8 +120,8 @@ fn forward_to<T: Tape>(tape: &mut T, turns: u64)
 
 /// Returns whether a place has this number of turns.
 ///
-/// The turns rise by at most one from place to place, so there is one for each number between those of the first and of the
-/// last place.
+/// Turns rise by at most one from place to place, so each number from the turns of the first place to those of the last
+/// one has a place.
 #[tactic(auto, using(crate::proofs::Between::met_past))]
 fn is_turn_in_history<T: Tape>(tape: &T, turns: u64) -> bool
     ensures { result ≡ is_some (goto turns (T.history tape.now)) }
@@ -129,7 +129,8 @@ fn is_turn_in_history<T: Tape>(tape: &T, turns: u64) -> bool
     turns <= tape.last_turns() && tape.first_turns() <= turns
 }
 
-/// Goes to the first place with this number of turns: back as far as it may be, and then forward.
+/// Goes to the first place with this number of turns. Goes back while that place may precede the present one, and then
+/// forward.
 pub fn goto<T: Tape>(tape: &mut T, turns: u64) -> Result<Standing, Refusal>
     ensures answer { move_outcome (T.retention tape.old) (T.history tape.old)
         (Refusal.NotInHistory (turns_of_first (T.history tape.old)) (last_turns (T.history tape.old)))

@@ -12,13 +12,13 @@ use circular_buffer::HeapCircularBuffer;
 use mars_core::{Atom, Battle, turns_of};
 use std::alloc::{AllocError, Global};
 
-/// The records between a limited number of places and the last one, each with the mark of the place that it leads to. The
+/// The records between the last places, up to a fixed number, each with the mark of the place that it leads to. The
 /// capacity for all of them is allocated at the start.
 #[derive(Drop)]
 pub struct Records {
     /// Records, the oldest first.
     pub ring: HeapCircularBuffer<(Atom, bool)>,
-    /// Number of the present place.
+    /// Number of the present place, counted from 0.
     pub at: usize,
     /// Whether the first place is marked.
     pub first_mark: bool,
@@ -31,7 +31,7 @@ pub struct Records {
 }
 
 impl Records {
-    /// Returns an empty list with capacity for `most` records, after a first place that is marked and has this number of turns.
+    /// Returns an empty list with capacity for `most` records. The first place is marked and has `turns` turns.
     pub fn with_room(alloc: Global, most: usize, turns: u32) -> Result<Records, AllocError>
         ensures { IfOk result (λ r. r ≡ record
             { ring = buffer [] most; at = 0; first_mark = true; forgotten = false; first_turns = turns; last_turns = turns }) }
@@ -105,8 +105,8 @@ impl Records {
         }
     }
 
-    /// Appends a record after the last place; it leads to a new present place with this number of turns. If the list is full,
-    /// evicts the first place.
+    /// Appends the record that leads from the last place to a new present place with `turns` turns. Evicts the first
+    /// place if the list is full.
     #[inline(always)]
     pub fn push(&mut self, atom: Atom, turns: u32)
         requires last { self.old.at ≡ length self.old.ring.items }
@@ -138,8 +138,8 @@ impl Records {
         }
     }
 
-    /// Executes a turn of a battle and appends its record after the last place. The record is built where it is stored, without
-    /// a copy.
+    /// Executes a turn of a battle and appends its record, as `push` does. The record is built where it is stored,
+    /// without a copy.
     #[inline(always)]
     pub fn push_turn(&mut self, battle: &mut Battle)
         requires last { self.old.at ≡ length self.old.ring.items }

@@ -31,8 +31,8 @@ impl Model for RingTape {
 }
 
 impl RingTape {
-    /// Creates a tape at the only place of a battle, which is marked. It keeps `most` places beside the last one, 1 to
-    /// 1,000,000.
+    /// Creates a tape whose only place has this battle. The place is marked. The tape keeps up to `most` places beside
+    /// the last one, 1 to 1,000,000.
     ///
     /// # Errors
     ///

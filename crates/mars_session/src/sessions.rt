@@ -193,7 +193,7 @@ impl<T: Tape> Session<T> {
         self.call(Call::Redo)
     }
 
-    /// Goes to the first place with this number of turns. Passes at most one place beyond those on the way.
+    /// Goes to the first place with this number of turns. Besides the places on the way, it passes at most one more.
     ///
     /// # Errors
     ///
@@ -244,7 +244,7 @@ impl<T: Tape> Session<T> {
     /// Executes calls in order and appends a reply for each to `out`.
     ///
     /// If a call itself runs out of memory, its reply is [`Refusal::OutOfMemory`] and the next call is executed. The first call
-    /// runs out of memory only if the tape has less room than it may need; for later calls nothing is promised.
+    /// runs out of memory only if the tape has less room than the call may need; for later calls nothing is promised.
     ///
     /// # Errors
     ///

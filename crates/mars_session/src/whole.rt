@@ -37,7 +37,7 @@ impl Model for WholeTape {
     ghost invariant = { λ t. IsWhole t.copies.items t.at t.len };
 }
 
-/// Copies the present battle to the next copy.
+/// Overwrites the copy after index `at` with the battle at `at`, unmarked.
 fn append_copy(copies: &mut [Snapshot], at: usize)
     requires next { at + 1 < length copies.old }
     requires shapes { SameShape (snapshot_at copies.old at).battle (snapshot_at copies.old (at + 1)).battle }
@@ -50,7 +50,7 @@ fn append_copy(copies: &mut [Snapshot], at: usize)
     to.mark = false;
 }
 
-/// Makes the next copy the present battle after a turn.
+/// Overwrites the copy after index `at` with the battle at `at` after a turn.
 fn append_turn(copies: &mut Vec<Snapshot>, at: usize)
     requires next { at + 1 < vec_len copies.old }
     requires shapes { SameShape (snapshot_at copies.old.items at).battle (snapshot_at copies.old.items (at + 1)).battle }
@@ -63,7 +63,7 @@ fn append_turn(copies: &mut Vec<Snapshot>, at: usize)
     let _ = snapshot.battle.turn();
 }
 
-/// Makes the next copy the present battle after an edit.
+/// Overwrites the copy after index `at` with the battle at `at` after an edit.
 fn append_edit(copies: &mut Vec<Snapshot>, at: usize, edit: Edit)
     requires next { at + 1 < vec_len copies.old }
     requires shapes { SameShape (snapshot_at copies.old.items at).battle (snapshot_at copies.old.items (at + 1)).battle }
@@ -76,7 +76,7 @@ fn append_edit(copies: &mut Vec<Snapshot>, at: usize, edit: Edit)
     let _ = snapshot.battle.edit(edit);
 }
 
-/// Appends copies of the present battle until at least `n` follow it.
+/// Appends copies of the battle at index `at` until at least `n` copies follow it.
 fn add_copies(
     alloc: Global,
     copies: &mut Vec<Snapshot>,
@@ -98,7 +98,8 @@ fn add_copies(
     Ok(())
 }
 
-/// Appends unmarked copies of the place `at` until at least `n` follow it. Drops the new copies again if an allocation fails.
+/// Appends copies of the battle at index `at` until at least `n` copies follow it. Drops the new copies again if an
+/// allocation fails.
 fn grow(alloc: Global, copies: &mut Vec<Snapshot>, at: usize, n: u64) -> Result<(), AllocError>
     requires { at < vec_len copies.old }
     ensures grown { IsGrown copies.old.items copies.new.items at }
@@ -115,7 +116,7 @@ fn grow(alloc: Global, copies: &mut Vec<Snapshot>, at: usize, n: u64) -> Result<
 }
 
 impl WholeTape {
-    /// Creates a tape at the only place of a battle, which is marked.
+    /// Creates a tape whose only place has this battle. The place is marked.
     ///
     /// # Errors
     ///

@@ -202,7 +202,7 @@ fn check_script<T: Tape>(rt: &impl Abort, session: &mut Session<T>, script: &[Ch
     }
 }
 
-/// Checks the replies to calls that were appended after a refusal.
+/// Checks that a list has a refusal, and after it the replies to the calls.
 fn check_replies(rt: &impl Abort, out: &[Reply], calls: &[(Call, Reply)]) {
     assert_eq!(rt; out.len(), calls.len() + 1);
     check_reply(rt, out[0], Err(Refusal::Count));
@@ -320,7 +320,7 @@ fn check_same(rt: &impl Abort, one: &Battle, other: &Battle) {
     check_same_counters(rt, one, other);
 }
 
-/// A session of the imp over a tape whose allocations fail after `growths` of them.
+/// A session of the imp over a tape that can allocate `growths` times; later allocations fail.
 fn poor_imp<T: Start>(alloc: Global, growths: u64) -> Result<Session<PoorTape<T>>, Fail>
     requires { T.FORGETS ≡ false }
 {

@@ -146,7 +146,7 @@ record ReachedWhole (k count total : ℕ) (start end : History) : Type 0 where
 abbrev FewReached : ℕ → ℕ → ℕ → History → History → History → Type 0
 FewReached k count total h start end = ((count ≡ 0) × (end ≡ h)) ⊎ ReachedWhole k count total start end
 
--- If the first call is accepted, the claim follows from that for the other calls.
+-- If the first call is accepted, the claim follows from the claim for the other calls.
 one_whole : (k n count total : ℕ) (start new end : History) (s : State) (ss : List State) → n ≡ suc (length ss) → new ≡ retained (Some k) (after_command start s ss)
     → FewReached k count total new (after_command start s ss) end → ReachedWhole k (suc count) (n + total) start end
 one_whole k n count total start new end s ss c e (inl none) =
@@ -166,7 +166,7 @@ one_whole k n count total start new end s ss c e (inr r) =
       is = r.is;
     }
 
--- If the first call is refused, the claim follows from that for the other calls.
+-- If the first call is refused, the claim follows from the claim for the other calls.
 none_whole : (k n count total : ℕ) (h start end : History) → FewReached k count total h start end → FewReached k count (n + total) h start end
 none_whole k n count total h start end (inl none) = inl none
 none_whole k n count total h start end (inr r) = inr (record { whole = r.whole; undone = r.undone; within = omega (arith, r.within); is = r.is })

@@ -9,11 +9,11 @@ pub record Kept : Type 0 where
   pub history : History
   pub retention : Retention
 
--- Appends the state `s`, and evicts the oldest place if there are too many.
+-- Appends the state `s` to the tape `t`, and evicts the oldest place if there are too many.
 abbrev pub go_on : Kept → State → Kept
 go_on t s = record { history = retained t.retention.most (append t.history s); retention = retention_after t.retention (append t.history s) }
 
--- Appends states one by one, and evicts after each.
+-- Appends states to the tape `t` one by one, and evicts after each.
 abbrev pub go_on_all : Kept → List State → Kept
 go_on_all t [] = t
 go_on_all t (s ∷ ss) = go_on_all (go_on t s) ss

@@ -1,5 +1,5 @@
 -- A tape of one battle and the records between its places, as a history. Each record is stored with the mark of the place that
--- it leads to; the mark of the first place is stored separately.
+-- it leads to. Below, `es` is the list of these pairs, and `first` the mark of the first place, which is stored separately.
 use Rattle.std.specs.Prelude.{◌≡◌, ℕ, zero, suc, ◌+◌, ◌-◌, ◌≤◌, Bool, false, List, [], ◌∷◌, length, slice_index_or}
 use Rattle.mars_core.specs.State.{State}
 use Rattle.mars_core.specs.Leads.{Leads}
@@ -24,11 +24,11 @@ no_entry = (
   false,
 )
 
--- The entry at index `n`: the record that leads from place `n` to the next one, and the mark of the next one.
+-- The entry at index `i`: the record that leads from place `i` to the next one, and the mark of the next one.
 abbrev pub entry_at : List (Atom × Bool) → ℕ → Atom × Bool
 entry_at es i = slice_index_or es i no_entry
 
--- The mark of place `n`. Each place after the first has its mark beside the record that leads to it.
+-- The mark of place `n`: each place after the first has its mark beside the record that leads to it.
 abbrev pub mark_at : Bool → List (Atom × Bool) → ℕ → Bool
 mark_at first es zero = first
 mark_at first es (suc n) = (entry_at es n).1

@@ -1,4 +1,4 @@
--- A tape of whole copies of the battle, as a history.
+-- A tape of whole copies of the battle, as a history. `ks` is the list of copies.
 use Rattle.std.specs.Prelude.{◌≡◌, ℕ, zero, suc, ◌+◌, ◌-◌, ◌<◌, ◌≤◌, false, List, [], ◌∷◌, length, slice_index_or}
 use Rattle.mars_core.specs.State.{State}
 use Rattle.mars_core.specs.Shape.{SameShape}
@@ -48,7 +48,7 @@ abbrev pub turns_at : List Snapshot → ℕ → ℕ
 turns_at ks i = (snapshot_at ks i).battle.turns
 
 -- The present place is one of the `len` places, turns rise by at most one from place to place, and all copies have the same
--- shape, so that each can be overwritten by each other.
+-- shape, so that any copy can overwrite any other.
 pub record IsWhole (ks : List Snapshot) (at len : ℕ) : Type 0 where
   pub present : at < len
   pub copies : len ≤ length ks

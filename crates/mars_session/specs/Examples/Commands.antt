@@ -68,7 +68,7 @@ three = battle_of (sizes 8 2 8 8) (eight (waiting ∷ empty_cell ∷ waiting ∷
 abbrev at : ℕ → ℕ → ℕ → ℕ → ℕ → ℕ → Result Standing Refusal
 at turns cycle next alive position last = Ok (record { turns = turns; cycle = cycle; next = next; alive = alive; position = position; last = last })
 
--- The replies to calls over the three warriors.
+-- These are the replies to calls over the three warriors.
 abbrev HasReplies : List Call → List (Result Standing Refusal) → Type 0
 HasReplies calls replies = (script never 100 calls [] (beginning three)).replies ≡ replies
 

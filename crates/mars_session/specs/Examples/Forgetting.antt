@@ -1,4 +1,4 @@
--- Calls if two places are kept beside the last one.
+-- Examples of calls if two places are kept beside the last one.
 use Rattle.std.specs.Prelude.{[], ◌∷◌, Err, refl}
 use Rattle.mars_core.specs.Examples.{the_machine}
 use Rattle.mars_session.specs.declared.calls.Call.TheVariants.{Step, Run, Undo, Redo, Goto}
@@ -12,7 +12,7 @@ pub nothing_is_forgotten : IsToldKeeping 2
 unfolding the_machine
 nothing_is_forgotten = refl
 
--- The first place that is left is not marked.
+-- The first place that is kept is not marked.
 pub a_run_of_more_places : IsToldKeeping 2
     (Run 3 ∷ Undo ∷ Goto 0 ∷ Goto 1 ∷ Step ∷ Undo ∷ Undo ∷ Redo ∷ [])
     (stands 3 2 2 ∷ Err Forgotten ∷ Err (NotInHistory 1 3) ∷ stands 1 0 2 ∷ stands 2 1 1 ∷ stands 1 0 1 ∷ Err Forgotten ∷ stands 2 1 1 ∷ [])

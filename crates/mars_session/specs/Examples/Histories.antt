@@ -1,4 +1,4 @@
--- Calls if all places are kept.
+-- Examples of calls if all places are kept.
 use Rattle.std.specs.Prelude.{◌≡◌, false, true, [], ◌∷◌, Err, refl}
 use Rattle.mars_core.specs.Examples.{the_machine}
 use Rattle.mars_session.specs.declared.calls.Call.TheVariants.{Step, Run, Until, Kill, Undo, Redo, Goto}

@@ -13,7 +13,7 @@ use Rattle.mars_session.specs.Examples.{imp}
 abbrev calls : List Call
 calls = Step ∷ Run 2 ∷ []
 
--- The result of these commands with the retention `m`, and the history after two undos.
+-- The result of these commands with the retention `m`, and below it the history after two undos.
 abbrev done : Retention → ScriptResult
 done m = script m 100 calls [] (beginning imp)
 

@@ -54,7 +54,7 @@ const RUN_OF_MORE_PLACES_THAN_ARE_KEPT: &[(Call, Reply)] = &[
     (Call::Redo, imp_at!(2, 1, 1)),
 ];
 
-/// The first place that is left is not marked, so undo does not stop there.
+/// The first place that is kept is not marked, so undo does not stop there.
 #[test]
 fn run_of_more_places_than_are_kept(rt: HostRuntime) -> Result<(), Fail> {
     two_kept_give(&rt, rt.alloc(), RUN_OF_MORE_PLACES_THAN_ARE_KEPT)

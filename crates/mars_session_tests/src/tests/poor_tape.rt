@@ -1,4 +1,4 @@
-//! A tape whose allocations fail after a number of them, and which counts the places that it passes.
+//! A tape that can allocate only a number of times, and counts the places that it passes.
 ghost use Rattle.std.proofs.Common.{refl, rules};
 ghost use Rattle.std.specs.Prelude.{◌≡◌, ◌≤◌, false};
 ghost use Rattle.mars_session.specs.History.{following, cut, back, forward};

@@ -315,7 +315,7 @@ fn check_split<T: Start + Drop>(rt: &impl Abort, alloc: Global) -> Result<(), Fa
     Ok(())
 }
 
-/// Checks that the record of this split has only that address.
+/// Checks that the record of a split with a full queue has only the first address.
 fn check_split_record(rt: &impl Abort, alloc: Global) -> Result<(), Fail> {
     let tape = one_turn(lone_tape(alloc, 1, &[SPLIT])?)?;
     let record = tape.atom(0).ok_or("a record")?;
