@@ -1,4 +1,4 @@
--- Known scores.
+-- The scores that earlier rounds computed stay right when one more is stored.
 use Rattle.std.proofs.Common.{◌≡◌, ℕ, ◌+◌, ◌<◌, ◌∙◌, sym, ℤ, pos, List, Option, None, Some, Ok, length, get_or, set, inl, inr, arith}
 use Rattle.std.proofs.lemmas.List.{get_or-set_same, get_or-set_other}
 use Rattle.std.proofs.lemmas.Bool.{cases_eq}

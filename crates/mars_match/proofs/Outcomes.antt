@@ -1,4 +1,4 @@
--- One more round.
+-- The outcome of one more round, and the rows with their points.
 use Rattle.std.proofs.Common.{◌≡◌, refl, ℕ, zero, suc, ◌+◌, ◌-◌, ◌<◌, ◌⊎◌, ℤ, Option, Result, Ok, Err, List, [], ◌∷◌, length, get_or, pos, nat_eq, true, false, arith}
 use Rattle.std.proofs.lemmas.List.{length-map}
 use Rattle.std.proofs.lemmas.List.Folds.{list_all_at}

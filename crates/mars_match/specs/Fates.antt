@@ -21,7 +21,7 @@ turns_until (death ∷ deaths) place all = if death.warrior == place then death.
 abbrev pub place_of : ℕ → ℕ → ℕ → ℕ
 place_of w first i = if nat_le first i then i - first else w - (first - i)
 
--- What a warrior did, if it is not counted.
+-- The counts of a warrior whose deeds are not counted: zeros.
 abbrev pub no_counts : Counts
 no_counts = record { turns = 0; spawned = 0; executed = 0; written = 0; touched = 0 }
 

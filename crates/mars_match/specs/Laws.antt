@@ -30,6 +30,7 @@ pub record IsRanking (rows ranking : List RowValue) : Type 0 where
   pub falls : AllPairs (λ (a b : RowValue). lt_z a.points b.points ≡ false) ranking
   pub ties : (points : ℤ) → filter (has_points points) ranking ≡ filter (has_points points) rows
 
+-- The ranked rows are a ranking of the rows.
 abbrev pub RanksByPoints : Type 0
 RanksByPoints = (rows : List RowValue) → IsRanking rows (ranked rows)
 

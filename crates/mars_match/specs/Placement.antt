@@ -4,6 +4,7 @@ use Rattle.mars_cell.specs.Parameters.{Parameters}
 use Rattle.mars_match.specs.declared.placement.PlaceFault.{PlaceFault}
 use Rattle.mars_match.specs.declared.placement.PlaceFault.TheVariants.{NoRoom, BadSeed}
 
+-- The maximum seed; the minimum is 1.
 abbrev pub max_seed : ℕ
 max_seed = 2147483646
 

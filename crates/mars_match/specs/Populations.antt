@@ -28,7 +28,7 @@ with_match sum (row ∷ rows) = plus sum row
 abbrev pub fits : Sum → Bool
 fits sum = fits_in_64 sum.points && nat_lt sum.wins (2 ^ 64) && nat_lt sum.ties (2 ^ 64) && nat_lt sum.losses (2 ^ 64)
 
--- A sum whose numbers fit 64 bits.
+-- The sum, or an error if one of its numbers does not fit 64 bits.
 abbrev pub checked_sum : Sum → Result Sum MatchFault
 checked_sum sum = if fits sum then Ok sum else Err (Score Range)
 

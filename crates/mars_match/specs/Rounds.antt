@@ -23,9 +23,11 @@ pub record Outcome : Type 0 where
   pub lived : List Bool
   pub score : ℤ
 
+-- The number of survivors.
 abbrev pub how_many : List Bool → ℕ
 how_many lived = count_by (λ alive. alive) lived
 
+-- The value of a formula, or its error as the error of a match.
 abbrev pub as_score : Result ℤ ExprFault → Result ℤ MatchFault
 as_score (Ok z) = Ok z
 as_score (Err f) = Err (fault.Score f)
@@ -44,6 +46,7 @@ outcome_of formula lived = round_score formula lived >>= λ score. Ok (record { 
 abbrev pub round_outcome : Parameters → List WarriorValue → Scanned → List ℕ → ℕ → Result Outcome MatchFault
 round_outcome p warriors formula starts k = fought p warriors starts k >>= outcome_of formula
 
+-- The starts and the seed in `placed`, unless there is an error.
 abbrev pub placed_unless : Option PlaceFault → List ℕ × ℕ → Result (List ℕ × ℕ) MatchFault
 placed_unless None placed = Ok placed
 placed_unless (Some f) placed = Err (fault.Place f)
@@ -106,10 +109,11 @@ abbrev pub fits_in_64 : ℤ → Bool
 fits_in_64 (pos n) = nat_lt n (2 ^ 63)
 fits_in_64 (negsuc n) = nat_lt n (2 ^ 63)
 
--- The rows, if the points of each of them fit 64 bits.
+-- The rows, or an error if the points of one of them do not fit 64 bits.
 abbrev pub checked_rows : List RowValue → Result (List RowValue) MatchFault
 checked_rows rows = if list_all (λ row. fits_in_64 row.points) rows then Ok rows else Err (fault.Score Range)
 
+-- The result, unless there is an error of the number of warriors.
 abbrev pub counted : {A : Type 0} → Option BattleFault → Result A MatchFault → Result A MatchFault
 counted None result = result
 counted (Some f) result = Err (fault.Battle f)

@@ -93,7 +93,7 @@ impl Deeds {
         self.spawned += u32::from(battle.turn_marking(&mut self.marks));
     }
 
-    /// Returns the numbers of what the warrior did.
+    /// Returns the counts of what the warrior did.
     fn counts(&self) -> Counts
         requires { (m : ℕ) × (m ≤ max_core_size) × HasMarks m self.now }
         ensures { result ≡ spec_counts_in self.now }
@@ -109,7 +109,7 @@ impl Deeds {
     }
 }
 
-/// The number of marked cells, of each kind of mark.
+/// The number of marked cells, for each kind of mark.
 #[derive(Clone, Copy)]
 struct Marked {
     executed: u32,
@@ -169,7 +169,7 @@ fn new_deeds(alloc: Global, count: usize, core_size: usize) -> Result<Vec<Deeds>
     Ok(deeds)
 }
 
-/// Returns the numbers of what each warrior did.
+/// Returns the counts of what each warrior did.
 fn all_counts(alloc: Global, deeds: &[Deeds]) -> Result<Vec<Counts>, AllocError>
     requires { (m : ℕ) × (m ≤ max_core_size) × All (HasMarks m) deeds.now }
     ensures { IfOk result (λ counts. counts.items ≡ map spec_counts_in deeds.now) }
@@ -183,7 +183,9 @@ fn all_counts(alloc: Global, deeds: &[Deeds]) -> Result<Vec<Counts>, AllocError>
 
 /// Executes turns until a battle is over, and returns what each warrior did, in the order of turns.
 ///
-/// The battle is also over if memory runs out after its last turn.
+/// # Errors
+///
+/// Returns an error if an allocation fails; the battle is unchanged or over then.
 pub fn count_to_end(alloc: Global, battle: &mut Battle) -> Result<Vec<Counts>, AllocError>
     ensures many { IfOk result (λ counts. length counts.items ≡ length battle.old.queues) }
     ensures counts { IfOk result (λ counts. (place : ℕ) (d : CountsValue) → place < length battle.old.queues → slice_index_or counts.items place d ≡ counts_of battle.old place) }

@@ -32,8 +32,8 @@ pub struct Fate {
     pub counts: Counts,
 }
 
-/// Returns the number of turns that had been executed when the warrior at a place in the order of turns died, or `all` if
-/// it is alive.
+/// Returns the number of turns that had been executed when the warrior at `place` in the order of turns died, or `all`
+/// if it is alive.
 fn turns_until(deaths: &[Death], place: usize, all: u32) -> u32
     ensures { result ≡ spec_turns_until deaths.now place all }
 {
@@ -56,15 +56,16 @@ fn place_of(count: usize, first: usize, warrior: usize) -> usize
     count - (first - warrior)
 }
 
-/// A battle that is over and, if they were counted, what its warriors did, in the order of turns.
+/// A battle that is over, and what its warriors did, in the order of turns; no counts if that was not counted.
 #[derive(Drop)]
 struct Played {
     battle: Box<Battle>,
     counts: Vec<Counts>,
 }
 
-/// Executes the battle of a round until it is over, in the memory of the last one, if there is one, and counts what its
-/// warriors do, if `counting`.
+/// Executes the battle of a round until it is over, and counts what its warriors do if `counting`.
+///
+/// Uses the memory of the battle `last`, if there is one.
 fn play_round(
     alloc: Global,
     params: &Params,
@@ -88,7 +89,7 @@ fn play_round(
     Ok(Played { battle, counts })
 }
 
-/// Returns what the warrior at a place in the order of turns did, or zeros if that was not counted.
+/// Returns what the warrior at `place` in the order of turns did, or zeros if that was not counted.
 fn counts_at(counts: &[Counts], place: usize) -> Counts
     ensures { result ≡ listed_at counts.now place }
 {
@@ -205,9 +206,11 @@ fn with_room(last: Option<Box<Battle>>, params: &Params, count: usize) -> Option
 /// Returns the fate of each warrior in each round of a match, in load order, one round after another.
 ///
 /// The rounds are those of `rounds` for a setup with the same parameters and plan. If `counting`, each turn is recorded to
-/// count what the warriors do, which takes several times as long. The battles are fought in the memory of `last`, the battle
-/// of an earlier match, if that has the same parameters and number of warriors. Otherwise a battle is allocated, and in any
-/// case copies of the warriors, and the fates; if `counting`, also marks for the cells of each warrior in each round.
+/// count what the warriors do, which takes several times as long.
+///
+/// The battles use the memory of `last`, the battle of an earlier match, if it has the same parameters and number of
+/// warriors; otherwise one battle is allocated. Copies of the warriors and the fates are always allocated. If
+/// `counting`, each round allocates marks for the cells of each warrior.
 ///
 /// # Errors
 ///

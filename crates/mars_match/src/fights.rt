@@ -56,7 +56,7 @@ impl Lineup {
         Lineup::of(copies_of(alloc, warriors)?)
     }
 
-    /// Takes the warriors, in load order.
+    /// Takes the warriors, in load order, and copies all but the last.
     pub fn of(warriors: Vec<Warrior>) -> Result<Lineup, AllocError>
         requires { 1 ≤ length warriors.items }
         ensures { IfOk result (λ lineup. lineup ≡ warriors.items) }
@@ -171,7 +171,7 @@ fn new_battle(
     }
 }
 
-/// Starts the battle of a round, in the memory of the last one, if there is one; then it doesn't allocate.
+/// Starts the battle of a round. If there is a battle `last`, uses its memory and doesn't allocate.
 pub fn start_round(
     alloc: Global,
     params: &Params,
@@ -195,7 +195,8 @@ pub fn start_round(
     }
 }
 
-/// Returns whether a warrior, given by its place in load order, is alive, if warrior `first` has the first turn.
+/// Returns whether the warrior with number `warrior` in load order is alive, in a battle in which warrior `first` had
+/// the first turn.
 pub fn is_alive(battle: &Battle, first: usize, warrior: usize) -> bool
     requires first { first < length battle.now.queues }
     requires warrior { warrior < length battle.now.queues }
@@ -207,8 +208,7 @@ pub fn is_alive(battle: &Battle, first: usize, warrior: usize) -> bool
     battle.alive(battle.warriors() - (first - warrior))
 }
 
-/// Executes the battle of a round until it is over, in the memory of the last one, if there is one; then it doesn't
-/// allocate.
+/// Executes the battle of a round until it is over. If there is a battle `last`, uses its memory and doesn't allocate.
 pub fn fight_round(
     alloc: Global,
     params: &Params,
@@ -229,7 +229,7 @@ pub fn fight_round(
     Ok(battle)
 }
 
-/// Returns whether each warrior is alive, in load order, if warrior `first` has the first turn.
+/// Returns whether each warrior is alive, in load order, in a battle in which warrior `first` had the first turn.
 fn survivors_list(alloc: Global, battle: &Battle, first: usize) -> Result<Vec<bool>, MatchFault>
     requires first { first < length battle.now.queues }
     ensures { MatchResult result (λ list. list.items ≡ in_load_order first battle.now) (λ fault. fault ≡ MatchFault.OutOfMemory) }
@@ -244,13 +244,13 @@ fn survivors_list(alloc: Global, battle: &Battle, first: usize) -> Result<Vec<bo
 
 /// Executes the battle of a round and returns whether each warrior survives, in load order.
 ///
-/// The warriors are rotated by the number of the round, so that the first turn passes from warrior to warrior. Allocates
-/// copies of the warriors and the battle.
+/// The warriors are rotated by `round`, the number of the round from 0, so that the first turn passes from warrior to
+/// warrior. Allocates copies of the warriors and the battle.
 ///
 /// # Errors
 ///
-/// Returns the error of the number of warriors, or the error of starting the battle. `OutOfMemory` is returned if an
-/// allocation fails.
+/// - `Battle` if there is no warrior or more than 16, then if the battle can't start
+/// - `OutOfMemory` if an allocation fails
 pub fn fight(
     alloc: Global,
     params: &Params,

@@ -256,8 +256,9 @@ impl Matches {
 
 /// Runs a match and returns its table.
 ///
-/// Each round draws its starting positions from the seed that the previous round left, and each is started by the next
-/// warrior in load order. Allocates copies of the warriors, one battle for all rounds, and the table.
+/// Each round draws its starting positions from the seed that the previous round left. The first turn passes to the
+/// next warrior in load order from round to round. Allocates copies of the warriors, one battle for all rounds, and the
+/// table.
 ///
 /// # Errors
 ///

@@ -44,7 +44,7 @@ fn drawn(seed: u32) -> u32
     (16807 * u64::from(seed) % 2_147_483_647) as u32
 }
 
-/// Sets each start except start 0 to a draw modulo `room`, and returns the seed that is left.
+/// Sets start 0 to 0 and each other start to a draw modulo `room`, and returns the seed that is left.
 fn draw_values(starts: &mut [u32], room: u32, seed: u32) -> u32
     requires room { 1 ≤ room }
     requires some { 1 ≤ length starts.old }

@@ -19,8 +19,8 @@ use redcode_text::ExprFault;
 use std::alloc::Global;
 use std::marker::Model;
 
-/// The results of a candidate in the matches so far. The numbers have 128 bits, so that they stay exact for as many
-/// opponents as a slice has.
+/// The results of a candidate in the matches so far. The numbers have 128 bits, so that they stay exact however many
+/// opponents a slice has.
 #[derive(Drop)]
 struct Total {
     points: i128,

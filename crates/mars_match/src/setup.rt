@@ -15,7 +15,7 @@ use std::alloc::Global;
 /// The plan of a match's battles.
 #[derive(Clone, Copy)]
 pub struct Plan {
-    /// The number of rounds of a match, which in a league is a match of one pair.
+    /// The number of rounds of each match. In a league, each pair of warriors plays a match.
     pub rounds: u32,
     /// The seed of the first round, from 1 to 2147483646.
     pub seed: u32,

@@ -102,21 +102,21 @@ impl Row {
         self.sum.points
     }
 
-    /// Returns the number of rounds in which it was the only survivor.
+    /// Returns the number of rounds in which the warrior was the only survivor.
     pub fn wins(&self) -> u64
         ensures { result ≡ self.now.wins }
     {
         self.sum.wins
     }
 
-    /// Returns the number of rounds in which it survived with others.
+    /// Returns the number of rounds in which the warrior survived with others.
     pub fn ties(&self) -> u64
         ensures { result ≡ self.now.ties }
     {
         self.sum.ties
     }
 
-    /// Returns the number of rounds in which it didn't survive.
+    /// Returns the number of rounds in which the warrior didn't survive.
     pub fn losses(&self) -> u64
         ensures { result ≡ self.now.losses }
     {

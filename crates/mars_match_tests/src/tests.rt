@@ -1,4 +1,4 @@
-//! The test cases.
+//! The test cases, and what they share: warriors, writers, setups and checks.
 ghost use Rattle.std.specs.Prelude.{◌≡◌, ◌-◌, ◌≤◌, IfSome, IsTrue, Some};
 ghost use Rattle.mars_cell.specs.Warriors.{IsName};
 

@@ -1,4 +1,5 @@
--- What the code notes of each warrior while a battle runs: numbers of turns, and a mark for each cell.
+-- What the code notes of each warrior while a battle runs: numbers of turns, and a mark for each cell. A turn is given by the state
+-- in which it begins.
 use Rattle.std.specs.Prelude.{◌≡◌, ℕ, ◌+◌, ◌<◌, Bool, true, false, if◌then◌else◌, List, [], ◌∷◌, length, replicate, slice_index_or, slice_set}
 use Rattle.mars_core.specs.Marks.{Marks, marks_after}
 use Rattle.mars_core.specs.State.{State}
@@ -6,12 +7,13 @@ use Rattle.mars_match.specs.Counts.{counts_of, how_many_below, splits}
 use Rattle.mars_match.specs.Fates.{no_counts}
 use Rattle.mars_match.specs.declared.counts.Counts.{Counts}
 
+-- What a warrior has done so far: the number of its turns, the number of those that queued two processes, and the marks.
 pub record DeedsValue : Type 0 where
   pub turns : ℕ
   pub spawned : ℕ
   pub marks : Marks
 
--- Nothing is noted of a core of `m` cells.
+-- The deeds of a warrior that has done nothing, in a core of `m` cells.
 abbrev pub no_deeds : ℕ → DeedsValue
 no_deeds m = record {
   turns = 0;
@@ -43,7 +45,7 @@ abbrev pub noted : List State → List DeedsValue → List DeedsValue
 noted [] all = all
 noted (t ∷ turns) all = noted turns (slice_set all t.next (with_turn t (slice_index_or all t.next (no_deeds 0))))
 
--- The numbers of what a warrior did.
+-- The counts of the deeds `d`.
 abbrev pub counts_in : DeedsValue → Counts
 counts_in d =
     let marks = λ (marks : List Bool). how_many_below (length marks) (λ a. slice_index_or marks a false) in

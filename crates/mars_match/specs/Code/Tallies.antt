@@ -12,6 +12,7 @@ use Rattle.mars_match.specs.declared.fault.MatchFault.{MatchFault}
 use Rattle.mars_match.specs.declared.table.Sum.{Sum}
 use Rattle.mars_match.specs.declared.table.Tally.{Tally}
 
+-- The tally of no rounds.
 abbrev pub no_rounds : Tally
 no_rounds = record { points = pos 0; wins = 0; ties = 0; losses = 0 }
 
@@ -70,6 +71,7 @@ pub record IsOf (k : ℕ) (t : Tally) : Type 0 where
 abbrev pub row_with : WarriorValue → Tally → RowValue
 row_with warrior t = record { name = warrior.name; author = warrior.author; points = t.points; wins = t.wins; ties = t.ties; losses = t.losses }
 
+-- The rows of the warriors with the given tallies.
 abbrev pub rows_with : List WarriorValue → List Tally → List RowValue
 rows_with [] tallies = []
 rows_with (w ∷ warriors) [] = []

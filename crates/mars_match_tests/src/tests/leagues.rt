@@ -115,8 +115,8 @@ fn check_league_of(
 #[test]
 fn sums_of_leagues(rt: HostRuntime) -> Result<(), Fail> {
     // The formula gives the only survivor of a pair the maximum number, and two survivors its negative. The first
-    // warrior's sum doesn't fit 64 bits after two matches, and is zero in the end. If both of a pair would die, the one
-    // with the second turn survives.
+    // warrior's sum doesn't fit 64 bits after two matches, and is zero in the end. If both warriors of a pair would
+    // die, the warrior with the second turn survives.
     let plan = (1, 1, None, "9223372036854775807*(3-2*S)");
     let expected =
         "       0      2      2      0  Test by \n       0      0      0      4  Test by \n9223372036854775807      1      0      3  Test by \n       0      2      2      0  Test by \n       0      2      2      0  Test by \n";
@@ -126,8 +126,8 @@ fn sums_of_leagues(rt: HostRuntime) -> Result<(), Fail> {
     check_league_of(&rt, rt.alloc(), &[STAY, DEAD, DEAD], plan, range)
 }
 
-/// The formula divides by zero if both survive. If one is the only survivor of both rounds, its points don't fit. If
-/// both would die, each survives one round.
+/// The formula divides by zero if both warriors survive. If one is the only survivor of both rounds, its points don't
+/// fit. If both would die, each survives one round.
 const NEITHER: &str = "9223372036854775807/(2-S)";
 
 const REFUSED_LEAGUES: &[(&[&str], u32, MatchFault)] = &[
