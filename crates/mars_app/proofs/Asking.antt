@@ -51,7 +51,7 @@ module _ (words : List (List ℕ)) (known : List ℕ → Option (List ℕ)) (old
   options_refused o f (inr (inl (e, is, held))) said = not_allowed (value_of o) said e is held (Keeps-refl old.unread, Keeps-refl old.written)
   options_refused o f (inr (inr (p, allowed, e, is, held))) said = not_scored (value_of o) said p allowed e is held (Keeps-refl old.unread, Keeps-refl old.written)
 
--- ---- What is done with the options, whatever the arguments were that said so
+-- ---- Runs with the options, for all arguments that request them
 
 module _ (known : List ℕ → Option (List ℕ)) (o : Options) (setup : Setup) (ws : List WarriorValue) (files : List (String Global)) (count : ℕ)
     (held : IsSetupOf (value_of o) setup) (files_are : files ≡ o.files.items) (count_is : count ≡ contest_size (value_of o))

@@ -6,7 +6,7 @@ use Rattle.mars_core.specs.declared.battle.start.BattleFault.TheVariants.{OutOfM
 use Rattle.mars_match.specs.Battles.{unless}
 use Rattle.mars_match.specs.declared.fault.MatchFault.TheVariants.{Battle}
 
--- The error is `OutOfMemory`, or the one that the definition has.
+-- The error is `OutOfMemory`, or the error of the definition.
 pub start_refused : {X : Type 0} (o : Option BattleFault) (s : State) (result : Result X BattleFault) (fault : BattleFault) →
     IfSome o (λ f. result ≡ Err f) → (o ≡ None → IfErr result (λ f. f ≡ OutOfMemory)) → result ≡ Err fault →
     (fault ≡ OutOfMemory) ⊎ (unless o s ≡ Err (Battle fault))

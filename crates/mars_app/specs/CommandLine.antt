@@ -25,14 +25,15 @@ score_rule = record (new_rule (codes "score")) { value_names = 1 }
 abbrev pub help_rule : Rule
 help_rule = record (new_rule (codes "help")) { action = Some Help }
 
--- The option with a letter, which is given after one minus; `long` has the option's name, after two.
+-- The option, given by its letter after `-`.
 abbrev pub short : ℕ → Rule → Rule
 short letter rule = record rule { short = Some letter }
 
+-- The option, given by its name after `--`.
 abbrev pub long : Rule → Rule
 long rule = record rule { long = Some rule.id }
 
--- The value if the option isn't given.
+-- The option with the value `text` if it is not given.
 abbrev pub or_else : List ℕ → Rule → Rule
 or_else text rule = record rule { defaults = text ∷ [] }
 

@@ -64,7 +64,8 @@ fault_of (match.Battle battle.OutOfMemory) = OutOfMemory
 fault_of (match.Battle fault) = Battle fault
 fault_of (match.Score fault) = Score fault
 
--- Writing `text` failed: the output failed after a beginning of it, not all, or an allocation failed after a beginning of it.
+-- Writing `text` failed: a write failed after a beginning of `text`, not all of it; or an allocation failed after a beginning, possibly
+-- all of it.
 abbrev pub WriteCutShort : RunFault → Option (List ℕ) → Option (List ℕ) → List ℕ → Type 0
 WriteCutShort fault old new text =
     ((fault ≡ Output) × CutShort old new text)

@@ -1,4 +1,5 @@
--- The error that ends a run, and what was written before it.
+-- The error that ends a run, and what was written before it. `rounds` and `count` are the values of ROUNDS and WARRIORS, and `known` has
+-- the content of each file by its name, if it is known.
 use Rattle.std.specs.Prelude.{◌≡◌, ⊤, ◌⊎◌, ℕ, false, true, List, ◌∷◌, ◌++◌, Option, Ok, Err, string_bytes}
 use Rattle.std.specs.Io.KnownBytes.{Keeps}
 use Rattle.std.specs.List.{flat_map}
@@ -31,7 +32,7 @@ abbrev pub line_of : LoadFault → ℕ
 line_of (load_fault.Syntax line) = line
 line_of _ = 0
 
--- The error is that of the content of a file, a load file or a source, and shows the name of the file.
+-- The error is one of the content `bytes` of the file `name`, a load file or a source, and shows this name.
 abbrev pub IsFaultOfFile : Parameters → ℕ → ℕ → List ℕ → List ℕ → RunFault → Type 0
 IsFaultOfFile p rounds count name bytes (fault.Load shown line f) =
     (string_bytes shown ≡ shown_name name) × (is_load_file name ≡ true) × (load p.core_size p.max_length bytes ≡ Err f) × (line ≡ line_of f)
@@ -40,14 +41,14 @@ IsFaultOfFile p rounds count name bytes (fault.Assembly shown line f) =
 IsFaultOfFile p rounds count name bytes fault.OutOfMemory = ⊤
 IsFaultOfFile p rounds count name bytes _ = ⊥
 
--- The error is the reason for which the file isn't read, and shows the name of the file.
+-- The error is the reason for which the file `name` is not read, and shows this name.
 abbrev pub IsReadFaultOfFile : (List ℕ → Option (List ℕ)) → List ℕ → RunFault → Type 0
 IsReadFaultOfFile known name (fault.CannotRead shown) = (string_bytes shown ≡ shown_name name) × IsReadFault (known name) max_file_len file.CannotRead
 IsReadFaultOfFile known name (fault.TooLarge shown) = (string_bytes shown ≡ shown_name name) × IsReadFault (known name) max_file_len file.TooLarge
 IsReadFaultOfFile known name fault.OutOfMemory = ⊤
 IsReadFaultOfFile known name _ = ⊥
 
--- The file isn't read, or has no warrior.
+-- The file `name` is not read, or has no warrior.
 abbrev pub FailsToLoad : (List ℕ → Option (List ℕ)) → Parameters → ℕ → ℕ → List ℕ → RunFault → Type 0
 FailsToLoad known p rounds count name f = IsReadFaultOfFile known name f
     ⊎ ((bytes : List ℕ) × IsRead known name bytes × IsFaultOfFile p rounds count name bytes f)

@@ -63,15 +63,15 @@ OnlyTheDebuggerReads = (words : List (List ℕ)) (known : List ℕ → Option (L
     → (RunSucceeds words known old new → Keeps old.unread new.unread)
     × ((f : RunFault) → RunFails words known old new f → Keeps old.unread new.unread)
 
--- A failed read is a pause: the session that it leaves replies to the unfinished line, and to whatever comes after it, what is left
--- of the replies to all of it.
+-- A failed read is only a pause: if its session continues with the unfinished line and the input after it, it writes the rest of the
+-- replies to the whole input.
 abbrev pub FailedReadsArePauses : Type 0
 FailedReadsArePauses = (core : ℕ) (input left v w : Option (List ℕ)) (s t u : SessionState) (failed : ReadFails core input left s v t w) (more text : List ℕ)
     → Transcript core t (until_quit core (lines_of (failed.rest ++ more))) u text
     → Transcript core s (until_quit core (lines_of (failed.bytes ++ more))) u (failed.text ++ text)
 
--- A failed write is a pause, in which the end of one reply is lost: the session that it leaves replies to whatever lines come after
--- the last one that was executed what is left of the replies to all of them.
+-- A failed write is only a pause, except that the end of one reply is lost: if its session continues with the lines after the last
+-- executed one, it writes the rest of the replies to all lines.
 abbrev pub FailedWritesArePauses : Type 0
 FailedWritesArePauses = (core : ℕ) (input left v w : Option (List ℕ)) (s t u : SessionState) (failed : WriteFails core input left s v t w)
     (lines : List (List ℕ)) (text : List ℕ) → Transcript core t lines u text →

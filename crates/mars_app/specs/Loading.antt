@@ -1,4 +1,5 @@
--- How warriors are loaded from files.
+-- How warriors are loaded from files. `known` has the content of each file by its name, if it is known. `rounds` and `count` are the
+-- values of ROUNDS and WARRIORS.
 use Rattle.std.specs.Prelude.{◌≡◌, ⊤, ℕ, ◌<◌, ◌≤◌, List, [], ◌∷◌, All, Bool, Option, None, Some, IfSome, IsNone, String, length, Vec, if◌then◌else◌, codes, encode_utf8, nat_eq, string_bytes}
 use Rattle.std.specs.Global.{Global}
 use Rattle.std.specs.Str.{bytes_eq, chars}
@@ -30,8 +31,7 @@ shown_name name = flat_map (λ c. encode_utf8 (shown_character c)) (chars name)
 abbrev pub is_load_file : List ℕ → Bool
 is_load_file name = ends_with nat_eq name (codes ".load")
 
--- The warrior of a file, which is a load file or a source, if it has one. `rounds` and `warriors` are the values of ROUNDS and
--- WARRIORS.
+-- The warrior of the file `name` with the content `bytes`, a load file or a source, if it has one. `warriors` is the value of WARRIORS.
 abbrev pub warrior_of_file : Parameters → ℕ → ℕ → List ℕ → List ℕ → Option WarriorValue
 warrior_of_file p rounds warriors name bytes = if is_load_file name then result_ok (load p.core_size p.max_length bytes) else result_ok (assembly p rounds warriors bytes)
 
@@ -43,8 +43,8 @@ max_file_len = 1048576
 abbrev pub IsRead : (List ℕ → Option (List ℕ)) → List ℕ → List ℕ → Type 0
 IsRead known name bytes = IfSome (known name) (λ whole. bytes ≡ whole) × (length bytes ≤ max_file_len)
 
--- The error is a reason for which a file of at most `limit` bytes isn't read. A file whose content is known can be read, so its
--- error is that it has more bytes.
+-- The error is a reason for which a file is not read if it may have at most `limit` bytes. A file whose content is known can be read, so
+-- its error is that it has more bytes.
 abbrev pub IsReadFault : Option (List ℕ) → ℕ → FileFault → Type 0
 IsReadFault known limit CannotRead = IsNone known
 IsReadFault known limit TooLarge = IfSome known (λ bytes. limit < length bytes)
@@ -60,7 +60,7 @@ abbrev pub IsLoaded : (List ℕ → Option (List ℕ)) → Parameters → ℕ �
 IsLoaded known p rounds count name w =
     (bytes : List ℕ) × IsRead known name bytes × (warrior_of_file p rounds count name bytes ≡ Some w)
 
--- Each warrior is that of the file at its index.
+-- Each warrior is the warrior of the file at the same index.
 abbrev pub AreLoaded : (List ℕ → Option (List ℕ)) → Parameters → ℕ → ℕ → List (List ℕ) → List WarriorValue → Type 0
 AreLoaded known p rounds count [] [] = Unit {0}
 AreLoaded known p rounds count [] (w ∷ warriors) = ⊥

@@ -109,7 +109,7 @@ options_of rows = record {
 abbrev pub is_between : ℕ → ℕ → ℕ → Bool
 is_between least greatest n = nat_le least n && nat_le n greatest
 
--- A limit is a number of cells of a core. One that isn't given is the core size.
+-- The limit is a number of cells of a core, if it is given. A limit that is not given is the core size.
 abbrev pub is_limit : Option ℕ → Bool
 is_limit limit = option_map_or (is_between 1 max_core_size) limit true
 
@@ -150,7 +150,7 @@ pub record Ask (words : List Text) (o : OptionsValue) : Type 0 where
   pub said : said_by words ≡ o
   pub allowed : are_allowed o ≡ true
 
--- The arguments request the help: this is the error of `clap`.
+-- The arguments request the help, which `clap` reports as an error.
 abbrev pub AskForHelp : List Text → Type 0
 AskForHelp words = IsAmong kind.DisplayHelp (fault_of mars words)
 
@@ -171,7 +171,7 @@ Reads words (Err (fault.Help text)) = AskForHelp words
 Reads words (Err fault.BadWords) = AreBad words
 Reads words (Err fault.OutOfMemory) = ⊤
 
--- The parameters that the options say. A limit that isn't given is the core size.
+-- The parameters that the options say. A limit that is not given is the core size.
 abbrev pub parameters_of : OptionsValue → Parameters
 parameters_of o = record {
   core_size = o.core;

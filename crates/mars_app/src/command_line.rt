@@ -55,9 +55,9 @@ fn number_parser<'a>(greatest: u32) -> ValueParser<'a>
 struct Word {
     /// Heading above the option in the help.
     heading: &'static str,
-    /// Name after two minus, used if the option has no letter.
+    /// Name after `--`, used if the option has no letter.
     name: &'static str,
-    /// Letter after one minus.
+    /// Letter after `-`.
     letter: Option<char>,
     value: Value,
     /// Value if the option isn't given.

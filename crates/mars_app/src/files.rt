@@ -21,7 +21,7 @@ pub enum FileFault {
 
 /// Files by their names.
 pub trait WarriorFiles {
-    /// Content of the file of a name, if it is known.
+    /// Content of the file with a name, if it is known.
     ghost known: { Self → List ℕ → Option (List ℕ) } = { λ _ _. None };
 
     /// Reads a file of at most `limit` bytes. A file whose content is known is read unless it is larger or an allocation fails.
@@ -95,6 +95,7 @@ impl<R: Files> WarriorFiles for SystemFiles<'_, R> {
             Err(error) => return Err(fault_of(error.kind())),
         };
         let mut bytes = Vec::new(alloc);
+        // A byte more than the limit shows that the file is too large.
         let one_more = (limit as u64).saturating_add(1);
         if let Err(error) = file.take(one_more).read_to_end(&mut bytes) {
             return Err(fault_of(error.kind()));

@@ -1,7 +1,8 @@
 //! Laws of the program. The functions do nothing; their contracts are the laws.
 //!
-//! They are about runs whose files and streams have known contents, as those in memory have; about the files and streams of the
-//! system no contract says what they contain. A run that requests the help is left out, since no definition has its text.
+//! They are about runs whose files and streams have known contents, such as files and streams in memory: no contract
+//! says what the files and streams of the system contain. Runs that request the help are left out, since no definition
+//! has its text.
 ghost use Rattle.mars_app.specs.Laws.{EqualRunsWriteTheSame, ErrorsRecur, FailedReadsArePauses, FailedRunsWriteABeginning, FailedWritesArePauses, OnlyTheDebuggerReads};
 
 /// Two runs without an error have written the same bytes, if they were given the same arguments, files and input.
@@ -25,12 +26,13 @@ pub fn only_the_debugger_reads()
     ensures { OnlyTheDebuggerReads }
 {}
 
-/// A failed read of the debugger is a pause: the session that it leaves, given the lines that are left, replies the rest.
+/// A failed read of the debugger is only a pause: if its session continues with the unfinished line and the input after
+/// it, it writes the rest of the replies.
 pub fn failed_reads_are_pauses()
     ensures { FailedReadsArePauses }
 {}
 
-/// So is a failed write; only the end of the reply that was cut off is lost.
+/// A failed write of the debugger is only a pause, too, except that the end of the reply that was cut off is lost.
 pub fn failed_writes_are_pauses()
     ensures { FailedWritesArePauses }
 {}

@@ -50,7 +50,9 @@ pub struct Options {
     pub core: u32,
     pub cycles: u32,
     pub processes: u32,
+    /// Maximum length of a warrior in cells.
     pub longest: u32,
+    /// Minimum distance between first cells.
     pub distance: u32,
     /// Address of the second of two warriors in every round.
     pub fixed: Option<u32>,

@@ -86,7 +86,7 @@ fn run_args<F: WarriorFiles, R: Read, W: Write>(
     }
 }
 
-/// Does what the options say, whatever the arguments were that said so.
+/// Runs the program with these options. The contract holds for all arguments `words` that request them.
 fn run_options<F: WarriorFiles, R: Read, W: Write>(
     alloc: Global,
     options: &Options,
@@ -132,7 +132,8 @@ fn setup_of(alloc: Global, options: &Options) -> Result<Setup, RunFault>
     }
 }
 
-/// Reads the warriors of the files, and does with them what the options say.
+/// Loads the warriors of the files, and writes a load file, debugs their battle, or runs their match or league, as the
+/// options say.
 #[tactic(auto, using(crate::proofs::Positions::position_fits))]
 fn carry_out<F: WarriorFiles, R: Read, W: Write>(
     alloc: Global,

@@ -98,7 +98,7 @@ fn memory_files(alloc: Global) -> Result<MemoryFiles, Fail> {
     Ok(files)
 }
 
-/// A load file that was written for a core of 8 cells, so its 7 is the cell before.
+/// A load file that was written for a core of 8 cells, so its 7 addresses the cell before.
 const NAMED: &[u8] = b";load 2 8\n;name Imp\n;author Dewdney\nORG 0\nMOV.I $0, $7\n";
 
 /// The read limit of 4 folds the offset 3 to -1; the write limit of 8 leaves it as it is.

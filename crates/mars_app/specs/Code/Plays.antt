@@ -1,4 +1,4 @@
--- Why options are rejected, and what is done with the warriors of their files.
+-- Why options are rejected, and the battle, match or league of the warriors of their files.
 use Rattle.std.specs.Prelude.{◌≡◌, ◌⊎◌, false, true, List, ◌++◌, Ok, Err}
 use Rattle.std.specs.Io.KnownBytes.{Keeps}
 use Rattle.mars_cell.specs.ParameterFaults.{checked_parameters}

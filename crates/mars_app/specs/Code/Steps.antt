@@ -1,4 +1,6 @@
--- The steps of the debugger, byte by byte. The state consists of a line buffer, a session and the content of the writer.
+-- The steps of the debugger, byte by byte. The state consists of a line buffer, a session and the content of the writer. Parameters:
+-- `a`, `t` and `v` are these three before the step, and `b`, `u` and `w` after it. Each step holds whatever was read and written
+-- before it: `bytes` from the session `s` on, with the replies `text`.
 use Rattle.std.specs.Prelude.{◌≡◌, ℕ, List, [], ◌∷◌, ◌++◌, Option}
 use Rattle.std.specs.List.{flat_map, AllByRecursion}
 use Rattle.std.specs.Io.KnownBytes.{Appends}
@@ -37,28 +39,27 @@ pub record Breaking (core_size : ℕ) (s : SessionState) (bytes : List ℕ) (t :
   pub goes_on : AllByRecursion (GoesOn core_size) lines
   pub cut : BrokenAt core_size s lines last t text
 
--- Whatever was read and written before, after taking the bytes `taken` reading continues.
+-- Processing the bytes `taken` leads from the first state to the second, and the debugger continues.
 abbrev pub GoesThrough : ℕ → List ℕ → LineBuffer → SessionState → Option (List ℕ) → LineBuffer → SessionState → Option (List ℕ) → Type 0
 GoesThrough core_size taken a t v b u w = (s : SessionState) (bytes text : List ℕ) → ReadsOn core_size s bytes a t text
     → (added : List ℕ) × Appends v w added × ReadsOn core_size s (bytes ++ taken) b u (text ++ added)
 
--- Whatever was read and written before, after taking the bytes `taken` a `quit` was read.
+-- Processing the bytes `taken` leads to a `quit`.
 abbrev pub Quits : ℕ → List ℕ → LineBuffer → SessionState → Option (List ℕ) → SessionState → Option (List ℕ) → Type 0
 Quits core_size taken a t v u w = (s : SessionState) (bytes text : List ℕ) → ReadsOn core_size s bytes a t text
     → (added : List ℕ) × Appends v w added × Quitting core_size s (bytes ++ taken) u (text ++ added)
 
--- Whatever was read and written before, a write failed after taking the bytes `taken`.
+-- A write fails while the bytes `taken` are processed.
 abbrev pub WriteFailsWithin : ℕ → List ℕ → LineBuffer → SessionState → Option (List ℕ) → SessionState → Option (List ℕ) → Type 0
 WriteFailsWithin core_size taken a t v u w = (s : SessionState) (bytes text : List ℕ) → ReadsOn core_size s bytes a t text
     → (added : List ℕ) × Appends v w added × Breaking core_size s (bytes ++ taken) u (text ++ added)
 
--- Whatever was read and written before, the unfinished line at the end of the input was executed, if there is one and it is not
--- `quit`.
+-- At the end of the input the unfinished line is executed, if there is one and it is not `quit`.
 abbrev pub Finishes : ℕ → LineBuffer → SessionState → Option (List ℕ) → SessionState → Option (List ℕ) → Type 0
 Finishes core_size a t v u w = (s : SessionState) (bytes text : List ℕ) → ReadsOn core_size s bytes a t text
     → (added : List ℕ) × Appends v w added × Transcript core_size s (until_quit core_size (lines_of bytes)) u (text ++ added)
 
--- Whatever was read and written before, a write failed in the reply to the unfinished line at the end of the input.
+-- A write fails in the reply to the unfinished line at the end of the input.
 abbrev pub WriteFailsAtEnd : ℕ → LineBuffer → SessionState → Option (List ℕ) → SessionState → Option (List ℕ) → Type 0
 WriteFailsAtEnd core_size a t v u w = (s : SessionState) (bytes text : List ℕ) → ReadsOn core_size s bytes a t text
     → (added : List ℕ) × (lines : List (List ℕ)) × (last : List ℕ) × Appends v w added

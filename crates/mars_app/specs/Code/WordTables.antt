@@ -1,7 +1,7 @@
 -- The rules of `clap` for the options in the table.
 --
--- That they are the rules of the definition is proved by computation. What `clap` requires of the command then computes too
--- (`clap_on_literals`).
+-- A proof by computation shows that they are the rules of the definition (`CommandLine`). So what `clap` requires of the command can
+-- be computed, too (`clap_on_literals`).
 use Rattle.std.specs.Prelude.{ℕ, None, Option, Some, pos}
 use Rattle.std.specs.Borrow.{Bor}
 use Rattle.clap.specs.Simple.{new_rule}

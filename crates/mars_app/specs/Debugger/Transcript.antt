@@ -1,4 +1,5 @@
--- What the debugger writes in reply to its lines.
+-- What the debugger writes in reply to its lines. Parameters: `s` and `t` are the session before and after, `input` and `left` the
+-- bytes that the reader has before and after, and `v` and `w` the bytes that the writer has before and after, if they are known.
 use Rattle.std.specs.Prelude.{◌≡◌, ◌≢◌, if◌then◌else◌, ℕ, Bool, false, true, ◌<◌, ◌≤◌, List, [], ◌∷◌, ◌++◌, length, take, codes, Option, ◌⊎◌}
 use Rattle.std.specs.List.{flat_map, AllByRecursion}
 use Rattle.std.specs.Io.KnownBytes.{Appends, Consumes, IsAtEnd, Keeps}

@@ -36,7 +36,7 @@ warriors_are_listed = refl
 pub brief_contests_list_nothing : listing 8000 true (imp ∷ imp ∷ []) ≡ []
 brief_contests_list_nothing = refl
 
--- A limit that isn't given is the core size.
+-- A limit that is not given is the core size.
 pub limits_are_the_core : (o : OptionsValue) → let p = parameters_of (record o { core = 8; longest = 3; read_limit = None; write_limit = None }) in (p.read_limit ≡ 8) × (p.write_limit ≡ 8) × (p.max_length ≡ 3)
 limits_are_the_core o = (refl, refl, refl)
 

@@ -1,4 +1,4 @@
--- What does not hold, a condition at a time: files and matches that fail, lines that are split, and debuggers that stop.
+-- Statements that do not hold, one condition at a time: files and matches that fail, lines that are split, and debuggers that stop.
 use Rattle.std.specs.Prelude.{◌≡◌, ◌≢◌, ℕ, false, List, [], ◌∷◌, ◌++◌, Option, None, Some, Result, Ok, Err, String, codes, refl, string_bytes}
 use Rattle.std.proofs.Common.{ap, inl, inr, subst, sym, ◌∙◌}
 use Rattle.std.specs.Global.{Global}

@@ -5,6 +5,7 @@ ghost use Rattle.mars_app.specs.Debugger.Lines.{line_asks};
 use crate::debugger::request::{Request, read_request};
 use arrayvec::ArrayVec;
 
+/// Maximum length of a line in bytes, without its LF.
 pub const MAX_LINE_LEN: usize = 256;
 
 /// The unfinished line, of which at most 256 bytes are stored.

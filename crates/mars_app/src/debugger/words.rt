@@ -6,6 +6,7 @@ ghost use Rattle.mars_app.specs.Debugger.Words.{index_of, first_word, after_word
 
 use mars_cell::read_digits;
 
+/// Returns whether a byte is whitespace: 0 to 32, except for the line feed.
 fn is_blank(byte: u8) -> bool
     ensures { result ≡ is_blank byte }
 {

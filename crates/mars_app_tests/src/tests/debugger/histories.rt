@@ -36,7 +36,7 @@ fn a_history_that_is_full(rt: HostRuntime) -> Result<(), Fail> {
     gives_within(&rt, rt.alloc(), ONE_IMP, 2, Exchange { input, expected })
 }
 
-/// Two places are kept beside the last one, and the first that is left is not marked.
+/// Two places are kept beside the last one, and the first kept place is not marked.
 #[test]
 fn a_history_that_forgets(rt: HostRuntime) -> Result<(), Fail> {
     let input = b"run 3\nundo\ngoto 0\ngoto 1\nstep\nundo\nundo\nredo\n";
