@@ -1,5 +1,5 @@
-//! The program `mars`: it assembles warriors of Core War, fights matches and leagues, and debugs battles backwards as well as
-//! forwards.
+//! The program `mars`: it assembles warriors of Core War, runs matches and leagues, and debugs battles backwards as
+//! well as forwards.
 #![tactic(auto)]
 
 use mars_app::{Streams, SystemFiles, start};

@@ -8,9 +8,9 @@ use Rattle.mars_c.specs.Blocks.{RefusesWords}
 use Rattle.mars_c.specs.declared.faults.BlockRefusal.{BlockRefusal}
 use Rattle.mars_c.specs.declared.faults.BlockRefusal.TheVariants.{OutOfMemory, Block, Capacity, NoSuchEdit, Edit, History, Condition, Pasts, Process}
 
--- At most `turns` turns after the battle in the words, the warrior has a process with the index `place`. `rows` has the turns in which it
--- and its ancestors were born, of which there are `count`, and `first` is the index, in the battle in the words, of the process from which
--- all of them descend.
+-- After at most `turns` turns of the battle in the words, the warrior has a process with the index `place`. `rows` begins with the turns in
+-- which this process and its ancestors were born, as far as there are rows; `count` is the number of these turns. `first` is the index, in
+-- the battle in the words, of the process from which all of them descend.
 pub record HasAncestors (turns warrior place : ℕ) (words rows_before rows : List ℕ) (count first : ℕ) : Type 0 where
   pub state : State
   pub spelled : Spells state words

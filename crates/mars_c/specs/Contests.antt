@@ -23,7 +23,7 @@ use Rattle.mars_c.specs.declared.settings.MarsSettings.{MarsSettings}
 abbrev pub points_each : Scanned → ℕ → ℕ → Result ℤ ExprFault
 points_each formula warriors survivors = if survivors == 0 then Ok (pos 0) else score_of formula (pos warriors) (pos survivors)
 
--- `points` are those of each survivor by the formula `text`.
+-- `points` are the points of each survivor by the formula `text`.
 abbrev pub IsScore : List ℕ → ℕ → ℕ → ℤ → Type 0
 IsScore text warriors survivors points = (formula : Scanned) × (formula_of text ≡ Ok formula) × (points_each formula warriors survivors ≡ Ok points)
 

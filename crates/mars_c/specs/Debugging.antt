@@ -8,8 +8,8 @@ use Rattle.mars_c.specs.Blocks.{RefusesWords}
 use Rattle.mars_c.specs.declared.faults.BlockRefusal.{BlockRefusal}
 use Rattle.mars_c.specs.declared.faults.BlockRefusal.TheVariants.{OutOfMemory, Block, Capacity, NoSuchEdit, Edit, History, Condition, Pasts, Process}
 
--- `text` is what the debugger replies to `lines`, over the battle whose block the words begin with, with a history of `history`
--- places.
+-- `text` has the debugger's replies to `lines`, over the battle whose block the words begin with. The history keeps `history` places
+-- beside the last one.
 abbrev pub Debugs : List ℕ → ℕ → List ℕ → List ℕ → Type 0
 Debugs words history lines text = (s : State) × (session : SessionState) × Spells s words × IsHistory history × IsDebugged s history lines session text
 

@@ -61,7 +61,7 @@ AreEntrants p cells entrants ws = Reads p cells entrants ws []
 abbrev pub plain_name : List ℕ → List ℕ
 plain_name name = name ++ replicate (64 - length name) 0
 
--- The name in such bytes: all bytes before the first zero.
+-- The name in 64 bytes: all bytes before the first zero.
 abbrev pub named : List ℕ → List ℕ
 named bytes = take_while (λ b. not (b == 0)) bytes
 

@@ -1,5 +1,5 @@
--- The laws of the library: calls with the same arguments have the same results, and the same errors, and the debugger's battle is that of
--- a round.
+-- The laws of the library: calls with the same arguments have the same results and the same errors, and all calls start a round with the
+-- same battle.
 use Rattle.std.specs.Prelude.{◌≡◌, ◌≤◌, ◌<◌, ◌%◌, ℕ, All, Bool, List, [], Ok, length, slice_index_or}
 use Rattle.std.specs.List.{flat_map}
 use Rattle.mars_core.specs.Limits.{max_warriors}
@@ -58,42 +58,43 @@ MatchErrorsRecur = (settings : MarsSettings) (formula : List ℕ) (cells : List 
     → AreWarriors (length entrants) → length rows ≡ length entrants
     → HoldsMatch settings formula cells entrants rows → RefusesMatch settings formula cells entrants (length rows) refusal → refusal ≡ OutOfMemory
 
--- The same holds for a league.
+-- If a league has a table, a call with its arguments is refused only because memory ran out.
 abbrev pub LeagueErrorsRecur : Type 0
 LeagueErrorsRecur = (settings : MarsSettings) (formula : List ℕ) (cells : List MarsCell) (entrants : List MarsWarrior) (rows : List MarsRow) (refusal : CallRefusal)
     → length entrants ≤ max_league_warriors → length rows ≡ length entrants
     → HoldsLeague settings formula cells entrants rows → RefusesLeague settings formula cells entrants (length rows) refusal → refusal ≡ OutOfMemory
 
--- The same holds for a population.
+-- If a population has sums, a call with its arguments is refused only because memory ran out.
 abbrev pub PopulationErrorsRecur : Type 0
 PopulationErrorsRecur = (settings : MarsSettings) (formula : List ℕ) (cells : List MarsCell) (entrants : List MarsWarrior) (rows : List MarsRow) (refusal : CallRefusal)
     → length rows ≤ length entrants
     → HoldsSums settings formula cells entrants rows → RefusesPopulation settings formula cells entrants (length rows) refusal → refusal ≡ OutOfMemory
 
--- The same holds for the start of a battle.
+-- If a battle can start, a call with its arguments is refused only because memory ran out.
 abbrev pub StartErrorsRecur : Type 0
 StartErrorsRecur = (settings : MarsSettings) (cells : List MarsCell) (entrants : List MarsWarrior) (round : ℕ) (start : State) (refusal : CallRefusal)
     → AreWarriors (length entrants)
     → IsStart settings cells entrants round start → RefusesStart settings cells entrants round refusal → refusal ≡ OutOfMemory
 
--- The same holds for outcomes of lineups, each of which has its warriors in an array of 16.
+-- If lineups have outcomes, a call with their arguments is refused only because memory ran out. Each lineup has its warriors in an array
+-- of 16.
 abbrev pub OutcomeErrorsRecur : Type 0
 OutcomeErrorsRecur = (settings : MarsSettings) (cells : List MarsCell) (entrants : List MarsWarrior) (lineups : List MarsLineup) (rows : List MarsOutcome) (refusal : CallRefusal)
     → All (λ (lineup : MarsLineup). IsLineup (length entrants) lineup) lineups → All (λ (lineup : MarsLineup). length lineup.warrior ≡ max_warriors) lineups
     → length rows ≡ rows_for settings lineups
     → HoldsOutcomes settings cells entrants lineups rows → RefusesOutcomes settings cells entrants lineups (length rows) refusal → refusal ≡ OutOfMemory
 
--- The words in which a battle was started are not too few for a call with the same arguments.
+-- If a battle was started in the words `before`, they are enough for each call with the same arguments.
 abbrev pub StartsFitAgain : Type 0
 StartsFitAgain = (settings : MarsSettings) (cells : List MarsCell) (entrants : List MarsWarrior) (round : ℕ) (before after : List ℕ)
     → HoldsStart settings cells entrants round before after → OverflowsStart settings cells entrants round before → ⊥
 
--- The battle that the program debugs is that with which round 0 of the match starts.
+-- The program debugs the battle with which round 0 of the match starts.
 abbrev pub DebugsRoundZero : Type 0
 DebugsRoundZero = (setup : Setup) (warriors : List WarriorValue) → first_round setup warriors ≡ round_start_state setup warriors 0
 
--- The fates of a match are those of its rounds, one after another. Those of round `k` are of the battle with which round `k` starts,
--- played to its end. So one battle is that of `mars_start`, of the outcomes and, by the laws of matches, of the table.
+-- The fates of a match are the fates of its rounds, one after another. The fates of round `k` are those of the battle with which round `k`
+-- starts, played to its end. So `mars_start`, the outcomes and, by the laws of matches, the table are about the same battle.
 abbrev pub RoundsMakeTheFates : Type 0
 RoundsMakeTheFates = (setup : Setup) (warriors : List WarriorValue) (counting : Bool) (all : List Fate)
     → fates_of counting setup.params warriors setup.plan.fixed setup.plan.rounds setup.plan.seed ≡ Ok all

@@ -56,13 +56,13 @@ RefusesLoad s text (OfParameters fault) = checked_parameters (parameters_in s) �
 RefusesLoad s text (Load fault) = (p : Parameters) × (checked_parameters (parameters_in s) ≡ Ok p) × (load p.core_size p.max_length text ≡ Err fault)
 RefusesLoad s text other = ⊥
 
--- The error is a reason for which there is no such program: a name is not valid, or the cells are no warrior with this start.
+-- The error is a reason for which the cells are not those of `program`: a name is not valid, or they are no warrior with its start.
 abbrev pub IsNoProgram : Parameters → List MarsCell → MarsProgram → EntrantFault → Type 0
 IsNoProgram p cells program entrant.Name = (is_name (named program.name) && is_name (named program.author)) ≡ false
 IsNoProgram p cells program fault = IsNoEntrant p cells program.warrior.start fault
 
 -- `refusal` is a reason for which no load file is written: the parameters are rejected, the program has another number of
--- cells, or there is no such program.
+-- cells, or the cells are not those of the program.
 abbrev pub RefusesWriting : MarsSettings → List MarsCell → MarsProgram → CallRefusal → Type 0
 RefusesWriting s cells program OutOfMemory = ⊤
 RefusesWriting s cells program (OfParameters fault) = checked_parameters (parameters_in s) ≡ Err fault

@@ -7,8 +7,8 @@ use crate::faults::BlockRefusal;
 use mars_core::{Ancestors, AncestorsFault};
 use std::alloc::Global;
 
-/// Finds the turns in which a process and its ancestors were born. The process is that with the index `place` in the queue
-/// of the warrior, at most `turns` turns after the battle in a block.
+/// Finds the turns in which a process and its ancestors were born. The process has the index `place` in the queue of
+/// the warrior, 0 at the front, after at most `turns` turns of the battle in a block.
 ///
 /// # Errors
 ///

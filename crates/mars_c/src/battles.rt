@@ -95,9 +95,10 @@ pub fn start_of(
     }
 }
 
-/// Returns a session over a battle that has read the debugger's lines, and appends its replies to `transcript`.
+/// Executes the debugger's lines over a battle, appends the replies to `transcript`, and returns the session.
 ///
-/// `history` is the number of places of the session's history. Returns `None` if an allocation fails.
+/// `history` is the number of places that the session's history keeps beside the last one. Returns `None` if an
+/// allocation fails.
 pub fn debugged(
     alloc: Global,
     battle: Battle,

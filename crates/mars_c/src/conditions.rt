@@ -35,7 +35,7 @@ fn way_of(number: u32) -> Option<Way>
     }
 }
 
-/// Returns the number of a turn or a cell with this number, or `None` if there is none.
+/// Returns the number of a turn or a cell that a condition with this `number` is about, or `None` if there is none.
 fn number_of(number: u32) -> Option<Number>
     ensures some { IfSome result (λ kind. number_index kind ≡ number) }
     ensures none { IfNone result ((kind : NumberValue) → number_index kind ≢ number) }

@@ -47,7 +47,7 @@ fn league_table(
     ensures refused { let e = entrants.entry in IfErr result (λ refusal. RefusesEntry settings.now formula.now 0 e.cells.now e.warriors.now refusal
         ⊎ FailsLeague settings.now formula.now e.cells.now e.warriors.now refusal) }
 {
-    // A position fits only matches of two, and a league may have none. With 0 warriors, every position is rejected.
+    // A league may not have a position: `enter` rejects each one for 0 warriors, because a position fits only two.
     let entry = enter(alloc, settings, formula, entrants, 0)?;
     let table = league(alloc, &entry.setup, &entry.warriors);
     drop(entry);
@@ -57,7 +57,7 @@ fn league_table(
     }
 }
 
-/// Runs a match and writes its rows to `place`.
+/// Runs a match and writes its rows to `place`, which must have one for each warrior.
 pub fn match_into(
     alloc: Global,
     settings: &MarsSettings,
@@ -82,7 +82,7 @@ pub fn match_into(
     }
 }
 
-/// Runs a league and writes its rows to `place`.
+/// Runs a league and writes its rows to `place`, which must have one for each warrior.
 pub fn league_into(
     alloc: Global,
     settings: &MarsSettings,

@@ -9,6 +9,8 @@ use mars_app::MAX_HISTORY;
 use std::alloc::Global;
 
 /// Returns what the debugger replies to `lines` over the battle whose block the words begin with.
+///
+/// `history` is the number of places that the history keeps beside the last one, 1 to 1,000,000.
 pub fn transcript(
     alloc: Global,
     words: &[u32],

@@ -57,7 +57,8 @@ fn give_program(made: &Made, places: &mut [MarsCell], program: &mut MarsProgram)
     true
 }
 
-/// Returns whether a buffer is empty or has room for `count` values. Nothing is written to an empty one.
+/// Returns whether a buffer of length `buffer` is empty or has room for `count` values. Nothing is written to an empty
+/// one.
 fn is_roomy(buffer: usize, count: usize) -> bool
     ensures some { result ≡ true → buffer ≢ 0 → count ≤ buffer }
     ensures short { result ≡ false → (buffer ≢ 0) × (buffer < count) }
@@ -65,7 +66,7 @@ fn is_roomy(buffer: usize, count: usize) -> bool
     buffer == 0 || count <= buffer
 }
 
-/// Writes the lines of cells and their labels to the front of their buffers, as far as these are not empty.
+/// Writes the lines of cells and their labels to the front of their buffers; writes nothing to an empty buffer.
 fn put_lines(mapped: &Mapped, lines: &mut [CellLine], labels: &mut [u8])
     requires lines { lines.old ≢ [] → length mapped.now.lines.items ≤ length lines.old }
     requires labels { labels.old ≢ [] → length mapped.now.labels.items ≤ length labels.old }
@@ -80,8 +81,8 @@ fn put_lines(mapped: &Mapped, lines: &mut [CellLine], labels: &mut [u8])
     }
 }
 
-/// Writes the program and the length of the labels. If all fit, it also writes the cells to the front of `places`, and their lines and
-/// labels, and returns whether they fit.
+/// Writes the program and the length of the labels. If the cells, lines and labels all fit, writes them to the front of
+/// their buffers. Returns whether they fit.
 fn give_mapped(
     mapped: &Mapped,
     places: &mut [MarsCell],
@@ -288,7 +289,7 @@ pub extern "C" fn mars_population(
     }
 }
 
-/// Returns the points of each survivor of a round, by a formula.
+/// Computes the points of each survivor of a round, by a formula.
 #[unsafe(no_mangle)]
 pub extern "C" fn mars_score(
     alloc: Global,
@@ -313,7 +314,7 @@ pub extern "C" fn mars_score(
     }
 }
 
-/// Returns how each warrior of each lineup fares in each round.
+/// Runs the match of each lineup, and writes how each of its warriors fares in each round.
 #[unsafe(no_mangle)]
 pub extern "C" fn mars_outcomes(
     alloc: Global,

@@ -16,7 +16,7 @@ struct Followed {
     conditions: Vec<Condition>,
 }
 
-/// Returns the battle in a block and the conditions that the numbers mean, if there are this many pasts as cells.
+/// Returns the battle in a block and the conditions that the numbers mean, if there are as many pasts as cells.
 ///
 /// # Errors
 ///
@@ -44,8 +44,9 @@ fn to_follow(
     Ok(Followed { battle, conditions })
 }
 
-/// Executes at most `turns` turns of the battle in a block, keeps the past of each cell, and searches for the turns that
-/// meet all conditions. Returns the count of those turns; they are written to the front of `found`.
+/// Executes at most `turns` turns of the battle in a block, updates the past of each cell, and searches for the turns
+/// that meet all conditions. Returns the number of the turns found, and writes as many of them as fit to the front of
+/// `found`.
 ///
 /// # Errors
 ///
@@ -76,8 +77,8 @@ pub fn follow_in(
     }
 }
 
-/// Executes `step` turns of the battle in a block for each of the moments, or as many as are left, keeps the past of each
-/// cell, and writes the moment after them.
+/// For each of the moments, executes at most `step` turns of the battle in a block, updates the past of each cell, and
+/// writes the moment after these turns.
 ///
 /// # Errors
 ///

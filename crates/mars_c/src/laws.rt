@@ -1,5 +1,5 @@
-//! Laws of the library: calls with the same arguments have the same results, and the same errors; and all calls are about one and the same
-//! battle of a round. The functions do nothing; their contracts are the laws.
+//! Laws of the library: calls with the same arguments have the same results and the same errors, and all calls start a
+//! round with the same battle. The functions do nothing; their contracts are the laws.
 ghost use Rattle.mars_c.specs.Laws.{DebugsRoundZero, EqualLeagues, EqualMatches, EqualOutcomes, EqualPopulations, EqualStarts, LeagueErrorsRecur, MatchErrorsRecur, OutcomeErrorsRecur, PopulationErrorsRecur, RoundsMakeTheFates, StartErrorsRecur, StartsFitAgain};
 
 /// There is only one table of a match.
@@ -33,37 +33,37 @@ pub fn match_errors_recur()
     ensures { MatchErrorsRecur }
 {}
 
-/// The same holds for a league.
+/// If a league has a table, a call with its arguments is refused only because memory ran out.
 pub fn league_errors_recur()
     ensures { LeagueErrorsRecur }
 {}
 
-/// The same holds for a population.
+/// If a population has sums, a call with its arguments is refused only because memory ran out.
 pub fn population_errors_recur()
     ensures { PopulationErrorsRecur }
 {}
 
-/// The same holds for the outcomes of lineups.
+/// If lineups have outcomes, a call with their arguments is refused only because memory ran out.
 pub fn outcome_errors_recur()
     ensures { OutcomeErrorsRecur }
 {}
 
-/// The same holds for the start of a battle.
+/// If a battle can start, a call with its arguments is refused only because memory ran out.
 pub fn start_errors_recur()
     ensures { StartErrorsRecur }
 {}
 
-/// The words in which a battle was started are not too few for a call with the same arguments.
+/// If a battle was started in a block of words, the block is long enough for each call with the same arguments.
 pub fn starts_fit_again()
     ensures { StartsFitAgain }
 {}
 
-/// The battle that the program debugs is that with which round 0 of the match starts.
+/// The program debugs the battle with which round 0 of the match starts.
 pub fn debugs_round_zero()
     ensures { DebugsRoundZero }
 {}
 
-/// The outcomes of a match are, round by round, those of the battles with which the rounds start.
+/// The outcomes of a match are, round by round, the outcomes of the battles with which the rounds start.
 pub fn rounds_make_the_fates()
     ensures { RoundsMakeTheFates }
 {}

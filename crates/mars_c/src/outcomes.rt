@@ -158,7 +158,7 @@ fn choose(
     Ok(chosen)
 }
 
-/// Returns the fates of a lineup's match. It is fought in the memory of the last one's battle, if that fits.
+/// Returns the fates of a lineup's match. Uses the memory of `last`, the battle of an earlier match, if it fits.
 fn fight_lineup(
     alloc: Global,
     settings: &MarsSettings,

@@ -1,4 +1,4 @@
-//! Populations.
+//! Populations, in which each candidate plays a match with each opponent.
 ghost use Rattle.std.specs.Prelude.{◌≡◌, IfErr, OnErr, OnOk, length};
 ghost use Rattle.mars_c.specs.Contests.{HoldsSums};
 ghost use Rattle.mars_c.specs.Refusals.{RefusesPopulation};

@@ -33,7 +33,7 @@ pub enum LineupFault {
 }
 
 impl SettingsFault {
-    /// Returns its number in `include/mars.h`.
+    /// Returns the number of the error in `include/mars.h`.
     pub fn number(self) -> u32
         ensures { result ≡ settings_number self }
     {

@@ -67,7 +67,7 @@ pub fn parameters(settings: &MarsSettings) -> Result<Params, ParamFault>
     )
 }
 
-/// Returns the error of a number of warriors that no battle has, or `None` if a battle may have it.
+/// Returns the error if no battle may have this number of warriors, or `None` if one may.
 pub fn warriors_fault(warriors: usize) -> Option<SettingsFault>
     ensures some { result ≡ None → 1 ≤ warriors }
     ensures few { result ≡ None → warriors ≤ max_warriors }

@@ -57,7 +57,7 @@ pub enum EntrantFault {
 }
 
 impl EntrantFault {
-    /// Returns its number in `include/mars.h`.
+    /// Returns the number of the error in `include/mars.h`.
     pub fn number(self) -> u32
         ensures { result ≡ entrant_number self }
     {

@@ -16,7 +16,7 @@ use Rattle.mars_c.specs.Battles.{placed_in}
 use Rattle.mars_c.specs.Laws.{RoundsMakeTheFates}
 use Rattle.mars_c.proofs.ForLaws.Equal.{ok_injective}
 
--- Where the second of two steps succeeds, so does the first.
+-- If the second of two steps succeeds, so does the first.
 bound : {A B E : Type 0} (r : Result A E) (f : A → Result B E) (y : B) → (r >>= f) ≡ Ok y → (x : A) × (r ≡ Ok x) × (f x ≡ Ok y)
 bound (Ok x) f y e = (x, refl, e)
 bound {B = B} {E = E} (Err z) f y e = absurd (let no : ◌≡◌ {A = Result B E} (Err z) (Ok y) = e in cc)

@@ -1,4 +1,5 @@
--- What does not hold of results and errors, a condition at a time: programs, texts, edits, blocks, lineups, and the errors that are reported.
+-- Statements about results and errors that do not hold, one condition at a time: programs, texts, edits, blocks, lineups, and the errors
+-- that are reported.
 use Rattle.std.specs.Prelude.{◌≡◌, ◌<◌, ◌≤◌, ⊤, ℕ, zero, suc, All, Option, None, Some, List, [], ◌∷◌, ◌++◌, Result, Ok, Err, drop, length, map, refl, slice_get, slice_index_or}
 use Rattle.std.proofs.Common.{ap, arith, inl, inr, rules, subst, sym, ◌∙◌}
 use Rattle.std.proofs.Math.Nat.{mul-le-mul_right}

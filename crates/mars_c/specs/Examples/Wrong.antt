@@ -1,4 +1,4 @@
--- What does not hold, a condition at a time: settings, histories, rounds, blocks and buffers.
+-- Statements that do not hold, one condition at a time: settings, histories, rounds, blocks and buffers.
 use Rattle.std.specs.Prelude.{◌≡◌, ◌<◌, ◌≤◌, ◌+◌, ◌*◌, ℕ, Some, List, [], ◌∷◌, Result, Ok, Err, length, refl, slice_index_or}
 use Rattle.std.proofs.Common.{ap, arith, replicate, sym, ◌∙◌}
 use Rattle.std.specs.Option.{unwrap_or}

@@ -92,7 +92,8 @@ pub extern "C" fn mars_play(
     }
 }
 
-/// Executes turns of the battle in a block, keeps the past of each cell, and finds the turns that meet all conditions.
+/// Executes turns of the battle in a block, updates the past of each cell, and finds the turns that meet all
+/// conditions.
 #[unsafe(no_mangle)]
 pub extern "C" fn mars_follow(
     alloc: Global,
@@ -119,7 +120,8 @@ pub extern "C" fn mars_follow(
     }
 }
 
-/// Executes turns of the battle in a block in steps, keeps the past of each cell, and writes the moment after each step.
+/// Executes turns of the battle in a block in steps, updates the past of each cell, and writes the moment after each
+/// step.
 #[unsafe(no_mangle)]
 pub extern "C" fn mars_moments(
     alloc: Global,
