@@ -79,7 +79,7 @@ debugger_rules =
 abbrev pub file_rule : Rule
 file_rule = record (new_rule (codes "FILE")) { required = true; range = Some (record { start_inclusive = 1; end_inclusive = usize_max }) }
 
--- The program with these options added, one after another.
+-- The program `app` with the options `rules` added, one after another.
 abbrev pub with_rules : App → List Rule → App
 with_rules app rules = fold with_rule app rules
 

@@ -28,7 +28,7 @@ EqualRunsWriteTheSame = (words : List (List ℕ)) (known : List ℕ → Option (
     → RunSucceeds words known (started_with input) one → RunSucceeds words known (started_with input) other
     → one.written ≡ other.written
 
--- One output has bytes that are a beginning of those of the other, or all of them.
+-- The bytes of the output `one` are a beginning of the bytes of the output `other`, or all of them.
 pub record IsBeginning (one other : Option (List ℕ)) : Type 0 where
   pub text : List ℕ
   pub rest : List ℕ

@@ -15,7 +15,7 @@ use Rattle.redcode_asm.specs.Assembly.{assembly}
 use Rattle.mars_app.specs.declared.files.FileFault.{FileFault}
 use Rattle.mars_app.specs.declared.files.FileFault.TheVariants.{CannotRead, OutOfMemory, TooLarge}
 
--- All numbers of the warriors' cells are addresses in a core of this size.
+-- All numbers of the warriors' cells are addresses in a core of `core_size` cells.
 abbrev pub AllFit : ℕ → List WarriorValue → Type 0
 AllFit core_size warriors = All (λ (w : WarriorValue). All (FitsCore core_size) w.cells) warriors
 
@@ -50,7 +50,7 @@ IsReadFault known limit CannotRead = IsNone known
 IsReadFault known limit TooLarge = IfSome known (λ bytes. limit < length bytes)
 IsReadFault known limit OutOfMemory = ⊤
 
--- The content of the first file that has this name.
+-- The content of the first file in the list with the name `name`, if there is one.
 abbrev pub file_named : List (String Global × Vec ℕ Global) → List ℕ → Option (List ℕ)
 file_named [] name = None
 file_named (file ∷ files) name = if bytes_eq (string_bytes file.0) name then Some file.1.items else file_named files name

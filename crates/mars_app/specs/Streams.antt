@@ -12,10 +12,10 @@ pub record StreamsValue : Type 0 where
 abbrev pub Untouched : StreamsValue → StreamsValue → Type 0
 Untouched old new = Keeps old.unread new.unread × Keeps old.written new.written
 
--- Nothing was read, and this text was written.
+-- Nothing was read, and `text` was written.
 abbrev pub Writes : StreamsValue → StreamsValue → List ℕ → Type 0
 Writes old new text = Keeps old.unread new.unread × Appends old.written new.written text
 
--- Nothing was read, and a beginning of this text was written, not all of it.
+-- Nothing was read, and a beginning of `text` was written, not all of it.
 abbrev pub WritesInPart : StreamsValue → StreamsValue → List ℕ → Type 0
 WritesInPart old new text = Keeps old.unread new.unread × CutShort old.written new.written text

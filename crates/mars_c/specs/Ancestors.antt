@@ -20,7 +20,7 @@ pub record HasAncestors (turns warrior place : ℕ) (words rows_before rows : Li
   pub first_is : first ≡ (lineage turns state warrior place).place
 
 -- `refusal` is a reason for which the ancestors are not found: the words do not begin with the block of a battle, or after the turns the
--- warrior has no process with this index.
+-- warrior has no process with the index `place`.
 abbrev pub RefusesAncestors : ℕ → ℕ → ℕ → List ℕ → BlockRefusal → Type 0
 RefusesAncestors turns warrior place words OutOfMemory = ⊤
 RefusesAncestors turns warrior place words (Block fault) = RefusesWords words (Block fault)

@@ -42,7 +42,7 @@ IsStart s cells entrants round start = (setup : Setup) × (ws : List WarriorValu
     × IsSetup s (codes "0") setup × AreEntrants setup.params cells entrants ws × FitsTwo setup.params (length ws) setup.plan.fixed × (round < s.rounds)
     × IsRound setup ws round start
 
--- A history may have this number of places.
+-- A history may keep `places` places beside the last one.
 abbrev pub IsHistory : ℕ → Type 0
 IsHistory places = (1 ≤ places) × (places ≤ max_history)
 

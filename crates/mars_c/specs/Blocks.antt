@@ -1,6 +1,7 @@
 -- Battles as blocks of 32-bit words that the caller owns: their capacity, what calls write to them, the edits that numbers
--- mean, and why calls are rejected. The definitions allow `OutOfMemory` as a refusal of every call,
--- because an allocation may fail.
+-- mean, and why calls are rejected. The definitions allow `OutOfMemory` as a refusal of every call, because an allocation may
+-- fail. Parameters: `settings`, `cells` and `entrants` are the caller's settings and warriors, `numbers` the caller's edits, and
+-- `words` the block; `before` and `after` are the words before and after a call.
 use Rattle.std.specs.Prelude.{◌≡◌, ◌≢◌, ◌≤◌, ◌<◌, ◌⊎◌, ◌+◌, ◌*◌, ℕ, ⊤, List, ◌++◌, length, drop, take, None, Some, slice_get}
 use Rattle.std.specs.List.{AllZip, FoldsTo}
 use Rattle.mars_core.specs.State.{State}
@@ -44,7 +45,7 @@ IsWritten s before after = after ≡ block_of s ++ drop (length (block_of s)) be
 abbrev pub played_rows : {Row : Type 0} → (State → Row) → ℕ → State → List Row → List Row
 played_rows row_of turns s rows = recorded row_of s (take turns rows) ++ drop turns rows
 
--- The numbers of a MarsEdit mean this edit. An edit reads only the fields that it needs.
+-- The numbers of a MarsEdit mean the edit. An edit reads only the fields that it needs.
 abbrev pub Means : MarsEdit → Edit → Type 0
 Means numbers (edit.SetCell address cell) = (numbers.what ≡ 1) × (address ≡ numbers.address) × (plain_cell cell ≡ numbers.cell)
 Means numbers (edit.MoveProcess warrior place address) =
@@ -75,7 +76,7 @@ abbrev pub HoldsEdits : List MarsEdit → List ℕ → List ℕ → Type 0
 HoldsEdits numbers before after = (s : State) × (edits : List Edit) × (t : State) × IsPlayable s before × AllZip Means numbers edits
     × FoldsTo Makes s edits t × IsWritten t before after
 
--- `refusal` is a reason for which the battle of round `round` of these warriors is not started.
+-- `refusal` is a reason for which the battle of round `round` of a match of the warriors is not started.
 abbrev pub RefusesStart : MarsSettings → List MarsCell → List MarsWarrior → ℕ → CallRefusal → Type 0
 RefusesStart settings cells entrants round refusal =
     IsOutOfRange Warriors (AreWarriors (length entrants)) refusal ⊎ RefusesRound settings cells entrants round refusal
@@ -123,7 +124,7 @@ RefusesEdit words numbers Process = ⊥
 abbrev pub AreEdits : List MarsEdit → Type 0
 AreEdits numbers = (edits : List Edit) × AllZip Means numbers edits
 
--- `refusal` is a reason for which the numbers are no edits: those at this index are the first ones that mean none.
+-- `refusal` is a reason for which the numbers are no edits: the numbers at `index` are the first that mean none.
 abbrev pub IsNoEdit : List MarsEdit → BlockRefusal → Type 0
 IsNoEdit numbers OutOfMemory = ⊤
 IsNoEdit numbers (NoSuchEdit index) = AreEdits (take index numbers)
@@ -136,13 +137,13 @@ IsNoEdit numbers (Condition index) = ⊥
 IsNoEdit numbers Pasts = ⊥
 IsNoEdit numbers Process = ⊥
 
--- The edit at this index has this error, after those before it were made in the battle `s`.
+-- The edit at `index` has the error `fault`, after the edits before it were made in the battle `s`.
 abbrev pub Fails : State → List Edit → ℕ → EditFault → Type 0
 Fails s edits index fault = (t : State) × (e : Edit) × FoldsTo Makes s (take index edits) t × (slice_get edits index ≡ Some e)
     × (edit_fault t e ≡ Some fault)
 
 -- `refusal` is the first reason for which several edits of the words are rejected: numbers that mean no edit, words that cannot be
--- played, or an edit that has an error after those before it.
+-- played, or an edit that has an error after the edits before it.
 abbrev pub RefusesEdits : List ℕ → List MarsEdit → BlockRefusal → Type 0
 RefusesEdits words numbers OutOfMemory = ⊤
 RefusesEdits words numbers (NoSuchEdit index) = IsNoEdit numbers (NoSuchEdit index)
@@ -155,6 +156,6 @@ RefusesEdits words numbers (Condition index) = ⊥
 RefusesEdits words numbers Pasts = ⊥
 RefusesEdits words numbers Process = ⊥
 
--- The error is that of a refusal for which `Refuses` holds.
+-- `fault` is the error of a refusal for which `Refuses` holds.
 abbrev pub Reports : (BlockRefusal → Type 0) → MarsFault → Type 0
 Reports Refuses fault = (refusal : BlockRefusal) × (fault ≡ block_fault_of refusal) × Refuses refusal

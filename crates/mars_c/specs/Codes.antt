@@ -176,8 +176,8 @@ abbrev pub text_expression : TextProblem → ℕ
 text_expression (text.Expression fault) = expression_number fault
 text_expression problem = 0
 
--- The number of the problem of the text, and that of the error of the expression, within a problem of an assembly; 0 for a
--- number that does not apply.
+-- The numbers of the problem of the text and of the error of the expression within a problem of an assembly; 0 for a number that
+-- does not apply.
 abbrev pub problem_numbers : AsmProblem → ℕ × ℕ
 problem_numbers (assembly.Text problem) = (text_number problem, text_expression problem)
 problem_numbers (assembly.Expression fault) = (0, expression_number fault)
@@ -188,11 +188,11 @@ abbrev pub token_bytes : Option Span → ℕ × ℕ
 token_bytes (Some token) = (token.from, token.to)
 token_bytes None = (0, 0)
 
--- The error with this code and number. The other fields do not apply and are 0.
+-- The error with the code `code` and the number `number`. The other fields do not apply and are 0.
 abbrev pub numbered : ℕ → ℕ → MarsFault
 numbered code number = record { code = code; number = number; problem = 0; expression = 0; line = 0; warrior = 0; begin = 0; end = 0 }
 
--- The error that the caller gets for this refusal.
+-- The error that the caller gets for a refusal.
 abbrev pub fault_of : CallRefusal → MarsFault
 fault_of OutOfMemory = numbered 1 0
 fault_of (Settings fault) = numbered 2 (settings_number fault)
@@ -212,7 +212,7 @@ fault_of (Score fault) = numbered 9 (expression_number fault)
 fault_of (Warrior index fault) = record (numbered 13 (entrant_number fault)) { line = entrant_line fault; warrior = index }
 fault_of (Lineup index fault) = record (numbered 14 (lineup_number fault)) { warrior = index }
 
--- The error that the caller of a function on blocks gets for this refusal.
+-- The error that the caller of a function on blocks gets for a refusal.
 abbrev pub block_fault_of : BlockRefusal → MarsFault
 block_fault_of refused.OutOfMemory = numbered 1 0
 block_fault_of (refused.Block fault) = record (numbered 11 (block_number fault)) {

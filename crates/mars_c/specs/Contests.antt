@@ -1,4 +1,5 @@
--- The results of matches, leagues and populations, and the value of a score formula.
+-- The results of matches, leagues and populations, and the value of a score formula. Parameters: `s` are the caller's settings, `text` is
+-- the formula, `cells` and `entrants` are the caller's warriors, and `place` are the caller's rows.
 use Rattle.std.specs.Prelude.{◌≡◌, ◌==◌, ℕ, ℤ, if◌then◌else◌, pos, drop, List, map, None, Ok, Result, take, length}
 use Rattle.mars_cell.specs.Warriors.{WarriorValue}
 use Rattle.mars_match.specs.Leagues.{league_of}
@@ -19,7 +20,7 @@ use Rattle.mars_c.specs.declared.warriors.MarsWarrior.{MarsWarrior}
 use Rattle.mars_c.specs.declared.rows.MarsRow.{MarsRow}
 use Rattle.mars_c.specs.declared.settings.MarsSettings.{MarsSettings}
 
--- The points of each survivor of a round with these numbers of warriors and survivors. Without survivors the formula is not evaluated.
+-- The points of each survivor of a round of `warriors` warriors with `survivors` survivors. Without survivors the formula is not evaluated.
 abbrev pub points_each : Scanned → ℕ → ℕ → Result ℤ ExprFault
 points_each formula warriors survivors = if survivors == 0 then Ok (pos 0) else score_of formula (pos warriors) (pos survivors)
 
@@ -31,14 +32,13 @@ IsScore text warriors survivors points = (formula : Scanned) × (formula_of text
 abbrev pub plain_row : RowValue → MarsRow
 plain_row row = record { points = row.points; wins = row.wins; ties = row.ties; losses = row.losses }
 
--- `rows` is the table of a match of these warriors, with the settings `s` and the formula `text`.
+-- `rows` is the table of a match of the warriors, with the settings and the formula.
 abbrev pub IsMatch : MarsSettings → List ℕ → List MarsCell → List MarsWarrior → List RowValue → Type 0
 IsMatch s text cells entrants rows = (setup : Setup) × (ws : List WarriorValue)
     × IsSetup s text setup × AreEntrants setup.params cells entrants ws × FitsTwo setup.params (length ws) setup.plan.fixed
     × (table_of setup.params ws setup.formula setup.plan.fixed setup.plan.rounds setup.plan.seed ≡ Ok rows)
 
--- `rows` is the table of a league of these warriors, with the settings `s` and the formula `text`. The settings may not have a
--- position.
+-- `rows` is the table of a league of the warriors, with the settings and the formula. The settings may not have a position.
 abbrev pub IsLeague : MarsSettings → List ℕ → List MarsCell → List MarsWarrior → List RowValue → Type 0
 IsLeague s text cells entrants rows = (setup : Setup) × (ws : List WarriorValue)
     × IsSetup s text setup × AreEntrants setup.params cells entrants ws × (setup.plan.fixed ≡ None)

@@ -14,7 +14,8 @@ use Rattle.mars_c.specs.declared.warriors.EntrantFault.TheVariants.{OutOfMemory,
 use Rattle.mars_c.specs.declared.warriors.MarsProgram.{MarsProgram}
 use Rattle.mars_c.specs.declared.warriors.MarsWarrior.{MarsWarrior}
 
--- The numbers `cells` are the cells of the warrior `w`, which fits the parameters and has this start and these names.
+-- The numbers `cells` are the cells of the warrior `w`, which fits the parameters `p` and has the start `start` and the names `name` and
+-- `author`.
 pub record IsEntrant (p : Parameters) (cells : List MarsCell) (start : ℕ) (name author : List ℕ) (w : WarriorValue) : Type 0 where
   pub cells_same : map plain_cell w.cells ≡ cells
   pub fits : All (FitsCore p.core_size) w.cells
@@ -28,7 +29,7 @@ pub record IsEntrant (p : Parameters) (cells : List MarsCell) (start : ℕ) (nam
 abbrev pub IsCellOf : ℕ → MarsCell → Type 0
 IsCellOf m numbers = (cell : Cell) × (plain_cell cell ≡ numbers) × FitsCore m cell
 
--- The error is the first wrong cell: the numbers before the index are cells of a core of `m` cells; those at the index are no cell,
+-- The error is the first wrong cell: the numbers before its index are cells of a core of `m` cells; the numbers at the index are no cell,
 -- or the cell has a number outside the core.
 abbrev pub IsWrongCell : ℕ → List MarsCell → EntrantFault → Type 0
 IsWrongCell m cells OutOfMemory = ⊤
@@ -38,7 +39,7 @@ IsWrongCell m cells (Field i) = All (IsCellOf m) (take i cells)
     × ((cell : Cell) × (slice_get cells i ≡ Some (plain_cell cell)) × (FitsCore m cell → ⊥))
 IsWrongCell m cells other = ⊥
 
--- The error is a reason for which the numbers `cells` are no warrior with this start.
+-- The error is a reason for which the numbers `cells` are no warrior with the start `start`.
 abbrev pub IsNoEntrant : Parameters → List MarsCell → ℕ → EntrantFault → Type 0
 IsNoEntrant p cells start Length = (1 ≤ length cells) → (length cells ≤ p.max_length) → ⊥
 IsNoEntrant p cells start Start = length cells ≤ start

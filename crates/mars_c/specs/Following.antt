@@ -74,7 +74,7 @@ pub record HasMoments (step : ℕ) (conditions : List MarsCondition) (before aft
 abbrev pub AreConditions : List MarsCondition → Type 0
 AreConditions conditions = (values : List ConditionValue) × (map plain_condition values ≡ conditions)
 
--- `refusal` is a reason for which the numbers are no conditions: those at this index are the first ones that mean none.
+-- `refusal` is a reason for which the numbers are no conditions: the numbers at `index` are the first that mean none.
 abbrev pub IsNoCondition : List MarsCondition → BlockRefusal → Type 0
 IsNoCondition conditions OutOfMemory = ⊤
 IsNoCondition conditions (Condition index) = AreConditions (take index conditions) × ((numbers : MarsCondition)

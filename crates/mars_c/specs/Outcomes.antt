@@ -35,7 +35,7 @@ plain_fate fate = record {
   touched = fate.counts.touched;
 }
 
--- The settings `s` with this seed, unless it is 0.
+-- The settings `s` with the seed `seed`, unless it is 0.
 abbrev pub seeded : MarsSettings → ℕ → MarsSettings
 seeded s seed = record {
   core = s.core;
@@ -74,7 +74,7 @@ IsWrongLineup count lineups refusal = (index : ℕ) × (lineup : MarsLineup) × 
     × All (IsLineup count) (take index lineups)
     × (slice_get lineups index ≡ Some lineup) × IsNoLineup count lineup fault × (refusal ≡ Lineup index fault)
 
--- `chosen` are the warriors of `ws` at these indices.
+-- `chosen` are the warriors of `ws` at `indices`.
 abbrev pub AreChosen : List WarriorValue → List ℕ → List WarriorValue → Type 0
 AreChosen ws indices chosen = map (λ i. slice_get ws i) indices ≡ map (λ w. Some w) chosen
 

@@ -36,7 +36,7 @@ abbrev pub HoldsProgram : (WarriorValue → Type 0) → MarsProgram → List Mar
 HoldsProgram Is program before after = (w : WarriorValue) × Is w × (program ≡ plain_program w)
     × (length w.cells ≤ length before) × (after ≡ map plain_cell w.cells ++ drop (length w.cells) before)
 
--- A warrior for which `Is` holds has more cells than there are places; `program` has its numbers and names all the same.
+-- A warrior for which `Is` holds has more cells than there are places; `program` still has its numbers and names.
 abbrev pub OverflowsProgram : (WarriorValue → Type 0) → MarsProgram → List MarsCell → Type 0
 OverflowsProgram Is program places = (w : WarriorValue) × Is w × (program ≡ plain_program w) × (length places < length w.cells)
 
@@ -48,7 +48,7 @@ IsAssembled s warriors source w = (p : Parameters) × (checked_parameters (param
 abbrev pub IsLoaded : MarsSettings → List ℕ → WarriorValue → Type 0
 IsLoaded s text w = (p : Parameters) × (checked_parameters (parameters_in s) ≡ Ok p) × (load p.core_size p.max_length text ≡ Ok w)
 
--- `text` is the load file of these cells and this program.
+-- `text` is the load file of the program `program` with the cells `cells`.
 abbrev pub IsLoadFile : MarsSettings → List MarsCell → MarsProgram → List ℕ → Type 0
 IsLoadFile s cells program text = (p : Parameters) × (w : WarriorValue) × (checked_parameters (parameters_in s) ≡ Ok p) × (program.warrior.length ≡ length cells)
     × IsEntrant p cells program.warrior.start (named program.name) (named program.author) w × (text ≡ load_text p.core_size w)
@@ -61,7 +61,7 @@ AreLines s warriors source made = (p : Parameters) × (checked_parameters (param
 abbrev pub HoldsAny : {A : Type 0} → List A → List A → List A → Type 0
 HoldsAny values before after = before ≢ [] → BeginsWith values (length values) before after
 
--- Lines and labels for which `Is` holds are at the front of their buffers, as far as these are not empty. `count` is the length of the labels.
+-- Lines and labels for which `Is` holds are at the front of their buffers, unless a buffer is empty. `count` is the length of the labels.
 abbrev pub HoldsLines : (CellLines → Type 0) → ℕ → List CellLine → List CellLine → List ℕ → List ℕ → Type 0
 HoldsLines Is count lines_before lines labels_before labels = (made : CellLines) × Is made × (count ≡ length made.labels)
     × HoldsAny made.lines lines_before lines × HoldsAny made.labels labels_before labels
@@ -70,8 +70,8 @@ HoldsLines Is count lines_before lines labels_before labels = (made : CellLines)
 abbrev pub IsShort : {A : Type 0} → List A → List A → Type 0
 IsShort values buffer = (buffer ≢ []) × (length buffer < length values)
 
--- The warrior of the source, whose numbers and names are those of `program`, has more cells than there are places, or a buffer that is not
--- empty is too short for the lines of its cells or for their labels, whose length is `count`.
+-- The warrior of the source has more cells than there are places, or a buffer that is not empty is too short for the lines of its cells or
+-- for their labels. `program` has the numbers and names of the warrior, and `count` is the length of the labels.
 abbrev pub OverflowsAssembled : MarsSettings → ℕ → List ℕ → MarsProgram → List MarsCell → ℕ → List CellLine → List ℕ → Type 0
 OverflowsAssembled s warriors source program places count lines labels = (w : WarriorValue) × (made : CellLines)
     × IsAssembled s warriors source w × AreLines s warriors source made × (program ≡ plain_program w) × (count ≡ length made.labels)

@@ -1,5 +1,6 @@
 -- Why a source is not assembled, a load file is not read or written, or a match, league or population is not run. The
--- definitions allow `OutOfMemory` as a refusal of every call, because an allocation may fail.
+-- definitions allow `OutOfMemory` as a refusal of every call, because an allocation may fail. Parameters: `s` are the caller's settings,
+-- `text` is the score formula or the load file, and `cells` and `entrants` are the caller's warriors.
 use Rattle.std.specs.Prelude.{◌≡◌, ◌≢◌, ◌≤◌, ◌<◌, ◌⊎◌, ◌&&◌, ℕ, ⊤, false, List, Ok, Err, Result, Some, codes, length, slice_get, sum_by, take}
 use Rattle.mars_cell.specs.Load.{load}
 use Rattle.mars_cell.specs.Parameters.{Parameters}
@@ -37,7 +38,7 @@ use Rattle.mars_c.specs.declared.warriors.EntrantFault.TheVariants as entrant
 use Rattle.mars_c.specs.declared.warriors.MarsProgram.{MarsProgram}
 use Rattle.mars_c.specs.declared.warriors.MarsWarrior.{MarsWarrior}
 
--- The refusal of a source with this problem.
+-- The refusal of a source with the error `fault`, by its problem.
 abbrev pub refusal_at : AsmProblem → AsmFault → CallRefusal
 refusal_at problem.OutOfMemory fault = OutOfMemory
 refusal_at other fault = Assembly fault
@@ -71,12 +72,12 @@ RefusesWriting s cells program (Warrior index fault) = (p : Parameters) × (chec
     × (fault ≢ entrant.OutOfMemory) × IsNoProgram p cells program fault
 RefusesWriting s cells program other = ⊥
 
--- The error is that of a refusal for which `Refuses` holds.
+-- `fault` is the error of a refusal for which `Refuses` holds.
 abbrev pub HasCause : (CallRefusal → Type 0) → MarsFault → Type 0
 HasCause Refuses fault = (refusal : CallRefusal) × (fault ≡ fault_of refusal) × Refuses refusal
 
--- The warrior at this index is the first wrong one, with this error, which is not `OutOfMemory`: the cells of those before it are
--- read.
+-- The warrior at `index` is the first wrong one, with the error `fault`, which is not `OutOfMemory`: the cells of the warriors before it
+-- are read.
 abbrev pub IsWrong : Parameters → List MarsCell → List MarsWarrior → ℕ → EntrantFault → Type 0
 IsWrong p cells entrants index fault = (ws : List WarriorValue) × (rest : List MarsCell) × (one : MarsWarrior) × (slice_get entrants index ≡ Some one)
     × Reads p cells (take index entrants) ws rest × (one.length ≤ length rest) × (fault ≢ entrant.OutOfMemory)
@@ -122,7 +123,7 @@ RefusesScore text warriors survivors (Formula fault) = formula_of text ≡ Err f
 RefusesScore text warriors survivors (Score fault) = (formula : Scanned) × (formula_of text ≡ Ok formula) × (points_each formula warriors survivors ≡ Err fault)
 RefusesScore text warriors survivors other = ⊥
 
--- The refusal of a match with this error.
+-- The refusal of a match with an error. A failed allocation at any step is `OutOfMemory`.
 abbrev pub fight_refusal : MatchFault → CallRefusal
 fight_refusal fight.OutOfMemory = OutOfMemory
 fight_refusal (fight.Place place.OutOfMemory) = OutOfMemory
@@ -131,29 +132,29 @@ fight_refusal (fight.Place fault) = Placement fault
 fight_refusal (fight.Battle fault) = Battle fault
 fight_refusal (fight.Score fault) = Score fault
 
--- `refusal` is the error of what these warriors do: `fought` has this error with the setup that the settings and the formula
--- make.
+-- `refusal` is the error of what the warriors do: `fought` has this error for the warriors and the setup that the settings and the formula
+-- describe.
 abbrev pub Fails : {X : Type 0} → MarsSettings → List ℕ → List MarsCell → List MarsWarrior → (Setup → List WarriorValue → Result X MatchFault) → CallRefusal → Type 0
 Fails s text cells entrants fought refusal = (setup : Setup) × (ws : List WarriorValue) × (fault : MatchFault)
     × IsSetup s text setup × AreEntrants setup.params cells entrants ws × (fought setup ws ≡ Err fault) × (refusal ≡ fight_refusal fault)
 
--- A battle may have this number of warriors.
+-- A battle may have `count` warriors.
 abbrev pub AreWarriors : ℕ → Type 0
 AreWarriors count = (1 ≤ count) × (count ≤ max_warriors)
 
--- `refusal` is this error of the settings, and the number is out of its range.
+-- `refusal` is the error `fault` of the settings, because a number is out of its range: `Fits` does not hold.
 abbrev pub IsOutOfRange : SettingsFault → Type 0 → CallRefusal → Type 0
 IsOutOfRange fault Fits refusal = (refusal ≡ Settings fault) × (Fits → ⊥)
 
--- `refusal` is the error of a match of these warriors.
+-- `refusal` is the error of a match of the warriors.
 abbrev pub FailsMatch : MarsSettings → List ℕ → List MarsCell → List MarsWarrior → CallRefusal → Type 0
 FailsMatch s text cells entrants = Fails s text cells entrants (λ setup ws. table_of setup.params ws setup.formula setup.plan.fixed setup.plan.rounds setup.plan.seed)
 
--- `refusal` is the error of a league of these warriors.
+-- `refusal` is the error of a league of the warriors.
 abbrev pub FailsLeague : MarsSettings → List ℕ → List MarsCell → List MarsWarrior → CallRefusal → Type 0
 FailsLeague s text cells entrants = Fails s text cells entrants (λ setup ws. league_of setup.params ws setup.formula setup.plan.fixed setup.plan.rounds setup.plan.seed)
 
--- `refusal` is the error of the start of a round's battle.
+-- `refusal` is the error of the start of the battle of round `round`.
 abbrev pub FailsRound : MarsSettings → List MarsCell → List MarsWarrior → ℕ → CallRefusal → Type 0
 FailsRound s cells entrants round = Fails s (codes "0") cells entrants (λ setup ws. round_start_state setup ws round)
 
@@ -162,7 +163,7 @@ FailsRound s cells entrants round = Fails s (codes "0") cells entrants (λ setup
 abbrev pub FailsPopulation : MarsSettings → List ℕ → List MarsCell → List MarsWarrior → ℕ → CallRefusal → Type 0
 FailsPopulation s text cells entrants rows = Fails s text cells entrants (λ setup ws. population setup rows ws)
 
--- `refusal` is a reason for which a match of these warriors, with `rows` rows, has no result.
+-- `refusal` is a reason for which a match of the warriors, with `rows` rows of the caller, has no result.
 abbrev pub RefusesMatch : MarsSettings → List ℕ → List MarsCell → List MarsWarrior → ℕ → CallRefusal → Type 0
 RefusesMatch s text cells entrants rows refusal =
     IsOutOfRange Warriors (AreWarriors (length entrants)) refusal
@@ -170,8 +171,8 @@ RefusesMatch s text cells entrants rows refusal =
     ⊎ RefusesEntry s text (length entrants) cells entrants refusal
     ⊎ FailsMatch s text cells entrants refusal
 
--- `refusal` is a reason for which a league of these warriors has no result. A league may not have a position, so the position
--- must fit battles of 0 warriors.
+-- `refusal` is a reason for which a league of the warriors, with `rows` rows of the caller, has no result. A league may not have a
+-- position, so the position must fit battles of 0 warriors, which no position does.
 abbrev pub RefusesLeague : MarsSettings → List ℕ → List MarsCell → List MarsWarrior → ℕ → CallRefusal → Type 0
 RefusesLeague s text cells entrants rows refusal =
     IsOutOfRange Warriors (length entrants ≤ max_league_warriors) refusal
@@ -187,7 +188,7 @@ RefusesPopulation s text cells entrants rows refusal =
     ⊎ RefusesEntry s text 2 cells entrants refusal
     ⊎ FailsPopulation s text cells entrants rows refusal
 
--- `refusal` is a reason for which the battle of this round does not start.
+-- `refusal` is a reason for which the battle of round `round` does not start.
 abbrev pub RefusesRound : MarsSettings → List MarsCell → List MarsWarrior → ℕ → CallRefusal → Type 0
 RefusesRound s cells entrants round refusal =
     IsOutOfRange Round (round < s.rounds) refusal

@@ -15,7 +15,7 @@ pub struct MarsChange {
     pub after: MarsCell,
 }
 
-/// The record of a turn. Fields that do not apply are 0.
+/// The record of a turn. Fields that do not apply are 0. Warriors are numbered from 0 in the order of their turns.
 #[repr(C)]
 #[derive(Clone, Copy)]
 pub struct MarsRecord {

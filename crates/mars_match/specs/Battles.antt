@@ -40,11 +40,11 @@ survivors_of_round p warriors starts k = in_load_order (k % length warriors) (en
 abbrev pub round_fault : Parameters → List WarriorValue → List ℕ → ℕ → Option BattleFault
 round_fault p warriors starts k = let first = k % length warriors in start_fault p (rotated first warriors) (rotated first starts)
 
--- The error if there is no warrior or too many.
+-- The error of a battle of `count` warriors, if there are none or too many.
 abbrev pub count_fault : ℕ → Option BattleFault
 count_fault count = if count == 0 then Some NoWarrior else if nat_lt max_warriors count then Some TooMany else None
 
--- The value, unless there is an error.
+-- The value `value`, unless there is an error.
 abbrev pub unless : {A : Type 0} → Option BattleFault → A → Result A MatchFault
 unless None value = Ok value
 unless (Some f) value = Err (fault.Battle f)

@@ -41,7 +41,7 @@ fate_of over deeds first i start =
       counts = deeds place;
     }
 
--- The fates of the warriors from warrior `i` on, in load order, for the given starts.
+-- The fates of the warriors from warrior `i` on, in load order, whose first cells are at the addresses in the last list.
 abbrev pub fates_from : State → (ℕ → Counts) → ℕ → ℕ → List ℕ → List Fate
 fates_from over deeds first i [] = []
 fates_from over deeds first i (start ∷ starts) = fate_of over deeds first i start ∷ fates_from over deeds first (i + 1) starts

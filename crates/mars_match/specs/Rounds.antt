@@ -38,7 +38,7 @@ abbrev pub round_score : Scanned → List Bool → Result ℤ MatchFault
 round_score formula lived =
     if how_many lived == 0 then Ok (pos 0) else as_score (score_of formula (pos (length lived)) (pos (how_many lived)))
 
--- The outcome of a round with the given survivors.
+-- The outcome of a round with the survivors `lived`.
 abbrev pub outcome_of : Scanned → List Bool → Result Outcome MatchFault
 outcome_of formula lived = round_score formula lived >>= λ score. Ok (record { lived = lived; score = score })
 

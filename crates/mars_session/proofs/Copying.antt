@@ -87,7 +87,7 @@ next_written front back x n e =
 pub read_of_front : (front back : List Snapshot) (x : Snapshot) (at : ℕ) → at < length front → x ≡ get_or front at x → x ≡ snapshot_at (front ++ back) at
 read_of_front front back x at l e = get_or_read front at x l e nowhere ∙ sym (get_or_append_left front back nowhere at l)
 
--- A slice that was borrowed from a Vec returns to it as it was left.
+-- A Vec whose slice was borrowed has the items that the borrow left in the slice.
 pub refilled : (n : ℕ) (xs ys : List Snapshot) → length ys ≡ n → take n (ys ++ drop (length ys) xs) ≡ ys
 refilled n xs ys e = take_at ys (drop (length ys) xs) n e
 

@@ -118,7 +118,7 @@ FewCommandsAreUndone = (k : ℕ) (forgotten : Bool) (limit : ℕ) (calls : List 
 abbrev pub RedoAfterUndo : Type 0
 RedoAfterUndo = (h back : History) → h.present.mark ≡ true → undo h ≡ Some back → redo back ≡ Some h
 
--- The history whose only place is marked and has the valid state `s` is a tape, if all places are kept and if `k` are kept.
+-- The history whose only place is marked and has the valid state `s` is a tape, both if all places are kept and if `k` are kept.
 abbrev pub BeginningIsTape : Type 0
 BeginningIsTape = (s : State) → IsValid s → IsTape (beginning s) × ((k : ℕ) → IsTapeOf k (beginning s))
 

@@ -18,7 +18,7 @@ line_asks core_size l = if nat_lt max_line_len (length l) then Unknown else requ
 abbrev pub IsLine : List ℕ → Type 0
 IsLine l = AllByRecursion (λ b. b ≢ 10) l
 
--- The bytes are these complete lines, followed by the beginning `rest` of another one.
+-- `bytes` are the complete lines `lines`, followed by the beginning `rest` of another line.
 pub record Splits (bytes : List ℕ) (lines : List (List ℕ)) (rest : List ℕ) : Type 0 where
   pub whole : bytes ≡ flat_map with_newline lines ++ rest
   pub each : AllByRecursion IsLine lines

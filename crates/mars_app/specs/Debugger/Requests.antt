@@ -32,7 +32,7 @@ word_of command.Quit = codes "quit"
 abbrev pub commands : List Command
 commands = command.Step ∷ command.Run ∷ command.Until ∷ command.Edit ∷ command.Fill ∷ command.Move ∷ command.Kill ∷ command.Spawn ∷ command.Undo ∷ command.Redo ∷ command.Goto ∷ command.List ∷ command.Queue ∷ command.Show ∷ command.Quit ∷ []
 
--- The command with this name.
+-- The command with the name `w`.
 abbrev pub command_of : List ℕ → Option Command
 command_of w = find (λ c. bytes_eq (word_of c) w) commands
 

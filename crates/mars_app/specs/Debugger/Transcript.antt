@@ -87,8 +87,8 @@ pub record NothingDone (input left : Option (List ℕ)) (s : SessionState) (v : 
   pub session : t ≡ s
   pub writer : Keeps v w
 
--- A read failed. The bytes that were read are these complete lines and an unfinished one. The complete lines were executed,
--- none of them is `quit`, and all their replies were written.
+-- A read failed. `bytes` were read: the complete lines `lines` and the unfinished line `rest`. The complete lines were executed, none of
+-- them is `quit`, and all their replies were written.
 pub record ReadFails (core_size : ℕ) (input left : Option (List ℕ)) (s : SessionState) (v : Option (List ℕ)) (t : SessionState) (w : Option (List ℕ)) : Type 0 where
   pub bytes : List ℕ
   pub lines : List (List ℕ)
@@ -117,8 +117,8 @@ pub data EndsIn (bytes : List ℕ) (lines : List (List ℕ)) (last : List ℕ) (
   at_newline : (more : List ℕ) → bytes ≡ flat_map with_newline lines ++ (last ++ 10 ∷ more) → EndsIn bytes lines last rest
   at_end : bytes ≡ flat_map with_newline lines ++ last → IsAtEnd rest → EndsIn bytes lines last rest
 
--- A write failed. The bytes that were read are these lines and the line `last`. All of them were executed, and none before
--- `last` is `quit`. The replies to the lines were written, and a beginning of the reply to `last`, not all of it.
+-- A write failed. `bytes` were read; they are the lines `lines` and the line `last`, and possibly bytes after it. The lines and `last` were
+-- executed, and none before `last` is `quit`. The replies to the lines were written, and a beginning of the reply to `last`, not all of it.
 pub record WriteFails (core_size : ℕ) (input left : Option (List ℕ)) (s : SessionState) (v : Option (List ℕ)) (t : SessionState) (w : Option (List ℕ)) : Type 0 where
   pub bytes : List ℕ
   pub lines : List (List ℕ)

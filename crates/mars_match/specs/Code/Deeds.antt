@@ -40,7 +40,7 @@ abbrev pub with_turns : List State → DeedsValue → DeedsValue
 with_turns [] d = d
 with_turns (t ∷ turns) d = with_turns turns (with_turn t d)
 
--- The deeds of all warriors, in the order of turns, after these turns.
+-- The deeds `all` of all warriors, in the order of turns, after the turns of the list.
 abbrev pub noted : List State → List DeedsValue → List DeedsValue
 noted [] all = all
 noted (t ∷ turns) all = noted turns (slice_set all t.next (with_turn t (slice_index_or all t.next (no_deeds 0))))

@@ -1,5 +1,5 @@
--- After turns up to a cycle, the battle is in that cycle or is over: each turn after which a warrior is alive advances the
--- clock.
+-- After an accepted `until`, the battle is in the requested cycle or is over, because each turn after which a warrior is alive
+-- advances the clock.
 use Rattle.std.proofs.Common.{◌≡◌, ℕ, zero, suc, ◌+◌, ◌-◌, ◌*◌, ◌<◌, ◌≤◌, ◌≢◌, Bool, true, false, List, [], ◌∷◌, length, drop, Option, None, Some, refl, ap, sym, ◌∙◌, subst, arith, add-one, nat_eq, nat_lt, eq-eqb, inl, inr, if◌then◌else◌}
 use Rattle.std.specs.Prelude.{Result, Ok, Err, ◌⊎◌, ◌==◌, ◌||◌, ◌&&◌, nat_le, option_map, IsTrue}
 use Rattle.std.proofs.lemmas.Bool.{or_parts, eqb-false, ltb-false, ltb-true, leb-false}
