@@ -40,7 +40,7 @@ HoldsProgram Is program before after = (w : WarriorValue) × Is w × (program �
 abbrev pub OverflowsProgram : (WarriorValue → Type 0) → MarsProgram → List MarsCell → Type 0
 OverflowsProgram Is program places = (w : WarriorValue) × Is w × (program ≡ plain_program w) × (length places < length w.cells)
 
--- `w` is the warrior that the source is assembled to. `warriors` is the value of WARRIORS.
+-- `w` is the warrior that the source is assembled to, with the settings `s`. `warriors` is the value of WARRIORS.
 abbrev pub IsAssembled : MarsSettings → ℕ → List ℕ → WarriorValue → Type 0
 IsAssembled s warriors source w = (p : Parameters) × (checked_parameters (parameters_in s) ≡ Ok p) × (assembly p s.rounds warriors source ≡ Ok w)
 

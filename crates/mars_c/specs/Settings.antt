@@ -28,11 +28,11 @@ parameters_in s = record {
 abbrev pub position_of : ℕ → Option ℕ
 position_of position = if position == 0 then None else Some position
 
--- The numbers of rounds that a match may have.
+-- A match may have `rounds` rounds.
 abbrev pub AreRounds : ℕ → Type 0
 AreRounds rounds = (1 ≤ rounds) × (rounds ≤ max_rounds)
 
--- The seeds that the first round of a match may have.
+-- The first round of a match may have the seed `seed`.
 abbrev pub IsSeed : ℕ → Type 0
 IsSeed seed = (1 ≤ seed) × (seed ≤ 2147483646)
 

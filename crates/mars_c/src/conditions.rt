@@ -9,8 +9,8 @@ use crate::faults::BlockRefusal;
 use mars_core::{Condition, Number, Way};
 use std::alloc::Global;
 
-/// A condition of a search: a number of a turn, or of a cell that it uses, is one from `first` to `last`, or, if `last` is
-/// smaller, not between them.
+/// A condition of a search on a number of a turn, or of a cell that the turn uses. The number must be from `first` to
+/// `last`; if `last` is less than `first`, it must not be between them.
 #[repr(C)]
 #[derive(Clone, Copy)]
 pub struct MarsCondition {

@@ -7,7 +7,7 @@ use Rattle.mars_core.specs.Turn.{front_of, turn_of, turn_record}
 use Rattle.mars_core.specs.declared.machine.writes.CellChange.{CellChange}
 use Rattle.mars_match.specs.declared.counts.Counts.{Counts}
 
--- The next `n` turns from the state `s` on, or those that are left if they are fewer.
+-- The next `n` turns from the state `s` on, or all that remain if they are fewer.
 abbrev pub turns_from : ℕ → State → List State
 turns_from zero s = []
 turns_from (suc n) s = if is_over_of s then [] else s ∷ turns_from n (turn_of s)

@@ -55,7 +55,7 @@ starts_in_order p w seed = spread p.distance 0 (0 ∷ ascending (draws (room_for
 unfoldable pub starts_of : Parameters → ℕ → ℕ → List ℕ
 starts_of p w seed = exchanged (w - 2) (seed_after (w - 1) seed) (starts_in_order p w seed)
 
--- The seed that is left after the starts of `w` warriors were drawn.
+-- The seed for the next round, after the starts of `w` warriors were drawn.
 unfoldable pub next_seed : ℕ → ℕ → ℕ
 next_seed w seed = seed_after ((w - 1) + (w - 2)) seed
 

@@ -51,8 +51,8 @@ abbrev pub placed_unless : Option PlaceFault → List ℕ × ℕ → Result (Lis
 placed_unless None placed = Ok placed
 placed_unless (Some f) placed = Err (fault.Place f)
 
--- The starts of `w` warriors in a round, and the seed that is left. With a fixed position of the second warrior nothing
--- is drawn.
+-- The starts of `w` warriors in a round, and the seed for the next round. With a fixed position of the second warrior
+-- nothing is drawn.
 abbrev pub placed_for : Parameters → ℕ → Option ℕ → ℕ → Result (List ℕ × ℕ) MatchFault
 placed_for p w (Some position) seed = Ok (0 ∷ position ∷ [], seed)
 placed_for p w None seed = placed_unless (place_fault p w seed) (starts_of p w seed, next_seed w seed)

@@ -44,7 +44,7 @@ fn drawn(seed: u32) -> u32
     (16807 * u64::from(seed) % 2_147_483_647) as u32
 }
 
-/// Sets start 0 to 0 and each other start to a draw modulo `room`, and returns the seed that is left.
+/// Sets start 0 to 0 and each other start to a draw modulo `room`, and returns the seed after the draws.
 fn draw_values(starts: &mut [u32], room: u32, seed: u32) -> u32
     requires room { 1 ≤ room }
     requires some { 1 ≤ length starts.old }
@@ -73,7 +73,7 @@ fn spread(starts: &mut [u32], distance: u32)
 }
 
 /// Exchanges each start, from the last one down to start 2, with a drawn one other than start 0, and returns the seed
-/// that is left.
+/// after the draws.
 fn exchange(starts: &mut [u32], seed: u32) -> u32
     ensures starts { starts.new ≡ exchanged (length starts.old - 2) seed starts.old }
     ensures seed { result ≡ seed_after (length starts.old - 2) seed }
@@ -86,7 +86,7 @@ fn exchange(starts: &mut [u32], seed: u32) -> u32
     state
 }
 
-/// Places one warrior for each item of `starts`, for which there must be room, and returns the seed that is left.
+/// Places one warrior for each item of `starts`, for which there must be room, and returns the seed for the next round.
 ///
 /// Doesn't allocate.
 pub fn place_all(params: &Params, seed: u32, starts: &mut [u32]) -> u32
@@ -141,7 +141,7 @@ pub fn place(
     ensures fault { IfSome (place_fault params.now warriors seed) (λ fault. result ≡ Err fault) }
     ensures only_memory { place_fault params.now warriors seed ≡ None → IfErr result (λ fault. fault ≡ PlaceFault.OutOfMemory) }
 
-    // Otherwise it returns the defined starts and the seed that is left.
+    // Otherwise it returns the defined starts and the seed for the next round.
     ensures starts { IfOk result (λ placed. placed.0.items ≡ starts_of params.now warriors seed) }
     ensures seed { IfOk result (λ placed. placed.1 ≡ next_seed warriors seed) }
 

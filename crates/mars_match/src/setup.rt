@@ -25,7 +25,7 @@ pub struct Plan {
 }
 
 impl Plan {
-    /// Sets the starts of a round, and returns the seed that is left.
+    /// Sets the starts of a round, and returns the seed for the next round.
     pub(crate) fn place_round(
         &self,
         params: &Params,
@@ -61,7 +61,7 @@ pub struct Setup {
 }
 
 impl Setup {
-    /// Returns the starts of the warriors of a round, in load order, and the seed that is left.
+    /// Returns the starts of the warriors of a round, in load order, and the seed for the next round.
     ///
     /// The starts are drawn from the seed. If the plan has a fixed position, it is the start of the second of two
     /// warriors, and the seed is returned unchanged.

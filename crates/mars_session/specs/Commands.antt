@@ -37,7 +37,7 @@ stops_at (Some c) s = in_cycle c s
 abbrev pub step_states : State → Result States Refusal
 step_states s = if is_over_of s then Err Over else Ok (turn_of s, [])
 
--- The states that `run n` reaches: `n` turns, or as many as are left.
+-- The states that `run n` reaches: `n` turns, or fewer if the battle ends before.
 abbrev pub run_states : ℕ → State → Result States Refusal
 run_states n s =
     if n == 0 || nat_lt command_limit n then Err Count
@@ -48,7 +48,7 @@ run_states n s =
 abbrev pub until_bound : ℕ → State → ℕ
 until_bound c s = (c - s.cycle) * length s.queues
 
--- The states that `until c` reaches: the turns up to cycle `c`, or as many as are left.
+-- The states that `until c` reaches: the turns up to cycle `c`, or up to the end of the battle if it comes before.
 abbrev pub until_states : ℕ → State → Result States Refusal
 until_states c s =
     if nat_lt command_limit (until_bound c s) then Err Count

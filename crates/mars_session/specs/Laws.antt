@@ -122,11 +122,11 @@ RedoAfterUndo = (h back : History) → h.present.mark ≡ true → undo h ≡ So
 abbrev pub BeginningIsTape : Type 0
 BeginningIsTape = (s : State) → IsValid s → IsTape (beginning s) × ((k : ℕ) → IsTapeOf k (beginning s))
 
--- If all places are kept, every call, accepted or refused, turns a tape into a tape.
+-- If all places are kept, a tape is still a tape after every call, accepted or refused.
 abbrev pub CallsKeepTapes : Type 0
 CallsKeepTapes = (limit : ℕ) (call : Call) (poor : Bool) (h : History) → IsTape h → IsTape (outcome never limit call poor h).history
 
--- If all places are kept, every list of calls turns a tape into a tape.
+-- If all places are kept, a tape is still a tape after every list of calls.
 abbrev pub ScriptsKeepTapes : Type 0
 ScriptsKeepTapes = (limit : ℕ) (calls : List Call) (poor : List Bool) (h : History) → IsTape h → IsTape (script never limit calls poor h).history
 
@@ -134,8 +134,7 @@ ScriptsKeepTapes = (limit : ℕ) (calls : List Call) (poor : List Bool) (h : His
 abbrev pub CallsKeepLimit : Type 0
 CallsKeepLimit = (limit : ℕ) (call : Call) (poor : Bool) (h : History) → IsTape h → last_of h ≤ limit → last_of (outcome never limit call poor h).history ≤ limit
 
--- If `k` places are kept beside the last one, every list of calls turns a tape with at most `k` places before the last one into
--- another one with at most `k`.
+-- If `k` places are kept beside the last one, a tape with at most `k` places before the last one is still one after every list of calls.
 abbrev pub ScriptsForgetTapes : Type 0
 ScriptsForgetTapes = (k : ℕ) (forgotten : Bool) (limit : ℕ) (calls : List Call) (poor : List Bool) (h : History)
     → IsTapeOf k h → IsTapeOf k (script (record { most = Some k; forgotten = forgotten }) limit calls poor h).history

@@ -1,6 +1,6 @@
 -- The limits of a history.
 use Rattle.std.specs.Prelude.{ℕ}
 
--- The maximum number of places beside the last one that a tape which evicts may keep.
+-- The maximum number of places that a tape that evicts may keep beside the last one.
 abbrev pub max_history : ℕ
 max_history = 1000000

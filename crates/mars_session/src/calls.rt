@@ -8,9 +8,9 @@ use thiserror::Error;
 pub enum Call {
     /// Executes one turn.
     Step,
-    /// Executes this number of turns, or as many as are left.
+    /// Executes this number of turns, or fewer if the battle ends before.
     Run(u64),
-    /// Executes turns until the battle is in this cycle, or as many as are left.
+    /// Executes turns until the battle is in this cycle or is over.
     Until(u64),
     /// Sets the cell at an address.
     SetCell(u64, Cell),

@@ -124,7 +124,7 @@ pub fn step<T: Tape>(tape: &mut T, limit: u64) -> Result<Standing, Refusal>
     make_turns(tape, limit, 1, None)
 }
 
-/// Executes `n` turns, or as many as are left.
+/// Executes `n` turns, or fewer if the battle ends before.
 pub fn run<T: Tape>(tape: &mut T, limit: u64, n: u64) -> Result<Standing, Refusal>
     ensures answer { IsOutcome (T.retention tape.old) limit (Call.Run n) (T.history tape.old) result (T.history tape.new) (T.retention tape.new) }
     ensures memory { result ≡ Err Refusal.OutOfMemory → T.room tape.old < n }
@@ -145,7 +145,7 @@ fn bounded_turns(cycles: u64, warriors: u64) -> Option<u64>
     cycles.checked_mul(warriors).filter(|n| *n <= COMMAND_LIMIT)
 }
 
-/// Executes turns until the battle is in the cycle, or as many as are left.
+/// Executes turns until the battle is in the cycle or is over.
 pub fn until<T: Tape>(tape: &mut T, limit: u64, cycle: u64) -> Result<Standing, Refusal>
     ensures answer { IsOutcome (T.retention tape.old) limit (Call.Until cycle) (T.history tape.old) result (T.history tape.new)
         (T.retention tape.new) }

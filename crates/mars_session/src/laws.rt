@@ -75,20 +75,20 @@ pub fn beginning_is_tape()
     ensures { BeginningIsTape }
 {}
 
-/// If all places are kept, every call keeps a tape: each place is a turn or an edit of the one before it, and the first and the
-/// last are marked.
+/// If all places are kept, a tape is still a tape after every call: each place is a turn or an edit of the one before
+/// it, and the first and the last are marked.
 pub fn calls_keep_tapes()
     ensures { CallsKeepTapes }
 {}
 
-/// If all places are kept, every list of calls keeps a tape: each place is a turn or an edit of the one before it, and the
-/// first and the last are marked.
+/// If all places are kept, a tape is still a tape after every list of calls: each place is a turn or an edit of the one
+/// before it, and the first and the last are marked.
 pub fn scripts_keep_tapes()
     ensures { ScriptsKeepTapes }
 {}
 
-/// If `k` places are kept beside the last one, every list of calls keeps a tape with at most `k` places before the last
-/// one: each place is a turn or an edit of the one before it, and the last is marked.
+/// If `k` places are kept beside the last one, a tape with at most `k` places before the last one is still one after
+/// every list of calls: each place is a turn or an edit of the one before it, and the last is marked.
 pub fn scripts_forget_tapes()
     ensures { ScriptsForgetTapes }
 {}
@@ -108,7 +108,8 @@ pub fn until_arrives()
     ensures { UntilArrives }
 {}
 
-/// If all places are kept, every call keeps a tape within its limit, because no command appends more places than its bound.
+/// If all places are kept, a tape is still within its limit after every call, because no command appends more places
+/// than its bound.
 pub fn calls_keep_limit()
     ensures { CallsKeepLimit }
 {}

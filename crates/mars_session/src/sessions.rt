@@ -88,7 +88,7 @@ impl<T: Tape> Session<T> {
         self.call(Call::Step)
     }
 
-    /// Executes `n` turns, 1 to 1,000,000, or as many as are left.
+    /// Executes `n` turns, 1 to 1,000,000, or fewer if the battle ends before.
     ///
     /// # Errors
     ///
@@ -99,7 +99,7 @@ impl<T: Tape> Session<T> {
         self.call(Call::Run(n))
     }
 
-    /// Executes turns until the battle is in this cycle, or as many as are left.
+    /// Executes turns until the battle is in this cycle or is over.
     ///
     /// # Errors
     ///

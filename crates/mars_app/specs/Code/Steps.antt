@@ -1,6 +1,6 @@
 -- The steps of the debugger, byte by byte. The state consists of a line buffer, a session and the content of the writer. Parameters:
--- `a`, `t` and `v` are these three before the step, and `b`, `u` and `w` after it. Each step holds whatever was read and written
--- before it: `bytes` from the session `s` on, with the replies `text`.
+-- `a`, `t` and `v` are these three before the step, and `b`, `u` and `w` after it. Each definition is about any input and output
+-- before the step: `bytes` were read, starting with the session `s`, and `text` was replied.
 use Rattle.std.specs.Prelude.{◌≡◌, ℕ, List, [], ◌∷◌, ◌++◌, Option}
 use Rattle.std.specs.List.{flat_map, AllByRecursion}
 use Rattle.std.specs.Io.KnownBytes.{Appends}

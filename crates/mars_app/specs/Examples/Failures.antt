@@ -26,7 +26,7 @@ use Rattle.mars_app.specs.declared.fault.RunFault.TheVariants as fault
 one_error : {X : Type 0} {e other : MatchFault} → ◌≡◌ {A = Result X MatchFault} (Err e) (Err other) → other ≡ e
 one_error same = cc
 
--- If the first file has no warrior, the error is that of the first file.
+-- If the first file has no warrior, the error is about the first file.
 module _ (known : List ℕ → Option (List ℕ)) (p : Parameters) (rounds count : ℕ) (name : List ℕ) (names : List (List ℕ)) (f : RunFault)
     (wrong : (w : WarriorValue) → IsLoaded known p rounds count name w → ⊥) where
   first_or_later : (before : List (List ℕ)) (other : List ℕ) (after : List (List ℕ)) (ws : List WarriorValue)
@@ -72,11 +72,11 @@ module _ (p : Parameters) (rounds count line : ℕ) (name bytes : List ℕ) (sho
       × (IsReadFaultOfFile known name (fault.TooLarge shown) → string_bytes shown ≡ shown_name name)
   a_file_that_is_not_read known = (λ f. f.0, λ f. f.0)
 
--- What follows the last newline has none.
+-- The bytes after the last newline contain no newline.
 pub an_unfinished_line : Splits (97 ∷ 10 ∷ 98 ∷ []) [] (97 ∷ 10 ∷ 98 ∷ []) → ⊥
 an_unfinished_line s = s.unfinished.1.0 refl
 
--- If its reply cannot be written, a line was executed all the same: `queue 0` leaves the session as it is.
+-- A line is executed even if its reply cannot be written: `queue 0` leaves the session as it is.
 pub a_reply_cut_off : (s t : SessionState) (text : List ℕ) → BrokenAt 8 s [] (codes "queue 0") t text → t ≡ s
 unfolding answer request_of command_request with_arguments alone one_number first_word after_word number_in parse_digits
 a_reply_cut_off s t text b = b.session ∙ nothing b.between b.before b.answers

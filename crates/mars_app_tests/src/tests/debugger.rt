@@ -159,7 +159,7 @@ fn session_of<T: Start>(
     Ok(Session::new(T::start(alloc, battle)?, limit))
 }
 
-/// Returns the program's own kind of session, of one imp.
+/// Returns a session of one imp over the kind of tape that the program uses.
 fn imp_session(rt: &impl Abort, alloc: Global) -> Result<Session<RingTape>, Fail> {
     session_of(rt, alloc, ONE_IMP, AMPLE)
 }

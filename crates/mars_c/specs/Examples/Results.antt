@@ -58,7 +58,7 @@ use Rattle.mars_c.specs.declared.warriors.MarsWarrior.{MarsWarrior}
 
 -- ---- Errors
 
--- The error that is reported is that of the refusal, and the refusal holds.
+-- The reported error is the error of the refusal, and the refusal holds.
 pub what_is_reported : (f : MarsFault)
     → (HasCause (λ r. r ≡ call.OutOfMemory) f → f ≡ fault_of call.OutOfMemory)
     × (Reports (λ r. r ≡ refused.OutOfMemory) f → f ≡ block_fault_of refused.OutOfMemory)
@@ -117,7 +117,8 @@ no_load_file one text = (
   λ f. let e = f.5 in cc,
 )
 
--- A program is warrior 0. Its error is not out of memory, it has none without a core, and its first cell may be its start.
+-- A program is reported as warrior 0. Its error is never `OutOfMemory`, it has no error without a core, and it may start at its first
+-- cell.
 pub no_error_of_a_program : (one : MarsCell)
     → (RefusesWriting (nano 1 1 0) (one ∷ []) (of_length 1) (call.Warrior 1 entrant.Start) → ⊥)
     × (RefusesWriting (nano 1 1 0) (one ∷ []) (of_length 1) (call.Warrior 0 entrant.OutOfMemory) → ⊥)
@@ -150,7 +151,7 @@ a_text_in_a_buffer text count before after (other, is, begins) = subst (λ text.
 pub too_short_a_buffer : (text : List ℕ) (count : ℕ) (buffer : List ℕ) → OverflowsText (λ other. other ≡ text) count buffer → (count ≡ length text) × (length buffer < count)
 too_short_a_buffer text count buffer (other, is, over) = (over.0 ∙ ap (λ (text : List ℕ). length text) is, over.1)
 
--- The length of the labels is reported, and lines and labels are in their buffers, as far as these are not empty.
+-- The length of the labels is reported, and lines and labels are in their buffers, unless a buffer is empty.
 pub lines_in_buffers : (made : CellLines) (count : ℕ) (lines_before lines : List CellLine) (labels_before labels : List ℕ)
     → HoldsLines (λ other. other ≡ made) count lines_before lines labels_before labels
     → (count ≡ length made.labels) × HoldsAny made.lines lines_before lines × HoldsAny made.labels labels_before labels
@@ -251,7 +252,7 @@ no_warrior_16_is_killed words after cell fault = (
   λ r. let e : Some fault ≡ Some NoSuchWarrior = sym r.4 ∙ no_warrior_16 r.0 words cell r.1 r.2 r.3 in cc,
 )
 
--- No edit of words that are no battle, and none that the numbers do not mean, has an error of its own.
+-- Neither an edit of words that are no battle nor an edit that the numbers do not mean has an error of its own.
 pub no_error_of_an_edit : (words : List ℕ) (n : MarsEdit) (cell : MarsCell) (fault : EditFault)
     → (RefusesEdit (0 ∷ words) n (refused.Edit 0 fault) → ⊥) × (RefusesEdit words (numbers 5 cell) (refused.Edit 0 fault) → ⊥)
 no_error_of_an_edit words n cell fault = (λ r. no_mark r.0 words r.2, λ r. no_edit_5 cell r.1 r.3)

@@ -1,4 +1,4 @@
--- Examples: starting positions, and the seed that is left.
+-- Examples: starting positions, and the seed for the next round.
 use Rattle.std.specs.Prelude.{◌≡◌, ◌<◌, ◌≤◌, ℕ, [], ◌∷◌, None, Some, refl}
 use Rattle.std.proofs.Common.{arith}
 use Rattle.mars_cell.specs.Parameters.{Parameters}

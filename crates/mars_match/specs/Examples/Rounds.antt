@@ -73,8 +73,8 @@ pub second_warrior_is_fixed : table_of (sizes 5 2) (shot ∷ shot ∷ []) (formu
 unfolding table_of survivors_of_round end_of start_state overlap scanned value_of tree_within turn_of executed accepted execution_of effect_of evaluated direct_operand address_after fold write_cell advanced ends
 second_warrior_is_fixed = refl
 
--- The second warrior starts at 3. In the next round, which uses the seed that is left, it starts at 2. Both warriors
--- survive each round.
+-- The second warrior starts at 3. In the next round, which uses the seed that the first one left, it starts at 2. Both
+-- warriors survive each round.
 pub rounds_go_on_from_the_seed : table_of (sizes 5 2) (shot ∷ shot ∷ []) (formula (codes "(W*W-1)/S")) None 2 282475249 ≡ Ok (fared (pos 2) 0 2 0 ∷ fared (pos 2) 0 2 0 ∷ [])
 unfolding table_of starts_of drawn next_seed survivors_of_round end_of start_state overlap scanned value_of tree_within turn_of executed accepted execution_of effect_of evaluated direct_operand address_after fold write_cell advanced ends
 rounds_go_on_from_the_seed = refl

@@ -90,8 +90,8 @@ fn check_positions(rt: &impl Abort, alloc: Global, both: &[Warrior]) -> Result<(
 
 #[test]
 fn a_league_of_two_at_a_fixed_position(rt: HostRuntime) -> Result<(), Fail> {
-    // The first warrior decrements the field by which the second one jumps, if that is 200 cells ahead of it, and not
-    // otherwise.
+    // If the second warrior starts 200 cells after the first one, the first one decrements the number by which the
+    // second one jumps.
     let both = one_cells(rt.alloc(), 8000, &["JMP.B $0, <200", "JMP.B @0, $0"])?;
     let checked = check_positions(&rt, rt.alloc(), both.as_slice());
     drop(both);

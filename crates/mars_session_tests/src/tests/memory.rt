@@ -1,5 +1,5 @@
-//! Calls whose allocations fail, over each kind of tape. Each test holds whichever one of its allocations fails, since the
-//! second try succeeds; dev/checks/memory lets each allocation fail in turn.
+//! Calls whose allocations fail, over each kind of tape. Each test tries a call again if memory runs out, so it passes
+//! whichever allocation fails. dev/checks/memory lets each allocation fail in turn.
 use super::{BLANK, COPIER, IDLE, check_call, check_reply, check_same, check_standing};
 use mars_cell::{Params, Warrior};
 use mars_core::Battle;

@@ -1,6 +1,6 @@
-//! The debugger does not allocate, and neither does a command of it over a ring of records. The test creates its
-//! objects, allocates again, and holds whether that allocation and all later ones fail or not; dev/checks/memory lets
-//! all allocations from each one on fail. If the objects themselves cannot be allocated, the test checks nothing.
+//! Neither the debugger nor its commands over a ring of records allocate. The test creates its objects, allocates
+//! again, and passes whether or not that allocation and all later ones fail; dev/checks/memory lets all allocations
+//! from each one on fail. If the objects themselves cannot be allocated, the test checks nothing.
 use super::{AMPLE, IMP, Narrow, Pieces};
 use mars_app::{DebugFault, debug_within};
 use mars_cell::{Params, read_load};
@@ -19,7 +19,7 @@ fn ask(alloc: Global) {
     let _asked: Result<Vec<u64>, _> = Vec::with_capacity(alloc, 1);
 }
 
-/// Returns the program's own kind of session, of one imp.
+/// Returns a session of one imp over the kind of tape that the program uses.
 fn imp_session(alloc: Global, params: &Params) -> Option<Session<RingTape>> {
     let mut warriors = Vec::new(alloc);
     warriors.push(read_load(alloc, IMP, params).ok()?).ok()?;
