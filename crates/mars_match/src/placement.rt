@@ -141,7 +141,7 @@ pub fn place(
     ensures fault { IfSome (place_fault params.now warriors seed) (λ fault. result ≡ Err fault) }
     ensures only_memory { place_fault params.now warriors seed ≡ None → IfErr result (λ fault. fault ≡ PlaceFault.OutOfMemory) }
 
-    // Otherwise it returns the defined starts and the seed for the next round.
+    // Otherwise it returns the defined starts and the seed that is left.
     ensures starts { IfOk result (λ placed. placed.0.items ≡ starts_of params.now warriors seed) }
     ensures seed { IfOk result (λ placed. placed.1 ≡ next_seed warriors seed) }
 
