@@ -21,10 +21,11 @@ colon = 58
 abbrev pub underscore : ℕ
 underscore = 95
 
--- The printable bytes of ASCII, from the space to `~`.
+-- The space is the first printable byte of ASCII.
 abbrev pub first_printed : ℕ
 first_printed = 32
 
+-- `~` is the last printable byte of ASCII.
 abbrev pub last_printed : ℕ
 last_printed = 126
 

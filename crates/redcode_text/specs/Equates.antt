@@ -37,6 +37,7 @@ pub record Replaced : Type 0 where
   pub tokens : List Token
   pub count : ℕ
 
+-- A function that appends tokens to a result, with EQU names replaced.
 abbrev pub Replacing : Type 0
 Replacing = Replaced → List Token → Result Replaced TokenProblem
 
@@ -46,6 +47,7 @@ one_line t [] = Ok []
 one_line t (line ∷ []) = Ok line
 one_line t (line ∷ next ∷ lines) = Err (problem_of t BadToken)
 
+-- `r` with one more replacement, that of the name `t`, unless the limit is reached.
 abbrev pub one_more : Token → Replaced → Result Replaced TokenProblem
 one_more t r = elim (nat_le limit r.count) [ true ↦ Err (problem_of t TooLong) | false ↦ Ok (record { tokens = r.tokens; count = r.count + 1 }) ]
 
@@ -55,9 +57,11 @@ abbrev pub replaced_name : Option Replacing → Replaced → Token → List (Lis
 replaced_name None r t lines = Err (problem_of t EquDepth)
 replaced_name (Some deeper) r t lines = one_line t lines >>= λ line. one_more t r >>= λ s. deeper s line
 
+-- `r` with the token `t` appended, which is not an EQU name, unless the limit is reached.
 abbrev pub kept_token : Replaced → Token → Result Replaced TokenProblem
 kept_token r t = elim (nat_le limit (length r.tokens)) [ true ↦ Err (problem_of t TooLong) | false ↦ Ok (record { tokens = r.tokens ++ t ∷ []; count = r.count }) ]
 
+-- `r` with the token `t` appended or, if it is an EQU name, the line of its definition.
 abbrev pub replaced_token : Option Replacing → Replaced → Token → Option (List (List Token)) → Result Replaced TokenProblem
 replaced_token deeper r t (Some lines) = replaced_name deeper r t lines
 replaced_token deeper r t None = kept_token r t

@@ -34,7 +34,7 @@ label_span ps st ts = option_map span_of (find (λ t. is_undefined ps st t.kind)
 abbrev pub count_limit : ℕ
 count_limit = 10000
 
--- The value of a count, which is from 0 to the limit.
+-- The value of a count, which must be from 0 to the limit.
 abbrev pub as_count : Result ℤ ExprFault → Result ℕ TextProblem
 as_count (Ok (pos n)) = elim (nat_le n count_limit) [ true ↦ Ok n | false ↦ Err BadCount ]
 as_count (Ok (negsuc n)) = Err BadCount
@@ -44,12 +44,13 @@ as_count (Err e) = Err (Expression e)
 abbrev pub count_names : Predefined → Reading → ℕ → Option ℤ
 count_names ps st n = predefined_value (with_current_line ps st.instructions) (name_at st.names n)
 
--- The bytes of the token at which the count `us` has an error: those of the error of its expression, or of its first token
--- if its value is no count. A count without tokens has its error at the token `before`.
+-- The bytes of the token at which the count `us` has an error: the token at which its expression has the error, or its
+-- first token if its value is no count. A count without tokens has its error at the token `before`.
 abbrev pub count_span : (ℕ → Option ℤ) → Option Span → List Token → TextProblem → Option Span
 count_span names before us (Expression e) = fault_span names before us e
 count_span names before us problem = first_span us
 
+-- A count whose error gets its bytes from `span`.
 abbrev pub counted : (TextProblem → Option Span) → Result ℕ TextProblem → Result ℕ TokenProblem
 counted span (Ok n) = Ok n
 counted span (Err e) = Err (problem_at (span e) e)
@@ -72,6 +73,7 @@ pub record Head : Type 0 where
   pub count : ℕ
   pub reading : Reading
 
+-- The counter with the index `n`, if the loop has one.
 abbrev pub counter_name : Reading → Option ℕ → Option (List ℕ)
 counter_name st (Some n) = Some (name_at st.names n)
 counter_name st None = None
@@ -80,14 +82,15 @@ counter_name st None = None
 abbrev pub loop_limit : ℕ
 loop_limit = 32
 
--- There is room for one more open loop. The error has the bytes `span`.
+-- Everything read, if one more loop may be open. The error has the bytes `span`.
 abbrev pub room_for_loop : Option Span → Reading → Result Reading TokenProblem
 room_for_loop span st = elim (nat_le loop_limit (length st.loops)) [ true ↦ Err (problem_at span TooLong) | false ↦ Ok st ]
 
--- The offset of the word FOR of a row in the source.
+-- The offset in the source of the word FOR of a FOR line.
 abbrev pub for_word_at : SourceRow → ℕ
 for_word_at row = elim (source.line_kind row.bytes) [ source.ForLine at ↦ row.at + at | _ ↦ row.at ]
 
+-- The header of the loop whose FOR line is `row`.
 abbrev pub head_line : Predefined → SourceRow → Reading → Result Head TokenProblem
 head_line ps row st =
     line_read st >>= row_tokens row 0 >>= λ r.
@@ -106,6 +109,7 @@ unpaired_line problem row st = line_read st >>= λ _. Err (problem_at (loop_word
 
 -- ---- The whole source
 
+-- Everything read, with one more open loop in the iteration `round`.
 abbrev pub in_round : Option (List ℕ) → ℕ → Reading → Reading
 in_round counter round st = record st { loops = record { counter = counter; round = round } ∷ st.loops }
 
@@ -115,6 +119,7 @@ rounds body counter round zero st = Ok st
 rounds body counter round (suc n) st =
     body (in_round counter round st) >>= λ a. unless_ended (record a { loops = st.loops }) (rounds body counter (round + 1) n)
 
+-- Everything read after the items, or their first error. Reading stops after an END.
 abbrev pub flat : Predefined → Items → Reading → Result Reading TextFault
 flat ps source.Nothing st = Ok st
 flat ps (Plain row rest) st = at_line row.number (plain_line ps row st) >>= λ a. unless_ended a (flat ps rest)
@@ -125,6 +130,7 @@ flat ps (Loop head body rof rest) st =
 flat ps (source.UnclosedFor row rest) st = at_line row.number (unpaired_line UnclosedFor row st)
 flat ps (source.LoneRof row rest) st = at_line row.number (unpaired_line RofAlone row st)
 
+-- The state before the first line of a source.
 abbrev pub nothing_read : Reading
 nothing_read =
     record {

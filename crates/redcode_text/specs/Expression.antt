@@ -38,13 +38,15 @@ precedence And = 4
 precedence Or = 5
 precedence _ = 0
 
--- The maximum number of unary operators in a row, and the maximum number of open parentheses.
+-- The maximum number of unary operators in a row.
 abbrev pub max_signs : ℕ
 max_signs = 64
 
+-- The maximum number of open parentheses.
 abbrev pub max_parens : ℕ
 max_parens = 64
 
+-- The state after one more unary operator.
 abbrev pub one_more_sign : ShapeState → Result ShapeState ExprFault
 one_more_sign p = if nat_le max_signs p.signs then Err Depth else Ok (record { opened = p.opened; signs = p.signs + 1; after_operand = false })
 
@@ -61,35 +63,42 @@ abbrev pub after_sign : ShapeState → Sign → Result ShapeState ExprFault
 after_sign p CloseParen = if p.opened == 0 then Err Syntax else Ok (record { opened = p.opened - 1; signs = 0; after_operand = true })
 after_sign p s = if precedence s == 0 then Err Syntax else Ok (record { opened = p.opened; signs = 0; after_operand = false })
 
+-- The state after an operand.
 abbrev pub operand_at : ShapeState → Result ShapeState ExprFault
 operand_at p = if p.after_operand then Err Syntax else Ok (record { opened = p.opened; signs = 0; after_operand = true })
 
+-- The state after one more token.
 abbrev pub next_state : ShapeState → TokenKind → Result ShapeState ExprFault
 next_state p (Number n) = operand_at p
 next_state p (Name n) = operand_at p
 next_state p (token.Sign s) = if p.after_operand then after_sign p s else before_sign p s
 
--- Whether tokens form an expression: the error is that of the first token that does not fit, or of the end.
+-- Whether the tokens complete an expression from the state `p` on. The error is that of the first token that does not
+-- fit, or of the end.
 abbrev pub shape : ShapeState → List TokenKind → Result (Unit {0}) ExprFault
 shape p [] = if p.after_operand && (p.opened == 0) then Ok tt else Err Syntax
 shape p (x ∷ xs) = next_state p x >>= λ q. shape q xs
 
+-- The state before the first token.
 abbrev pub start : ShapeState
 start = record { opened = 0; signs = 0; after_operand = false }
 
--- The bytes of the first token that cannot continue an expression.
+-- The bytes of the first token that cannot continue an expression from the state `p` on.
 abbrev pub misfit : ShapeState → List Token → Option Span
 misfit p [] = None
 misfit p (t ∷ ts) = elim (next_state p t.kind) [ Ok q ↦ misfit q ts | Err e ↦ Some (span_of t) ]
 
 -- ---- Values
 
+-- 1 for true, 0 for false.
 abbrev pub truth : Bool → ℤ
 truth b = if b then pos 1 else pos 0
 
+-- Every number except 0 counts as true.
 abbrev pub is_true : ℤ → Bool
 is_true z = not (int_eq z (pos 0))
 
+-- The number, if it fits a signed integer of 64 bits.
 abbrev pub in_range : ℤ → Result ℤ ExprFault
 in_range (pos n) = if nat_lt n (2 ^ 63) then Ok (pos n) else Err Range
 in_range (negsuc n) = if nat_lt n (2 ^ 63) then Ok (negsuc n) else Err Range
@@ -120,6 +129,7 @@ unary _ a = Err Syntax
 
 -- ---- Trees
 
+-- The tree of an expression. `Named` has the index of a name. `Missing` is the tree of no tokens.
 pub data Tree : Type 0 where
   Numeral : ℤ → Tree
   Named : ℕ → Tree
@@ -134,29 +144,33 @@ pub record OperatorSplit : Type 0 where
   pub sign : Sign
   pub after : List TokenKind
 
--- The token as a binary operator of precedence `k`, if it is one: it follows an operand and is outside parentheses.
+-- The token as a binary operator of precedence `k`, if it is one. It must be outside parentheses, so that `depth` is 0,
+-- and follow an operand, so that `after` is true.
 abbrev pub operator_at : ℕ → ℕ → Bool → TokenKind → Option Sign
 operator_at k depth after (token.Sign s) = if after && (depth == 0) && (precedence s == k) then Some s else None
 operator_at k depth after _ = None
 
--- The number of open parentheses after a token.
+-- The number of open parentheses after a token, if it is `depth` before it.
 abbrev pub depth_after : ℕ → TokenKind → ℕ
 depth_after depth (token.Sign OpenParen) = depth + 1
 depth_after depth (token.Sign CloseParen) = depth - 1
 depth_after depth _ = depth
 
+-- The token can be the last one of an operand.
 abbrev pub ends_operand : TokenKind → Bool
 ends_operand (token.Sign CloseParen) = true
 ends_operand (token.Sign _) = false
 ends_operand _ = true
 
--- The operator found later, if there is one, or else the one at the token `x`.
+-- The split at the operator found in `xs`, if there is one, or else at the token `x` before them, if that is the
+-- operator `here`.
 abbrev pub later_or : Option OperatorSplit → TokenKind → Option Sign → List TokenKind → Option OperatorSplit
 later_or (Some p) x here xs = Some (record { before = x ∷ p.before; sign = p.sign; after = p.after })
 later_or None x (Some s) xs = Some (record { before = []; sign = s; after = xs })
 later_or None x None xs = None
 
--- The last binary operator of precedence `k` outside parentheses.
+-- The split at the last binary operator of precedence `k` outside parentheses. At the start, `depth` parentheses are
+-- open, and `after` is true if an operand precedes.
 abbrev pub last_operator : ℕ → ℕ → Bool → List TokenKind → Option OperatorSplit
 last_operator k depth after [] = None
 last_operator k depth after (x ∷ xs) = later_or (last_operator k (depth_after depth x) (ends_operand x) xs) x (operator_at k depth after x) xs
@@ -166,7 +180,7 @@ without_last [] = []
 without_last (x ∷ []) = []
 without_last (x ∷ y ∷ ys) = x ∷ without_last (y ∷ ys)
 
--- The tree of tokens without a binary operator outside parentheses.
+-- The tree of tokens without a binary operator outside parentheses. `tree` gives the trees of fewer tokens.
 abbrev pub primary : (ℕ → List TokenKind → Tree) → List TokenKind → Tree
 primary tree [] = Missing
 primary tree (Number n ∷ xs) = Numeral n
@@ -174,11 +188,13 @@ primary tree (Name n ∷ xs) = Named n
 primary tree (token.Sign OpenParen ∷ xs) = Parens (tree 5 (without_last xs))
 primary tree (token.Sign s ∷ xs) = Unary s (tree 0 xs)
 
+-- The tree of tokens that are split at a binary operator of precedence `k` + 1, or else the tree `tighter`.
 abbrev pub parted : (ℕ → List TokenKind → Tree) → ℕ → Option OperatorSplit → Tree → Tree
 parted tree k (Some p) tighter = Binary (tree (suc k) p.before) p.sign (tree k p.after)
 parted tree k None tighter = tighter
 
--- The tree of tokens: the last of the loosest binary operators splits them.
+-- The tree of tokens whose binary operators outside parentheses have a precedence of at most a given one. The last of
+-- the loosest operators splits them. `tree` gives the trees of fewer tokens.
 abbrev pub at_level : (ℕ → List TokenKind → Tree) → ℕ → List TokenKind → Tree
 at_level tree zero xs = primary tree xs
 at_level tree (suc k) xs = parted tree k (last_operator (suc k) 0 false xs) (at_level tree k xs)
@@ -188,10 +204,12 @@ unfoldable pub tree_within : ℕ → ℕ → List TokenKind → Tree
 tree_within zero k xs = Missing
 tree_within (suc n) k xs = at_level (tree_within n) k xs
 
+-- The value of a name, or the error that it has none.
 abbrev pub known : Option ℤ → Result ℤ ExprFault
 known (Some v) = Ok v
 known None = Err Unknown
 
+-- The value of a tree. `names` has the values of names.
 abbrev pub value : (ℕ → Option ℤ) → Tree → Result ℤ ExprFault
 value names (Numeral n) = Ok n
 value names (Named n) = known (names n)
@@ -214,13 +232,15 @@ is_unknown names _ = false
 abbrev pub unknown_name : (ℕ → Option ℤ) → List Token → Option Span
 unknown_name names ts = option_map span_of (find (λ t. is_unknown names t.kind) ts)
 
+-- The first span, or `other` if there is none.
 abbrev pub found_or : Option Span → Option Span → Option Span
 found_or (Some s) other = Some s
 found_or None other = other
 
--- The bytes of the token at which the expression `ts` has the error: the token that cannot continue it, or its
--- last token if it ends too early; the first name without a value; or its first token, if it divides by zero or a value is
--- out of range. An expression without tokens has its error at the token `before`.
+-- The bytes of the token at which the expression `ts` has the error. If a name has no value, it is the first such name.
+-- If the expression divides by zero or a value is out of range, it is the first token. Otherwise it is the token that
+-- cannot continue the expression, or the last one if the expression ends too early. An expression without tokens has
+-- its error at the token `before`.
 abbrev pub fault_span : (ℕ → Option ℤ) → Option Span → List Token → ExprFault → Option Span
 fault_span names before ts Unknown = unknown_name names ts
 fault_span names before ts DivideByZero = first_span ts

@@ -18,7 +18,7 @@ abbrev pub LinesBeforeRedcodeAreIgnored : Type 0
 LinesBeforeRedcodeAreIgnored = (before rows : List SourceRow) → list_any begins_redcode before ≡ false → list_any begins_redcode rows ≡ true
     → tree_of_rows (read_rows (before ++ rows)) ≡ tree_of_rows (read_rows rows)
 
--- Lines after END have no effect, unless one of them begins with `;redcode`: then the lines before that one would not be
+-- Lines after END have no effect, unless one of them begins with `;redcode`: then the lines before that one are not
 -- read. `source` is a source that reads up to an END, and 10 (LF) ends its last line.
 abbrev pub LinesAfterEndAreIgnored : Type 0
 LinesAfterEndAreIgnored = (ps : Predefined) (source behind : List ℕ) (read : Reading)
@@ -59,8 +59,8 @@ leads_operand (token.Sign Bang) = true
 leads_operand (token.Sign OpenParen) = true
 leads_operand _ = false
 
--- The first token of `xs` after which the tokens cannot be continued to an expression. The error is `Depth` if the token may
--- precede an operand and an operand was possible in its place, or else `Syntax`.
+-- `token` is the first token of `xs` with which the tokens cannot be continued to an expression. The error is `Depth`
+-- if the token may precede an operand and an operand was possible in its place, or else `Syntax`.
 pub record Misplaced (xs : List TokenKind) (fault : ExprFault) : Type 0 where
   pub before : List TokenKind
   pub token : TokenKind

@@ -51,6 +51,7 @@ pub record Reading : Type 0 where
   pub asserts : List Assert
   pub ended : Bool
 
+-- A step reads a part of a source: it returns everything read including that part, or an error.
 abbrev pub Step : Type 0
 Step = Reading → Result Reading TokenProblem
 
@@ -58,6 +59,7 @@ Step = Reading → Result Reading TokenProblem
 abbrev pub Predefined : Type 0
 Predefined = List (List ℕ × ℤ)
 
+-- The value of the predefined name `name`, if it is one.
 abbrev pub predefined_value : Predefined → List ℕ → Option ℤ
 predefined_value [] name = None
 predefined_value (p ∷ ps) name = elim (bytes_eq p.0 name) [ true ↦ Some p.1 | false ↦ predefined_value ps name ]
@@ -81,9 +83,11 @@ is_label st n = list_any (λ l. list_any (λ m. m == n) l.labels) st.lines
 
 -- ---- The number of lines and tokens
 
+-- The step that counts one more line.
 abbrev pub line_read : Step
 line_read st = elim (nat_le limit st.lines_read) [ true ↦ Err (problem_at None TooLong) | false ↦ Ok (record st { lines_read = st.lines_read + 1 }) ]
 
+-- The step that counts the tokens `ts`.
 abbrev pub tokens_counted : List Token → Step
 tokens_counted ts st = elim (nat_lt limit (st.tokens_read + length ts)) [ true ↦ Err (problem_at None TooLong) | false ↦ Ok (record st { tokens_read = st.tokens_read + length ts }) ]
 
@@ -96,7 +100,8 @@ before_comment (b ∷ bs) = elim (b == semicolon) [ true ↦ [] | false ↦ b �
 abbrev pub WithTokens : Type 0
 WithTokens = List Token × Reading
 
--- The tokens of a row from the offset `at` on, up to a comment. There may be as many tokens as the limit leaves.
+-- The tokens of a row from the offset `at` on, up to a comment, and everything read including them. There may be as
+-- many as the limit leaves.
 abbrev pub row_tokens : SourceRow → ℕ → Reading → Result WithTokens TokenProblem
 row_tokens row at st =
     tokens st.loops row.number (row.at + at) (limit - st.tokens_read) st.names (before_comment (drop at row.bytes)) >>= λ s.
@@ -104,10 +109,11 @@ row_tokens row at st =
 
 -- ---- FOR and EQU lines
 
--- The tokens before and after the word at the offset `at` in the source.
+-- The tokens before the word at the offset `at` in the source.
 abbrev pub tokens_before : ℕ → List Token → List Token
 tokens_before at ts = filter (λ t. nat_lt t.from at) ts
 
+-- The tokens after the word at the offset `at` in the source.
 abbrev pub tokens_after : ℕ → List Token → List Token
 tokens_after at ts = filter (λ t. nat_lt at t.from) ts
 
@@ -166,10 +172,12 @@ pub record Parts : Type 0 where
   pub operation_span : Option Span
   pub rest : List Token
 
+-- The words that cannot be labels, in lower case: opcodes, also those of P-space, and ORG, END, EQU, FOR and ROF.
 abbrev pub operations : List (List ℕ)
 operations =
     codes "dat" ∷ codes "mov" ∷ codes "add" ∷ codes "sub" ∷ codes "mul" ∷ codes "div" ∷ codes "mod" ∷ codes "jmp" ∷ codes "jmz" ∷ codes "jmn" ∷ codes "djn" ∷ codes "seq" ∷ codes "sne" ∷ codes "slt" ∷ codes "spl" ∷ codes "nop" ∷ codes "cmp" ∷ codes "org" ∷ codes "end" ∷ codes "equ" ∷ codes "for" ∷ codes "rof" ∷ codes "ldp" ∷ codes "stp" ∷ codes "pin" ∷ []
 
+-- The name `n` is an EQU name or, in either case, one of the `operations`.
 abbrev pub is_operation : Reading → ℕ → Bool
 is_operation st n = is_equate st n || list_any (str_eq_ignore_ascii_case (name_at st.names n)) operations
 
@@ -241,11 +249,12 @@ token_on_line number t = record t { line = number }
 abbrev pub on_line : ℕ → List Token → List Token
 on_line number ts = map (token_on_line number) ts
 
--- The lines with `ts` put before the first one; and the lines with `ts` put after the last one.
+-- The lines with `ts` put before the first one.
 abbrev pub prepend_to_first : List Token → List (List Token) → List (List Token)
 prepend_to_first ts [] = ts ∷ []
 prepend_to_first ts (l ∷ ls) = (ts ++ l) ∷ ls
 
+-- The lines with `ts` put after the last one.
 abbrev pub append_to_last : List (List Token) → List Token → List (List Token)
 append_to_last [] ts = ts ∷ []
 append_to_last (l ∷ []) ts = (l ++ ts) ∷ []
@@ -260,17 +269,19 @@ abbrev pub each_line : (List Token → Step) → List (List Token) → Step
 each_line ordinary [] st = Ok st
 each_line ordinary (l ∷ ls) st = line_read st >>= tokens_counted l >>= ordinary l >>= λ a. unless_ended a (each_line ordinary ls)
 
+-- The lines of the definition of the operation, if it is an EQU name.
 abbrev pub operation_lines : Reading → Option ℕ → Option (List (List Token))
 operation_lines st (Some n) = equate_lines st.equates n
 operation_lines st None = None
 
--- The step that reads a line, given in parts. If its operation is an EQU name, the lines of the name's definition replace
--- it, unless they are nested too deep.
+-- The step that reads a line with this number, given in parts. If its operation is an EQU name, the lines of the name's
+-- definition replace it. `deeper` reads each of them; without `deeper` they are nested too deep.
 abbrev pub parts_read : Option (List Token → Step) → ℕ → Parts → Option (List (List Token)) → Step
 parts_read deeper number p None st = Ok (line_added number (record p { rest = on_line number p.rest }) st)
 parts_read None number p (Some lines) st = Err (problem_at p.operation_span EquDepth)
 parts_read (Some ordinary) number p (Some lines) st = each_line ordinary (append_to_last (prepend_to_first p.label_tokens lines) p.rest) st
 
+-- The step that reads an ordinary line with this number. `deeper` reads the lines that replace an EQU name.
 abbrev pub ordinary_with : Predefined → ℕ → Option (List Token → Step) → List Token → Step
 ordinary_with ps number deeper ts st = parts_of ps st ts >>= λ p. parts_read deeper number p (operation_lines st p.operation) st
 
@@ -281,6 +292,7 @@ ordinary_line ps number (suc depth) = ordinary_with ps number (Some (ordinary_li
 
 -- ---- Directives
 
+-- The byte, or `?` if it is not printable.
 abbrev pub printable : ℕ → ℕ
 printable b = elim (nat_le first_printed b && nat_le b last_printed) [ true ↦ b | false ↦ question_mark ]
 
@@ -293,15 +305,18 @@ max_name_len = 60
 abbrev pub directive_value : List ℕ → List ℕ
 directive_value text = take max_name_len (map printable (reverse (without_blanks (reverse (without_blanks text)))))
 
+-- The first text, or `old` if it is empty.
 abbrev pub unless_empty : List ℕ → List ℕ → List ℕ
 unless_empty [] old = old
 unless_empty (b ∷ bs) old = b ∷ bs
 
+-- The step that reads an `;assert` line.
 abbrev pub assert_line : SourceRow → Step
 assert_line row st =
     row_tokens row (directive_text_at (codes "assert") row.bytes) st >>= λ r.
     Ok (record (r.1) { asserts = r.1.asserts ++ record { number = row.number; current_line = r.1.instructions; tokens = r.0 } ∷ [] })
 
+-- The step that reads a comment line, which may have the directive `;name`, `;author` or `;assert`.
 abbrev pub comment_line : SourceRow → Step
 comment_line row st =
     elim (has_directive_word (codes "name") row.bytes) [
@@ -314,11 +329,13 @@ comment_line row st =
 
 -- ---- A line that is neither FOR nor ROF
 
+-- The step that reads the tokens of a line of the given kind. A line without tokens adds nothing.
 abbrev pub tokens_line : Predefined → LineKind → SourceRow → List Token → Step
 tokens_line ps kind row [] st = Ok st
 tokens_line ps (EquLine at) row (t ∷ ts) st = equ_line ps (row.at + at) (t ∷ ts) st
 tokens_line ps kind row (t ∷ ts) st = ordinary_line ps row.number depth_limit (t ∷ ts) st
 
+-- The step that reads a line that is neither FOR nor ROF.
 abbrev pub plain_line : Predefined → SourceRow → Step
 plain_line ps row st =
     line_read st >>= λ a. elim (is_comment row.bytes) [

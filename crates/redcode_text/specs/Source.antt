@@ -19,6 +19,7 @@ abbrev pub lines_of : List ℕ → List (List ℕ)
 lines_of [] = []
 lines_of (b ∷ bs) = elim (b == line_feed) [ true ↦ [] ∷ lines_of bs | false ↦ onto_first b (lines_of bs) ]
 
+-- The rows of lines, the first of which has the number `number` and starts at the offset `at`. Each LF takes one byte.
 abbrev pub rows_from : ℕ → ℕ → List (List ℕ) → List SourceRow
 rows_from number at [] = []
 rows_from number at (bytes ∷ rest) = record { number = number; at = at; bytes = bytes } ∷ rows_from (number + 1) (at + length bytes + 1) rest
@@ -36,6 +37,7 @@ blank_len bytes = prefix_len is_blank bytes
 abbrev pub past_blanks : List ℕ → ℕ → ℕ
 past_blanks bytes at = at + blank_len (drop at bytes)
 
+-- The offset after the word at the offset `at`.
 abbrev pub past_word : List ℕ → ℕ → ℕ
 past_word bytes at = at + word_len (drop at bytes)
 
@@ -44,13 +46,15 @@ abbrev pub colon_len : List ℕ → ℕ
 colon_len [] = 0
 colon_len (b ∷ bs) = elim (b == colon) [ true ↦ 1 | false ↦ 0 ]
 
+-- The offset after a colon at the offset `at`, or `at` if there is none.
 abbrev pub past_colon : List ℕ → ℕ → ℕ
 past_colon bytes at = at + colon_len (drop at bytes)
 
--- The offsets of the first and the second word of a line. A colon may separate them.
+-- The offset of the first word of a line.
 abbrev pub first_word_at : List ℕ → ℕ
 first_word_at bytes = past_blanks bytes 0
 
+-- The offset of the second word of a line. A colon may separate it from the first.
 abbrev pub second_word_at : List ℕ → ℕ
 second_word_at bytes = past_blanks bytes (past_colon bytes (past_blanks bytes (past_word bytes (first_word_at bytes))))
 
@@ -75,14 +79,17 @@ pub data LineKind : Type 0 where
   EquLine : ℕ → LineKind
   OtherLine : LineKind
 
+-- An EQU line, if the offset of its word EQU is given, or else another line.
 abbrev pub equ_or_other : Option ℕ → LineKind
 equ_or_other (Some at) = EquLine at
 equ_or_other None = OtherLine
 
+-- A FOR line, if the offset of its word FOR is given, or else the kind `other`.
 abbrev pub for_or : LineKind → Option ℕ → LineKind
 for_or other (Some at) = ForLine at
 for_or other None = other
 
+-- The kind of the line `bytes`. ROF must be its first word; FOR has precedence over EQU.
 abbrev pub line_kind : List ℕ → LineKind
 line_kind bytes =
     elim (has_word (codes "rof") bytes (first_word_at bytes)) [
@@ -111,13 +118,14 @@ is_comment bytes = starts_with nat_eq (without_blanks bytes) (semicolon ∷ [])
 abbrev pub has_directive : List ℕ → List ℕ → Bool
 has_directive word bytes = starts_with nat_eq (str_to_ascii_lowercase (without_blanks bytes)) (semicolon ∷ word)
 
--- The offset of the text after the word of a directive.
+-- The offset of the text after the word of a directive and its `;`.
 abbrev pub directive_text_at : List ℕ → List ℕ → ℕ
 directive_text_at word bytes = blank_len bytes + length word + 1
 
 abbrev pub directive_text : List ℕ → List ℕ → List ℕ
 directive_text word bytes = drop (directive_text_at word bytes) bytes
 
+-- A word before this text ends there.
 abbrev pub ends_word : List ℕ → Bool
 ends_word [] = true
 ends_word (b ∷ bs) = is_blank b
@@ -159,12 +167,14 @@ abbrev pub opened : SourceRow → Items → List (SourceRow × Items) → Pairin
 opened head here [] = record { here = UnclosedFor head here; waiting = [] }
 opened head here (rof ∷ waiting) = record { here = Loop head here rof.0 rof.1; waiting = waiting }
 
+-- The pairing `p` with one more row of the given kind before it.
 abbrev pub paired_with : LineKind → SourceRow → Pairing → Pairing
 paired_with (ForLine at) row p = opened row p.here p.waiting
 paired_with RofLine row p = record { here = Nothing; waiting = (row, p.here) ∷ p.waiting }
 paired_with (EquLine at) row p = record { here = Plain row p.here; waiting = p.waiting }
 paired_with OtherLine row p = record { here = Plain row p.here; waiting = p.waiting }
 
+-- The pairing of the rows.
 abbrev pub paired : List SourceRow → Pairing
 paired [] = record { here = Nothing; waiting = [] }
 paired (row ∷ rows) = paired_with (line_kind row.bytes) row (paired rows)
@@ -177,6 +187,7 @@ then_lone rof (Loop head body end rest) = Loop head body end (then_lone rof rest
 then_lone rof (UnclosedFor head rest) = UnclosedFor head (then_lone rof rest)
 then_lone rof (LoneRof row rest) = LoneRof row (then_lone rof rest)
 
+-- The items `here`, followed by the first waiting ROF, if there is one.
 abbrev pub with_lone : Items → List (SourceRow × Items) → Items
 with_lone here [] = here
 with_lone here (rof ∷ waiting) = then_lone rof.0 here

@@ -46,12 +46,14 @@ without_line (Err e) = Err (record { problem = e.problem; token = e.token })
 abbrev pub is_blank : ℕ → Bool
 is_blank b = nat_lt b 33 && not (b == line_feed)
 
+-- A letter of ASCII, or `_`.
 abbrev pub is_letter : ℕ → Bool
 is_letter b = is_ascii_alphabetic b || b == underscore
 
 abbrev pub is_word_byte : ℕ → Bool
 is_word_byte b = is_letter b || is_ascii_digit b
 
+-- The text starts with a letter.
 abbrev pub begins_name : List ℕ → Bool
 begins_name [] = false
 begins_name (b ∷ bs) = is_letter b
@@ -91,6 +93,7 @@ abbrev pub parts_at_joins : List ℕ → List (List ℕ)
 parts_at_joins [] = [] ∷ []
 parts_at_joins (b ∷ bs) = elim (b == ampersand) [ true ↦ [] ∷ parts_at_joins bs | false ↦ onto_first b (parts_at_joins bs) ]
 
+-- The iteration of a counter. A name that is no counter is a bad token.
 abbrev pub round_or_bad : Option ℕ → Result ℕ TextProblem
 round_or_bad (Some n) = Ok n
 round_or_bad None = Err BadToken
@@ -128,9 +131,11 @@ pub record Found : Type 0 where
 abbrev pub number_kind : ℕ → Result TokenKind TextProblem
 number_kind n = if nat_lt n (2 ^ 63) then Ok (Number (pos n)) else Err BadToken
 
+-- The token of a number with these digits, from a word of `len` bytes.
 abbrev pub number_found : List (List ℕ) → ℕ → List ℕ → Result Found TextProblem
 number_found names len digits = number_kind (digits_value 10 digits) >>= λ kind. Ok (record { kind = kind; len = len; names = names })
 
+-- The token of the name `name`, from a word of `len` bytes.
 abbrev pub name_found : List (List ℕ) → ℕ → List ℕ → Result Found TextProblem
 name_found names len name =
     if begins_name name then Ok (record { kind = Name (name_index names name); len = len; names = with_name names name }) else Err BadToken
@@ -144,11 +149,13 @@ abbrev pub word_found : List (List ℕ) → ℕ → List ℕ → Option ℕ → 
 word_found names len word (Some round) = Ok (record { kind = Number (pos round); len = len; names = names })
 word_found names len word None = plain_word_found names len word
 
+-- The token of the word `raw`, whose joins are not replaced yet.
 abbrev pub word_token : List OpenLoop → List (List ℕ) → List ℕ → Result Found TextProblem
 word_token loops names raw = joined loops raw >>= λ word. word_found names (length raw) word (round_of loops word)
 
 -- ---- Operators and punctuation
 
+-- The sign that is written as `text`, if there is one.
 abbrev pub look_up : List (List ℕ × Sign) → List ℕ → Option Sign
 look_up [] text = None
 look_up (p ∷ ps) text = elim (bytes_eq p.0 text) [ true ↦ Some p.1 | false ↦ look_up ps text ]
@@ -188,7 +195,7 @@ pub record Scanned : Type 0 where
   pub tokens : List Token
   pub names : List (List ℕ)
 
--- What has been scanned, with the token `f` added, which starts at `at`.
+-- What has been scanned, with the token `f` added, which starts at `at` on the line `line`.
 abbrev pub with_token : Scanned → ℕ → ℕ → Found → Scanned
 with_token s line at f =
     record { tokens = s.tokens ++ record { kind = f.kind; line = line; from = at; to = at + f.len } ∷ []; names = f.names }
@@ -197,15 +204,16 @@ with_token s line at f =
 abbrev pub span_at : ℕ → ℕ → Option Span
 span_at at len = Some (record { from = at; to = at + len })
 
--- What has been scanned, with the token `f` added, if there are fewer than `room` tokens.
+-- As `with_token`, if there are fewer than `room` tokens.
 abbrev pub with_room : ℕ → Scanned → ℕ → ℕ → Found → Result Scanned TokenProblem
 with_room room s line at f = if nat_lt (length s.tokens) room then Ok (with_token s line at f) else Err (problem_at (span_at at f.len) TooLong)
 
--- The number of bytes at the start of a text that are no token: those of a word, or else one byte.
+-- The number of bytes that an error at the start of a text concerns: those of a word, or else one byte.
 abbrev pub unread_len : List ℕ → ℕ
 unread_len bs = if begins_word bs then word_len bs else 1
 
 -- The result of scanning the bytes from `at` on, after `s` was scanned. The next `skip` bytes belong to the last token.
+-- There may be at most `room` tokens.
 abbrev pub scan_from : List OpenLoop → ℕ → ℕ → ℕ → ℕ → List ℕ → Scanned → Result Scanned TokenProblem
 scan_from loops line room at skip [] s = Ok s
 scan_from loops line room at (suc skip) (b ∷ bs) s = scan_from loops line room (at + 1) skip bs s

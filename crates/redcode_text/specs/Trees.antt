@@ -1,4 +1,4 @@
--- What an expression is, in terms of levels and operands: the trees that tokens can spell.
+-- The trees of expressions, independent of how tokens are read: each tree that tokens can spell.
 use Rattle.std.specs.Prelude.{◌≡◌, ℕ, ◌+◌, ◌<◌, ◌≤◌, List, [], ◌∷◌, ◌++◌, Bool, true, false, ⊤}
 use Rattle.redcode_text.specs.declared.token.TokenKind.{TokenKind}
 use Rattle.redcode_text.specs.declared.token.TokenKind.TheVariants.{Number, Name}

@@ -83,11 +83,11 @@ pub struct TextFault {
     /// The line number, from 1; 0 if memory ran out.
     pub line: usize,
     pub problem: TextProblem,
-    /// The bytes, in the source, of the token at which the error arises: the byte or word that is no token, the second of two
-    /// equal names, the word FOR or ROF. `OutOfMemory` has none, nor has `TooLong` for too many lines, or for the tokens of
-    /// EQU lines that replace an operation.
+    /// The bytes, in the source, of the token at which the error arises, such as the byte or word that is no token, the
+    /// second of two equal names, or the word FOR or ROF. `OutOfMemory` has none. `TooLong` has none for too many
+    /// lines, and for too many tokens in EQU lines that replace an operation.
     ///
-    /// A token that comes from EQU has its bytes in the definition, while `line` is that of the use.
+    /// A token that comes from EQU has its bytes in the definition, while `line` is the line of the use.
     pub token: Option<Span>,
 }
 

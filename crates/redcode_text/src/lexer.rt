@@ -72,7 +72,7 @@ fn read_token(alloc: Global, names: &mut SourceNames, bytes: &[u8]) -> Result<Sp
     read_sign(bytes)
 }
 
-/// Returns the number of bytes at the start of `bytes` that are no token: those of a word, or else one byte.
+/// Returns the number of bytes that an error at the start of `bytes` concerns: those of a word, or else one byte.
 fn unread_len(bytes: &[u8]) -> usize
     requires { 1 ≤ length bytes.now }
     ensures value { result ≡ unread_len bytes.now }
@@ -96,7 +96,8 @@ fn span_at(at: usize, len: usize) -> Option<Span>
     })
 }
 
-/// Reads the token at an offset of a text, and returns its number of bytes.
+/// Reads the token at the offset `at` of a text, appends it if there are fewer than `room` tokens, and returns its
+/// number of bytes.
 fn add_token(
     alloc: Global,
     text: Text<'_>,
@@ -134,7 +135,7 @@ fn add_token(
     }
 }
 
-/// Reads the tokens of a text and appends them to `tokens`, up to a maximum number in total.
+/// Reads the tokens of a text and appends them to `tokens`, which may have at most `room` in total.
 pub fn read_tokens(
     alloc: Global,
     text: Text<'_>,

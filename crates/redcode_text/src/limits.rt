@@ -1,9 +1,9 @@
 //! The limits of a source and of an expression.
 
-/// The maximum number of lines that are read; those of a loop count once per iteration.
+/// The maximum number of lines that are read; lines of a loop count once per iteration.
 pub const MAX_LINES: usize = 65_536;
 
-/// The maximum number of tokens that are read; those of a loop count once per iteration.
+/// The maximum number of tokens that are read; tokens of a loop count once per iteration.
 pub const MAX_TOKENS: usize = 65_536;
 
 /// The maximum number of open loops.
@@ -27,8 +27,9 @@ pub const MAX_PARENS: usize = 64;
 /// The maximum number of unary operators in a row.
 pub const MAX_SIGNS: usize = 64;
 
-/// The maximum number of stack entries that an expression needs: the outside of all parentheses and the inside of each
-/// open one need at most one value for each of the five levels of operators, plus the parenthesis before them.
+/// The maximum number of stack entries that an expression needs. The outside of all parentheses, and the inside of each
+/// of 64 open ones, needs at most one value for each of the five levels of operators, plus one entry for the
+/// parenthesis.
 pub const MAX_WAITING: usize = 6 * 65;
 
 /// The maximum number of tokens of an expression that is evaluated with a stack of this size instead of `MAX_WAITING`.

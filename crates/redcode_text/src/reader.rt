@@ -53,8 +53,8 @@ pub struct Reading {
     ghost printed_author: { IsPrinted (string_bytes author) },
 }
 
-/// The words that are operations in themselves, in either case. LDP, STP and PIN, which belong to the P-space of pMARS, are no
-/// opcodes here, but what pMARS reads as an operation can't be a label either.
+/// The words that are operations without being EQU names, in either case. LDP, STP and PIN belong to the P-space of
+/// pMARS: they aren't opcodes here, but they can't be labels either, as in pMARS.
 const OPERATIONS: [&str; 25] = [
     "dat", "mov", "add", "sub", "mul", "div", "mod", "jmp", "jmz", "jmn", "djn", "seq", "sne",
     "slt", "spl", "nop", "cmp", "org", "end", "equ", "for", "rof", "ldp", "stp", "pin",
@@ -67,7 +67,7 @@ fn is_among(word: &[u8], words: &[&str]) -> bool
     words.iter().any(|other| is_word(word, other.as_bytes()))
 }
 
-/// Returns whether a word is an operation in itself, in either case.
+/// Returns whether a word is among `OPERATIONS`, in either case.
 fn is_operation_word(name: &[u8]) -> bool
     ensures { result ≡ list_any (str_eq_ignore_ascii_case name.now) operations }
 {
@@ -183,7 +183,7 @@ impl Reading {
     pub fn is_predefined(&self, names: &PredefinedNames, name: usize) -> bool
         ensures { result ≡ is_predefined (predefined_of names.now) (reading_of self.now) name }
     {
-        // Any value of CURLINE would do: it is asked only whether there is one.
+        // Only the presence of a value matters, so CURLINE may have any value.
         names.value_at(0, self.names.table.name(name)).is_some()
     }
 

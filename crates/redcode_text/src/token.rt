@@ -140,7 +140,7 @@ pub fn two_byte_sign(first: u8, second: u8) -> Option<Sign>
     }
 }
 
-/// Returns the sign that one byte is.
+/// Returns the sign that one byte forms.
 pub fn one_byte_sign(byte: u8) -> Option<Sign>
     ensures { result ≡ look_up one_byte_signs (byte ∷ []) }
 {

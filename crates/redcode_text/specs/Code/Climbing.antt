@@ -27,26 +27,30 @@ signed [] v = Ok v
 signed (token.Sign s ∷ xs) v = signed xs v >>= λ w. unary s w
 signed (_ ∷ xs) v = signed xs v
 
--- The value after all operators on top of the stack are applied that have at most the precedence `k`, with the stack that
--- is left.
+-- The value and the stack that are left after the operators on top of the stack are applied, as long as their
+-- precedence is at most `k`. `v` is the right operand of the first one.
 abbrev pub reduced : ℕ → List Waiting → ℤ → Result (ℤ × List Waiting) ExprFault
 reduced k [] v = Ok (v, [])
 reduced k (Left u s ∷ stack) v = if nat_le (precedence s) k then (binary s u v >>= λ w. reduced k stack w) else Ok (v, Left u s ∷ stack)
 reduced k (Opened signs ∷ stack) v = Ok (v, Opened signs ∷ stack)
 
--- The state of the evaluation. `after` is true directly after an operand, and `value` is that operand's value.
+-- The state of the evaluation. `signs` are the unary operators directly before the next token. `after` is true directly
+-- after an operand, and `value` is that operand's value.
 pub record State : Type 0 where
   pub stack : List Waiting
   pub signs : List TokenKind
   pub value : ℤ
   pub after : Bool
 
+-- The state that expects an operand after the unary operators `signs`.
 abbrev pub wants : ℤ → List Waiting → List TokenKind → State
 wants v stack signs = record { stack = stack; signs = signs; value = v; after = false }
 
+-- The state directly after an operand with the value `v`.
 abbrev pub has : ℤ → List Waiting → State
 has v stack = record { stack = stack; signs = []; value = v; after = true }
 
+-- The state after the operand `n`, to which the unary operators before it are applied.
 abbrev pub operand : State → ℤ → Result State ExprFault
 operand st n = signed st.signs n >>= λ v. Ok (has v st.stack)
 
@@ -55,30 +59,37 @@ abbrev pub reach : Sign → ℕ
 reach CloseParen = 5
 reach s = precedence s
 
+-- The state after the operator or closing parenthesis `s`. `v` and `stack` are left after the waiting operators are
+-- applied.
 abbrev pub placed : Sign → ℤ → List Waiting → Result State ExprFault
 placed CloseParen v (Opened signs ∷ stack) = signed signs v >>= λ w. Ok (has w stack)
 placed CloseParen v _ = Err Syntax
 placed s v stack = Ok (wants v (Left v s ∷ stack) [])
 
+-- The state after the sign `s`, where an operand is expected.
 abbrev pub before_mark : State → Sign → Result State ExprFault
 before_mark st OpenParen = Ok (wants st.value (Opened st.signs ∷ st.stack) [])
 before_mark st s = Ok (wants st.value st.stack (st.signs ++ token.Sign s ∷ []))
 
+-- The state after the sign `s`, which follows an operand.
 abbrev pub after_mark : State → Sign → Result State ExprFault
 after_mark st s = reduced (reach s) st.stack st.value >>= λ r. placed s r.0 r.1
 
+-- The state after one more token. `names` has the values of names.
 abbrev pub move : (ℕ → Option ℤ) → State → TokenKind → Result State ExprFault
 move names st (Number n) = operand st n
 move names st (Name n) = known (names n) >>= λ v. operand st v
 move names st (token.Sign s) = if st.after then after_mark st s else before_mark st s
 
+-- The value of the expression, if the given tokens are still to be read.
 abbrev pub run : (ℕ → Option ℤ) → State → List TokenKind → Result ℤ ExprFault
 run names st [] = reduced 5 st.stack st.value >>= λ r. Ok r.0
 run names st (x ∷ xs) = move names st x >>= λ next. run names next xs
 
 -- ---- The state of the code
 
--- The entry that an entry of the code's stack represents. The code stores the place of unary operators in the tokens `ts`.
+-- The entry of the stack that an entry of the code's stack represents. The code stores the place of unary operators in
+-- the tokens `ts`.
 abbrev pub waiting : List Token → Pending → Waiting
 waiting ts (Value v s) = Left v s
 waiting ts (Open from to) = Opened (kinds (slice_range ts from to))
@@ -92,7 +103,7 @@ AreInside n [] = Unit {0}
 AreInside n (Value v s ∷ stack) = AreInside n stack
 AreInside n (Open from to ∷ stack) = (from ≤ to) × (to ≤ n) × AreInside n stack
 
--- The operator on top of the stack, if it is one, is looser than `k`, so that it is not applied.
+-- If an operator is on top of the stack, it is looser than the precedence `k`, so that it is not applied.
 abbrev pub StaysAt : ℕ → List Pending → Type 0
 StaysAt k [] = Unit {0}
 StaysAt k (Value v s ∷ stack) = k < precedence s
@@ -104,17 +115,17 @@ IsNoOpen [] = Unit {0}
 IsNoOpen (Value v s ∷ stack) = Unit {0}
 IsNoOpen (Open from to ∷ stack) = ⊥
 
--- The state that the code's state represents before the token at the index `at`.
+-- The state that the code's state `r` represents before the token of `ts` at the index `at`.
 abbrev pub seen : List Token → ℕ → Progress → State
 seen ts at r = record { stack = waiting_all ts r.stack; signs = kinds (slice_range ts r.first_sign at); value = r.value; after = r.after_operand }
 
--- The waiting operator on top of the stack, if it is one, is looser than `k`.
+-- If an operator is on top of the stack, it is looser than the precedence `k`.
 abbrev pub IsLooser : ℕ → List Waiting → Type 0
 IsLooser k [] = Unit {0}
 IsLooser k (Left u s ∷ stack) = k < precedence s
 IsLooser k (Opened signs ∷ stack) = Unit {0}
 
--- The next token, if there is one, applies each waiting operator that is no looser than `k`.
+-- There are no more tokens, or the next one is a sign that applies each waiting operator no looser than `k`.
 abbrev pub Follows : ℕ → List TokenKind → Type 0
 Follows k [] = Unit {0}
 Follows k (token.Sign s ∷ xs) = k ≤ reach s

@@ -18,9 +18,11 @@ trimmed text = reverse (without_blanks (reverse (without_blanks text)))
 abbrev pub printed_value : List ℕ → List ℕ
 printed_value text = take max_name_len (map printable text)
 
+-- Everything read, with the name from `text` unless that is empty.
 abbrev pub with_name_text : List ℕ → Reading → Reading
 with_name_text text st = record st { name = unless_empty (printed_value text) st.name }
 
+-- Everything read, with the author from `text` unless that is empty.
 abbrev pub with_author_text : List ℕ → Reading → Reading
 with_author_text text st = record st { author = unless_empty (printed_value text) st.author }
 
@@ -30,8 +32,8 @@ assert_at row at st =
     row_tokens row at st >>= λ r.
     Ok (record (r.1) { asserts = r.1.asserts ++ record { number = row.number; current_line = r.1.instructions; tokens = r.0 } ∷ [] })
 
--- The offset of the text after `directive`, if the line has it as a whole word. `directive` is in lower case and includes
--- the `;`.
+-- The offset of the text after `directive`, if the line `bytes` begins with it as a whole word. `directive` is in lower
+-- case and includes the `;`.
 abbrev pub text_found : List ℕ → List ℕ → Option ℕ
 text_found directive bytes =
     if starts_with nat_eq (str_to_ascii_lowercase (without_blanks bytes)) directive && ends_word (drop (blank_len bytes + length directive) bytes)
@@ -56,26 +58,30 @@ abbrev pub assert_place : Comment → ℕ
 assert_place (Assert at) = at
 assert_place comment = 0
 
+-- The meaning of a comment with `;assert` before the given offset, or else of one without a directive.
 abbrev pub assert_or_other : Option ℕ → Meaning
 assert_or_other (Some at) = IsAssert at
 assert_or_other None = IsOther
 
+-- The meaning of a comment with `;author` before the given offset, or else the meaning `other`.
 abbrev pub author_or : List ℕ → Meaning → Option ℕ → Meaning
 author_or bytes other (Some at) = IsAuthor (trimmed (drop at bytes))
 author_or bytes other None = other
 
+-- The meaning of a comment with `;name` before the given offset, or else the meaning `other`.
 abbrev pub name_or : List ℕ → Meaning → Option ℕ → Meaning
 name_or bytes other (Some at) = IsName (trimmed (drop at bytes))
 name_or bytes other None = other
 
+-- The meaning of a comment that does not begin with `;name`.
 abbrev pub author_meaning : List ℕ → Meaning
 author_meaning bytes = author_or bytes (assert_or_other (text_found (semicolon ∷ codes "assert") bytes)) (text_found (semicolon ∷ codes "author") bytes)
 
--- The meaning of a line.
+-- The meaning of the comment line `bytes`.
 abbrev pub meaning : List ℕ → Meaning
 meaning bytes = name_or bytes (author_meaning bytes) (text_found (semicolon ∷ codes "name") bytes)
 
--- What is read after a comment line with this meaning.
+-- The step that reads the comment line `row`, which has the given meaning.
 abbrev pub after_comment : Meaning → SourceRow → Reading → Result Reading TokenProblem
 after_comment (IsName text) row st = Ok (with_name_text text st)
 after_comment (IsAuthor text) row st = Ok (with_author_text text st)

@@ -6,6 +6,7 @@ use Rattle.redcode_text.specs.declared.lexer.open_loops.OpenLoop as code
 use Rattle.redcode_text.specs.Lines.{name_at}
 use Rattle.redcode_text.specs.Tokens.{OpenLoop}
 
+-- The open loop that `l` represents.
 abbrev pub open_loop : List (List ℕ) → code.OpenLoop → OpenLoop
 open_loop names l = record { counter = option_map (name_at names) l.counter; round = l.round }
 
@@ -17,6 +18,7 @@ open_loops names loops = map (open_loop names) (reverse loops)
 abbrev pub IsThere : List (List ℕ) → Option ℕ → Type 0
 IsThere names counter = ForSome counter (λ n. n < length names)
 
+-- The counter of each loop, if it has one, is the index of a name.
 abbrev pub AreThere : List (List ℕ) → List code.OpenLoop → Type 0
 AreThere names loops = All (λ l. IsThere names l.counter) loops
 

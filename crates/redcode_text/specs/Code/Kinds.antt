@@ -10,7 +10,7 @@ kind_of (line.For at) = ForLine at
 kind_of (line.Equ at) = EquLine at
 kind_of line.Other = OtherLine
 
--- The offset of the word FOR or EQU in a line.
+-- The offset of the word FOR or EQU in a line, or 0 for other lines.
 abbrev pub word_place : code.LineKind → ℕ
 word_place (line.For at) = at
 word_place (line.Equ at) = at

@@ -1,4 +1,4 @@
--- A set of names, and the names that it represents.
+-- Lists of names as sets. A name is given by its index.
 use Rattle.std.specs.Prelude.{◌≡◌, ℕ, List, Bool, ◌==◌}
 use Rattle.std.specs.List.{list_any}
 
@@ -10,6 +10,6 @@ has names n = list_any (λ m. m == n) names
 abbrev pub HasSame : List ℕ → List ℕ → Type 0
 HasSame names others = (n : ℕ) → has names n ≡ has others n
 
--- The names are the labels of the lines.
+-- The names are the labels of all lines, in any order and any number. `labels` gives the labels of one line.
 abbrev pub AreLabels : {X : Type 0} → (X → List ℕ) → List ℕ → List X → Type 0
 AreLabels labels names lines = (n : ℕ) → has names n ≡ list_any (λ l. has (labels l) n) lines

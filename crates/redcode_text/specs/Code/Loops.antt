@@ -1,4 +1,4 @@
--- The items of a source, one after another.
+-- How the code reads the items of a source, one after another.
 use Rattle.std.specs.Prelude.{◌≡◌, ℕ, ◌+◌, ◌<◌, ◌≤◌, ◌^◌, List, length, get_or, Result, Ok, Err}
 use Rattle.redcode_text.specs.Results.{◌>>=◌}
 use Rattle.redcode_text.specs.declared.fault.TextFault.{TextFault}
@@ -11,7 +11,7 @@ use Rattle.redcode_text.specs.Code.Pairs.{here_from}
 use Rattle.redcode_text.specs.Source.{Items, Plain, SourceRow, ForLine, line_kind}
 use Rattle.redcode_text.specs.Tokens.{at_line}
 
--- The step that reads one loop, without what follows it.
+-- The step that reads one loop, up to its ROF.
 abbrev pub one_loop : Predefined → SourceRow → Items → SourceRow → Reading → Result Reading TextFault
 one_loop ps head body rof st =
     at_line head.number (head_line ps head st) >>= λ h.
@@ -22,8 +22,8 @@ one_loop ps head body rof st =
 abbrev pub RowsFit : List code.SourceRow → Type 0
 RowsFit rows = (i : ℕ) (d : code.SourceRow) → i < length rows → (get_or rows i d).at + length (get_or rows i d).bytes.now < 2 ^ 64
 
--- Reading the items from row `at` on reaches the row `next`, or there is an error. `before` and `after` are what has been
--- read.
+-- The items were read from the row `at` on, up to the row `next` or to an error. `before` is everything read at the
+-- start, and `after` everything read at the end.
 abbrev pub ReadTo : Predefined → List code.SourceRow → ℕ → Reading → Reading → Result ℕ TextFault → Type 0
 ReadTo ps rows at before after (Ok next) = (at < next) × (next ≤ length rows) × (flat ps (here_from rows at) before ≡ unless_ended after (flat ps (here_from rows next)))
 ReadTo ps rows at before after (Err fault) = FailsAt fault.problem fault (flat ps (here_from rows at) before)

@@ -8,6 +8,7 @@ use Rattle.redcode_text.specs.Source.{Items, Nothing, Pairing, paired}
 abbrev pub paired_from : List code.SourceRow → ℕ → Pairing
 paired_from rows i = paired (map row_of (drop i rows))
 
+-- The items of the current body from row `i` on.
 abbrev pub here_from : List code.SourceRow → ℕ → Items
 here_from rows i = (paired_from rows i).here
 
@@ -18,6 +19,6 @@ pub record EndsAt (rows : List code.SourceRow) (i j : ℕ) : Type 0 where
   pub at_end : here_from rows j ≡ Nothing
   pub waiting : (paired_from rows i).waiting ≡ (paired_from rows j).waiting
 
--- `ends` has for each row the end of the items that start after it.
+-- For each row, `ends` has the row at which the items after it end.
 abbrev pub AreEnds : List code.SourceRow → List ℕ → Type 0
 AreEnds rows ends = (i : ℕ) → i < length rows → EndsAt rows (i + 1) (slice_index ends i)

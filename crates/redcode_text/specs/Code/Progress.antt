@@ -2,8 +2,8 @@
 use Rattle.std.specs.Prelude.{ℕ, ℤ, List, Bool}
 use Rattle.redcode_text.specs.declared.expression.evaluation.Pending.{Pending}
 
--- The stack, the index of the first unary operator directly before the present token, and the operand before it, if there
--- is one.
+-- The stack, the index of the first unary operator directly before the next token, and the value of the last operand.
+-- `after_operand` is true directly after that operand.
 pub record Progress : Type 0 where
   pub stack : List Pending
   pub first_sign : ℕ

@@ -15,10 +15,10 @@ abbrev pub before_line : List Token → ℕ → List Token
 before_line ts zero = ts
 before_line ts (suc at) = []
 
--- The lines of an operation, if it is an EQU name.
+-- The lines of the definition of an operation, none if it is not an EQU name.
 abbrev pub lines_under : Reading → Option ℕ → List (List Token)
 lines_under st operation = unwrap_or (operation_lines st operation) []
 
--- The step that reads one of these lines, by the rules for an ordinary line.
+-- The step that counts the line `l` of a definition and its tokens, and reads it by the step `ordinary`.
 abbrev pub read_one : (List Token → Step) → List Token → Step
 read_one ordinary l st = line_read st >>= tokens_counted l >>= ordinary l

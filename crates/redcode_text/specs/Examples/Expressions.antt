@@ -101,8 +101,8 @@ at from to = Some (record { from = from; to = to })
 abbrev place : List ℕ → ExprFault → Option Span
 place text fault = elim (scanned text) [ Ok f ↦ fault_span names (at 90 91) f.tokens fault | Err e ↦ None ]
 
--- The first token that does not fit, the last one if the expression ends too early, the token before it if it is empty, the
--- first name without a value, and the first token if a value is wrong.
+-- Each error has one token: the first that does not fit, the last one if the expression ends too early, the token
+-- before it if it is empty, the first name without a value, or the first token if a value is wrong.
 pub places_of_errors :
     (place (codes "2*3 4 5") Syntax ≡ at 4 5)
     × (place (codes "2*(3+4") Syntax ≡ at 5 6)

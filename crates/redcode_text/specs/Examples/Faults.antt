@@ -19,7 +19,7 @@ word ls = option_map (λ span. take (span.to - span.from) (drop span.from (text 
 abbrev pub at : ℕ → ℕ → Option Span
 at from to = Some (record { from = from; to = to })
 
--- A byte, or a whole word.
+-- An error in the bytes of a text has one byte, or a whole word.
 pub words_of_texts :
     (token ((97 ∷ 32 ∷ 200 ∷ 200 ∷ []) ∷ []) ≡ at 2 3)
     × (token (codes "NOP" ∷ codes " ?? 1" ∷ []) ≡ at 5 6)
@@ -34,7 +34,7 @@ pub tokens_beyond : elim (tokens [] 1 7 1 [] (codes "a bc d")) [ Ok s ↦ None |
 unfolding digits
 tokens_beyond = refl
 
--- The word FOR or ROF, also after a counter.
+-- An error of a loop has the word FOR or ROF, also after a counter.
 pub words_of_loops :
     (token (codes "NOP" ∷ codes " i: for 2" ∷ []) ≡ at 8 11)
     × (token (codes "NOP" ∷ codes " Rof" ∷ []) ≡ at 5 8)
@@ -42,7 +42,8 @@ pub words_of_loops :
 unfolding expansion value_of tree_within digits
 words_of_loops = (refl, refl, refl)
 
--- The first token that is not allowed before FOR or EQU, and the word EQU if it continues nothing.
+-- An error before FOR or EQU has the first token that is not allowed there, or the word EQU if the line continues no
+-- definition.
 pub words_in_front :
     (token (codes "5 FOR 1" ∷ codes "ROF" ∷ []) ≡ at 0 1)
     × (token (codes "i FOR 1" ∷ codes "i FOR 1" ∷ codes "ROF" ∷ codes "ROF" ∷ []) ≡ at 8 9)
@@ -51,7 +52,8 @@ pub words_in_front :
 unfolding expansion value_of tree_within digits
 words_in_front = (refl, refl, refl, refl)
 
--- The first token of the count or of its definition, the name, and the token of an expression's error: FOR if it is empty.
+-- An error of a count has its first token, also in a definition; the name that is a label; or the token of the
+-- expression's error, which is the word FOR if there are no tokens.
 pub words_of_counts :
     (token (codes "FOR -1" ∷ codes "ROF" ∷ []) ≡ at 4 5)
     × (token (codes "n EQU 5-9" ∷ codes "FOR n" ∷ codes "ROF" ∷ []) ≡ at 6 7)
@@ -62,7 +64,7 @@ pub words_of_counts :
 unfolding expansion value_of tree_within digits
 words_of_counts = (refl, refl, refl, refl, refl, refl)
 
--- The second of two equal names, and the name that is replaced too deep or by several lines, which may be in a definition.
+-- The second of two equal names, and the name that is nested too deep or has several lines. It may be in a definition.
 pub words_of_names :
     (token (codes "a NOP" ∷ codes "b a NOP" ∷ []) ≡ at 8 9)
     × (token (codes "a NOP" ∷ codes "a EQU 1" ∷ []) ≡ at 6 7)

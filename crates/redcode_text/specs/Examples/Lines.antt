@@ -24,7 +24,8 @@ pub label_is_no_equ_name : lines (codes "x NOP" ∷ codes "x EQU 1" ∷ []) ≡ 
 unfolding expansion value_of tree_within digits
 label_is_no_equ_name = refl
 
--- Labels are put before the first line of an EQU name's definition, and what follows the name is put after the last line.
+-- Labels are put before the first line of an EQU name's definition, and the tokens after the name are put after the
+-- last line.
 pub lines_take_the_place_of_the_name : lines (codes "x EQU NOP" ∷ codes " EQU DAT" ∷ codes "a x 5" ∷ [])
     ≡ Ok (line 3 (codes "a" ∷ []) (codes "NOP") [] ∷ line 3 [] (codes "DAT") (N 5 ∷ []) ∷ [])
 unfolding expansion value_of tree_within digits

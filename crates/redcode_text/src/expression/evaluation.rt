@@ -105,9 +105,9 @@ fn apply_signs(run: &[Token], value: i64) -> Result<i64, ExprFault>
 #[derive(Drop)]
 pub struct Evaluator<const N: usize> {
     stack: Stack<N>,
-    /// The index of the first of the unary operators directly before the present token.
+    /// The index of the first of the unary operators directly before the next token.
     first_sign: usize,
-    /// The value of the operand directly before the present token, if `after_operand` is true.
+    /// The value of the operand directly before the next token, if `after_operand` is true.
     value: i64,
     after_operand: bool,
 }
@@ -141,7 +141,7 @@ impl<const N: usize> Evaluator<N> {
         }
     }
 
-    /// Takes an operand.
+    /// Takes the operand at the index `at`, whose value is `value`.
     fn take_operand(&mut self, tokens: &[Token], at: usize, value: i64) -> Result<(), ExprFault>
         requires first { self.old.first_sign ≤ at }
         requires within { at < length tokens.now }
@@ -154,7 +154,7 @@ impl<const N: usize> Evaluator<N> {
         Ok(())
     }
 
-    /// Takes an opening parenthesis.
+    /// Takes the opening parenthesis at the index `at`.
     fn open(&mut self, at: usize)
         requires room { length self.old.stack < N }
         requires fits { at < usize.MAX }
@@ -173,7 +173,7 @@ impl<const N: usize> Evaluator<N> {
         reduce_on(&mut self.stack, self.value, 5)
     }
 
-    /// Takes a token.
+    /// Takes the token at the index `at`.
     pub fn advance<E: Env>(&mut self, tokens: &[Token], at: usize, env: &E) -> Result<(), ExprFault>
         requires first { self.old.first_sign ≤ at }
         requires within { at < length tokens.now }
@@ -207,7 +207,7 @@ impl<const N: usize> Evaluator<N> {
         }
     }
 
-    /// Takes a binary operator after an operand.
+    /// Takes the binary operator at the index `at`, which follows an operand.
     fn operate(&mut self, at: usize, sign: Sign) -> Result<(), ExprFault>
         requires fits { at < usize.MAX }
         requires room { (w : ℤ) (stack : List Pending)
@@ -223,7 +223,7 @@ impl<const N: usize> Evaluator<N> {
         Ok(())
     }
 
-    /// Takes a closing parenthesis.
+    /// Takes the closing parenthesis at the index `at`.
     fn close(&mut self, tokens: &[Token], at: usize) -> Result<(), ExprFault>
         requires within { at < length tokens.now }
         requires inside { AreInside at self.old.stack }

@@ -30,7 +30,8 @@ fn unknown_name<E: Env>(names: &E, tokens: &[Token]) -> Option<Span>
     None
 }
 
-/// Returns the bytes of the token that doesn't fit, or those of the last token if the expression ends too early.
+/// Returns the bytes of the token that doesn't fit, or of the last one if the expression ends too early, or `before` if
+/// there are no tokens.
 fn misfit_or_last(before: Option<Span>, tokens: &[Token]) -> Option<Span>
     ensures { result ≡ found_or (misfit start tokens.now) (last_span before tokens.now) }
 {

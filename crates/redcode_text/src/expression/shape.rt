@@ -12,9 +12,9 @@ use crate::token::{Sign, Span, Token, TokenKind};
 pub struct ShapeState {
     /// The number of open parentheses.
     pub opened: usize,
-    /// The number of unary operators directly before the present token.
+    /// The number of unary operators directly before the next token.
     pub signs: usize,
-    /// Whether an operand is directly before the present token.
+    /// Whether an operand is directly before the next token.
     pub after_operand: bool,
 }
 

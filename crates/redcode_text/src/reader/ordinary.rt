@@ -117,7 +117,7 @@ fn add_labelled(lines: &mut Vec<Line>, labels: &mut NameSet, line: Line) -> Resu
     ensures len { OnOk result (vec_len lines.new ≡ vec_len lines.old + 1) }
     ensures err { OnErr result (vec_len lines.new ≡ vec_len lines.old) }
 {
-    // Reserved first: a label in the set whose line is not there would be a duplicate of itself.
+    // Reserved first, so that the set gets no label without its line if memory runs out.
     lines.reserve(1)?;
     labels.insert_all(&line.labels)?;
     lines.push_reserved(line);
@@ -154,7 +154,7 @@ struct Operation<'a> {
     behind: &'a [Token],
 }
 
-/// Copies tokens and gives them a line number, so that an error in a token that comes from EQU has the line of its use.
+/// Copies tokens and gives them a line number, so that an error in a token that comes from EQU has the line of the use.
 fn on_line(alloc: Global, number: usize, tokens: &[Token]) -> Result<Vec<Token>, TokenProblem>
     ensures { Gives (λ made. made.items) result (Ok (on_line number tokens.now)) }
 {

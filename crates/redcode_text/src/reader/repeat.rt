@@ -211,6 +211,7 @@ fn read_rounds(
     ensures loops { OnOk result (loops_of reading.new.names ≡ loops_of reading.old.names) }
 {
     let rows = source.rows;
+    // An empty body adds nothing, however many iterations it has.
     if let LineKind::Rof = rows[first].kind() {
         return Ok(());
     }

@@ -53,6 +53,7 @@ fn first_word_at(bytes: &[u8]) -> usize
     past_blanks(bytes, 0)
 }
 
+/// Returns the offset of the second word. A colon may separate it from the first one.
 fn second_word_at(bytes: &[u8]) -> usize
     ensures value { result ≡ second_word_at bytes.now }
     ensures within { result ≤ length bytes.now }

@@ -61,8 +61,8 @@ fn as_count(value: Result<i64, ExprFault>) -> Result<u32, TextProblem>
     }
 }
 
-/// Returns the bytes of the token at which a count has this error: those of the error of its expression, or of its first
-/// token if its value is no count. A count without tokens has its error at the token `before`.
+/// Returns the bytes of the token at which a count has this error: the token at which its expression has the error, or
+/// its first token if its value is no count. A count without tokens has its error at the token `before`.
 fn count_span<E: Env>(
     names: &E,
     before: Option<Span>,
@@ -110,7 +110,7 @@ impl Reading {
         None
     }
 
-    /// Returns the values of names in a count at this place.
+    /// Returns the values of names in a count after everything that has been read.
     fn count_names<'a>(&'a self, predefined: &'a PredefinedNames) -> CountNames<'a>
         ensures predefined { result.predefined.now ≡ predefined.now }
         ensures names { result.names.now ≡ self.now.names.table }
