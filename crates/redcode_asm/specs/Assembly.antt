@@ -35,6 +35,7 @@ use Rattle.redcode_asm.specs.declared.fault.AsmProblem.{AsmProblem}
 use Rattle.redcode_asm.specs.declared.fault.TokenProblem.{TokenProblem}
 use Rattle.redcode_asm.specs.declared.fault.AsmProblem.TheVariants.{Text, Operation, Operand, Expression, AssertFailed, BadOrigin, Empty, TooLong}
 
+-- The value, or the error `problem` if there is none.
 abbrev pub ok_or : {A : Type 0} → AsmProblem → Option A → Result A AsmProblem
 ok_or problem (Some x) = Ok x
 ok_or problem None = Err problem
@@ -44,6 +45,7 @@ abbrev pub at_token : {A : Type 0} → Option Span → Result A AsmProblem → R
 at_token span (Ok x) = Ok x
 at_token span (Err e) = Err (record { problem = e; token = span })
 
+-- A result whose error gets the line number `line`.
 abbrev pub at_line : {A : Type 0} → ℕ → Result A TokenProblem → Result A AsmFault
 at_line line (Ok x) = Ok x
 at_line line (Err e) = Err (record { line = line; problem = e.problem; token = e.token })
@@ -65,6 +67,7 @@ pub record Placed : Type 0 where
 abbrev pub index_after : List (List ℕ) → ℕ → Line → ℕ
 index_after names index l = elim (is_instruction names l.operation l.rest) [ true ↦ index + 1 | false ↦ index ]
 
+-- The lines with their indices. `index` is the index of the first line.
 abbrev pub placed_from : List (List ℕ) → ℕ → List Line → List Placed
 placed_from names index [] = []
 placed_from names index (l ∷ ls) = record { index = index; line = l } ∷ placed_from names (index_after names index l) ls
@@ -72,6 +75,7 @@ placed_from names index (l ∷ ls) = record { index = index; line = l } ∷ plac
 abbrev pub placed : ProgramValue → List Placed
 placed source = placed_from source.names 0 source.lines
 
+-- The instructions of a program, with their indices.
 abbrev pub instructions : ProgramValue → List Placed
 instructions source = filter (λ p. is_instruction source.names p.line.operation p.line.rest) (placed source)
 
@@ -80,6 +84,7 @@ abbrev pub label_among : List Placed → ℕ → Option ℕ
 label_among [] n = None
 label_among (p ∷ ps) n = elim (list_any (λ m. m == n) p.line.labels) [ true ↦ Some p.index | false ↦ label_among ps n ]
 
+-- The first value, or `other` if there is none.
 abbrev pub value_or : Option ℤ → Option ℤ → Option ℤ
 value_or (Some v) other = Some v
 value_or None other = other
@@ -93,6 +98,7 @@ known_value ps source index n = predefined_value (with_current_line ps index) (n
 abbrev pub name_value : Predefined → ProgramValue → ℕ → ℕ → ℕ → Option ℤ
 name_value ps source origin index n = value_or (option_map (λ i. pos i -ℤ pos origin) (label_among (placed source) n)) (known_value ps source index n)
 
+-- A value whose error becomes an error of the assembler, with the bytes that `span` gives.
 abbrev pub expressed : (ExprFault → Option Span) → Result ℤ ExprFault → Result ℤ TokenProblem
 expressed span (Ok v) = Ok v
 expressed span (Err e) = Err (record { problem = Expression e; token = span e })
@@ -101,6 +107,7 @@ expressed span (Err e) = Err (record { problem = Expression e; token = span e })
 abbrev pub value_in : (ℕ → Option ℤ) → Option Span → List Token → Result ℤ TokenProblem
 value_in names before ts = expressed (fault_span names before ts) (value_of names (kinds ts))
 
+-- A result whose error of the text becomes an error of the assembler.
 abbrev pub texted : {A : Type 0} → Result A text.TokenProblem → Result A TokenProblem
 texted (Ok x) = Ok x
 texted (Err e) = Err (record { problem = Text e.problem; token = e.token })
@@ -112,6 +119,7 @@ replaced source ts = texted (without_line (substitution source.equates ts))
 
 -- ---- Instructions
 
+-- The mode that a sign denotes, if it denotes one.
 abbrev pub mode_sign : Sign → Option Mode
 mode_sign sign.Hash = Some mode.Immediate
 mode_sign sign.Dollar = Some mode.Direct
@@ -123,6 +131,7 @@ mode_sign sign.CloseBrace = Some mode.APostincrement
 mode_sign sign.Greater = Some mode.BPostincrement
 mode_sign _ = None
 
+-- The mode that a token denotes, if it denotes one.
 abbrev pub mode_of : TokenKind → Option Mode
 mode_of (token.Sign s) = mode_sign s
 mode_of _ = None
@@ -136,6 +145,7 @@ abbrev pub is_comma : TokenKind → Bool
 is_comma (token.Sign sign.Comma) = true
 is_comma _ = false
 
+-- The tokens before, between and after the commas.
 abbrev pub parts_at_commas : List Token → List (List Token)
 parts_at_commas [] = [] ∷ []
 parts_at_commas (t ∷ ts) = elim (is_comma t.kind) [ true ↦ [] ∷ parts_at_commas ts | false ↦ onto_first t (parts_at_commas ts) ]
@@ -156,6 +166,7 @@ abbrev pub one_operand : Op → List Token → Operands
 one_operand op.Dat x = record { a = None; b = Some x }
 one_operand o x = record { a = Some x; b = None }
 
+-- The operands of the opcode `o`, each given by its tokens.
 abbrev pub operands_of : Op → List (List Token) → Result Operands AsmProblem
 operands_of o [] = no_operand o
 operands_of o (x ∷ []) = Ok (one_operand o x)
@@ -166,6 +177,7 @@ operands_of o (x ∷ y ∷ z ∷ rest) = Err Operand
 abbrev pub full_operands : Op → List (List Token) → Result Operands AsmProblem
 full_operands o parts = if list_any (λ p. length p == 0) parts then Err Operand else operands_of o parts
 
+-- The operands of the opcode `o`, which the given tokens follow.
 abbrev pub given_operands : Op → List Token → Result Operands AsmProblem
 given_operands o [] = no_operand o
 given_operands o (t ∷ ts) = full_operands o (parts_at_commas (t ∷ ts))
@@ -182,18 +194,21 @@ abbrev pub operand_value : ℕ → (ℕ → Option ℤ) → Option (List Token) 
 operand_value m names None = Ok (mode.Direct, 0)
 operand_value m names (Some ts) = value_in names (first_span ts) (split_mode ts).1 >>= λ v. Ok ((split_mode ts).0, residue m v)
 
+-- The opcode that an operation names.
 abbrev pub opcode_of : List (List ℕ) → Option ℕ → Result Op AsmProblem
 opcode_of names None = Err Operation
 opcode_of names (Some n) = ok_or Operation (op_of (name_at names n))
 
--- The token of an unknown operation: the operation, or else the last token before it would be, or else the first token.
+-- The token of an unknown operation: the operation, or else the last token of the labels, or else the first token.
 abbrev pub opcode_span : Line → Option Span
 opcode_span l = found_or l.operation_span (first_span l.rest)
 
+-- The modifier that the token after the `.` names.
 abbrev pub modifier_in : List (List ℕ) → TokenKind → Result Modifier AsmProblem
 modifier_in names (Name n) = ok_or Operation (modifier_of (name_at names n))
 modifier_in names _ = Err Operation
 
+-- The modifier that the first token names, and the tokens after it.
 abbrev pub modifier_first : List (List ℕ) → List Token → Result (Option Modifier × List Token) AsmProblem
 modifier_first names [] = Err Operation
 modifier_first names (t ∷ ts) = modifier_in names t.kind >>= λ m. Ok (Some m, ts)
@@ -207,10 +222,11 @@ abbrev pub split_modifier : List (List ℕ) → List Token → Result (Option Mo
 split_modifier names [] = Ok (None, [])
 split_modifier names (t ∷ ts) = elim (is_dot t.kind) [ true ↦ modifier_first names ts | false ↦ Ok (None, t ∷ ts) ]
 
--- The token of an unknown modifier: the one after the `.`, or else the `.`.
+-- The token of an unknown modifier: the token after the `.`, or the `.` if there is none.
 abbrev pub modifier_span : List Token → Option Span
 modifier_span ts = last_span None (take 2 ts)
 
+-- The cell with these parts. If no modifier is given, it has the default modifier.
 abbrev pub cell_with : Op → Option Modifier → Mode × ℕ → Mode × ℕ → Cell
 cell_with o given a b = record { op = o; modifier = unwrap_or given (default_modifier o a.0 b.0); a_mode = a.0; a = a.1; b_mode = b.0; b = b.1 }
 
@@ -237,17 +253,21 @@ cells_of ps m source (p ∷ rest) = at_line p.line.number (cell_of ps m source p
 
 -- ---- Length, start and asserts
 
+-- The error TooLong, if there are instructions beyond the maximum length, which are given.
 abbrev pub none_past : List Placed → Result (Unit {0}) AsmFault
 none_past [] = Ok tt
 none_past (p ∷ rest) = Err (record { line = p.line.number; problem = TooLong; token = p.line.operation_span })
 
+-- The error Empty, if there are no instructions.
 abbrev pub not_empty : List Placed → Result (Unit {0}) AsmFault
 not_empty [] = Err (record { line = 0; problem = Empty; token = None })
 not_empty (p ∷ rest) = Ok tt
 
+-- The instructions `is` are at least one and at most `longest`.
 abbrev pub length_checked : ℕ → List Placed → Result (Unit {0}) AsmFault
 length_checked longest is = none_past (drop longest is) >>= λ _. not_empty is
 
+-- The value of a start, which must be the index of one of `count` instructions.
 abbrev pub as_start : ℕ → ℤ → Result ℕ AsmProblem
 as_start count (pos n) = if nat_lt n count then Ok n else Err BadOrigin
 as_start count (negsuc n) = Err BadOrigin
@@ -258,48 +278,57 @@ abbrev pub start_at : Predefined → ProgramValue → ℕ → Placed → List To
 start_at ps source count p ts =
     value_in (name_value ps source 0 p.index) p.line.operation_span ts >>= λ v. at_token (first_span ts) (as_start count v)
 
+-- The start that the ORG line `p` sets.
 abbrev pub org_start : Predefined → ProgramValue → ℕ → Placed → Result ℕ TokenProblem
 org_start ps source count p = replaced source p.line.rest >>= start_at ps source count p
 
+-- The start that the END line `p` sets, given the tokens of its operand: 0 if there are none.
 abbrev pub end_operand : Predefined → ProgramValue → ℕ → Placed → List Token → Result ℕ TokenProblem
 end_operand ps source count p [] = Ok 0
 end_operand ps source count p (t ∷ ts) = start_at ps source count p (t ∷ ts)
 
+-- The start that the END line `p` sets.
 abbrev pub end_start : Predefined → ProgramValue → ℕ → Placed → Result ℕ TokenProblem
 end_start ps source count p = replaced source p.line.rest >>= end_operand ps source count p
 
+-- The last line for which `keeps` is true.
 abbrev pub last_where : (Line → Bool) → List Placed → Option Placed
 last_where keeps ps = last_or None (filter (λ p. keeps p.line) ps)
 
--- The start, from the last ORG and the last END, if they exist. ORG has precedence over END. Without both the start is 0.
+-- The start, from the last ORG and the last END, if they exist. ORG has precedence over END. Without both, the start is
+-- 0.
 abbrev pub start_by : Predefined → ProgramValue → ℕ → Option Placed → Option Placed → Result ℕ AsmFault
 start_by ps source count (Some p) end = at_line p.line.number (org_start ps source count p)
 start_by ps source count None (Some p) = at_line p.line.number (end_start ps source count p)
 start_by ps source count None None = Ok 0
 
+-- The start of a program that has `count` instructions.
 abbrev pub start_of : Predefined → ProgramValue → ℕ → Result ℕ AsmFault
 start_of ps source count =
     start_by ps source count (last_where (λ l. is_org source.names l.operation) (placed source)) (last_where (λ l. is_end source.names l.operation) (placed source))
 
+-- An assert holds if its value is not 0.
 abbrev pub holds : ℤ → Result (Unit {0}) AsmProblem
 holds (pos zero) = Err AssertFailed
 holds _ = Ok tt
 
--- The assert `ts` holds, with these values of names.
+-- The assert with the expression `ts` holds, if `names` has the values of names.
 abbrev pub tokens_hold : (ℕ → Option ℤ) → List Token → Result (Unit {0}) TokenProblem
 tokens_hold names ts = value_in names None ts >>= λ v. at_token (first_span ts) (holds v)
 
+-- The assert `a` holds. Labels have no value in it.
 abbrev pub assert_holds : Predefined → ProgramValue → Assert → Result (Unit {0}) TokenProblem
 assert_holds ps source a = replaced source a.tokens >>= tokens_hold (known_value ps source a.current_line)
 
+-- All asserts hold, or the error of the first one that does not.
 abbrev pub asserts_hold : Predefined → ProgramValue → List Assert → Result (Unit {0}) AsmFault
 asserts_hold ps source [] = Ok tt
 asserts_hold ps source (a ∷ rest) = at_line a.number (assert_holds ps source a) >>= λ _. asserts_hold ps source rest
 
 -- ---- The whole source
 
--- The warrior of the program `source`. The errors of the instructions come first, then those of the length, the start and
--- the asserts.
+-- The warrior of the program `source` for the parameters `p`. The errors of the instructions come first, then those of
+-- the length, the start and the asserts.
 abbrev pub warrior_of : Predefined → Parameters → ProgramValue → Result WarriorValue AsmFault
 warrior_of ps p source =
     cells_of ps p.core_size source (instructions source) >>= λ cells.
@@ -308,6 +337,7 @@ warrior_of ps p source =
     asserts_hold ps source source.asserts >>= λ _.
     Ok (record { name = source.name; author = source.author; cells = cells; start = start })
 
+-- The program that was read, or its error as an error of the assembler.
 abbrev pub text_read : Result ProgramValue TextFault → Result ProgramValue AsmFault
 text_read (Ok source) = Ok source
 text_read (Err e) = Err (record { line = e.line; problem = Text e.problem; token = e.token })

@@ -14,6 +14,7 @@ use Rattle.redcode_text.specs.Expression.{kinds, shape, start, value_of}
 use Rattle.redcode_text.specs.Lines.{name_at}
 use Rattle.redcode_text.specs.Tokens.{Scanned, scanned}
 
+-- The name is W or S.
 abbrev pub is_variable : List ℕ → Bool
 is_variable name = bytes_eq name (codes "W") || bytes_eq name (codes "S")
 
@@ -26,6 +27,7 @@ may_occur names _ = true
 abbrev pub checked_formula : Scanned → Result Scanned ExprFault
 checked_formula f = shape start (kinds f.tokens) >>= λ _. if list_all (may_occur f.names) (kinds f.tokens) then Ok f else Err Unknown
 
+-- The formula of the result of scanning a text. A text that is not made of tokens has the error Syntax.
 abbrev pub scanned_formula : Result Scanned TextFault → Result Scanned ExprFault
 scanned_formula (Ok f) = checked_formula f
 scanned_formula (Err e) = Err Syntax
@@ -34,6 +36,7 @@ scanned_formula (Err e) = Err Syntax
 abbrev pub formula_of : List ℕ → Result Scanned ExprFault
 formula_of text = if nat_lt 256 (length text) then Err Syntax else scanned_formula (scanned text)
 
+-- The value of the name `name` if W is `w` and S is `s`.
 abbrev pub variable_value : ℤ → ℤ → List ℕ → Option ℤ
 variable_value w s name = if bytes_eq name (codes "W") then Some w else if bytes_eq name (codes "S") then Some s else None
 

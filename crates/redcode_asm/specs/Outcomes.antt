@@ -1,15 +1,15 @@
--- How the result of a call that allocates is related to its definition: it is the defined one, or memory ran out.
+-- How the result of a call that allocates is related to its definition: it is the defined result, or memory ran out.
 use Rattle.std.specs.Prelude.{◌≡◌, None, Result, Ok, Err}
 use Rattle.redcode_asm.specs.declared.fault.AsmFault.{AsmFault}
 use Rattle.redcode_asm.specs.declared.fault.AsmProblem.{AsmProblem}
 use Rattle.redcode_asm.specs.declared.fault.AsmProblem.TheVariants.{OutOfMemory}
 
--- An error is the defined one, or memory ran out, which is reported with neither a line nor a token.
+-- The error is the defined error, or memory ran out, which is reported with neither a line nor a token.
 abbrev pub FailsAt : {X : Type 0} → AsmProblem → AsmFault → Result X AsmFault → Type 0
 FailsAt OutOfMemory fault defined = (fault.line ≡ 0) × (fault.token ≡ None)
 FailsAt problem fault defined = defined ≡ Err fault
 
--- The result, mapped by `f`, is the defined one, or memory ran out.
+-- The result, mapped by `f`, is the defined result, or memory ran out.
 abbrev pub IsResult : {X Y : Type 0} → (Y → X) → Result Y AsmFault → Result X AsmFault → Type 0
 IsResult f (Ok y) defined = defined ≡ Ok (f y)
 IsResult f (Err fault) defined = FailsAt fault.problem fault defined

@@ -1,4 +1,4 @@
--- The line of each cell of a warrior in its source, and its labels.
+-- The source line and the labels of each cell of a warrior.
 use Rattle.std.specs.Prelude.{ℕ, ◌+◌, List, [], ◌∷◌, ◌++◌, length, map, if◌then◌else◌, nat_lt, Result, Ok}
 use Rattle.std.specs.List.{flat_map}
 use Rattle.mars_cell.specs.Parameters.{Parameters}
@@ -18,12 +18,12 @@ pub record CellLines : Type 0 where
 abbrev pub labels_text : List (List ℕ) → List ℕ → List ℕ
 labels_text names labels = flat_map (λ label. name_at names label ++ 0 ∷ []) labels
 
--- The text of the labels of the first `count` instructions: those of all lines with fewer than `count` instructions before
--- them.
+-- The text of the labels of the first `count` instructions: the labels of all lines with fewer than `count`
+-- instructions before them.
 abbrev pub first_labels : ProgramValue → ℕ → List ℕ
 first_labels source count = flat_map (λ p. if nat_lt p.index count then labels_text source.names p.line.labels else []) (placed source)
 
--- The line of the instruction `p`, whose labels are after those of the instructions before it.
+-- The line of the instruction `p`. Its labels follow the labels of the instructions before it.
 abbrev pub cell_line : ProgramValue → Placed → CellLine
 cell_line source p = record { line = p.line.number; begin = length (first_labels source p.index); end = length (first_labels source (p.index + 1)) }
 

@@ -45,10 +45,11 @@ pub struct AsmFault {
     /// The line number, from 1; 0 if the source has no instruction or memory ran out.
     pub line: usize,
     pub problem: AsmProblem,
-    /// The bytes, in the source, of the token at which the error arises: the unknown word, the comma, the token that can't
-    /// continue an expression. `Empty` and `OutOfMemory` have none, nor has `Text` if the `TextFault` has none.
+    /// The bytes, in the source, of the token at which the error arises, such as the unknown word, the comma, or the
+    /// token that can't continue an expression. `Empty` and `OutOfMemory` have none, nor has `Text` if the `TextFault`
+    /// has none.
     ///
-    /// A token that comes from EQU has its bytes in the definition, while `line` is that of the use.
+    /// A token that comes from EQU has its bytes in the definition, while `line` is the line of the use.
     pub token: Option<Span>,
 }
 
@@ -89,7 +90,7 @@ impl AsmProblem {
         }
     }
 
-    /// Converts an error of the text, `OutOfMemory` to `OutOfMemory`.
+    /// Converts an error of the text. `OutOfMemory` stays `OutOfMemory`.
     pub(crate) fn of_text(problem: TextProblem) -> AsmProblem
         ensures { result ≡ problem_of_text problem }
     {

@@ -58,6 +58,7 @@ impl Env for Variables<'_> {
     }
 }
 
+/// Returns whether a name is W or S.
 fn is_variable(name: &[u8]) -> bool
     ensures { result ≡ is_variable name.now }
 {

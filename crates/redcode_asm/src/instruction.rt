@@ -20,7 +20,7 @@ fn read_opcode(names: &NameTable, operation: Option<usize>) -> Result<Op, AsmPro
     read_op(names.name(index)).ok_or(AsmProblem::Operation)
 }
 
-/// Returns the token of an unknown operation: the operation, or else the last token before it would be, or else the first
+/// Returns the token of an unknown operation: the operation, or else the last token of the labels, or else the first
 /// token.
 fn opcode_span(line: &Line) -> Option<Span>
     ensures { result ≡ opcode_span (line_of line.now) }
@@ -72,7 +72,7 @@ fn take_modifier<'a>(
     Ok((Some(modifier), operands))
 }
 
-/// Returns the token of an unknown modifier: the one after the `.`, or else the `.`.
+/// Returns the token of an unknown modifier: the token after the `.`, or the `.` if there is none.
 fn modifier_span(rest: &[Token]) -> Option<Span>
     ensures { result ≡ modifier_span rest.now }
 {
@@ -124,7 +124,7 @@ pub struct Operation {
     pub span: Option<Span>,
 }
 
-/// Splits the tokens after an opcode into operands, and adds the token to an error.
+/// Splits the tokens after an opcode into operands, and adds the token at which it arises to an error.
 fn line_operands(operation: Operation, tokens: &[Token]) -> Result<Operands<'_>, TokenProblem>
     ensures { let defined = at_token (operands_span operation.span tokens.now) (given_operands operation.op tokens.now) in
         MatchResult result (λ given. defined ≡ Ok (operands_in given)) (λ problem. defined ≡ Err problem) }

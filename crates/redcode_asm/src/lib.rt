@@ -1,5 +1,8 @@
 //! The assembler, and score formulas.
 //!
+//! `redcode_text` reads the program of a source. From it, `warriors` makes the `cells`, checks their number, finds the
+//! start (`starts`) and checks the `asserts`, in this order, so that the first error is defined.
+//!
 //! The crates above this one may use:
 //! - `assemble` returns the warrior of a source, with all numbers below the core size, or its first error, with its line
 //!   and its token, as `specs/Assembly` defines them. If memory runs out, the line is 0 and there is no token.

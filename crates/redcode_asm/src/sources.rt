@@ -102,7 +102,8 @@ impl<'a> Source<'a> {
         }
     }
 
-    /// Returns the values of names in the instruction number `index`: a label is the distance from that instruction.
+    /// Returns the values of names in the instruction with this index. The value of a label is its distance from the
+    /// instruction.
     pub fn instruction_names(&self, index: u32) -> LineNames<'a>
         ensures { result ≡ record { source = self.now; origin = index; index = index } }
     {
@@ -123,8 +124,8 @@ impl<'a> Source<'a> {
         }
     }
 
-    /// Returns the values of names in an ORG or END that `index` instructions precede: a label is the index of its
-    /// instruction.
+    /// Returns the values of names in an ORG or END that `index` instructions precede. The value of a label is the
+    /// index of its instruction.
     pub fn start_names(&self, index: u32) -> LineNames<'a>
         ensures { result ≡ record { source = self.now; origin = 0; index = index } }
     {

@@ -7,10 +7,11 @@ use Rattle.redcode_asm.specs.Assembly.{Placed}
 abbrev pub Table : Type 0
 Table = List (ℕ × ℕ)
 
--- The table with the label `n` added, unless it is in the table already.
+-- The table with the label `n` of the index `index` added, unless it is in the table already.
 abbrev pub with_label : ℕ → Table → ℕ → Table
 with_label index table n = elim (is_some (lookup (nat_eq n) table)) [ true ↦ table | false ↦ table ++ (n, index) ∷ [] ]
 
+-- The table with the labels of a line added, which has the index `index`.
 abbrev pub with_labels : ℕ → Table → List ℕ → Table
 with_labels index table [] = table
 with_labels index table (n ∷ ns) = with_labels index (with_label index table n) ns

@@ -7,27 +7,27 @@ use Rattle.redcode_asm.specs.declared.fault.AsmProblem.{AsmProblem}
 use Rattle.redcode_asm.specs.declared.fault.TokenProblem.{TokenProblem}
 use Rattle.redcode_asm.specs.declared.fault.AsmProblem.TheVariants.{Text, OutOfMemory}
 
--- The error `e`, which has this problem, is the one of the definition, or memory ran out.
+-- The error `e`, which has the given problem, is the defined error, or memory ran out.
 abbrev pub Fails : {X : Type 0} → AsmProblem → TokenProblem → Result X TokenProblem → Type 0
 Fails OutOfMemory e defined = ⊤
 Fails problem e defined = defined ≡ Err e
 
--- The result, mapped by `f`, is the defined one, or memory ran out.
+-- The result, mapped by `f`, is the defined result, or memory ran out.
 abbrev pub Gives : {X Y : Type 0} → (Y → X) → Result Y TokenProblem → Result X TokenProblem → Type 0
 Gives f (Ok y) defined = defined ≡ Ok (f y)
 Gives f (Err e) defined = Fails e.problem e defined
 
--- The line number that an error on line `n` is reported with. Running out of memory has no line.
+-- The line number that is reported for an error on line `n`: 0 if memory ran out.
 abbrev pub fault_line : ℕ → AsmProblem → ℕ
 fault_line n OutOfMemory = 0
 fault_line n problem = n
 
--- The token that an error is reported with. Running out of memory has none.
+-- The token that is reported for an error at the token `span`: none if memory ran out.
 abbrev pub fault_token : Option Span → AsmProblem → Option Span
 fault_token span OutOfMemory = None
 fault_token span problem = span
 
--- The assembler's error for an error of the text. If the text ran out of memory, so did the assembler.
+-- The assembler's error for an error of the text. `OutOfMemory` stays `OutOfMemory`.
 abbrev pub problem_of_text : TextProblem → AsmProblem
 problem_of_text text.OutOfMemory = OutOfMemory
 problem_of_text problem = Text problem

@@ -11,6 +11,7 @@ use Rattle.redcode_asm.specs.declared.fault.AsmFault.{AsmFault}
 use Rattle.redcode_asm.specs.declared.operands.Operands.{Operands as OperandSlices}
 use Rattle.redcode_asm.specs.declared.places.Place.{Place}
 
+-- The operands that the code's slices represent.
 abbrev pub operands_in : OperandSlices → Operands
 operands_in slices = record { a = option_map (λ tokens. tokens.now) slices.a; b = option_map (λ tokens. tokens.now) slices.b }
 

@@ -21,7 +21,8 @@ word ls = option_map (λ span. take (span.to - span.from) (drop span.from (text 
 abbrev pub at : ℕ → ℕ → Option Span
 at from to = Some (record { from = from; to = to })
 
--- The opcode, or what is read in its place: an unknown word is read as a label. The modifier, or the dot before it.
+-- An unknown opcode has its word, also if it was read as a label, or else the first token. An unknown modifier has its
+-- word, or the dot before it.
 pub words_of_operations :
     (word (codes "STP 1, 2" ∷ []) ≡ Some (codes "STP"))
     × (word (codes "here MVO 1, 2" ∷ []) ≡ Some (codes "MVO"))
@@ -31,7 +32,7 @@ pub words_of_operations :
 unfolding assembly expansion value_of tree_within digits default_modifier op_of modifier_of
 words_of_operations = (refl, refl, refl, refl, refl)
 
--- The second comma, or else the first one, or else the opcode.
+-- An error of the operands has the second comma, or else the first one, or else the opcode.
 pub words_of_operands :
     (token (codes "JMP" ∷ []) ≡ at 0 3)
     × (token (codes "NOP 1," ∷ []) ≡ at 5 6)
@@ -41,7 +42,8 @@ pub words_of_operands :
 unfolding assembly expansion value_of tree_within digits default_modifier op_of modifier_of
 words_of_operands = (refl, refl, refl, refl, refl)
 
--- The token that does not fit, the last token, the mode, the unknown name, and the first token of the expression.
+-- An error of an expression has the token that does not fit, or the last token, or the mode or operation before an
+-- empty expression. An unknown name has its word, and a wrong value the first token of the expression.
 pub words_of_expressions :
     (token (codes "NOP 3 + + 3 3" ∷ []) ≡ at 12 13)
     × (token (codes "NOP 3 +, 3" ∷ []) ≡ at 6 7)
@@ -54,7 +56,7 @@ pub words_of_expressions :
 unfolding assembly expansion value_of tree_within digits default_modifier op_of modifier_of
 words_of_expressions = (refl, refl, refl, refl, refl, refl, refl, refl)
 
--- A token of an EQU name has its bytes in the definition, and a token in a loop has those in the loop.
+-- A token that comes from EQU has its bytes in the definition, and a token of a loop has its bytes in the loop.
 pub words_of_definitions :
     (token (codes "x EQU 1+y" ∷ codes "NOP 7, x" ∷ []) ≡ at 8 9)
     × (token (codes "x EQU NOP" ∷ codes " EQU JMP" ∷ codes "x" ∷ []) ≡ at 15 18)
@@ -62,7 +64,8 @@ pub words_of_definitions :
 unfolding assembly expansion value_of tree_within digits default_modifier op_of modifier_of
 words_of_definitions = (refl, refl, refl)
 
--- The first instruction that is too many. A source without instructions has no token.
+-- TooLong has the first instruction beyond the maximum length, and Empty has no token. An error of the text has the
+-- token of the text.
 pub words_of_sources :
     (token (codes "NOP" ∷ codes "NOP" ∷ codes "NOP" ∷ codes "NOP" ∷ codes "a NOP" ∷ codes "NOP" ∷ []) ≡ at 18 21)
     × (token ([] ∷ []) ≡ None)
