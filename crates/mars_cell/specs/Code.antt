@@ -1,2 +1,2 @@
--- How the code represents what is defined. These definitions serve only the proofs.
+-- How the code represents what the specification defines. Only the proofs use these definitions.
 pub mod Listing

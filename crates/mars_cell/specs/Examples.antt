@@ -1,4 +1,4 @@
--- Examples, each of which is computed by the check.
+-- Examples. The check computes each of them.
 pub mod Cells
 pub mod LoadFiles
 pub mod Parameters

@@ -20,12 +20,12 @@ pub record HeaderValue : Type 0 where
   pub name : List ℕ
   pub author : List ℕ
 
--- The header with which a file of version 1 is read. Such a file has none; it counts as written for the core that reads it, of
--- `m` cells.
+-- The header with which a file of version 1 is read. Such a file has no header; it counts as written for the core of
+-- `m` cells that reads it.
 abbrev pub no_header : ℕ → HeaderValue
 no_header m = record { written = m; name = codes "Unknown"; author = codes "Anonymous" }
 
--- What follows `word` in `bytes`, if they begin with it.
+-- The bytes after `word`, if `bytes` begins with it.
 abbrev pub after_prefix : List ℕ → List ℕ → Option (List ℕ)
 after_prefix word bytes = if bytes_eq (take (length word) bytes) word then Some (drop (length word) bytes) else None
 
@@ -34,7 +34,7 @@ abbrev pub begins_digit : List ℕ → Bool
 begins_digit [] = false
 begins_digit (b ∷ bs) = is_ascii_digit b
 
--- A load file states its version: it begins with `;load ` and a digit. A file that doesn't is of version 1.
+-- A load file states its version if it begins with `;load ` and a digit. Any other file is of version 1.
 unfoldable pub has_version : List ℕ → Bool
 has_version bytes = elim (after_prefix (codes ";load ") bytes) [ None ↦ false | Some rest ↦ begins_digit rest ]
 
@@ -43,7 +43,7 @@ unfoldable pub size_of : List ℕ → Option ℕ
 size_of digits =
     if starts_with nat_eq digits (codes "0") then None else option_and_then (λ n. if is_within 1 max_core_size n then Some n else None) (parse_digits digits)
 
--- A name has at most 60 bytes, each a printable ASCII character.
+-- The text as a name, if it has at most 60 bytes, each a printable ASCII character.
 unfoldable pub name_of : List ℕ → Option (List ℕ)
 name_of text = if nat_le (length text) max_name_len && list_all (is_within 32 126) text then Some text else None
 

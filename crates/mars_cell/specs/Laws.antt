@@ -25,11 +25,11 @@ abbrev pub LoadFileIsRead : Type 0
 LoadFileIsRead = (p : Parameters) (w : WarriorValue) → AreInRange p → IsWarrior w → length w.cells ≤ p.max_length → All (FitsCore p.core_size) w.cells
     → load p.core_size p.max_length (load_text p.core_size w) ≡ Ok w
 
--- The number `n` of a core of `m` cells, carried by its value to a core of `size` cells.
+-- The number in a core of `size` cells with the value that `n` has in a core of `m` cells.
 abbrev pub carried_number : ℕ → ℕ → ℕ → ℕ
 carried_number m size n = by_value m size (pos n)
 
--- The cell `c` of a core of `m` cells, with both numbers carried by value to a core of `size` cells.
+-- The cell `c` of a core of `m` cells, with both numbers carried by their values to a core of `size` cells.
 abbrev pub carried : ℕ → ℕ → Cell → Cell
 carried m size c = record c { a = carried_number m size c.a; b = carried_number m size c.b }
 

@@ -24,13 +24,13 @@ lines_of (b ∷ bs) = if b == 10 then [] ∷ lines_of bs else onto_first b (line
 abbrev pub before_comment : List ℕ → List ℕ
 before_comment l = take_while (λ b. not (b == 59)) l
 
--- A number that is the only part.
+-- The number that the parts form, if there is only one part.
 unfoldable pub only_number : List (List ℕ) → Option ℤ
 only_number [] = None
 only_number (p ∷ []) = parse_number p
 only_number (p ∷ q ∷ ps) = None
 
--- What follows END: nothing, or a number.
+-- The number after END, given the parts after END. There may be no number, but nothing else.
 unfoldable pub end_of : List (List ℕ) → Option (Option ℤ)
 end_of [] = Some None
 end_of (p ∷ ps) = option_map (λ n. Some n) (only_number (p ∷ ps))
@@ -47,12 +47,12 @@ statement_of written m (p ∷ ps) =
 abbrev pub line_statement : ℕ → ℕ → List ℕ → Option Statement
 line_statement written m l = statement_of written m (parts (before_comment l))
 
--- The statement `s` followed by those of the next lines, or the number of the first invalid line among them.
+-- The statement `s` followed by the statements of the next lines, or the number of the first invalid line among them.
 abbrev pub with_rest : Statement → Result (List Statement) ℕ → Result (List Statement) ℕ
 with_rest s (Ok ss) = Ok (s ∷ ss)
 with_rest s (Err k) = Err k
 
--- The statement of a line, followed by those of the next lines unless it is END. After END no line is read.
+-- The statement of a line, followed by the statements of the next lines unless it is END. After END no line is read.
 abbrev pub statements_from : Statement → Result (List Statement) ℕ → Result (List Statement) ℕ
 statements_from (statement.End n) rest = Ok (statement.End n ∷ [])
 statements_from statement.Nothing rest = with_rest statement.Nothing rest
@@ -92,7 +92,7 @@ end_in (statement.Instruction c) = []
 abbrev pub cells_of : List Statement → List Cell
 cells_of ss = flat_map cell_in ss
 
--- The start of a warrior: the number of the last ORG, else that of END, else 0.
+-- The start of a warrior: the number of the last ORG, else the number of END, else 0.
 abbrev pub start_of : List Statement → ℤ
 start_of ss = unwrap_or (option_or (last_or None (flat_map origin_in ss)) (last_or None (flat_map end_in ss))) (pos 0)
 

@@ -6,7 +6,7 @@ use Rattle.std.specs.Int.RustNames.{unsigned_abs}
 use Rattle.std.specs.List.{list_all}
 use Rattle.std.specs.Str.Parse.{digits_value}
 
--- Whether the first byte is a minus, and what follows the sign if there is one.
+-- Whether the first byte is a minus sign, and the bytes after the sign, or all bytes if there is no sign.
 unfoldable pub split_sign : List ℕ → Bool × List ℕ
 split_sign [] = (false, [])
 split_sign (b ∷ bs) = if b == 45 then (true, bs) else if b == 43 then (false, bs) else (false, b ∷ bs)
@@ -32,7 +32,7 @@ residue m z = unsigned_abs (int_rem_euclid z (pos m))
 unfoldable pub nearest : ℕ → ℤ → ℤ
 nearest m z = if nat_le (residue m z) (m / 2) then pos (residue m z) else pos (residue m z) -ℤ pos m
 
--- The number in a core of `m` cells of `z`, which was written for a core of `written` cells and keeps the value that it had
--- there.
+-- The number in a core of `m` cells with the value that `z` has in the core of `written` cells for which it was
+-- written.
 abbrev pub by_value : ℕ → ℕ → ℤ → ℕ
 by_value written m z = residue m (nearest written z)

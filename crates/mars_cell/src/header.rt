@@ -53,7 +53,7 @@ pub fn has_version(bytes: &[u8]) -> bool
     }
 }
 
-/// Reads a core size, which may not begin with 0.
+/// Reads a core size: a number from 1 to the maximum that doesn't begin with 0.
 #[tactic(auto, unfolding(crate::specs::Header::size_of))]
 fn read_size(digits: &[u8]) -> Option<u32>
     ensures value { result ≡ size_of digits.now }
@@ -109,7 +109,7 @@ fn take_name<'a>(lines: &mut Lines<'a>, word: &[u8]) -> Option<&'a str>
     read_name(lines.take_first()?.strip_prefix(word)?)
 }
 
-/// Takes the header of a file of version 2, which is its first three lines.
+/// Takes the header of a file of version 2, which is its first three lines, or returns the first error in it.
 #[tactic(auto, using(crate::proofs::Heads::header_made), unfolding(crate::specs::Header::header_of))]
 pub fn read_header<'a>(lines: &mut Lines<'a>) -> Result<Header<'a>, LoadFault>
     ensures value { result_map_both (λ h. record { written = h.written; name = h.name.now; author = h.author.now }) (λ fault. fault) result

@@ -94,8 +94,8 @@ pub enum Field {
 
 /// A cell of the core: one instruction, whose numbers are addresses relative to the cell.
 ///
-/// Both numbers are below the size of the core. The four tags are adjacent bytes, so that a cell has 12 bytes and is
-/// copied as whole machine words.
+/// Both numbers are below the size of the core. The opcode, the modifier and the modes are adjacent bytes, so that a
+/// cell has 12 bytes and is copied as whole machine words.
 #[derive(Clone, Copy, Debug, PartialEq, Eq)]
 pub struct Cell {
     pub op: Op,

@@ -1,13 +1,13 @@
 //! Laws of the definitions: what is written is read back. The functions do nothing; their contracts are the laws.
 ghost use Rattle.mars_cell.specs.Laws.{LoadFileIsCarried, LoadFileIsRead, TextIsRead, ValueIsResidue};
 
-/// A number that was written for the core that reads it is taken modulo the core size. `read_cell` reads its numbers
-/// like this, and `read_load` those of a file of version 1.
+/// A number that was written for the core that reads it is taken modulo the core size. `read_cell` reads all numbers
+/// like this, and `read_load` the numbers in a file of version 1.
 pub fn value_is_residue()
     ensures { ValueIsResidue }
 {}
 
-/// `read_cell` returns the cell whose text `Cell::text` wrote.
+/// `read_cell` reads the text that `Cell::text` returns as the same cell, if the core size is the same.
 pub fn text_is_read()
     ensures { TextIsRead }
 {}

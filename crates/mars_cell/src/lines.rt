@@ -49,7 +49,7 @@ fn line_len(bytes: &[u8]) -> usize
     bytes.iter().take_while(|byte| **byte != b'\n').count()
 }
 
-/// Returns what follows the first byte, which is the LF of a line; returns an empty slice unchanged.
+/// Returns the bytes after the first one, which is the LF of a line, or an empty slice unchanged.
 fn after_newline(rest: &[u8]) -> &[u8]
     ensures { result.now ≡ drop 1 rest.now }
 {

@@ -14,7 +14,7 @@ use crate::statements::{Statement, read_line};
 use crate::warriors::{Warrior, WarriorFault};
 use std::alloc::Global;
 
-/// The statements that were read so far.
+/// The statements that were read so far: the cells, and the numbers of the last ORG and of END.
 #[derive(Drop)]
 struct ReadListing {
     cells: Vec<Cell>,
@@ -127,11 +127,11 @@ fn read_body(
 ///
 /// If the first bytes are `;load ` and a digit, the first three lines are the header: `;load 2 ` and the size of the
 /// core that the file was written for, `;name ` and the warrior's name, `;author ` and the author's name. Otherwise the
-/// file is of version 1: it counts as written for the core that reads it, and its warrior is called `Unknown`, by
-/// `Anonymous`.
+/// file is of version 1: it counts as written for the core that reads it, its warrior is called `Unknown`, and its
+/// author `Anonymous`.
 ///
 /// Every other line up to END is empty, `ORG` and the start, `END` with or without a start, or a cell as `read_cell`
-/// reads it; a `;` begins a comment. The start is the number of the last ORG, else that of END, else 0. A number of a
+/// reads it; a `;` begins a comment. The start is the number of the last ORG, else of END, else 0. A number of a
 /// cell is read by its value in the core that it was written for, which is at most half that core's size away from 0.
 ///
 /// All numbers of the warrior are below the core size.
@@ -140,7 +140,7 @@ fn read_body(
 ///
 /// Returns the first error in the order of [`LoadFault`], except that `Version` comes before all others. `Syntax` has
 /// the number of the first invalid line. `OutOfMemory` replaces any error that would have been found after the
-/// allocation.
+/// allocation that failed.
 #[tactic(auto, unfolding(crate::specs::Load::load))]
 pub fn read_load(alloc: Global, bytes: &[u8], params: &Params) -> Result<Warrior, LoadFault>
     ensures value { Loads result (load params.now.core_size params.now.max_length bytes.now) }

@@ -42,7 +42,7 @@ fn value(digits: &[u8]) -> u64
     value
 }
 
-/// Returns whether the first byte is a minus, and what follows the sign if there is one.
+/// Returns whether the first byte is a minus sign, and the bytes after the sign, or all bytes if there is no sign.
 #[tactic(auto, unfolding(crate::specs::Numbers::split_sign))]
 fn split_sign(word: &[u8]) -> (bool, &[u8])
     ensures { let r = result in (r.0, r.1.now) ≡ split_sign word.now }

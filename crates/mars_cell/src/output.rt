@@ -30,8 +30,8 @@ pub fn write_text<W: Write>(writer: &mut W, text: &[u8]) -> Result<(), WriteFaul
     Ok(())
 }
 
-/// The capacity of a line in bytes. The longest line, that of a result, has 210: four numbers of at most 20 characters,
-/// five spaces, two names of at most 60 bytes, ` by ` and an LF.
+/// The capacity of a line in bytes. The longest line is a row of results with 210 bytes: four numbers of at most 20
+/// characters, five spaces, two names of at most 60 bytes, ` by ` and an LF.
 pub const LINE: usize = 211;
 
 /// A line of output, or a part of one.

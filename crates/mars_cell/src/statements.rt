@@ -36,7 +36,7 @@ fn read_only_number(line: LineParts<'_>) -> Option<i64>
     read_number(number)
 }
 
-/// Reads what follows `END`: nothing or a number.
+/// Reads the rest of an END line: nothing or a number.
 #[tactic(auto, unfolding(crate::specs::Load::end_of, crate::specs::Load::only_number))]
 fn read_end(line: LineParts<'_>) -> Option<Option<i64>>
     ensures { result ≡ end_of (parts line.entry.rest.now) }

@@ -12,8 +12,8 @@ impl Cell {
 
     /// Returns the text of the cell in a core of `core_size` cells, such as `MOV.I $0, $-1`.
     ///
-    /// A number up to half the core size (rounded down) is printed as it is, any other minus the core size. Load files
-    /// consist of such texts.
+    /// A number up to half the core size (rounded down) is printed as it is, and a greater one as the negative number
+    /// that refers to the same cell. Each cell of a load file has a line with its text.
     pub fn text(&self, core_size: u32) -> ArrayString<48>
         requires a { self.now.a < core_size }
         requires b { self.now.b < core_size }

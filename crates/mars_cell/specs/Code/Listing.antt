@@ -22,21 +22,22 @@ StatementFits m (statement.Origin n) = ⊤
 StatementFits m (statement.End n) = ⊤
 StatementFits m (statement.Instruction c) = FitsCore m c
 
--- What was read so far: the cells, the number of the last ORG, and that of END.
+-- The statements that were read so far: the cells, and the numbers of the last ORG and of END.
 pub record Listing : Type 0 where
   pub cells : List Cell
   pub origin : Option ℤ
   pub end : Option ℤ
 
+-- The listing before the first line.
 abbrev pub nothing_read : Listing
 nothing_read = record { cells = []; origin = None; end = None }
 
--- The listing that a `ReadListing` of the code stands for.
+-- The listing that a `ReadListing` of the code represents.
 abbrev pub listing : ReadListing → Listing
 listing r = record { cells = r.cells.items; origin = r.origin; end = r.end }
 
--- The listing after all lines up to END, or the number of the first invalid line. The first line has the number `k`, and `s` was
--- read before it.
+-- The listing after all lines up to END, or the number of the first invalid line. The first line has the number `k`,
+-- and `s` was read before it. The sizes are those of `line_statement`.
 unfoldable pub load_from : ℕ → ℕ → ℕ → Listing → List (List ℕ) → Result Listing ℕ
 load_from written m k s [] = Ok s
 load_from written m k s (l ∷ ls) = elim (line_statement written m l) [

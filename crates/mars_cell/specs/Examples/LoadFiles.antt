@@ -134,7 +134,7 @@ pub bomber_is_written : load_text 8000 (record {
 unfolding digits
 bomber_is_written = refl
 
--- A text that is cut short is not whole, and what was written is its beginning.
+-- If a text is cut short, a proper prefix of it was written: neither the whole text nor other bytes.
 pub texts_that_are_not_cut_short : (CutShort (Some []) (Some (65 ∷ [])) (65 ∷ []) → ⊥) × (CutShort (Some []) (Some (66 ∷ [])) (65 ∷ 65 ∷ []) → ⊥)
 texts_that_are_not_cut_short = (whole, other)
   where
