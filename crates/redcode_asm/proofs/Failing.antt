@@ -1,4 +1,4 @@
--- If the first step fails, the whole fails.
+-- If the first of two steps fails, both together fail with the same error.
 use Rattle.std.proofs.Common.{◌≡◌, Result, Ok, Err, ap}
 use Rattle.redcode_text.specs.Results.{◌>>=◌}
 use Rattle.redcode_asm.specs.declared.fault.AsmProblem.{AsmProblem}

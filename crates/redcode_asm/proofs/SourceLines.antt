@@ -1,4 +1,4 @@
--- The lines and labels that the code builds are those of the instructions.
+-- The code builds the defined lines and labels of the instructions.
 use Rattle.std.proofs.Common.{◌≡◌, ◌∙◌, ℕ, ◌+◌, ◌≤◌, ◌<◌, List, [], ◌∷◌, ◌++◌, Bool, true, false, cond, if◌then◌else◌, nat_lt, length, map, take, ap, sym, refl, arith, append_assoc}
 use Rattle.std.proofs.lemmas.List.{append-nil, length-append, length-take-le, take-append-le, take_all}
 use Rattle.std.proofs.lemmas.Grind.{flat_map-append}
@@ -10,7 +10,7 @@ use Rattle.redcode_asm.specs.Assembly.{Placed, index_after, placed_from}
 use Rattle.redcode_asm.specs.SourceLines.{labels_text, program_lines}
 use Rattle.redcode_asm.specs.Code.Lines.{labels_on, lines_on}
 
--- The text of a line, if `is_before` says that it is before the instruction in question.
+-- The labels of a line if `is_before` is true, or else no bytes.
 abbrev text_if : Bool → List ℕ → List ℕ
 text_if is_before text = if is_before then text else []
 
@@ -31,7 +31,7 @@ further : (b : Bool) (index count : ℕ) → count ≤ index → count ≤ (elim
 further true index count up = omega arith
 further false index count up = up
 
--- No line from the index `index` on is before the instruction `count`.
+-- Lines from the index `index` on have no labels of the first `count` instructions.
 none_after : (names : List (List ℕ)) (index count : ℕ) (ls : List Line) → count ≤ index → firsts names (placed_from names index ls) count ≡ []
 none_after names index count [] up = refl
 none_after names index count (l ∷ ls) up =
@@ -102,11 +102,11 @@ AreBuilt names ls = (before : List Placed) (index begin : ℕ) (text : List ℕ)
     → (map (row names (before ++ placed_from names index ls)) (found names (placed_from names index ls)) ≡ lines_on names begin text ls)
     × (firsts names (before ++ placed_from names index ls) (index + length (found names (placed_from names index ls))) ≡ labels_on names begin text ls)
 
--- The lines after the line `l`, by whether `l` is an instruction.
+-- The lines `ls` after a line with the index `index`, which is an instruction if `b` is true.
 abbrev rest_by : Bool → List (List ℕ) → ℕ → List Line → List Placed
 rest_by b names index ls = placed_from names (elim b as (λ _. ℕ) [ true ↦ index + 1 | false ↦ index ]) ls
 
--- The instructions from the line `l` on.
+-- The instructions from the line `l` on, which is an instruction if `b` is true.
 abbrev found_by : Bool → List (List ℕ) → ℕ → Line → List Line → List Placed
 found_by b names index l ls = cond b (one index l ∷ found names (rest_by b names index ls)) (found names (rest_by b names index ls))
 

@@ -80,7 +80,7 @@ reduced-tighter k u v s stack h = ap (λ b. cond b (binary s u v >>= λ w. reduc
 operand-run : (names : ℕ → Option ℤ) (v : ℤ) (stack : List Waiting) (signs rest : List TokenKind) (n : ℤ) → (operand (wants v stack signs) n >>= λ next. run names next rest) ≡ (signed signs n >>= λ w. run names (has w stack) rest)
 operand-run names v stack signs rest n = assoc (signed signs n) (λ w. Ok (has w stack)) (λ next. run names next rest)
 
--- A waiting operator is applied before what follows, if what follows binds no tighter.
+-- A waiting operator is applied before the remaining tokens, if they do not begin with a tighter operator.
 pub pops : (names : ℕ → Option ℤ) (a b : ℤ) (s : Sign) (stack : List Waiting) (rest : List TokenKind) → Follows (precedence s) rest → run names (has b (Left a s ∷ stack)) rest ≡ (binary s a b >>= λ w. run names (has w stack) rest)
 pops names a b s stack [] h =
     ap (λ r. r >>= λ r. Ok r.0) (reduced-tighter 5 a b s stack (precedence-≤5 s)) ∙ assoc (binary s a b) (λ w. reduced 5 stack w) (λ r. Ok r.0)

@@ -1,4 +1,4 @@
--- If the first step fails, the whole fails.
+-- If the first of two steps fails, both together fail with the same error.
 use Rattle.std.proofs.Common.{◌≡◌, ◌∙◌, ℕ, Option, Result, Ok, Err, ap, refl, sym, subst}
 use Rattle.redcode_text.specs.Results.{◌>>=◌}
 use Rattle.redcode_text.specs.declared.fault.TextFault.{TextFault}
@@ -10,7 +10,7 @@ use Rattle.redcode_text.specs.Outcomes.{FailsAt}
 use Rattle.redcode_text.specs.Code.Problems.{Fails, FailsBare, FailsBy, fault_line, fault_token}
 use Rattle.redcode_text.specs.Tokens.{at_line, at_token, problem_at, without_line}
 
--- Whatever follows, if it passes on an error as the error `to`, fails with it.
+-- If `f` turns the error `e` into the error `to`, it turns a result that fails with `e` into one that fails with `to`.
 passed-on : {A B E F : Type 0} (p : TextProblem) (e : E) (to : F) (r : Result A E) (f : Result A E → Result B F) → f (Err e) ≡ Err to → FailsBy p e r → FailsBy p to (f r)
 passed-on NotAscii e to r f is h = ap f h ∙ is
 passed-on BadToken e to r f is h = ap f h ∙ is
@@ -67,7 +67,8 @@ at-problem n OutOfMemory p f r e l s h = (l, s)
 pub fails-at : {A : Type 0} (n : ℕ) (p : TokenProblem) (f : TextFault) (r : Result A TokenProblem) → f.problem ≡ p.problem → f.line ≡ fault_line n p.problem → f.token ≡ fault_token p.token p.problem → Fails p r → FailsAt f.problem f (at_line n r)
 fails-at n p f r e l s h = subst (λ q. FailsAt q f (at_line n r)) (sym e) (at-problem n p.problem p f r e l s h)
 
--- An error whose line is removed is the error of the step.
+-- If a step fails, then the step without the line of its error, followed by another step, fails with the same problem
+-- and token.
 bare-problem : {A B : Type 0} (p : TextProblem) (f : TextFault) (e : TokenProblem) (r : Result A TextFault) (k : A → Result B TokenProblem) → e ≡ record { problem = f.problem; token = f.token } → FailsAt p f r → FailsBy p e (without_line r >>= k)
 bare-problem NotAscii f e r k is h = ap (λ r. without_line r >>= k) h ∙ ap Err (sym is)
 bare-problem BadToken f e r k is h = ap (λ r. without_line r >>= k) h ∙ ap Err (sym is)

@@ -64,7 +64,7 @@ after-seen ts n s r =
     after-by ts n (precedence s) s r (λ v stack. Ok (record { stack = Value v s ∷ stack; first_sign = n + 1; value = v; after_operand = false }))
     (λ v stack. ap (λ y. Ok y) (fresh ts (n + 1) (Value v s ∷ stack) v false))
 
--- The unary operators up to the next token are those before it and that token.
+-- The unary operators up to the next token are the ones before it, and that token.
 signs-more : (ts : List Token) (a n : ℕ) (d : Token) → a ≤ n → n < length ts → kinds (slice_range ts a (n + 1)) ≡ kinds (slice_range ts a n) ++ (get_or ts n d).kind ∷ []
 signs-more ts a n d le lt =
     let count : n + 1 - a ≡ suc (n - a) = omega arith in

@@ -21,7 +21,7 @@ use Rattle.redcode_text.proofs.PairSteps.{rof-at}
 abbrev lone : SourceRow → Reading → Result Reading TextFault
 lone rof st = at_line rof.number (unpaired_line RofAlone rof st)
 
--- A step and what follows it, up to a ROF without a FOR.
+-- If `g` is `f` followed by `h`, then a step followed by `g` is the step followed by `f` and then by `h`.
 step-lone : (r : Result Reading TextFault) (f g h : Reading → Result Reading TextFault) → ((a : Reading) → a.ended ≡ false → g a ≡ (f a >>= λ b. unless_ended b h))
     → (r >>= λ a. unless_ended a g) ≡ ((r >>= λ a. unless_ended a f) >>= λ b. unless_ended b h)
 step-lone (Err e) f g h same = refl

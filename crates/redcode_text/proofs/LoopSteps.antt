@@ -18,7 +18,7 @@ use Rattle.redcode_text.specs.Source.{Items, Nothing, Loop, SourceRow}
 use Rattle.redcode_text.specs.Tokens.{OpenLoop, at_line}
 use Rattle.redcode_text.proofs.Kept.{Kept, rof-ended}
 
--- ---- If the first step fails, the whole fails
+-- ---- Errors of the first step
 
 then-problem : {A B : Type 0} (p : TextProblem) (fault : TextFault) (r : Result A TextFault) (f : A → Result B TextFault) → FailsAt p fault r → FailsAt p fault (r >>= f)
 then-problem NotAscii fault r f h = ap (λ r. r >>= f) h
@@ -89,7 +89,8 @@ empty-rounds ps counter (suc n) t st = go st.ended (empty-rounds ps counter n (t
     go true ih = refl
     go false ih = ih
 
--- The remaining iterations are one iteration, for which the loop is opened and closed again, and those after it.
+-- The remaining iterations are one iteration, for which the loop is opened and closed again, and the iterations after
+-- it.
 round-once : (body : Reading → Result Reading TextFault) (counter : Option (List ℕ)) (n t : ℕ) (st : Reading) (l : List OpenLoop) (whole : Result Reading TextFault)
     → t ≤ n → rounds body counter t (n + 1 - t) st ≡ whole → l ≡ record { counter = counter; round = t } ∷ st.loops
     → whole ≡ (body (record st { loops = l }) >>= λ a. unless_ended (record a { loops = st.loops }) (rounds body counter (t + 1) (n + 1 - (t + 1))))

@@ -63,6 +63,6 @@ any-map p f (x ∷ xs) = ap (λ b. p (f x) || b) (any-map p f xs)
 pub label_known : (names : List ℕ) (lines : List line.Line) (n : ℕ) → AreLabels (λ l. l.labels.items) names lines → has names n ≡ list_any (λ l. list_any (λ m. m == n) l.labels) (map line_of lines)
 label_known names lines n known = known n ∙ any-map (λ l. list_any (λ m. m == n) l.labels) line_of lines
 
--- A name may be a label or not, whichever set with the same labels is used.
+-- Whether a name may be a label is the same for two sets with the same names.
 pub may-label : (ps : Predefined) (st : Reading) (names labels : List ℕ) (n : ℕ) → HasSame names labels → may_label ps st names n ≡ may_label ps st labels n
 may-label ps st names labels n same = ap (λ b. not (is_label st n || is_predefined ps st n || b)) (same n)

@@ -1,4 +1,4 @@
--- The names as bytes.
+-- Looking up and inserting names, which `f` maps to their bytes.
 use Rattle.std.proofs.Common.{◌≡◌, ℕ, List, [], ◌∷◌, ◌++◌, map, Bool, true, false, ◌||◌, cond, refl, ap, sym, ◌∙◌, Some, None}
 use Rattle.std.proofs.lemmas.Slice.Eq.{bytes_eq-Decides}
 use Rattle.std.specs.List.{list_any, position, position_or_len}
@@ -31,7 +31,7 @@ module _ {T : Type 0} (f : T → List ℕ) where
   pub present : (q : List ℕ) (keys : List T) → list_any (λ x. bytes_eq q (f x)) keys ≡ true → with_name (map f keys) q ≡ map f keys
   present q keys e = ap (λ b. cond b (map f keys) (map f keys ++ q ∷ [])) (sym (any-map q keys) ∙ e)
 
--- The index that `position` returns is that of the name.
+-- The index that `position` returns is the index of the name.
 pub position-some : {T : Type 0} (p : T → Bool) (keys : List T) (i : ℕ) → Some i ≡ position p keys → i ≡ position_or_len p keys
 position-some p keys i e = chosen _ _ e
   where

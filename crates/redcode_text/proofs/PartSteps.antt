@@ -111,7 +111,7 @@ module _ (ps : Predefined) (st : Reading) where
       go (suc k) [] none = refl
       go (suc k) (x ∷ rest) none = absurd (omega arith)
 
-  -- A label leaves enough fuel for the tokens after it.
+  -- After a label, at most `m` labels more are read, and no more than `m` tokens remain.
   pub label-at : (ts : List Token) (i k n p : ℕ) (d : Token) (labels : List ℕ) (whole : Result Parts TokenProblem) → i < length ts → length (drop i ts) ≤ k → (get_or ts i d).kind ≡ Name n → is_operation st n ≡ false → may_label ps st labels n ≡ true
       → split_colon (drop (i + 1) ts) ≡ (take p (drop (i + 1) ts), drop p (drop (i + 1) ts)) → parted k labels (take i ts) (drop i ts) ≡ whole
       → (m : ℕ) × (length (drop (i + 1 + p) ts) ≤ m) × (parted m (labels ++ n ∷ []) (take (i + 1 + p) ts) (drop (i + 1 + p) ts) ≡ whole)

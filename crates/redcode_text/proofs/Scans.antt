@@ -114,7 +114,7 @@ room-some room line at s f h = let e : nat_lt (length s.tokens) room ≡ true = 
 -- ---- One token, from an offset of a line
 
 module _ (loops : List OpenLoop) (line room at i : ℕ) (bs : List ℕ) (s : Scanned) where
-  -- The result for the bytes that the code looks at.
+  -- The token at the start of the bytes that the code looks at, which are the bytes from `i` on.
   abbrev looked_at : Result Found TextProblem
   looked_at = token_at loops s.names (take (length bs - i) (drop i bs))
 

@@ -66,8 +66,8 @@ operator-none k d s h =
 operator-here : (k : ℕ) (s : Sign) → precedence s ≡ k → operator_at k 0 true (token.Sign s) ≡ Some s
 operator-here k s e = ap (λ b. cond b (Some s) None) (eq-eqb (precedence s) k e)
 
--- No operator of the tree is the last one: a later one is, or those of the tree are inside parentheses, or they are
--- tighter.
+-- No operator of the tree is the last one of precedence `k`: `o` is a later one, or the tree is inside parentheses
+-- because the depth `d` is not 0, or its operators are tighter.
 abbrev Passes : ℕ → ℕ → Tree → Option OperatorSplit → Type 0
 Passes k d t o = (is_some o ≡ true) ⊎ (d ≡ 0 → rank t < k)
 

@@ -72,7 +72,7 @@ module _ (ordinary : List Token → Step) (ls : List (List Token)) (at : ℕ) (l
       ∙ ap (λ l. each_line ordinary l st) (sym (drop-cons ls at [] h))
       ∙ is
 
-  -- If reading one line fails, the whole fails.
+  -- If reading one line fails, reading the lines fails.
   pub line-fails : (e : TokenProblem) → at < length ls → get_or ls at [] ≡ line → each_line ordinary (drop at ls) st ≡ whole → Fails e (read_one ordinary line st) → Fails e whole
   line-fails e h found is fails =
       subst (Fails e) (next h found is) (fails-bind e (read_one ordinary line st) (λ a. unless_ended a (each_line ordinary (drop (at + 1) ls))) fails)

@@ -24,7 +24,8 @@ pub no-matter : {A E : Type 0} (r : Result A E) → Alone (λ (a : A). ⊤) r
 no-matter (Ok a) = tt
 no-matter (Err e) = tt
 
--- The header of a loop, from its tokens on.
+-- The header of a loop, after its tokens were read. The word FOR has the given bytes, and the given offset in the
+-- source.
 abbrev pub headed : Predefined → Option Span → ℕ → WithTokens → Result Head TokenProblem
 headed ps word at r =
     name_in_front (tokens_before at r.0) >>= λ counter.

@@ -1,4 +1,4 @@
--- What follows the line that ends a source has no effect.
+-- The lines after the END of a source have no effect.
 use Rattle.std.proofs.Common.{◌≡◌, ◌∙◌, refl, ap, sym, ℕ, ◌+◌, Bool, true, false, ◌||◌, List, [], ◌∷◌, ◌++◌, length, Result, Ok, Err}
 use Rattle.std.specs.Prelude.{⊤, codes, ◌==◌}
 use Rattle.std.specs.List.{list_any, onto_first}
@@ -76,7 +76,7 @@ module _ (rest : List SourceRow) (none : list_any begins_redcode rest ≡ false)
 
 -- ---- Trees
 
--- The second items begin like the first ones, up to where the first ones end or can't be read.
+-- The items `more` begin like the first items, up to the end of these or to their first unpaired FOR or ROF.
 Begins : Items → Items → Type 0
 Begins Nothing more = ⊤
 Begins (Plain row rest) more = (others : Items) × (more ≡ Plain row others) × Begins rest others
@@ -100,8 +100,8 @@ begins-lone rof (Loop head body end rest) more b = (then_lone rof b.0, ap (then_
 begins-lone rof (source.UnclosedFor row rest) more b = tt
 begins-lone rof (LoneRof row rest) more b = tt
 
--- The pairing of rows is compared with the pairing of more rows: the items before a waiting ROF are the same, and
--- after the last waiting ROF the items of more rows begin like the others.
+-- The pairing of rows is compared with the pairing of more rows. The items before each waiting ROF are the same, and
+-- after the last one the items of the second pairing begin like the items of the first.
 Extends : Items → List (SourceRow × Items) → Items → List (SourceRow × Items) → Type 0
 Extends here [] more others = Begins here more
 Extends here (w ∷ waiting) more others = (here ≡ more) × (behind : Items) × (rest : List (SourceRow × Items)) × (others ≡ (w.0, behind) ∷ rest) × Extends w.1 waiting behind rest
@@ -153,7 +153,7 @@ unpaired-refused n problem row st read = go (line_read st)
     go (Err x) e = cc
 
 module _ (read : Reading) (ends : read.ended ≡ true) where
-  -- If the first items are read up to an END, the second ones have the same result.
+  -- If the result `r` is `read`, which ends with an END, so is the result `s`.
   abbrev Same : Result Reading TextFault → Result Reading TextFault → Type 0
   Same r s = r ≡ Ok read → s ≡ Ok read
 

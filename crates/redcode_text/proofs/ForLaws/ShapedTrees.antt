@@ -1,6 +1,6 @@
--- The shape of an expression is that of a tree, and its error is that of the first misplaced token. Each state of the
--- shape can be continued to an end (`begun`). So the tokens before the first error can be continued to an expression, and
--- with the token that has the error they can't. Nothing has to be counted.
+-- Tokens with a valid shape spell a tree, and the error of a shape is that of the first misplaced token. Each state of
+-- the shape can be continued to an end (`begun`). So the tokens before the first error can be continued to an
+-- expression, and with the token that has the error they can't.
 use Rattle.std.proofs.Common.{◌≡◌, ◌∙◌, refl, ap, sym, subst, ℕ, zero, suc, ◌+◌, ◌-◌, ◌<◌, pos, List, [], ◌∷◌, ◌++◌, length, append-nil, append_assoc, add-one, Bool, true, false, ◌&&◌, ◌==◌, cond, eqb, leb, ◌⊎◌, inl, inr, ⊎_elim, Result, Ok, Err, arith}
 use Rattle.std.proofs.lemmas.Bool.Decides.{nat_tests}
 use Rattle.redcode_text.specs.Results.{◌>>=◌}
@@ -134,7 +134,7 @@ begun p = go p.opened p.signs p.after_operand
     go o n true = (closes o, closed o n)
     go o n false = (Number (pos 0) ∷ closes o, closed o 0)
 
--- The kind of a token's error: `Depth` or `Syntax`, and the reason for it.
+-- The error of a token, `Depth` or `Syntax`, and the reason for it.
 abbrev IsFaultOfToken : ShapeState → TokenKind → ExprFault → Type 0
 IsFaultOfToken p x f = ((f ≡ Depth) × (leads_operand x ≡ true) × Begun p (Number (pos 0) ∷ [])) ⊎ ((f ≡ Syntax) × (leads_operand x ≡ true → Begun p (Number (pos 0) ∷ []) → ⊥))
 
