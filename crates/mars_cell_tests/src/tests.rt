@@ -1,3 +1,4 @@
+//! Cells, parameters, warriors and the texts of errors; and functions that the modules of tests share.
 ghost use Rattle.std.specs.Prelude.{◌≡◌, IfOk};
 
 use mars_cell::*;

@@ -11,7 +11,7 @@ mod faults;
 mod limits;
 mod memory;
 
-/// The parameters of a core of this size, in which a warrior may fill the core.
+/// Returns the parameters of a core of this size, which a warrior may fill.
 fn core_of(core_size: u32) -> Result<Params, Fail> {
     let params = Params::new(
         core_size, 8000, 80_000, core_size, core_size, core_size, core_size,
@@ -21,7 +21,7 @@ fn core_of(core_size: u32) -> Result<Params, Fail> {
     Ok(params)
 }
 
-/// The parameters of a core of 8000 cells, with warriors of at most 4 instructions.
+/// Returns the parameters of a core of 8000 cells, with warriors of at most 4 instructions.
 fn short_warriors() -> Result<Params, Fail> {
     let params = Params::new(8000, 8000, 80_000, 8000, 8000, 4, 4)
         .ok()
@@ -29,7 +29,7 @@ fn short_warriors() -> Result<Params, Fail> {
     Ok(params)
 }
 
-/// The load file of the warrior of a source that gives no name and author, without the lines of its header.
+/// Returns the load file of the warrior of a source that gives no name and author, without the lines of its header.
 fn listing(alloc: Global, params: &Params, source: &[u8]) -> Result<String, Fail> {
     let file = assemble_load(alloc, source, params, 2, 3)?;
     let text = str::from_utf8(&file).ok().ok_or("text")?;
@@ -126,7 +126,7 @@ const LISTINGS: [(&[u8], &str); 9] = [
     ),
 ];
 
-/// Whether a warrior has this name and this author.
+/// Returns whether a warrior has this name and this author.
 fn is_by(warrior: &Warrior, name: &str, author: &str) -> bool {
     (warrior.name(), warrior.author()) == (name, author)
 }

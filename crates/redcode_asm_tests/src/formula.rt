@@ -14,7 +14,7 @@ fn fault_of(alloc: Global, text: &[u8]) -> Option<FormulaFault> {
     Formula::new(alloc, text).err()
 }
 
-/// The points that a formula gives.
+/// Returns the points that a formula gives.
 fn score(
     alloc: Global,
     text: &str,
@@ -70,7 +70,7 @@ fn texts_that_are_no_formulas(rt: HostRuntime) {
     }
 }
 
-/// The error of a formula with `count` spaces after it.
+/// Returns the error of the formula `W` with `count` spaces after it, if it has one.
 fn fault_before_blanks(alloc: Global, count: u32) -> Result<Option<FormulaFault>, Fail> {
     let mut text = Vec::from_slice(alloc, b"W")?;
     for _ in 0..count {

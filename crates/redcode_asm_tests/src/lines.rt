@@ -38,7 +38,7 @@ const SOURCES: [Example; 5] = [
     (b"\n\n\n\n\n\n\n\n\nNOP", &[(10, 0, 0)], b""),
 ];
 
-/// Whether a source has these lines and labels.
+/// Returns whether a source has these lines and labels.
 fn has_lines(
     alloc: Global,
     source: &[u8],

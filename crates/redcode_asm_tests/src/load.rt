@@ -1,3 +1,4 @@
+//! The load files of sources.
 use mars_cell::{Params, Warrior, read_load};
 use redcode_asm::{AsmFault, AsmProblem, assemble, assemble_load};
 use std::alloc::Global;
@@ -14,7 +15,7 @@ fn of_core(core_size: u32) -> Result<Params, Fail> {
     Ok(params)
 }
 
-/// Whether this is the load file of a source, for the given numbers of warriors and rounds.
+/// Returns whether this is the load file of a source, for the given numbers of rounds and warriors.
 fn is_file_of(
     alloc: Global,
     source: &[u8],
@@ -39,7 +40,7 @@ fn load_files_of_sources(rt: HostRuntime) -> Result<(), Fail> {
     Ok(())
 }
 
-/// The warrior that is read from the load file of the source.
+/// Returns the warrior that is read from the load file of `SOURCE`.
 fn read_back(alloc: Global, params: &Params) -> Result<Warrior, Fail> {
     let file = assemble_load(alloc, SOURCE, params, 1, 1)?;
     let warrior = read_load(alloc, &file, params);

@@ -1,7 +1,7 @@
 //! Whole sources: their lines, directives and asserts, their errors, and their limits.
 //!
 //! A test passes its program to functions that borrow it, and then to `drop`. If the program went out of scope by
-//! itself, each such body would prove again how a program is dropped.
+//! itself, the proof of each test would include how a program is dropped.
 use redcode_text::{
     Assert, Env, Line, NameTable, PredefinedNames, Program, Sign, TextFault, TextProblem, Token,
     TokenKind, eval, expand,
@@ -101,7 +101,8 @@ fn push_tokens(
     Ok(())
 }
 
-/// A line as text: its number, its labels, each with a colon, its operation, and the remaining tokens after a bar.
+/// Returns a line as text: its number, its labels, each with a colon, its operation, and the remaining tokens after a
+/// bar.
 fn shown(alloc: Global, names: &NameTable, line: &Line) -> Result<String, Fail> {
     let number = line.number;
     let mut text = format!(in alloc; "{number} ")?;
@@ -117,7 +118,7 @@ fn shown(alloc: Global, names: &NameTable, line: &Line) -> Result<String, Fail> 
     Ok(text)
 }
 
-/// Lines as text, with LF after each.
+/// Returns lines as text, with LF after each.
 fn all_shown(alloc: Global, names: &NameTable, lines: &[Line]) -> Result<String, Fail> {
     let mut text = String::new(alloc);
     for line in lines {
@@ -127,7 +128,7 @@ fn all_shown(alloc: Global, names: &NameTable, lines: &[Line]) -> Result<String,
     Ok(text)
 }
 
-/// All lines of the program of a source, as text.
+/// Returns all lines of the program of a source, as text.
 fn lines_of(alloc: Global, source: &[u8]) -> Result<String, Fail> {
     let program = expand(alloc, source, &NAMES)?;
     let text = all_shown(alloc, program.names(), program.lines());
@@ -322,7 +323,7 @@ fn an_operand_is_replaced_and_has_a_value(rt: HostRuntime) -> Result<(), Fail> {
     checked
 }
 
-/// The number of labels of the first line of a source.
+/// Returns the number of labels of the first line of a source.
 fn first_labels(alloc: Global, source: &[u8]) -> Result<usize, Fail> {
     let program = expand(alloc, source, &NAMES)?;
     let labels = match program.lines() {

@@ -1,3 +1,4 @@
+//! Expressions: known values, errors, and limits.
 use redcode_text::{Env, ExprFault, Sign, TextFault, TextProblem, Token, TokenKind, eval};
 use std::test::Fail;
 
@@ -31,7 +32,7 @@ fn sign(sign: Sign) -> Token {
     token(TokenKind::Sign(sign))
 }
 
-/// `count` copies of one sign, followed by 1.
+/// Returns `count` copies of one sign, followed by 1.
 fn signs_before_one(rt: HostRuntime, count: usize, with: Sign) -> Result<Vec<Token>, Fail> {
     let mut tokens = Vec::new(rt.alloc());
     for _ in 0..count {

@@ -1,3 +1,4 @@
+//! The tokens of texts: known tokens, errors, joins and counters.
 use crate::expansion::NAMES;
 use redcode_text::{
     LineTokens, NameTable, Program, Sign, Span, TextFault, TextProblem, Token, TokenKind, expand,
@@ -15,7 +16,7 @@ fn kinds_in(alloc: Global, tokens: &[Token]) -> Result<Vec<TokenKind>, Fail> {
     Ok(kinds)
 }
 
-/// The kinds of the tokens of a text outside loops.
+/// Returns the kinds of the tokens of a text outside loops.
 fn kinds_of(alloc: Global, text: &[u8]) -> Result<Vec<TokenKind>, Fail> {
     let read = scan(alloc, text)?;
     let kinds = kinds_in(alloc, &read.tokens);

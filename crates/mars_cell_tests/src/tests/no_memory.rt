@@ -1,6 +1,6 @@
-//! Calls that don't allocate. Each test makes its objects, then makes one request for memory, then makes the calls.
-//! dev/checks/memory lets each request fail in turn, together with all later ones; a test must pass whether its last
-//! request fails or not. If its objects can't be allocated, a test shows nothing.
+//! Calls that don't allocate. Each test makes its objects, allocates once more, and then makes the calls.
+//! dev/checks/memory lets each allocation fail in turn, together with all later ones; a test must pass whether its last
+//! one fails or not. If its objects can't be allocated, a test checks nothing.
 ghost use Rattle.std.specs.Prelude.{IfSome, string_bytes};
 ghost use Rattle.mars_cell.specs.Warriors.{IsName};
 
@@ -12,7 +12,7 @@ use mars_cell::{
 use std::alloc::Global;
 use std::test::Fail;
 
-/// Allocates, to be the first of the allocations that fail.
+/// Allocates once. This is the first allocation that may fail.
 fn ask(alloc: Global) {
     let _asked: Result<Vec<u64>, _> = Vec::with_capacity(alloc, 1);
 }
@@ -51,7 +51,7 @@ fn idle(alloc: Global, len: usize) -> Option<Vec<Cell>> {
     Some(cells)
 }
 
-/// Returns a name.
+/// Returns the name `Ann`, or `None` if it can't be allocated.
 fn ann(alloc: Global) -> Option<String>
     ensures { IfSome result (λ name. IsName (string_bytes name)) }
 {
@@ -61,8 +61,8 @@ fn ann(alloc: Global) -> Option<String>
     }
 }
 
-/// Returns a warrior of Ann's or the error of making it, with the allocation that may fail just before the call.
-/// Returns `None` if its parts can't be allocated.
+/// Returns a warrior by Ann, or the error of making it. The allocation that may fail is just before the call. Returns
+/// `None` if the parts of the warrior can't be allocated.
 fn anns(alloc: Global, len: usize, start: u32) -> Option<Result<Warrior, WarriorFault>> {
     let (Some(name), Some(author), Some(cells)) = (ann(alloc), ann(alloc), idle(alloc, len)) else {
         return None;
@@ -71,7 +71,7 @@ fn anns(alloc: Global, len: usize, start: u32) -> Option<Result<Warrior, Warrior
     Some(Warrior::new(name, author, cells, start))
 }
 
-/// Returns whether the result is a warrior of Ann's with this length and start, or this error.
+/// Returns whether the result is a warrior by Ann with this length and start, or this error.
 fn is_as_expected(
     found: &Result<Warrior, WarriorFault>,
     len: usize,

@@ -6,7 +6,7 @@ use std::alloc::Global;
 use std::process::Abort;
 use std::test::Fail;
 
-/// A text, then `count` copies of `part`, then an end.
+/// Returns the text `front`, then `count` copies of `part`, then the text `end`.
 fn repeated(
     alloc: Global,
     front: &[u8],
@@ -22,7 +22,7 @@ fn repeated(
     Ok(text)
 }
 
-/// `e0 EQU 1`, then names up to number `last`, each twice the previous one, then a DAT of the last one.
+/// Returns `e0 EQU 1`, then names up to number `last`, each twice the previous one, then a DAT of the last one.
 fn doublings(alloc: Global, last: usize) -> Result<Vec<u8>, Fail> {
     let mut text = Vec::from_slice(alloc, b"e0 EQU 1\n")?;
     for number in 0..last {
@@ -33,7 +33,7 @@ fn doublings(alloc: Global, last: usize) -> Result<Vec<u8>, Fail> {
     Ok(text)
 }
 
-/// `e0 EQU 1`, then names up to number `last`, each equal to the previous one, then a DAT of the last one.
+/// Returns `e0 EQU 1`, then names up to number `last`, each equal to the previous one, then a DAT of the last one.
 fn chain(alloc: Global, last: usize) -> Result<Vec<u8>, Fail> {
     let mut text = Vec::from_slice(alloc, b"e0 EQU 1\n")?;
     for number in 0..last {
@@ -96,8 +96,7 @@ fn nested_names(rt: HostRuntime) -> Result<(), Fail> {
     Ok(())
 }
 
-/// A text, a part, how many copies of the part follow the text, and an end; then the line of the error and the error,
-/// if the source has one.
+/// The arguments of `repeated` for a source, in order; then the line of its error and the error, if it has one.
 type Repeated = (
     &'static [u8],
     &'static [u8],
@@ -157,7 +156,7 @@ fn max_signs(rt: HostRuntime) -> Result<(), Fail> {
 }
 
 /// Sources without an instruction that have exactly as many lines or tokens as may be read, or one more. The lines and
-/// tokens of an EQU definition count at each use, and so do those of asserts. The error has the line of the use.
+/// tokens of an EQU definition count at each use, and the error has the line of the use. Tokens of asserts count too.
 const LINES_AND_TOKENS_OF_NAMES: [Repeated; 6] = [
     (
         b"x EQU\n\n",

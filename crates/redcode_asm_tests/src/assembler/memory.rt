@@ -9,7 +9,7 @@ use std::test::Fail;
 const SOURCE: &[u8] =
     b";redcode\n;name Four\n;assert MAXLENGTH >= 4\nstep EQU 4\ni FOR 2\nx&i ADD.AB #step, i+last\nROF\nlast JMP x01\nDAT x02, -1\nEND last\n";
 
-/// Whether a warrior has the name, the start and the numbers that the source gives.
+/// Returns whether a warrior has the name, the start and the numbers that the source gives.
 fn is_four(warrior: &Warrior) -> bool {
     let mut numbers = [(0, 0); 4];
     for (pair, cell) in numbers.iter_mut().zip(warrior.cells()) {

@@ -136,7 +136,8 @@ fn long_words_that_are_no_tokens(rt: HostRuntime) -> Result<(), Fail> {
     Ok(())
 }
 
-/// Every prefix of a source has a program or an error.
+/// Each prefix of `LOOPS` has a program or an error that isn't `OutOfMemory`, and each prefix of `COPIES` has a
+/// program.
 #[test]
 fn each_beginning_of_a_source_is_answered(rt: HostRuntime) {
     for len in 0..LOOPS.len() {

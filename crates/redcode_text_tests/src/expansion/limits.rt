@@ -30,7 +30,7 @@ fn token_of(alloc: Global, source: &[u8]) -> Option<Span> {
     expand(alloc, source, &NAMES).err()?.token
 }
 
-/// Checks the token at which each limit is passed. A line has none.
+/// Checks the token at which each limit is exceeded. For the limit of lines there is none.
 #[test]
 fn tokens_beyond_limits(rt: HostRuntime) -> Result<(), Fail> {
     let alloc = rt.alloc();
@@ -75,8 +75,8 @@ fn as_many_loops_as_may_be_open(rt: HostRuntime) -> Result<(), Fail> {
     check_loops(&rt, rt.alloc(), 33, b"", too_long)
 }
 
-/// EQU names from `e0`, which is defined as `leaf`, up to the number `last`, each defined as two of the previous one;
-/// then the text `behind`.
+/// Returns EQU names from `e0`, which is defined as `leaf`, up to the number `last`, each defined as the sum of two of
+/// the previous one; then the text `behind`.
 fn doublings(alloc: Global, leaf: &str, last: usize, behind: &str) -> Result<Vec<u8>, Fail> {
     let first = format!(in alloc; "e0 EQU {leaf}\n")?;
     let mut source = Vec::from_slice(alloc, first.as_bytes())?;
@@ -89,7 +89,7 @@ fn doublings(alloc: Global, leaf: &str, last: usize, behind: &str) -> Result<Vec
     Ok(source)
 }
 
-/// The number of tokens of the last line of a program, without its operation, after EQU names are replaced.
+/// Returns the number of tokens of the last line of a program, without its operation, after EQU names are replaced.
 fn last_len(alloc: Global, program: &Program) -> Result<usize, Located> {
     let mut len = 0;
     for line in program.lines() {
@@ -101,7 +101,7 @@ fn last_len(alloc: Global, program: &Program) -> Result<usize, Located> {
     Ok(len)
 }
 
-/// The number of tokens of the last line of a source's program, after EQU names are replaced.
+/// Returns the number of tokens of the last line of a source's program, after EQU names are replaced.
 fn substituted_len(alloc: Global, source: &[u8]) -> Result<usize, Located> {
     let program = expand(alloc, source, &NAMES).map_err(located)?;
     let len = last_len(alloc, &program);
@@ -161,7 +161,8 @@ fn as_long_as_names_may_be(rt: HostRuntime) -> Result<(), Fail> {
     Ok(())
 }
 
-/// `count` EQU names, each defined as the previous one, and a line that uses the last one as its operation.
+/// Returns `count` EQU names, each defined as the previous one, a line that uses the last one as its operation, and a
+/// DAT that uses it as its operand.
 fn chain(alloc: Global, count: usize) -> Result<Vec<u8>, Fail> {
     let mut source = Vec::from_slice(alloc, b"e1 EQU DAT 5\n")?;
     for before in 1..count {
@@ -185,7 +186,7 @@ fn as_deep_as_names_may_be_replaced(rt: HostRuntime) -> Result<(), Fail> {
     Ok(())
 }
 
-/// The names `a0`, `a1` and so on, each followed by `behind`.
+/// Returns `count` names, `a0`, `a1` and so on, each followed by `behind`.
 fn numbered(alloc: Global, count: usize, behind: &str) -> Result<Vec<u8>, Fail> {
     let mut source = Vec::new(alloc);
     for index in 0..count {
@@ -207,7 +208,7 @@ fn as_many_labels_as_there_may_be(rt: HostRuntime) -> Result<(), Fail> {
     Ok(())
 }
 
-/// Checks the number of lines for five doublings of a leaf followed by a text.
+/// Checks the number of lines for five doublings of `leaf`, followed by the text `behind`.
 fn check_count(
     rt: &impl Abort,
     alloc: Global,

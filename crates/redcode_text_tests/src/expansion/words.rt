@@ -16,7 +16,8 @@ fn long_lines(rt: HostRuntime) -> Result<(), Fail> {
     Ok(())
 }
 
-/// A source with long words in a loop: its counter, a name with a join to the counter and one without, and a number.
+/// Returns a source with long words in a loop: its counter, a name with a join to the counter and one without, and a
+/// number.
 fn long_words_in_loop(alloc: Global) -> Result<Vec<u8>, Fail> {
     let word = copies(alloc, b"x", 300)?;
     let zeros = copies(alloc, b"0", 300)?;
@@ -56,8 +57,8 @@ fn long_words_in_each_round(rt: HostRuntime) -> Result<(), Fail> {
     Ok(())
 }
 
-/// A label of `len` letters and the digits of its iteration, in a loop of two iterations, and a use of both names after
-/// it.
+/// Returns a loop of two iterations, with a label of `len` letters and the digits of the iteration, and then a line
+/// that uses both labels.
 fn joined_in_loop(alloc: Global, len: usize) -> Result<Vec<u8>, Fail> {
     let word = copies(alloc, b"x", len)?;
     let texts: [&[u8]; 7] = [
@@ -83,7 +84,7 @@ fn push_name(names: &NameTable, name: usize, text: &mut Vec<u8>) -> Result<(), F
     Ok(())
 }
 
-/// The labels of lines, and the names after their operations.
+/// Returns the labels of lines and the names after their operations, with a space after each.
 fn names_of_lines(alloc: Global, names: &NameTable, lines: &[Line]) -> Result<Vec<u8>, Fail> {
     let mut text = Vec::new(alloc);
     for line in lines {
