@@ -1,4 +1,4 @@
-//! Calls that don't allocate. Each test makes its objects, allocates once more, and then makes the calls.
+//! Calls that don't allocate. Each test makes its objects, allocates again, and then makes the calls.
 //! dev/checks/memory lets each allocation fail in turn, together with all later ones; a test must pass whether its last
 //! one fails or not. If its objects can't be allocated, a test checks nothing.
 ghost use Rattle.std.specs.Prelude.{IfSome, string_bytes};
