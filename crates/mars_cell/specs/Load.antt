@@ -43,7 +43,8 @@ statement_of written m (p ∷ ps) =
     if str_eq_ignore_ascii_case p (codes "END") then option_map (λ n. statement.End n) (end_of ps) else
     option_map (λ c. statement.Instruction c) (cell_of written m (p ∷ ps))
 
--- The statement of the line `l`, or none if the line is invalid.
+-- The statement of the line `l` in a core of `m` cells, if the file was written for a core of `written` cells, or none
+-- if the line is invalid.
 abbrev pub line_statement : ℕ → ℕ → List ℕ → Option Statement
 line_statement written m l = statement_of written m (parts (before_comment l))
 
@@ -60,6 +61,7 @@ statements_from (statement.Origin n) rest = with_rest (statement.Origin n) rest
 statements_from (statement.Instruction c) rest = with_rest (statement.Instruction c) rest
 
 -- The statements of the lines up to END, or the number of the first invalid line. The first line has the number `k`.
+-- The file was written for a core of `written` cells and is read for a core of `m` cells.
 unfoldable pub statements : ℕ → ℕ → ℕ → List (List ℕ) → Result (List Statement) ℕ
 statements written m k [] = Ok []
 statements written m k (l ∷ ls) = elim (line_statement written m l) [
@@ -109,8 +111,8 @@ warrior_of h longest ss =
     else if is_index (start_of ss) (length (cells_of ss)) then Ok (record { name = h.name; author = h.author; cells = cells_of ss; start = unsigned_abs (start_of ss) })
     else Err fault.BadOrigin
 
--- The warrior of the header `h` and the lines `ls` after it, of which the first has the number `k`. An invalid line comes before
--- all other errors.
+-- The warrior of the header `h` and the lines `ls` after it, in a core of `m` cells. The first of the lines has the
+-- number `k`, and a warrior has at most `longest` cells. An invalid line comes before all other errors.
 unfoldable pub body : HeaderValue → ℕ → ℕ → ℕ → List (List ℕ) → Result WarriorValue LoadFault
 body h m longest k ls = elim (statements h.written m k ls) [
   | Err j ↦ Err (fault.Syntax j)

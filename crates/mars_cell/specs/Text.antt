@@ -9,10 +9,10 @@ use Rattle.mars_cell.specs.Words.{op_name, modifier_name, mode_name}
 abbrev pub number_text : ℕ → ℕ → List ℕ
 number_text m n = if nat_le n (m / 2) then decimal n else codes "-" ++ decimal (m - n)
 
--- The text of an operand: its mode and its number.
+-- The text of an operand in a core of `m` cells: its mode and its number.
 abbrev pub operand_text : ℕ → Mode → ℕ → List ℕ
 operand_text m mode n = mode_name mode ++ number_text m n
 
--- The text of a cell, such as `MOV.I $0, $-1`.
+-- The text of a cell of a core of `m` cells, such as `MOV.I $0, $-1`.
 abbrev pub cell_text : ℕ → Cell → List ℕ
 cell_text m c = op_name c.op ++ codes "." ++ modifier_name c.modifier ++ codes " " ++ operand_text m c.a_mode c.a ++ codes ", " ++ operand_text m c.b_mode c.b

@@ -9,6 +9,7 @@ use Rattle.mars_cell.specs.declared.instruction.Modifier.TheVariants as modifier
 use Rattle.mars_cell.specs.declared.instruction.Mode.{Mode}
 use Rattle.mars_cell.specs.declared.instruction.Mode.TheVariants as mode
 
+-- The name of an opcode, as it is printed.
 abbrev pub op_name : Op → List ℕ
 op_name op.Dat = codes "DAT"
 op_name op.Mov = codes "MOV"
@@ -27,6 +28,7 @@ op_name op.Slt = codes "SLT"
 op_name op.Spl = codes "SPL"
 op_name op.Nop = codes "NOP"
 
+-- The name of a modifier, as it is printed.
 abbrev pub modifier_name : Modifier → List ℕ
 modifier_name modifier.A = codes "A"
 modifier_name modifier.B = codes "B"
@@ -36,6 +38,7 @@ modifier_name modifier.F = codes "F"
 modifier_name modifier.X = codes "X"
 modifier_name modifier.I = codes "I"
 
+-- The character of a mode.
 abbrev pub mode_name : Mode → List ℕ
 mode_name mode.Immediate = codes "#"
 mode_name mode.Direct = codes "$"
@@ -46,12 +49,15 @@ mode_name mode.BPredecrement = codes "<"
 mode_name mode.APostincrement = codes "}"
 mode_name mode.BPostincrement = codes ">"
 
+-- All opcodes, in the order of their indices.
 abbrev pub ops : List Op
 ops = op.Dat ∷ op.Mov ∷ op.Add ∷ op.Sub ∷ op.Mul ∷ op.Div ∷ op.Mod ∷ op.Jmp ∷ op.Jmz ∷ op.Jmn ∷ op.Djn ∷ op.Seq ∷ op.Sne ∷ op.Slt ∷ op.Spl ∷ op.Nop ∷ []
 
+-- All modifiers, in the order of their indices.
 abbrev pub modifiers : List Modifier
 modifiers = modifier.A ∷ modifier.B ∷ modifier.Ab ∷ modifier.Ba ∷ modifier.F ∷ modifier.X ∷ modifier.I ∷ []
 
+-- All modes, in the order of their indices.
 abbrev pub modes : List Mode
 modes = mode.Immediate ∷ mode.Direct ∷ mode.AIndirect ∷ mode.BIndirect ∷ mode.APredecrement ∷ mode.BPredecrement ∷ mode.APostincrement ∷ mode.BPostincrement ∷ []
 

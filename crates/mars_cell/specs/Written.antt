@@ -4,7 +4,7 @@ use Rattle.std.specs.List.{flat_map}
 use Rattle.mars_cell.specs.Warriors.{WarriorValue}
 use Rattle.mars_cell.specs.Text.{cell_text}
 
--- The lines of the statements: the start, then each cell.
+-- The lines of the statements of `w` for a core of `m` cells: the start, then each cell.
 abbrev pub statement_lines : ℕ → WarriorValue → List (List ℕ)
 statement_lines m w = (codes "ORG " ++ decimal w.start) ∷ map (cell_text m) w.cells
 

@@ -148,7 +148,7 @@ checked-value f w s h =
     tokens-value (λ n. variable_value w s (name_at f.names n)) (kinds f.tokens) (shape-checked (shape start (kinds f.tokens)) (list_all (may_occur f.names) (kinds f.tokens)) f h)
     (kinds-stand f w s (kinds f.tokens) (names-checked (shape start (kinds f.tokens)) (list_all (may_occur f.names) (kinds f.tokens)) f h))
 
--- A checked formula is the one that was given.
+-- A checked formula is the formula that was given.
 same-by : (b : Bool) (g f : Scanned) → (if b then Ok g else Err Unknown) ≡ Ok f → g ≡ f
 same-by true g f h = ok-same g f h
 same-by false g f h = cc

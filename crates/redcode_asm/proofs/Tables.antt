@@ -1,6 +1,6 @@
--- Looking up a label in the table finds the label of the program's lines. A `Source` holds a program and a table, and its
--- ghost field says that the table is that of the program. So the value of a name is given by its definition, and one lemma
--- on look-ups is enough.
+-- Looking up a label in the table finds the label of the program's lines. A `Source` holds a program and a table, and
+-- its ghost field says that the table belongs to the program. So the value of a name is given by its definition, and
+-- one lemma on look-ups is enough.
 use Rattle.std.proofs.Common.{◌≡◌, ◌∙◌, ℕ, List, [], ◌∷◌, ◌++◌, ap, Option, None, Some, Bool, true, false, ◌||◌, cond, nat_eq, ◌==◌, is_some, refl, subst, arith}
 use Rattle.std.proofs.lemmas.Bool.{eqb-true}
 use Rattle.std.specs.List.{list_any}
@@ -75,7 +75,7 @@ among-by : (b : Bool) (index : ℕ) (x : Option ℕ) → first_of (where_true b 
 among-by true index x = refl
 among-by false index x = refl
 
--- A look-up in the table finds the first label among those of the old table and of the lines.
+-- A look-up finds the first label among the labels of the old table and of the lines.
 pub lookup-table : (table : Table) (n : ℕ) (ps : List Placed) → lookup (nat_eq n) (table_with table ps) ≡ first_of (lookup (nat_eq n) table) (label_among ps n)
 lookup-table table n [] = first-none (lookup (nat_eq n) table)
 lookup-table table n (p ∷ ps) =

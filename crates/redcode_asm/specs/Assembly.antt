@@ -72,6 +72,7 @@ abbrev pub placed_from : List (List ℕ) → ℕ → List Line → List Placed
 placed_from names index [] = []
 placed_from names index (l ∷ ls) = record { index = index; line = l } ∷ placed_from names (index_after names index l) ls
 
+-- The lines of a program, with their indices.
 abbrev pub placed : ProgramValue → List Placed
 placed source = placed_from source.names 0 source.lines
 

@@ -14,7 +14,7 @@ use Rattle.redcode_text.specs.Source.{SourceRow, LineKind, RofLine, ForLine, Equ
 use Rattle.redcode_text.specs.Tokens.{OpenLoop, Scanned, problem_at, tokens}
 use Rattle.std.specs.Prelude.{⊤, codes, ◌||◌}
 
--- The part `f` of what is read is still `x`.
+-- The part `f` of everything read is still `x`.
 abbrev pub Kept : {X : Type 0} → (Reading → X) → X → Result Reading TokenProblem → Type 0
 Kept f x (Ok a) = f a ≡ x
 Kept f x (Err e) = ⊤

@@ -74,7 +74,7 @@ signs-more ts a n d le lt =
     ∙ map-append (λ t. t.kind) (take (n - a) (drop a ts)) (get_or (drop a ts) (n - a) d ∷ [])
     ∙ ap (λ t. kinds (take (n - a) (drop a ts)) ++ t.kind ∷ []) (get_or-drop a ts (n - a) d ∙ ap (λ k. get_or ts k d) there)
 
--- A unary operator is added to those directly before it.
+-- A unary operator is added to the ones directly before it.
 sign-seen : (ts : List Token) (n : ℕ) (s : Sign) (r : Progress) (d : Token) → r.first_sign ≤ n → n < length ts → (get_or ts n d).kind ≡ token.Sign s → r.after_operand ≡ false → ok (record { stack = waiting_all ts r.stack; signs = kinds (slice_range ts r.first_sign n) ++ token.Sign s ∷ []; value = r.value; after = false }) ≡ ok (seen ts (n + 1) r)
 sign-seen ts n s r d le lt is f =
     (λ i. ok (record { stack = waiting_all ts r.stack; signs = sym (signs-more ts r.first_sign n d le lt ∙ ap (λ k. kinds (slice_range ts r.first_sign n) ++ k ∷ []) is) i; value = r.value; after = sym f i }))

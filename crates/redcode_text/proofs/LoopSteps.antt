@@ -136,7 +136,7 @@ loop-at ps rows i j at dh dr st hi hj is ends =
     ∙ flat-loop ps (row_of (get_or rows i dr)) (here_from rows (i + 1)) (row_of (get_or rows j dr)) (here_from rows (j + 1)) st
     ∙ ap (λ row. one_loop ps (row_of row) (here_from rows (i + 1)) (row_of (get_or rows j dr)) st >>= λ a. unless_ended a (flat ps (here_from rows (j + 1)))) (get_or_default rows i dr dh hi)
 
--- If the header, an iteration or the ROF of a loop fails, so do the loop and what follows it.
+-- If the header, an iteration or the ROF of a loop fails, the loop and the items after it fail with the same error.
 pub head-fails : (ps : Predefined) (head : SourceRow) (body : Items) (rof : SourceRow) (st : Reading) (f : Reading → Result Reading TextFault) (fault : TextFault) (whole : Result Reading TextFault)
     → whole ≡ (one_loop ps head body rof st >>= f) → FailsAt fault.problem fault (at_line head.number (head_line ps head st)) → FailsAt fault.problem fault whole
 head-fails ps head body rof st f fault whole is h =

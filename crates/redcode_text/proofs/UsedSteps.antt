@@ -57,7 +57,7 @@ under-same (Some n) st other same = rw same refl
 abbrev ok : List Token → Result (List Token) TokenProblem
 ok l = Ok l
 
--- The line that was built for an index is the defined one, if the EQU names are still those of the start.
+-- The line that was built for an index is the defined line, if the EQU names are unchanged since the start.
 pub line-at : (operation : Option ℕ) (st first : Reading) (before behind : List Token) (at : ℕ) (lines : List (List Token)) (line read : List Token) → st.equates ≡ first.equates → lines ≡ lines_under st operation
     → ok (get_or (used before lines behind) at []) ≡ ok line → read ≡ line → get_or (used before (lines_under first operation) behind) at [] ≡ read
 line-at operation st first before behind at lines line read same is made e =

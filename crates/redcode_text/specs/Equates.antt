@@ -47,7 +47,7 @@ one_line t [] = Ok []
 one_line t (line ∷ []) = Ok line
 one_line t (line ∷ next ∷ lines) = Err (problem_of t BadToken)
 
--- `r` with one more replacement, that of the name `t`, unless the limit is reached.
+-- `r` with one more replacement, of the name `t`, unless the limit is reached.
 abbrev pub one_more : Token → Replaced → Result Replaced TokenProblem
 one_more t r = elim (nat_le limit r.count) [ true ↦ Err (problem_of t TooLong) | false ↦ Ok (record { tokens = r.tokens; count = r.count + 1 }) ]
 

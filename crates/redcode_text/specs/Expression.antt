@@ -175,6 +175,7 @@ abbrev pub last_operator : ℕ → ℕ → Bool → List TokenKind → Option Op
 last_operator k depth after [] = None
 last_operator k depth after (x ∷ xs) = later_or (last_operator k (depth_after depth x) (ends_operand x) xs) x (operator_at k depth after x) xs
 
+-- The tokens without the last one.
 abbrev pub without_last : List TokenKind → List TokenKind
 without_last [] = []
 without_last (x ∷ []) = []
@@ -224,6 +225,7 @@ value_of names xs = shape start xs >>= λ _. value names (tree_within (length xs
 
 -- ---- Positions of errors
 
+-- The token is a name without a value.
 abbrev pub is_unknown : (ℕ → Option ℤ) → TokenKind → Bool
 is_unknown names (Name n) = is_none (names n)
 is_unknown names _ = false

@@ -20,8 +20,8 @@ use Rattle.redcode_text.specs.Equates.{Equate, depth_limit, equate_lines, limit}
 -- ---- Everything that has been read
 
 -- A line that was read: its line number, its labels and its operation, as indices into the names, and the tokens after
--- them. `operation_span` has the bytes of the operation; without one, those of the last token before `rest`, because an
--- unknown operation is read as a label.
+-- them. `operation_span` has the bytes of the operation or, if there is none, of the last token before `rest`, because
+-- an unknown operation is read as a label.
 pub record Line : Type 0 where
   pub number : ℕ
   pub labels : List ℕ
@@ -35,6 +35,8 @@ pub record Assert : Type 0 where
   pub current_line : ℕ
   pub tokens : List Token
 
+-- Everything that has been read of a source: its names, lines and asserts, and the numbers of instructions, of lines
+-- and of tokens so far. `ended` is true after an END.
 pub record Reading : Type 0 where
   -- The open loops, innermost first.
   pub loops : List OpenLoop
@@ -72,12 +74,15 @@ with_current_line ps instructions = (codes "CURLINE", pos instructions) ∷ ps
 abbrev pub name_at : List (List ℕ) → ℕ → List ℕ
 name_at names n = unwrap_or (slice_get names n) []
 
+-- The name `n` is predefined. CURLINE is, too.
 abbrev pub is_predefined : Predefined → Reading → ℕ → Bool
 is_predefined ps st n = is_some (predefined_value (with_current_line ps 0) (name_at st.names n))
 
+-- The name `n` is an EQU name.
 abbrev pub is_equate : Reading → ℕ → Bool
 is_equate st n = is_some (equate_lines st.equates n)
 
+-- The name `n` is a label of a line that was read.
 abbrev pub is_label : Reading → ℕ → Bool
 is_label st n = list_any (λ l. list_any (λ m. m == n) l.labels) st.lines
 
@@ -213,6 +218,7 @@ parts_within ps st (suc k) labels before (t ∷ ts) =
       | _ ↦ Ok (without_operation labels before (t ∷ ts))
     ]
 
+-- The parts of a line with the tokens `ts`.
 abbrev pub parts_of : Predefined → Reading → List Token → Result Parts TokenProblem
 parts_of ps st ts = parts_within ps st (length ts) [] [] ts
 
@@ -221,9 +227,11 @@ abbrev pub is_keyword : List (List ℕ) → List ℕ → Option ℕ → Bool
 is_keyword names word (Some n) = str_eq_ignore_ascii_case (name_at names n) word
 is_keyword names word None = false
 
+-- The operation is ORG, in either case.
 abbrev pub is_org : List (List ℕ) → Option ℕ → Bool
 is_org names operation = is_keyword names (codes "org") operation
 
+-- The operation is END, in either case.
 abbrev pub is_end : List (List ℕ) → Option ℕ → Bool
 is_end names operation = is_keyword names (codes "end") operation
 

@@ -24,6 +24,7 @@ abbrev pub rows_from : ℕ → ℕ → List (List ℕ) → List SourceRow
 rows_from number at [] = []
 rows_from number at (bytes ∷ rest) = record { number = number; at = at; bytes = bytes } ∷ rows_from (number + 1) (at + length bytes + 1) rest
 
+-- The lines of a source with their numbers and offsets.
 abbrev pub rows_of : List ℕ → List SourceRow
 rows_of source = rows_from 1 0 (lines_of source)
 
@@ -111,6 +112,7 @@ loop_word row = elim (line_kind row.bytes) [ ForLine at ↦ word_span row at | _
 abbrev pub without_blanks : List ℕ → List ℕ
 without_blanks bytes = drop (blank_len bytes) bytes
 
+-- The line has nothing but a comment.
 abbrev pub is_comment : List ℕ → Bool
 is_comment bytes = starts_with nat_eq (without_blanks bytes) (semicolon ∷ [])
 
@@ -122,6 +124,7 @@ has_directive word bytes = starts_with nat_eq (str_to_ascii_lowercase (without_b
 abbrev pub directive_text_at : List ℕ → List ℕ → ℕ
 directive_text_at word bytes = blank_len bytes + length word + 1
 
+-- The text after the word of a directive.
 abbrev pub directive_text : List ℕ → List ℕ → List ℕ
 directive_text word bytes = drop (directive_text_at word bytes) bytes
 
@@ -134,6 +137,7 @@ ends_word (b ∷ bs) = is_blank b
 abbrev pub has_directive_word : List ℕ → List ℕ → Bool
 has_directive_word word bytes = has_directive word bytes && ends_word (directive_text word bytes)
 
+-- The row begins with `;redcode`, in either case.
 abbrev pub begins_redcode : SourceRow → Bool
 begins_redcode row = has_directive (codes "redcode") row.bytes
 
@@ -192,6 +196,7 @@ abbrev pub with_lone : Items → List (SourceRow × Items) → Items
 with_lone here [] = here
 with_lone here (rof ∷ waiting) = then_lone rof.0 here
 
+-- The tree of the rows that are read.
 abbrev pub tree_of_rows : List SourceRow → Items
 tree_of_rows rows = with_lone (paired rows).here (paired rows).waiting
 

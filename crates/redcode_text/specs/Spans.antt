@@ -4,6 +4,7 @@ use Rattle.std.specs.List.{last_or}
 use Rattle.redcode_text.specs.declared.token.Span.{Span}
 use Rattle.redcode_text.specs.declared.token.Token.{Token}
 
+-- The bytes of a token.
 abbrev pub span_of : Token → Span
 span_of t = record { from = t.from; to = t.to }
 

@@ -23,6 +23,7 @@ use Rattle.redcode_text.specs.declared.fault.TextProblem.TheVariants.{NotAscii, 
 abbrev pub problem_at : Option Span → TextProblem → TokenProblem
 problem_at span problem = record { problem = problem; token = span }
 
+-- A problem with the bytes of the token `t`.
 abbrev pub problem_of : Token → TextProblem → TokenProblem
 problem_of t problem = problem_at (Some (span_of t)) problem
 
@@ -36,6 +37,7 @@ abbrev pub at_line : {A : Type 0} → ℕ → Result A TokenProblem → Result A
 at_line n (Ok x) = Ok x
 at_line n (Err e) = Err (record { line = n; problem = e.problem; token = e.token })
 
+-- A result whose error loses its line number.
 abbrev pub without_line : {A : Type 0} → Result A TextFault → Result A TokenProblem
 without_line (Ok x) = Ok x
 without_line (Err e) = Err (record { problem = e.problem; token = e.token })
@@ -50,6 +52,7 @@ is_blank b = nat_lt b 33 && not (b == line_feed)
 abbrev pub is_letter : ℕ → Bool
 is_letter b = is_ascii_alphabetic b || b == underscore
 
+-- A letter, a digit or `_`.
 abbrev pub is_word_byte : ℕ → Bool
 is_word_byte b = is_letter b || is_ascii_digit b
 
@@ -75,6 +78,7 @@ pub record OpenLoop : Type 0 where
   pub counter : Option (List ℕ)
   pub round : ℕ
 
+-- The name `name` is the counter of a loop, if the loop has one.
 abbrev pub is_counter : List ℕ → Option (List ℕ) → Bool
 is_counter name (Some counter) = bytes_eq counter name
 is_counter name None = false
@@ -103,6 +107,7 @@ abbrev pub join_counters : List OpenLoop → List ℕ → List (List ℕ) → Re
 join_counters loops front [] = Ok front
 join_counters loops front (name ∷ names) = round_or_bad (round_of loops name) >>= λ n. join_counters loops (front ++ round_digits n) names
 
+-- The word with these parts at its joins, in which each join is replaced by digits.
 abbrev pub join_parts : List OpenLoop → List (List ℕ) → Result (List ℕ) TextProblem
 join_parts loops [] = Ok []
 join_parts loops (front ∷ names) = join_counters loops front names
@@ -178,6 +183,7 @@ sign_found names (Some sign) one = Ok (record { kind = token.Sign sign; len = 2;
 sign_found names None (Some sign) = Ok (record { kind = token.Sign sign; len = 1; names = names })
 sign_found names None None = Err BadToken
 
+-- The token of the sign at the start of the text `bs`.
 abbrev pub sign_token : List (List ℕ) → List ℕ → Result Found TextProblem
 sign_token names bs = sign_found names (look_up two_byte_signs (take 2 bs)) (look_up one_byte_signs (take 1 bs))
 

@@ -21,6 +21,7 @@ abbrev pub rank : Tree → ℕ
 rank (Binary l s r) = precedence s
 rank _ = 0
 
+-- The sign is a unary operator.
 abbrev pub is_prefix : Sign → Bool
 is_prefix Plus = true
 is_prefix Minus = true

@@ -18,7 +18,7 @@ pub struct Line {
     pub labels: Vec<usize>,
     /// The operation, as an index into the names, if there is one.
     pub operation: Option<usize>,
-    /// The bytes of the operation in the source. Without an operation, those of the last token before `rest`, because an
+    /// The bytes in the source of the operation or, if there is none, of the last token before `rest`, because an
     /// unknown operation is read as a label.
     pub operation_span: Option<Span>,
     /// The tokens after the operation, or after the labels if there is no operation.

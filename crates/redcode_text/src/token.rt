@@ -74,12 +74,12 @@ pub struct Token {
     /// The line number, from 1 for the first line of the file. In the lines of a program, a token that comes from EQU has
     /// the number of the line that uses the name.
     pub line: usize,
-    /// The token's bytes in the source are those from `from` up to, but excluding, `to`.
+    /// The token has the bytes of the source from `from` up to, but excluding, `to`.
     pub from: usize,
     pub to: usize,
 }
 
-/// A range of bytes of a source: those from `from` up to, but excluding, `to`.
+/// A range of bytes of a source, from `from` up to, but excluding, `to`.
 #[derive(Clone, Copy, Debug, PartialEq, Eq)]
 pub struct Span {
     pub from: usize,

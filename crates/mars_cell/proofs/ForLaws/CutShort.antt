@@ -27,11 +27,11 @@ pub CutShort-after : (a b c : Option (List ℕ)) (x y z : List ℕ) → Appends 
 CutShort-after a b c x y z before cut = CutShort-back a b c x (y ++ z) before (CutShort-front b c y z cut)
 
 module _ {X : Type 0} (f : X → List ℕ) (xs : List X) (i : ℕ) (d : X) (inside : i < length xs) where
-  -- The texts of the first `i + 1` elements are those of the first `i`, followed by the next.
+  -- The texts of the first `i + 1` elements are the texts of the first `i`, followed by the text of the next one.
   pub flat_map-one_more : flat_map f (take (i + 1) xs) ≡ flat_map f (take i xs) ++ f (get_or xs i d)
   flat_map-one_more = rw (take_more xs i d inside, flat_map-append f (take i xs) (get_or xs i d ∷ [])) (ap (λ l. flat_map f (take i xs) ++ l) (append-nil (f (get_or xs i d))))
 
-  -- The texts of a list are those before an element, the element's own, and those after it.
+  -- The texts of a list are the texts before an element, the text of the element, and the texts after it.
   pub flat_map-around : flat_map f xs ≡ flat_map f (take i xs) ++ (f (get_or xs i d) ++ flat_map f (drop (i + 1) xs))
   flat_map-around = ap (flat_map f) (sym (take-append-drop i xs)) ∙ flat_map-append f (take i xs) (drop i xs) ∙ ap (λ l. flat_map f (take i xs) ++ l) (rw (drop_more xs i d inside) refl)
 

@@ -37,7 +37,7 @@ abbrev pub listing : ReadListing → Listing
 listing r = record { cells = r.cells.items; origin = r.origin; end = r.end }
 
 -- The listing after all lines up to END, or the number of the first invalid line. The first line has the number `k`,
--- and `s` was read before it. The sizes are those of `line_statement`.
+-- and `s` was read before it. The file was written for a core of `written` cells and is read for a core of `m` cells.
 unfoldable pub load_from : ℕ → ℕ → ℕ → Listing → List (List ℕ) → Result Listing ℕ
 load_from written m k s [] = Ok s
 load_from written m k s (l ∷ ls) = elim (line_statement written m l) [

@@ -86,7 +86,7 @@ pub tokens_are_of_the_line_of_the_use : lines_of_tokens (codes "x EQU NOP 1" ∷
 unfolding expansion value_of tree_within digits
 tokens_are_of_the_line_of_the_use = refl
 
--- For each line, the first and the last byte of its operation, or of what is read in its place.
+-- For each line, the offsets of the first byte of its `operation_span` and of the byte after the last one.
 abbrev pub operation_spans : List (List ℕ) → List (Option (ℕ × ℕ))
 unfolding expansion
 operation_spans ls = elim (expansion predefined (text ls)) [ Ok st ↦ map (λ l. option_map (λ span. (span.from, span.to)) l.operation_span) st.lines | Err e ↦ [] ]

@@ -27,7 +27,8 @@ said (Err e) = Err e.problem
 abbrev read : List ℕ → Result (List TokenKind × List (List ℕ)) TextProblem
 read bs = said (tokens [] 1 0 100 [] bs)
 
--- Three open loops: the one of `i` in iteration 1, one without a counter, and the one of `j` in iteration 12.
+-- Three open loops: one with the counter `i` in iteration 1, one without a counter in iteration 3, and one with the
+-- counter `j` in iteration 12.
 abbrev loops : List OpenLoop
 loops = record { counter = Some (codes "i"); round = 1 } ∷ record { counter = None; round = 3 } ∷ record { counter = Some (codes "j"); round = 12 } ∷ []
 

@@ -7,7 +7,7 @@ use crate::fault::{TextProblem, TokenProblem};
 use crate::token::Token;
 use std::alloc::Global;
 
-/// Returns the tokens of `front`, followed by those of `back`.
+/// Returns the tokens of `front`, followed by the tokens of `back`.
 fn joined(alloc: Global, front: &[Token], back: &[Token]) -> Result<Vec<Token>, TokenProblem>
     ensures { Gives (λ made. made.items) result (Ok (front.now ++ back.now)) }
 {
