@@ -6,7 +6,8 @@
 //!
 //! - Every parameter of a `Params` is in its range. A `Warrior` has at least one cell and starts at one of its cells;
 //!   its name and its author's have at most 60 printable ASCII characters.
-//! - `residue` reduces a value modulo the core size. `read_op` and `read_modifier` read opcodes and modifiers.
+//! - `residue` reduces a value modulo the core size. `read_digits`, `read_op` and `read_modifier` read numbers, opcodes
+//!   and modifiers, and `default_modifier` returns the modifier of an instruction that names none.
 //! - `Cell::text` and `read_cell` write and read one cell, `write_load` and `read_load` a whole load file, exactly as
 //!   `specs/` defines it. `read_load` returns the specified error, with the number of an invalid line.
 //! - What is written is read back unchanged; a core of another size reads each number by its value (`laws`).

@@ -1,4 +1,4 @@
-//! The lines of a load file.
+//! Splits a load file into lines, and counts them.
 ghost use Rattle.std.specs.Prelude.{◌≡◌, ◌∷◌, ◌+◌, ◌^◌, ◌<◌, ◌==◌, [], drop, length, not, MatchOption, take_while};
 ghost use Rattle.mars_cell.specs.Load.{lines_of};
 

@@ -1,4 +1,4 @@
-//! Reading load files.
+//! Reads load files.
 ghost use Rattle.std.specs.Prelude.{◌≡◌, ◌<◌, length, All, IfOk, Ok};
 ghost use Rattle.mars_cell.specs.Cells.{FitsCore};
 ghost use Rattle.mars_cell.specs.Load.{body, lines_of, load, is_index, Loads};

@@ -1,4 +1,4 @@
-//! Writing texts so that it is known how much was written, and lines of fixed size that contain numbers.
+//! Writes texts so that it is known how much was written, and builds lines of fixed size that contain numbers.
 ghost use Rattle.std.specs.Prelude.{◌≡◌, ◌+◌, ◌≤◌, ◌++◌, length, decimal, OnOk, OnErr};
 ghost use Rattle.std.specs.Io.KnownBytes.{Appends};
 ghost use Rattle.arrayvec.specs.ArrayString.{array_string_len};

@@ -1,4 +1,4 @@
-//! The parts of a line.
+//! Splits a line of a load file, or the text of a cell, into words, numbers and single bytes.
 ghost use Rattle.std.specs.Prelude.{◌≡◌, ◌∷◌, [], length, take_while, MatchOption};
 ghost use Rattle.std.specs.Char.{is_ascii_alphanumeric};
 ghost use Rattle.mars_cell.specs.Parts.{is_blank, joins, parts};

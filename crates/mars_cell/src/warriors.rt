@@ -1,4 +1,4 @@
-//! Warriors.
+//! Warriors: programs with a name, an author and a start.
 ghost use Rattle.std.specs.Prelude.{◌≡◌, ◌≤◌, ◌<◌, length, string_bytes, IfOk};
 
 use crate::instruction::Cell;

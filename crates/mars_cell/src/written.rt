@@ -1,4 +1,4 @@
-//! Writing load files.
+//! Writes load files.
 ghost use Rattle.std.specs.Prelude.{◌≡◌, ◌≤◌, ◌++◌, All, IfOk, OnOk, decimal, flat_map, map};
 ghost use Rattle.mars_cell.specs.Cells.{FitsCore};
 ghost use Rattle.mars_cell.specs.Limits.{max_core_size};

@@ -1,4 +1,4 @@
-//! The asserts of a source.
+//! Checks the asserts of a source.
 ghost use Rattle.std.specs.Prelude.{◌≡◌, map};
 ghost use Rattle.redcode_text.specs.Spans.{first_span};
 ghost use Rattle.redcode_text.specs.Views.{assert_of, predefined_of};

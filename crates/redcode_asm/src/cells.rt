@@ -1,4 +1,4 @@
-//! The cells of a source.
+//! Assembles all instructions of a source to cells.
 ghost use Rattle.std.specs.Prelude.{◌≡◌, ◌<◌, ◌≤◌, All, IfOk, length, map, vec_len};
 ghost use Rattle.mars_cell.specs.Cells.{FitsCore};
 ghost use Rattle.redcode_text.specs.Equates.{limit};

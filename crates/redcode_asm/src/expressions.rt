@@ -1,4 +1,4 @@
-//! The values of expressions.
+//! Evaluates expressions, with the errors of the assembler.
 ghost use Rattle.std.specs.Prelude.{◌≡◌};
 ghost use Rattle.redcode_asm.specs.Assembly.{value_in};
 

@@ -1,4 +1,4 @@
-//! The parts of one instruction.
+//! Reads the opcode and the modifier of an instruction, and makes its cell.
 ghost use Rattle.std.specs.Prelude.{◌≡◌, ◌<◌, Ok, Err, IfOk, MatchResult};
 ghost use Rattle.mars_cell.specs.Cells.{FitsCore};
 ghost use Rattle.redcode_text.specs.Views.{line_of};

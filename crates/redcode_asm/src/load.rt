@@ -1,4 +1,4 @@
-//! Load files of sources.
+//! Assembles sources to load files.
 ghost use Rattle.redcode_asm.specs.LoadFiles.{assembled_load};
 ghost use Rattle.redcode_asm.specs.Outcomes.{IsResult};
 

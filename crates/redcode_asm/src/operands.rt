@@ -1,4 +1,4 @@
-//! The operands of an instruction.
+//! Splits the operands of an instruction, and computes their modes and numbers.
 ghost use Rattle.std.specs.Prelude.{◌≡◌, ◌<◌, ◌∷◌, [], Ok, Err, None, Some, MatchOption, MatchResult, IfOk, option_map};
 ghost use Rattle.redcode_asm.specs.Assembly.{commas, mode_sign, mode_of, split_mode, is_comma, parts_at_commas, given_operands, operand_value as spec_operand_value, operands_span};
 ghost use Rattle.redcode_asm.specs.Code.Sources.{operands_in};

@@ -1,4 +1,4 @@
-//! The start of a warrior.
+//! Finds the start of a warrior, from ORG and END.
 ghost use Rattle.std.specs.Prelude.{◌≡◌, ◌<◌, IfOk, option_map};
 ghost use Rattle.redcode_text.specs.Spans.{first_span};
 ghost use Rattle.redcode_text.specs.Views.{predefined_of};

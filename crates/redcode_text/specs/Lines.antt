@@ -177,7 +177,8 @@ pub record Parts : Type 0 where
   pub operation_span : Option Span
   pub rest : List Token
 
--- The words that cannot be labels, in lower case: opcodes, also those of P-space, and ORG, END, EQU, FOR and ROF.
+-- The words that cannot be labels, in lower case: the opcodes, CMP, ORG, END, EQU, FOR and ROF, and LDP, STP and PIN of
+-- P-space.
 abbrev pub operations : List (List ℕ)
 operations =
     codes "dat" ∷ codes "mov" ∷ codes "add" ∷ codes "sub" ∷ codes "mul" ∷ codes "div" ∷ codes "mod" ∷ codes "jmp" ∷ codes "jmz" ∷ codes "jmn" ∷ codes "djn" ∷ codes "seq" ∷ codes "sne" ∷ codes "slt" ∷ codes "spl" ∷ codes "nop" ∷ codes "cmp" ∷ codes "org" ∷ codes "end" ∷ codes "equ" ∷ codes "for" ∷ codes "rof" ∷ codes "ldp" ∷ codes "stp" ∷ codes "pin" ∷ []

@@ -1,4 +1,4 @@
-//! The program of a source.
+//! Reads a whole source, and returns its program.
 ghost use Rattle.std.specs.Prelude.{◌≡◌, map};
 ghost use Rattle.redcode_text.specs.Expansion.{expansion, flat, nothing_read, program_of};
 ghost use Rattle.redcode_text.specs.Views.{predefined_of};

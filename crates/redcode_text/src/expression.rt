@@ -1,4 +1,4 @@
-//! Expressions over numbers and names.
+//! Evaluates expressions over numbers and names.
 ghost use Rattle.std.specs.Prelude.{◌≡◌, ◌≤◌, ◌⊎◌, length, IfSome, Ok};
 ghost use Rattle.redcode_text.specs.Expression.{kinds, shape, start, value_of};
 ghost use Rattle.redcode_text.specs.declared.limits.TheConstants.{MAX_WAITING};

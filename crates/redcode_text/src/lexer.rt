@@ -1,4 +1,4 @@
-//! The tokens of a line.
+//! Reads the tokens of a line.
 ghost use Rattle.std.specs.Prelude.{◌≡◌, ◌≤◌, ◌<◌, ◌+◌, ◌^◌, [], drop, length, vec_len, IfOk, OnOk};
 ghost use Rattle.redcode_text.specs.Outcomes.{IsResult};
 ghost use Rattle.redcode_text.specs.Views.{scan_of};

@@ -7,7 +7,7 @@
 //!
 //! ```text
 //! source             bytes -> rows from the first `;redcode` on, each with its kind and its comment; the ROF of each FOR
-//! reader/repeat      rows one after another, those of a loop once per iteration; its header (repeat/head)
+//! reader/repeat      rows one after another, the body of a loop once per iteration; its header (repeat/head)
 //!   reader/line        a row that is neither FOR nor ROF; EQU: a name for its tokens
 //!     reader/comment     `;name`, `;author`, `;assert`
 //!     lexer              bytes -> tokens, with joins and counters replaced

@@ -1,4 +1,4 @@
-//! The names of a text.
+//! The names of a text. Tokens refer to them by index.
 ghost use Rattle.std.specs.Prelude.{◌≡◌, length, [], IfOk, OnOk, IsAscii};
 ghost use Rattle.std.specs.Str.{str_eq_ignore_ascii_case};
 ghost use Rattle.redcode_text.specs.Lines.{name_at};

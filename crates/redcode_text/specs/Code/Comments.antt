@@ -32,8 +32,8 @@ assert_at row at st =
     row_tokens row at st >>= λ r.
     Ok (record (r.1) { asserts = r.1.asserts ++ record { number = row.number; current_line = r.1.instructions; tokens = r.0 } ∷ [] })
 
--- The offset of the text after `directive`, if the line `bytes` begins with it as a whole word. `directive` is in lower
--- case and includes the `;`.
+-- The offset of the text after `directive`, if the line `bytes` begins, after whitespace, with it as a whole word.
+-- `directive` is in lower case and includes the `;`.
 abbrev pub text_found : List ℕ → List ℕ → Option ℕ
 text_found directive bytes =
     if starts_with nat_eq (str_to_ascii_lowercase (without_blanks bytes)) directive && ends_word (drop (blank_len bytes + length directive) bytes)

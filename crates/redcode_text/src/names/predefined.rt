@@ -1,4 +1,4 @@
-//! The predefined names.
+//! The predefined names, such as CORESIZE, and their values.
 ghost use Rattle.std.specs.Prelude.{◌≡◌, map};
 ghost use Rattle.redcode_text.specs.Views.{predefined_of};
 ghost use Rattle.redcode_text.specs.Lines.{predefined_value, with_current_line};

@@ -1,4 +1,4 @@
-//! Sets of names.
+//! Sets of names, in which labels are looked up.
 ghost use Rattle.std.specs.Prelude.{◌≡◌, ◌≤◌, ℕ, [], ◌∷◌, ◌++◌, length, OnErr, OnOk};
 ghost use Rattle.indexmap.specs.IndexSet.{spare};
 ghost use Rattle.redcode_text.specs.Code.Labels.{HasSame, has};
