@@ -18,8 +18,8 @@ abbrev pub LinesBeforeRedcodeAreIgnored : Type 0
 LinesBeforeRedcodeAreIgnored = (before rows : List SourceRow) → list_any begins_redcode before ≡ false → list_any begins_redcode rows ≡ true
     → tree_of_rows (read_rows (before ++ rows)) ≡ tree_of_rows (read_rows rows)
 
--- Lines after END have no effect, unless one of them begins with `;redcode`: then the lines before that one are not
--- read. `source` is a source that reads up to an END, and 10 (LF) ends its last line.
+-- Lines after END have no effect, unless one of them begins with `;redcode`, since the lines before the first
+-- `;redcode` are not read. `source` is a source that reads up to an END, and 10 (LF) ends its last line.
 abbrev pub LinesAfterEndAreIgnored : Type 0
 LinesAfterEndAreIgnored = (ps : Predefined) (source behind : List ℕ) (read : Reading)
     → flat ps (tree_of (source ++ 10 ∷ [])) nothing_read ≡ Ok read → read.ended ≡ true → list_any (has_directive (codes "redcode")) (lines_of behind) ≡ false

@@ -74,7 +74,7 @@ with_current_line ps instructions = (codes "CURLINE", pos instructions) ∷ ps
 abbrev pub name_at : List (List ℕ) → ℕ → List ℕ
 name_at names n = unwrap_or (slice_get names n) []
 
--- The name `n` is predefined. CURLINE is, too.
+-- The name `n` is CURLINE or one of the names `ps`.
 abbrev pub is_predefined : Predefined → Reading → ℕ → Bool
 is_predefined ps st n = is_some (predefined_value (with_current_line ps 0) (name_at st.names n))
 

@@ -128,7 +128,7 @@ directive_text_at word bytes = blank_len bytes + length word + 1
 abbrev pub directive_text : List ℕ → List ℕ → List ℕ
 directive_text word bytes = drop (directive_text_at word bytes) bytes
 
--- A word before this text ends there.
+-- A word directly before this text ends there: the text is empty or begins with whitespace.
 abbrev pub ends_word : List ℕ → Bool
 ends_word [] = true
 ends_word (b ∷ bs) = is_blank b

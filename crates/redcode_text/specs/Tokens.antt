@@ -140,7 +140,7 @@ number_kind n = if nat_lt n (2 ^ 63) then Ok (Number (pos n)) else Err BadToken
 abbrev pub number_found : List (List ℕ) → ℕ → List ℕ → Result Found TextProblem
 number_found names len digits = number_kind (digits_value 10 digits) >>= λ kind. Ok (record { kind = kind; len = len; names = names })
 
--- The token of the name `name`, from a word of `len` bytes.
+-- The token of the name `name`, which must begin with a letter, from a word of `len` bytes.
 abbrev pub name_found : List (List ℕ) → ℕ → List ℕ → Result Found TextProblem
 name_found names len name =
     if begins_name name then Ok (record { kind = Name (name_index names name); len = len; names = with_name names name }) else Err BadToken

@@ -81,7 +81,7 @@ move names st (Number n) = operand st n
 move names st (Name n) = known (names n) >>= λ v. operand st v
 move names st (token.Sign s) = if st.after then after_mark st s else before_mark st s
 
--- The value of the expression, if the given tokens are still to be read.
+-- The value of the expression, if `st` is the state and the given tokens are still to be read.
 abbrev pub run : (ℕ → Option ℤ) → State → List TokenKind → Result ℤ ExprFault
 run names st [] = reduced 5 st.stack st.value >>= λ r. Ok r.0
 run names st (x ∷ xs) = move names st x >>= λ next. run names next xs

@@ -36,8 +36,8 @@ GivesState after (Err e) read = read ≡ Err e
 abbrev pub operated : ℕ → Sign → Progress → Result Progress ExprFault
 operated at s r = reduced_on (precedence s) r.stack r.value >>= λ x. Ok (record { stack = Value x.0 s ∷ x.1; first_sign = at + 1; value = x.0; after_operand = false })
 
--- The state after the closing parenthesis at the index `at`. `v` is the value inside the parentheses, and the stack is
--- left after the waiting operators inside them are applied.
+-- The state after the closing parenthesis at the index `at`. `v` is the value inside the parentheses, whose waiting
+-- operators have been applied.
 abbrev pub popped : List Token → ℕ → ℤ → List Pending → Result Progress ExprFault
 popped ts at v (Open from to ∷ stack) = signed (kinds (slice_range ts from to)) v >>= λ w. Ok (record { stack = stack; first_sign = at + 1; value = w; after_operand = true })
 popped ts at v _ = Err Syntax

@@ -52,8 +52,8 @@ pub words_in_front :
 unfolding expansion value_of tree_within digits
 words_in_front = (refl, refl, refl, refl)
 
--- An error of a count has its first token, also in a definition; the name that is a label; or the token of the
--- expression's error, which is the word FOR if there are no tokens.
+-- An error of a count has the first token of the count, which may be in a definition; the first name that is a label;
+-- or the token of the expression's error, which is the word FOR if there are no tokens.
 pub words_of_counts :
     (token (codes "FOR -1" ∷ codes "ROF" ∷ []) ≡ at 4 5)
     × (token (codes "n EQU 5-9" ∷ codes "FOR n" ∷ codes "ROF" ∷ []) ≡ at 6 7)
@@ -64,7 +64,8 @@ pub words_of_counts :
 unfolding expansion value_of tree_within digits
 words_of_counts = (refl, refl, refl, refl, refl, refl)
 
--- The second of two equal names, and the name that is nested too deep or has several lines. It may be in a definition.
+-- An error of names has the second of two equal names, or the name that is nested too deep or has several lines, which
+-- may be in a definition.
 pub words_of_names :
     (token (codes "a NOP" ∷ codes "b a NOP" ∷ []) ≡ at 8 9)
     × (token (codes "a NOP" ∷ codes "a EQU 1" ∷ []) ≡ at 6 7)
