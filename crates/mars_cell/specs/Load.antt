@@ -30,7 +30,7 @@ only_number [] = None
 only_number (p ∷ []) = parse_number p
 only_number (p ∷ q ∷ ps) = None
 
--- The number after END, given the parts after END. There may be no number, but nothing else.
+-- The number after END, if there is one, given the parts after END. No other part is valid.
 unfoldable pub end_of : List (List ℕ) → Option (Option ℤ)
 end_of [] = Some None
 end_of (p ∷ ps) = option_map (λ n. Some n) (only_number (p ∷ ps))

@@ -6,7 +6,7 @@ use Rattle.std.specs.Char.{is_ascii_alphanumeric}
 abbrev pub is_blank : ℕ → Bool
 is_blank b = nat_lt b 33 && not (b == 10)
 
--- A letter or digit directly after the byte `b` belongs to the same part: `b` is a letter, a digit, `+` or `-`.
+-- The byte `b` is a letter, a digit, `+` or `-`, so that a letter or digit directly after it belongs to the same part.
 unfoldable pub joins : ℕ → Bool
 joins b = is_ascii_alphanumeric b || (b == 43 || b == 45)
 

@@ -7,7 +7,7 @@ pub fn value_is_residue()
     ensures { ValueIsResidue }
 {}
 
-/// `read_cell` reads the text that `Cell::text` returns as the same cell, if the core size is the same.
+/// `read_cell` returns the cell whose text `Cell::text` returned for the same core size.
 pub fn text_is_read()
     ensures { TextIsRead }
 {}

@@ -85,7 +85,7 @@ pub struct TextFault {
     pub problem: TextProblem,
     /// The bytes, in the source, of the token at which the error arises, such as the byte or word that is no token, the
     /// second of two equal names, or the word FOR or ROF. `OutOfMemory` has none. `TooLong` has none for too many
-    /// lines, and for too many tokens in EQU lines that replace an operation.
+    /// lines, nor for too many tokens in EQU lines that replace an operation.
     ///
     /// A token that comes from EQU has its bytes in the definition, while `line` is the line of the use.
     pub token: Option<Span>,
