@@ -16,7 +16,7 @@ use Rattle.mars_cell.specs.Words.{op_of, modifier_of}
 use Rattle.redcode_text.specs.Results.{◌>>=◌}
 use Rattle.redcode_text.specs.declared.fault.ExprFault.{ExprFault}
 use Rattle.redcode_text.specs.declared.fault.TextFault.{TextFault}
-use Rattle.redcode_text.specs.declared.fault.TokenProblem as text
+use Rattle.redcode_text.specs.declared.fault.TextTokenProblem.{TextTokenProblem}
 use Rattle.redcode_text.specs.declared.token.Sign.{Sign}
 use Rattle.redcode_text.specs.declared.token.Sign.TheVariants as sign
 use Rattle.redcode_text.specs.declared.token.Span.{Span}
@@ -32,7 +32,7 @@ use Rattle.redcode_text.specs.Expression.{fault_span, found_or, kinds, value_of}
 use Rattle.redcode_text.specs.Lines.{Line, Assert, Predefined, predefined_value, with_current_line, name_at, is_instruction, is_org, is_end}
 use Rattle.redcode_asm.specs.declared.fault.AsmFault.{AsmFault}
 use Rattle.redcode_asm.specs.declared.fault.AsmProblem.{AsmProblem}
-use Rattle.redcode_asm.specs.declared.fault.TokenProblem.{TokenProblem}
+use Rattle.redcode_asm.specs.declared.fault.AsmTokenProblem.{AsmTokenProblem}
 use Rattle.redcode_asm.specs.declared.fault.AsmProblem.TheVariants.{Text, Operation, Operand, Expression, AssertFailed, BadOrigin, Empty, TooLong}
 
 -- The value, or the error `problem` if there is none.
@@ -41,12 +41,12 @@ ok_or problem (Some x) = Ok x
 ok_or problem None = Err problem
 
 -- A result whose error gets the bytes of the token at which it arises.
-abbrev pub at_token : {A : Type 0} → Option Span → Result A AsmProblem → Result A TokenProblem
+abbrev pub at_token : {A : Type 0} → Option Span → Result A AsmProblem → Result A AsmTokenProblem
 at_token span (Ok x) = Ok x
 at_token span (Err e) = Err (record { problem = e; token = span })
 
 -- A result whose error gets the line number `line`.
-abbrev pub at_line : {A : Type 0} → ℕ → Result A TokenProblem → Result A AsmFault
+abbrev pub at_line : {A : Type 0} → ℕ → Result A AsmTokenProblem → Result A AsmFault
 at_line line (Ok x) = Ok x
 at_line line (Err e) = Err (record { line = line; problem = e.problem; token = e.token })
 
@@ -100,22 +100,22 @@ abbrev pub name_value : Predefined → ProgramValue → ℕ → ℕ → ℕ → 
 name_value ps source origin index n = value_or (option_map (λ i. pos i -ℤ pos origin) (label_among (placed source) n)) (known_value ps source index n)
 
 -- A value whose error becomes an error of the assembler, with the bytes that `span` gives.
-abbrev pub expressed : (ExprFault → Option Span) → Result ℤ ExprFault → Result ℤ TokenProblem
+abbrev pub expressed : (ExprFault → Option Span) → Result ℤ ExprFault → Result ℤ AsmTokenProblem
 expressed span (Ok v) = Ok v
 expressed span (Err e) = Err (record { problem = Expression e; token = span e })
 
 -- The value of the expression `ts`. An expression without tokens has its error at the token `before`.
-abbrev pub value_in : (ℕ → Option ℤ) → Option Span → List Token → Result ℤ TokenProblem
+abbrev pub value_in : (ℕ → Option ℤ) → Option Span → List Token → Result ℤ AsmTokenProblem
 value_in names before ts = expressed (fault_span names before ts) (value_of names (kinds ts))
 
 -- A result whose error of the text becomes an error of the assembler.
-abbrev pub texted : {A : Type 0} → Result A text.TokenProblem → Result A TokenProblem
+abbrev pub texted : {A : Type 0} → Result A TextTokenProblem → Result A AsmTokenProblem
 texted (Ok x) = Ok x
 texted (Err e) = Err (record { problem = Text e.problem; token = e.token })
 
 -- The tokens `ts` with each EQU name replaced by its definition. The error has no line yet: it gets the line on which the
 -- names are used.
-abbrev pub replaced : ProgramValue → List Token → Result (List Token) TokenProblem
+abbrev pub replaced : ProgramValue → List Token → Result (List Token) AsmTokenProblem
 replaced source ts = texted (without_line (substitution source.equates ts))
 
 -- ---- Instructions
@@ -191,7 +191,7 @@ abbrev pub operands_span : Option Span → List Token → Option Span
 operands_span operation ts = last_span operation (take 2 (commas ts))
 
 -- The mode and the number of an operand in a core of `m` cells, `$0` if the operand is not written.
-abbrev pub operand_value : ℕ → (ℕ → Option ℤ) → Option (List Token) → Result (Mode × ℕ) TokenProblem
+abbrev pub operand_value : ℕ → (ℕ → Option ℤ) → Option (List Token) → Result (Mode × ℕ) AsmTokenProblem
 operand_value m names None = Ok (mode.Direct, 0)
 operand_value m names (Some ts) = value_in names (first_span ts) (split_mode ts).1 >>= λ v. Ok ((split_mode ts).0, residue m v)
 
@@ -233,7 +233,7 @@ cell_with o given a b = record { op = o; modifier = unwrap_or given (default_mod
 
 -- The cell with the opcode `o`, the modifier `given` if one is written, and the operands in `ts`, in a core of `m` cells.
 -- `names` has the values of the names, and `operation` the bytes of the operation.
-abbrev pub cell_from : ℕ → (ℕ → Option ℤ) → Option Span → Op → Option Modifier → List Token → Result Cell TokenProblem
+abbrev pub cell_from : ℕ → (ℕ → Option ℤ) → Option Span → Op → Option Modifier → List Token → Result Cell AsmTokenProblem
 cell_from m names operation o given ts =
     at_token (operands_span operation ts) (given_operands o ts) >>= λ operands.
     operand_value m names operands.a >>= λ a.
@@ -241,7 +241,7 @@ cell_from m names operation o given ts =
     Ok (cell_with o given a b)
 
 -- The cell of the instruction `p`. Labels are relative to the instruction.
-abbrev pub cell_of : Predefined → ℕ → ProgramValue → Placed → Result Cell TokenProblem
+abbrev pub cell_of : Predefined → ℕ → ProgramValue → Placed → Result Cell AsmTokenProblem
 cell_of ps m source p =
     at_token (opcode_span p.line) (opcode_of source.names p.line.operation) >>= λ o.
     at_token (modifier_span p.line.rest) (split_modifier source.names p.line.rest) >>= λ rest.
@@ -275,21 +275,21 @@ as_start count (negsuc n) = Err BadOrigin
 
 -- The start, given by the expression `ts` on the ORG or END line `p`. Labels are relative to the first instruction, and
 -- there are `count` instructions.
-abbrev pub start_at : Predefined → ProgramValue → ℕ → Placed → List Token → Result ℕ TokenProblem
+abbrev pub start_at : Predefined → ProgramValue → ℕ → Placed → List Token → Result ℕ AsmTokenProblem
 start_at ps source count p ts =
     value_in (name_value ps source 0 p.index) p.line.operation_span ts >>= λ v. at_token (first_span ts) (as_start count v)
 
 -- The start that the ORG line `p` sets.
-abbrev pub org_start : Predefined → ProgramValue → ℕ → Placed → Result ℕ TokenProblem
+abbrev pub org_start : Predefined → ProgramValue → ℕ → Placed → Result ℕ AsmTokenProblem
 org_start ps source count p = replaced source p.line.rest >>= start_at ps source count p
 
 -- The start that the END line `p` sets, given the tokens of its operand: 0 if there are none.
-abbrev pub end_operand : Predefined → ProgramValue → ℕ → Placed → List Token → Result ℕ TokenProblem
+abbrev pub end_operand : Predefined → ProgramValue → ℕ → Placed → List Token → Result ℕ AsmTokenProblem
 end_operand ps source count p [] = Ok 0
 end_operand ps source count p (t ∷ ts) = start_at ps source count p (t ∷ ts)
 
 -- The start that the END line `p` sets.
-abbrev pub end_start : Predefined → ProgramValue → ℕ → Placed → Result ℕ TokenProblem
+abbrev pub end_start : Predefined → ProgramValue → ℕ → Placed → Result ℕ AsmTokenProblem
 end_start ps source count p = replaced source p.line.rest >>= end_operand ps source count p
 
 -- The last line for which `keeps` is true.
@@ -314,11 +314,11 @@ holds (pos zero) = Err AssertFailed
 holds _ = Ok tt
 
 -- The assert with the expression `ts` holds, if `names` has the values of names.
-abbrev pub tokens_hold : (ℕ → Option ℤ) → List Token → Result (Unit {0}) TokenProblem
+abbrev pub tokens_hold : (ℕ → Option ℤ) → List Token → Result (Unit {0}) AsmTokenProblem
 tokens_hold names ts = value_in names None ts >>= λ v. at_token (first_span ts) (holds v)
 
 -- The assert `a` holds. Labels have no value in it.
-abbrev pub assert_holds : Predefined → ProgramValue → Assert → Result (Unit {0}) TokenProblem
+abbrev pub assert_holds : Predefined → ProgramValue → Assert → Result (Unit {0}) AsmTokenProblem
 assert_holds ps source a = replaced source a.tokens >>= tokens_hold (known_value ps source a.current_line)
 
 -- All asserts hold, or the error of the first one that does not.

@@ -7,13 +7,13 @@ ghost use Rattle.redcode_asm.specs.Outcomes.{IsResult};
 ghost use Rattle.redcode_asm.specs.Code.Problems.{Gives};
 
 use crate::expressions::value_in;
-use crate::fault::{AsmFault, AsmProblem, TokenProblem};
+use crate::fault::{AsmFault, AsmProblem, AsmTokenProblem};
 use crate::sources::Source;
 use redcode_text::{Assert, Env, Token, first_span};
 use std::alloc::Global;
 
 /// Checks the value of an assert, which holds if the value isn't 0.
-fn check_value(value: i64, tokens: &[Token]) -> Result<(), TokenProblem>
+fn check_value(value: i64, tokens: &[Token]) -> Result<(), AsmTokenProblem>
     ensures { result ≡ at_token (first_span tokens.now) (holds value) }
 {
     if value == 0 {
@@ -24,7 +24,7 @@ fn check_value(value: i64, tokens: &[Token]) -> Result<(), TokenProblem>
 }
 
 /// Checks the expression of an assert.
-fn check_tokens<E: Env>(names: &E, tokens: &[Token]) -> Result<(), TokenProblem>
+fn check_tokens<E: Env>(names: &E, tokens: &[Token]) -> Result<(), AsmTokenProblem>
     ensures { result ≡ tokens_hold (E.value_of names.now) tokens.now }
 {
     let value = value_in(names, None, tokens)?;
@@ -33,7 +33,7 @@ fn check_tokens<E: Env>(names: &E, tokens: &[Token]) -> Result<(), TokenProblem>
 
 impl<'a> Source<'a> {
     /// Checks one assert.
-    fn check_assert(&self, alloc: Global, assert: &Assert) -> Result<(), TokenProblem>
+    fn check_assert(&self, alloc: Global, assert: &Assert) -> Result<(), AsmTokenProblem>
         ensures { Gives (λ done. done) result
             (assert_holds (predefined_of self.now.predefined.now) self.now.program.now (assert_of assert.now)) }
     {

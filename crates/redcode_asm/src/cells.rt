@@ -9,7 +9,7 @@ ghost use Rattle.redcode_asm.specs.Outcomes.{IsResult};
 ghost use Rattle.redcode_asm.specs.Code.Problems.{Gives};
 ghost use Rattle.redcode_asm.specs.Code.Sources.{cells_among, placed_of};
 
-use crate::fault::{AsmFault, TokenProblem};
+use crate::fault::{AsmFault, AsmTokenProblem};
 use crate::instruction::{Operation, line_modifier, line_opcode, make_cell};
 use crate::places::Place;
 use crate::sources::Source;
@@ -26,7 +26,12 @@ impl<'a> Source<'a> {
     }
 
     /// Assembles one instruction to its cell.
-    fn cell_of(&self, alloc: Global, core_size: u32, place: Place<'_>) -> Result<Cell, TokenProblem>
+    fn cell_of(
+        &self,
+        alloc: Global,
+        core_size: u32,
+        place: Place<'_>,
+    ) -> Result<Cell, AsmTokenProblem>
         requires { 0 < core_size }
         ensures value { Gives (λ cell. cell) result
             (cell_of (predefined_of self.now.predefined.now) core_size self.now.program.now (placed_of place.entry)) }

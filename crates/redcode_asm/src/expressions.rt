@@ -2,7 +2,7 @@
 ghost use Rattle.std.specs.Prelude.{◌≡◌};
 ghost use Rattle.redcode_asm.specs.Assembly.{value_in};
 
-use crate::fault::{AsmProblem, TokenProblem};
+use crate::fault::{AsmProblem, AsmTokenProblem};
 use redcode_text::{Env, Span, Token, eval, fault_span};
 
 /// Returns the value of an expression. An expression without tokens has its error at the token `before`.
@@ -10,7 +10,7 @@ pub fn value_in<E: Env>(
     names: &E,
     before: Option<Span>,
     tokens: &[Token],
-) -> Result<i64, TokenProblem>
+) -> Result<i64, AsmTokenProblem>
     ensures { result ≡ value_in (E.value_of names.now) before tokens.now }
 {
     match eval(tokens, names) {

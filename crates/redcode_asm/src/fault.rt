@@ -55,13 +55,13 @@ pub struct AsmFault {
 
 /// An error that has no line yet.
 #[derive(Clone, Copy, Drop)]
-pub struct TokenProblem {
+pub struct AsmTokenProblem {
     pub problem: AsmProblem,
     /// The bytes of the token at which the error arises.
     pub token: Option<Span>,
 }
 
-impl TokenProblem {
+impl AsmTokenProblem {
     /// Adds a line number to an error; `OutOfMemory` gets the line 0 and no token.
     pub fn at_line(self, line: usize) -> AsmFault
         ensures problem { result.problem ≡ self.problem }
@@ -81,10 +81,10 @@ impl TokenProblem {
 
 impl AsmProblem {
     /// Adds the bytes of the token at which an error arises.
-    pub(crate) fn at_token(self, token: Option<Span>) -> TokenProblem
+    pub(crate) fn at_token(self, token: Option<Span>) -> AsmTokenProblem
         ensures { result ≡ record { problem = self; token = token } }
     {
-        TokenProblem {
+        AsmTokenProblem {
             problem: self,
             token,
         }

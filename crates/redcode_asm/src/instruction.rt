@@ -5,7 +5,7 @@ ghost use Rattle.redcode_text.specs.Views.{line_of};
 ghost use Rattle.redcode_asm.specs.Code.Sources.{operands_in};
 ghost use Rattle.redcode_asm.specs.Assembly.{at_token, cell_from, cell_with, modifier_in, modifier_span, opcode_of, opcode_span, operands_span, given_operands, split_modifier};
 
-use crate::fault::{AsmProblem, TokenProblem};
+use crate::fault::{AsmProblem, AsmTokenProblem};
 use crate::operands::{Operands, operand_value, operands_span, split_operands};
 use mars_cell::{Cell, Mode, Modifier, Op, default_modifier, read_modifier, read_op};
 use redcode_text::{Env, Line, NameTable, Sign, Span, Token, TokenKind, first_span};
@@ -32,7 +32,7 @@ fn opcode_span(line: &Line) -> Option<Span>
 }
 
 /// Returns the opcode of a line.
-pub fn line_opcode(names: &NameTable, line: &Line) -> Result<Op, TokenProblem>
+pub fn line_opcode(names: &NameTable, line: &Line) -> Result<Op, AsmTokenProblem>
     ensures { let l = line_of line.now in result ≡ at_token (opcode_span l) (opcode_of names.now l.operation) }
 {
     match read_opcode(names, line.operation) {
@@ -86,7 +86,7 @@ fn modifier_span(rest: &[Token]) -> Option<Span>
 pub fn line_modifier<'a>(
     names: &NameTable,
     rest: &'a [Token],
-) -> Result<(Option<Modifier>, &'a [Token]), TokenProblem>
+) -> Result<(Option<Modifier>, &'a [Token]), AsmTokenProblem>
     ensures { let defined = at_token (modifier_span rest.now) (split_modifier names.now rest.now) in
         MatchResult result (λ r. defined ≡ Ok (r.0, r.1.now)) (λ problem. defined ≡ Err problem) }
 {
@@ -125,7 +125,7 @@ pub struct Operation {
 }
 
 /// Splits the tokens after an opcode into operands, and adds the token at which it arises to an error.
-fn line_operands(operation: Operation, tokens: &[Token]) -> Result<Operands<'_>, TokenProblem>
+fn line_operands(operation: Operation, tokens: &[Token]) -> Result<Operands<'_>, AsmTokenProblem>
     ensures { let defined = at_token (operands_span operation.span tokens.now) (given_operands operation.op tokens.now) in
         MatchResult result (λ given. defined ≡ Ok (operands_in given)) (λ problem. defined ≡ Err problem) }
 {
@@ -141,7 +141,7 @@ pub fn make_cell<E: Env>(
     tokens: &[Token],
     names: &E,
     core_size: u32,
-) -> Result<Cell, TokenProblem>
+) -> Result<Cell, AsmTokenProblem>
     requires { 0 < core_size }
     ensures value { result ≡ cell_from core_size (E.value_of names.now) operation.span operation.op operation.modifier tokens.now }
     ensures fits { IfOk result (FitsCore core_size) }

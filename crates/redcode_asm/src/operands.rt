@@ -4,7 +4,7 @@ ghost use Rattle.redcode_asm.specs.Assembly.{commas, mode_sign, mode_of, split_m
 ghost use Rattle.redcode_asm.specs.Code.Sources.{operands_in};
 
 use crate::expressions::value_in;
-use crate::fault::{AsmProblem, TokenProblem};
+use crate::fault::{AsmProblem, AsmTokenProblem};
 use mars_cell::{Mode, Op, residue};
 use redcode_text::{Env, Sign, Span, Token, TokenKind, first_span};
 
@@ -141,7 +141,7 @@ pub fn operand_value<E: Env>(
     tokens: Option<&[Token]>,
     names: &E,
     core_size: u32,
-) -> Result<(Mode, u32), TokenProblem>
+) -> Result<(Mode, u32), AsmTokenProblem>
     requires { 0 < core_size }
     ensures value { result ≡ spec_operand_value core_size (E.value_of names.now) (option_map (λ ts. ts.now) tokens.entry) }
     ensures below { IfOk result (λ operand. operand.1 < core_size) }

@@ -7,7 +7,7 @@ ghost use Rattle.redcode_asm.specs.Code.Labels.{table_with};
 ghost use Rattle.redcode_asm.specs.Code.Problems.{Gives};
 ghost use Rattle.redcode_asm.specs.Code.Sources.{placed_of};
 
-use crate::fault::{AsmProblem, TokenProblem};
+use crate::fault::{AsmProblem, AsmTokenProblem};
 use crate::places::{Labels, Place, last_line};
 use redcode_text::{Env, NameTable, PredefinedNames, Program, Token};
 use std::alloc::Global;
@@ -93,7 +93,7 @@ impl<'a> Env for AssertNames<'a> {
 
 impl<'a> Source<'a> {
     /// Replaces the EQU names among tokens.
-    pub fn replace(&self, alloc: Global, tokens: &[Token]) -> Result<Vec<Token>, TokenProblem>
+    pub fn replace(&self, alloc: Global, tokens: &[Token]) -> Result<Vec<Token>, AsmTokenProblem>
         ensures { Gives (λ made. made.items) result (replaced self.now.program.now tokens.now) }
     {
         match self.program.substitute(alloc, tokens) {

@@ -8,7 +8,7 @@ ghost use Rattle.redcode_asm.specs.Code.Problems.{Gives};
 ghost use Rattle.redcode_asm.specs.Code.Sources.{placed_of};
 
 use crate::expressions::value_in;
-use crate::fault::{AsmFault, AsmProblem, TokenProblem};
+use crate::fault::{AsmFault, AsmProblem, AsmTokenProblem};
 use crate::places::Place;
 use crate::sources::Source;
 use redcode_text::{Token, first_span};
@@ -27,7 +27,7 @@ fn as_start(value: i64, count: u32) -> Result<u32, AsmProblem>
 }
 
 /// Converts the value of an expression to a start, and adds the first token to an error.
-fn start_from(value: i64, count: u32, tokens: &[Token]) -> Result<u32, TokenProblem>
+fn start_from(value: i64, count: u32, tokens: &[Token]) -> Result<u32, AsmTokenProblem>
     ensures value { result ≡ at_token (first_span tokens.now) (as_start count value) }
     ensures below { IfOk result (λ start. start < count) }
 {
@@ -39,7 +39,12 @@ fn start_from(value: i64, count: u32, tokens: &[Token]) -> Result<u32, TokenProb
 
 impl<'a> Source<'a> {
     /// Evaluates the expression of an ORG or END to a start below `count`, the number of instructions.
-    fn start_at(&self, count: u32, place: Place<'_>, tokens: &[Token]) -> Result<u32, TokenProblem>
+    fn start_at(
+        &self,
+        count: u32,
+        place: Place<'_>,
+        tokens: &[Token],
+    ) -> Result<u32, AsmTokenProblem>
         ensures value { result ≡ start_at (predefined_of self.now.predefined.now) self.now.program.now count
             (placed_of place.entry) tokens.now }
         ensures below { IfOk result (λ start. start < count) }
@@ -50,7 +55,7 @@ impl<'a> Source<'a> {
     }
 
     /// Returns the start that an ORG sets.
-    fn org_start(&self, alloc: Global, count: u32, place: Place<'_>) -> Result<u32, TokenProblem>
+    fn org_start(&self, alloc: Global, count: u32, place: Place<'_>) -> Result<u32, AsmTokenProblem>
         ensures value { Gives (λ start. start) result
             (org_start (predefined_of self.now.predefined.now) self.now.program.now count (placed_of place.entry)) }
         ensures below { IfOk result (λ start. start < count) }
@@ -60,7 +65,7 @@ impl<'a> Source<'a> {
     }
 
     /// Returns the start that an END sets: 0 if it has no operand.
-    fn end_start(&self, alloc: Global, count: u32, place: Place<'_>) -> Result<u32, TokenProblem>
+    fn end_start(&self, alloc: Global, count: u32, place: Place<'_>) -> Result<u32, AsmTokenProblem>
         ensures value { Gives (λ start. start) result
             (end_start (predefined_of self.now.predefined.now) self.now.program.now count (placed_of place.entry)) }
         ensures below { 0 < count → IfOk result (λ start. start < count) }

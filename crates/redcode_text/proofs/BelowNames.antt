@@ -8,7 +8,7 @@ use Rattle.std.proofs.lemmas.List.{length-append}
 use Rattle.redcode_text.specs.Results.{◌>>=◌}
 use Rattle.redcode_text.specs.Code.Counters.{IsThere}
 use Rattle.redcode_text.specs.declared.fault.TextProblem.{TextProblem}
-use Rattle.redcode_text.specs.declared.fault.TokenProblem.{TokenProblem}
+use Rattle.redcode_text.specs.declared.fault.TextTokenProblem.{TextTokenProblem}
 use Rattle.redcode_text.specs.declared.fault.TextProblem.TheVariants.{BadToken, NotAscii, TooLong}
 use Rattle.redcode_text.specs.declared.token.Sign.{Sign}
 use Rattle.redcode_text.specs.declared.token.Span.{Span}
@@ -134,7 +134,7 @@ module _ (loops : List OpenLoop) (line room : ℕ) where
     where
       go : (c : Bool) → ((skip : ℕ) (t : Scanned) → IsScannedBelow t → Holds IsScannedBelow (scan_from loops line room (at + 1) skip bs t))
           → Holds IsScannedBelow
-          (elim c as (λ _. Result Scanned TokenProblem) [
+          (elim c as (λ _. Result Scanned TextTokenProblem) [
             | true ↦ scan_from loops line room (at + 1) 0 bs s
             | false ↦ at_token (span_at at (unread_len (b ∷ bs))) (token_at loops s.names (b ∷ bs)) >>= λ f. with_room room s line at f >>= λ t. scan_from loops line room (at + 1) (f.len - 1) bs t
           ])
@@ -170,7 +170,7 @@ colon-there : (names : List (List ℕ)) (n : ℕ) (ts : List Token) → IsThere 
 colon-there names n [] h = h
 colon-there names n (t ∷ ts) h = go (is_colon t.kind)
   where
-    go : (c : Bool) → Holds (IsThere names) (elim c as (λ _. Result (Option ℕ) TokenProblem) [ true ↦ name_alone n ts | false ↦ Err (misplaced t) ])
+    go : (c : Bool) → Holds (IsThere names) (elim c as (λ _. Result (Option ℕ) TextTokenProblem) [ true ↦ name_alone n ts | false ↦ Err (misplaced t) ])
     go true = alone-there names n ts h
     go false = tt
 
@@ -178,7 +178,7 @@ front-there : (names : List (List ℕ)) (ts : List Token) → TokensBelow (lengt
 front-there names [] h = none-there names
 front-there names (t ∷ ts) h = go t.kind h.0
   where
-    go : (k : TokenKind) → IsBelow (length names) k → Holds (IsThere names) (elim k as (λ _. Result (Option ℕ) TokenProblem) [ Name n ↦ name_with_colon n ts | _ ↦ Err (misplaced t) ])
+    go : (k : TokenKind) → IsBelow (length names) k → Holds (IsThere names) (elim k as (λ _. Result (Option ℕ) TextTokenProblem) [ Name n ↦ name_with_colon n ts | _ ↦ Err (misplaced t) ])
     go (Name n) b = colon-there names n ts (some-there names n b)
     go (Number v) b = tt
     go (token.Sign s) b = tt

@@ -3,17 +3,17 @@ use Rattle.std.proofs.Common.{◌≡◌, ℕ, ◌+◌, List, ◌∷◌, ◌&&◌
 use Rattle.std.specs.Prelude.{codes}
 use Rattle.std.specs.List.{starts_with}
 use Rattle.std.specs.Str.{str_to_ascii_lowercase}
-use Rattle.redcode_text.specs.declared.fault.TokenProblem.{TokenProblem}
+use Rattle.redcode_text.specs.declared.fault.TextTokenProblem.{TextTokenProblem}
 use Rattle.redcode_text.specs.Code.Comments.{Meaning, after_comment, assert_at, assert_or_other, author_meaning, author_or, meaning, name_or, text_found}
 use Rattle.redcode_text.specs.Lines.{Reading, assert_line, comment_line, directive_value, unless_empty}
 use Rattle.redcode_text.specs.Source.{SourceRow, blank_len, directive_text, directive_text_at, ends_word, has_directive_word, without_blanks}
 
 -- The effect of a comment line that is neither `;name` nor `;author`.
-abbrev no_author : SourceRow → Reading → Result Reading TokenProblem
+abbrev no_author : SourceRow → Reading → Result Reading TextTokenProblem
 no_author row st = elim (has_directive_word (codes "assert") row.bytes) [ true ↦ assert_line row st | false ↦ Ok st ]
 
 -- The effect of a comment line that isn't `;name`.
-abbrev no_name : SourceRow → Reading → Result Reading TokenProblem
+abbrev no_name : SourceRow → Reading → Result Reading TextTokenProblem
 no_name row st =
     elim (has_directive_word (codes "author") row.bytes) [
       | true ↦ Ok (record st { author = unless_empty (directive_value (directive_text (codes "author") row.bytes)) st.author })
@@ -25,14 +25,14 @@ abbrev begins : List ℕ → List ℕ → ℕ → Bool
 begins word bytes at = starts_with nat_eq (str_to_ascii_lowercase (without_blanks bytes)) (59 ∷ word) && ends_word (drop at bytes)
 
 module _ (row : SourceRow) (st : Reading) where
-  abbrev name_else : ℕ → Bool → Result Reading TokenProblem
-  name_else at t = elim t as (λ _. Result Reading TokenProblem) [ true ↦ Ok (record st { name = unless_empty (directive_value (drop at row.bytes)) st.name }) | false ↦ no_name row st ]
+  abbrev name_else : ℕ → Bool → Result Reading TextTokenProblem
+  name_else at t = elim t as (λ _. Result Reading TextTokenProblem) [ true ↦ Ok (record st { name = unless_empty (directive_value (drop at row.bytes)) st.name }) | false ↦ no_name row st ]
 
-  abbrev author_else : ℕ → Bool → Result Reading TokenProblem
-  author_else at t = elim t as (λ _. Result Reading TokenProblem) [ true ↦ Ok (record st { author = unless_empty (directive_value (drop at row.bytes)) st.author }) | false ↦ no_author row st ]
+  abbrev author_else : ℕ → Bool → Result Reading TextTokenProblem
+  author_else at t = elim t as (λ _. Result Reading TextTokenProblem) [ true ↦ Ok (record st { author = unless_empty (directive_value (drop at row.bytes)) st.author }) | false ↦ no_author row st ]
 
-  abbrev assert_else : ℕ → Bool → Result Reading TokenProblem
-  assert_else at t = elim t as (λ _. Result Reading TokenProblem) [ true ↦ assert_at row at st | false ↦ Ok st ]
+  abbrev assert_else : ℕ → Bool → Result Reading TextTokenProblem
+  assert_else at t = elim t as (λ _. Result Reading TextTokenProblem) [ true ↦ assert_at row at st | false ↦ Ok st ]
 
   by-assert : (at : ℕ) (t : Bool) → assert_else at t ≡ after_comment (assert_or_other (cond t (Some at) None)) row st
   by-assert at true = refl

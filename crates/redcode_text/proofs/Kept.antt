@@ -2,7 +2,7 @@
 -- definition that a step leaves a part of the reading unchanged.
 use Rattle.std.proofs.Common.{◌≡◌, ◌∙◌, ℕ, zero, suc, ◌+◌, ◌-◌, List, [], ◌∷◌, ◌++◌, length, drop, Bool, true, false, Option, Some, None, Result, Ok, Err, refl, nat_le, nat_lt}
 use Rattle.redcode_text.specs.Results.{◌>>=◌}
-use Rattle.redcode_text.specs.declared.fault.TokenProblem.{TokenProblem}
+use Rattle.redcode_text.specs.declared.fault.TextTokenProblem.{TextTokenProblem}
 use Rattle.redcode_text.specs.declared.fault.TextProblem.TheVariants.{BadToken, Duplicate, TooLong}
 use Rattle.redcode_text.specs.declared.token.Token.{Token}
 use Rattle.redcode_text.specs.Expansion.{rof_line}
@@ -15,36 +15,36 @@ use Rattle.redcode_text.specs.Tokens.{OpenLoop, Scanned, problem_at, tokens}
 use Rattle.std.specs.Prelude.{⊤, codes, ◌||◌}
 
 -- The part `f` of everything read is still `x`.
-abbrev pub Kept : {X : Type 0} → (Reading → X) → X → Result Reading TokenProblem → Type 0
+abbrev pub Kept : {X : Type 0} → (Reading → X) → X → Result Reading TextTokenProblem → Type 0
 Kept f x (Ok a) = f a ≡ x
 Kept f x (Err e) = ⊤
 
-kept-at : {X : Type 0} (f : Reading → X) (x y : X) (r : Result Reading TokenProblem) → y ≡ x → Kept f y r → Kept f x r
+kept-at : {X : Type 0} (f : Reading → X) (x y : X) (r : Result Reading TextTokenProblem) → y ≡ x → Kept f y r → Kept f x r
 kept-at f x y (Ok a) e k = k ∙ e
 kept-at f x y (Err p) e k = tt
 
-kept-then : {X : Type 0} (f : Reading → X) (x : X) (r : Result Reading TokenProblem) (g : Step) → Kept f x r → ((a : Reading) → Kept f (f a) (g a)) → Kept f x (r >>= g)
+kept-then : {X : Type 0} (f : Reading → X) (x : X) (r : Result Reading TextTokenProblem) (g : Step) → Kept f x r → ((a : Reading) → Kept f (f a) (g a)) → Kept f x (r >>= g)
 kept-then f x (Ok a) g k h = kept-at f x (f a) (g a) k (h a)
 kept-then f x (Err e) g k h = tt
 
-kept-bind : {A X : Type 0} (f : Reading → X) (x : X) (r : Result A TokenProblem) (g : A → Result Reading TokenProblem) → ((a : A) → Kept f x (g a)) → Kept f x (r >>= g)
+kept-bind : {A X : Type 0} (f : Reading → X) (x : X) (r : Result A TextTokenProblem) (g : A → Result Reading TextTokenProblem) → ((a : A) → Kept f x (g a)) → Kept f x (r >>= g)
 kept-bind f x (Ok a) g h = h a
 kept-bind f x (Err e) g h = tt
 
 -- Reading the tokens of a row keeps a part that doesn't depend on names and counted tokens.
-kept-row : {X : Type 0} (f : Reading → X) (st : Reading) (row : SourceRow) (at : ℕ) (g : WithTokens → Result Reading TokenProblem)
+kept-row : {X : Type 0} (f : Reading → X) (st : Reading) (row : SourceRow) (at : ℕ) (g : WithTokens → Result Reading TextTokenProblem)
     → ((names : List (List ℕ)) (n : ℕ) → f (record st { names = names; tokens_read = n }) ≡ f st) → ((r : WithTokens) → Kept f (f r.1) (g r))
     → Kept f (f st) (row_tokens row at st >>= g)
 kept-row f st row at g same h = go (tokens st.loops row.number (row.at + at) (limit - st.tokens_read) st.names (before_comment (drop at row.bytes)))
   where
-    go : (r : Result Scanned TokenProblem) → Kept f (f st) ((r >>= λ s. Ok (s.tokens, record st { names = s.names; tokens_read = st.tokens_read + length s.tokens })) >>= g)
+    go : (r : Result Scanned TextTokenProblem) → Kept f (f st) ((r >>= λ s. Ok (s.tokens, record st { names = s.names; tokens_read = st.tokens_read + length s.tokens })) >>= g)
     go (Ok s) = kept-at f (f st) _ (g (s.tokens, record st { names = s.names; tokens_read = st.tokens_read + length s.tokens })) (same s.names (st.tokens_read + length s.tokens)) (h (s.tokens, record st { names = s.names; tokens_read = st.tokens_read + length s.tokens }))
     go (Err e) = tt
 
 pub line-kept : {X : Type 0} (f : Reading → X) (st : Reading) → (f (record st { lines_read = st.lines_read + 1 }) ≡ f st) → Kept f (f st) (line_read st)
 line-kept f st same = go (nat_le limit st.lines_read)
   where
-    go : (c : Bool) → Kept f (f st) (elim c as (λ _. Result Reading TokenProblem) [ true ↦ Err (problem_at None TooLong) | false ↦ Ok (record st { lines_read = st.lines_read + 1 }) ])
+    go : (c : Bool) → Kept f (f st) (elim c as (λ _. Result Reading TextTokenProblem) [ true ↦ Err (problem_at None TooLong) | false ↦ Ok (record st { lines_read = st.lines_read + 1 }) ])
     go true = tt
     go false = same
 
@@ -54,14 +54,14 @@ loops_of st = st.loops
 counted-kept : (ts : List Token) (st : Reading) → Kept loops_of st.loops (tokens_counted ts st)
 counted-kept ts st = go (nat_lt limit (st.tokens_read + length ts))
   where
-    go : (c : Bool) → Kept loops_of st.loops (elim c as (λ _. Result Reading TokenProblem) [ true ↦ Err (problem_at None TooLong) | false ↦ Ok (record st { tokens_read = st.tokens_read + length ts }) ])
+    go : (c : Bool) → Kept loops_of st.loops (elim c as (λ _. Result Reading TextTokenProblem) [ true ↦ Err (problem_at None TooLong) | false ↦ Ok (record st { tokens_read = st.tokens_read + length ts }) ])
     go true = tt
     go false = refl
 
 unless-kept : (step : Step) (st : Reading) → Kept loops_of st.loops (step st) → Kept loops_of st.loops (unless_ended st step)
 unless-kept step st h = go st.ended
   where
-    go : (c : Bool) → Kept loops_of st.loops (elim c as (λ _. Result Reading TokenProblem) [ true ↦ Ok st | false ↦ step st ])
+    go : (c : Bool) → Kept loops_of st.loops (elim c as (λ _. Result Reading TextTokenProblem) [ true ↦ Ok st | false ↦ step st ])
     go true = refl
     go false = h
 
@@ -91,12 +91,12 @@ ordinary-kept ps number (suc depth) ts st = with-kept ps number (Some (ordinary_
 equated-kept : (ps : Predefined) (span : Option Span) (ts : List Token) (name : Option ℕ) (st : Reading) → Kept loops_of st.loops (equated ps span ts name st)
 equated-kept ps span ts None st = go st.equate_grows
   where
-    go : (c : Bool) → Kept loops_of st.loops (elim c as (λ _. Result Reading TokenProblem) [ true ↦ Ok (record st { equates = with_line st.equates ts }) | false ↦ Err (problem_at span BadToken) ])
+    go : (c : Bool) → Kept loops_of st.loops (elim c as (λ _. Result Reading TextTokenProblem) [ true ↦ Ok (record st { equates = with_line st.equates ts }) | false ↦ Err (problem_at span BadToken) ])
     go true = refl
     go false = tt
 equated-kept ps span ts (Some n) st = go (is_equate st n || is_label st n || is_predefined ps st n)
   where
-    go : (c : Bool) → Kept loops_of st.loops (elim c as (λ _. Result Reading TokenProblem) [ true ↦ Err (problem_at span Duplicate) | false ↦ Ok (record st { equates = st.equates ++ record { name = n; lines = ts ∷ [] } ∷ []; equate_grows = true }) ])
+    go : (c : Bool) → Kept loops_of st.loops (elim c as (λ _. Result Reading TextTokenProblem) [ true ↦ Err (problem_at span Duplicate) | false ↦ Ok (record st { equates = st.equates ++ record { name = n; lines = ts ∷ [] } ∷ []; equate_grows = true }) ])
     go true = tt
     go false = refl
 
@@ -111,11 +111,11 @@ tokens-kept ps OtherLine row (t ∷ ts) st = ordinary-kept ps row.number 32 (t �
 comment-kept : (row : SourceRow) (st : Reading) → Kept loops_of st.loops (comment_line row st)
 comment-kept row st = go (has_directive_word (codes "name") row.bytes) (has_directive_word (codes "author") row.bytes) (has_directive_word (codes "assert") row.bytes)
   where
-    go : (a b c : Bool) → Kept loops_of st.loops (elim a as (λ _. Result Reading TokenProblem) [
+    go : (a b c : Bool) → Kept loops_of st.loops (elim a as (λ _. Result Reading TextTokenProblem) [
       | true ↦ Ok (record st { name = unless_empty (directive_value (directive_text (codes "name") row.bytes)) st.name })
-      | false ↦ elim b as (λ _. Result Reading TokenProblem) [
+      | false ↦ elim b as (λ _. Result Reading TextTokenProblem) [
         | true ↦ Ok (record st { author = unless_empty (directive_value (directive_text (codes "author") row.bytes)) st.author })
-        | false ↦ elim c as (λ _. Result Reading TokenProblem) [ true ↦ assert_line row st | false ↦ Ok st ]
+        | false ↦ elim c as (λ _. Result Reading TextTokenProblem) [ true ↦ assert_line row st | false ↦ Ok st ]
       ]
     ])
     go true b c = refl
@@ -124,10 +124,10 @@ comment-kept row st = go (has_directive_word (codes "name") row.bytes) (has_dire
     go false false false = refl
 
 pub plain-kept : (ps : Predefined) (row : SourceRow) (st : Reading) → Kept loops_of st.loops (plain_line ps row st)
-plain-kept ps row st = kept-then loops_of st.loops (line_read st) (λ a. elim (is_comment row.bytes) as (λ _. Result Reading TokenProblem) [ true ↦ comment_line row a | false ↦ row_tokens row 0 a >>= λ r. tokens_line ps (line_kind row.bytes) row r.0 r.1 ])
+plain-kept ps row st = kept-then loops_of st.loops (line_read st) (λ a. elim (is_comment row.bytes) as (λ _. Result Reading TextTokenProblem) [ true ↦ comment_line row a | false ↦ row_tokens row 0 a >>= λ r. tokens_line ps (line_kind row.bytes) row r.0 r.1 ])
     (line-kept loops_of st refl) (go (is_comment row.bytes))
   where
-    go : (c : Bool) (a : Reading) → Kept loops_of a.loops (elim c as (λ _. Result Reading TokenProblem) [ true ↦ comment_line row a | false ↦ row_tokens row 0 a >>= λ r. tokens_line ps (line_kind row.bytes) row r.0 r.1 ])
+    go : (c : Bool) (a : Reading) → Kept loops_of a.loops (elim c as (λ _. Result Reading TextTokenProblem) [ true ↦ comment_line row a | false ↦ row_tokens row 0 a >>= λ r. tokens_line ps (line_kind row.bytes) row r.0 r.1 ])
     go true a = comment-kept row a
     go false a = kept-row loops_of a row 0 (λ r. tokens_line ps (line_kind row.bytes) row r.0 r.1) (λ names n. refl) (λ r. tokens-kept ps (line_kind row.bytes) row r.0 r.1)
 
@@ -135,7 +135,7 @@ pub rof-kept : {X : Type 0} (f : Reading → X) → ((st : Reading) (names : Lis
     → ((st : Reading) → f (record st { lines_read = st.lines_read + 1 }) ≡ f st) → (row : SourceRow) (st : Reading) → Kept f (f st) (rof_line row st)
 rof-kept f names grows lines row st = go (line_read st) (line-kept f st (lines st))
   where
-    go : (r : Result Reading TokenProblem) → Kept f (f st) r → Kept f (f st) (r >>= row_tokens row 0 >>= λ r. Ok (record (r.1) { equate_grows = false }))
+    go : (r : Result Reading TextTokenProblem) → Kept f (f st) r → Kept f (f st) (r >>= row_tokens row 0 >>= λ r. Ok (record (r.1) { equate_grows = false }))
     go (Ok a) k = kept-at f (f st) (f a) _ k (kept-row f a row 0 (λ r. Ok (record (r.1) { equate_grows = false })) (names a) (λ r. grows r.1))
     go (Err e) k = tt
 

@@ -3,7 +3,7 @@ use Rattle.std.proofs.Common.{◌≡◌, ◌∙◌, ℕ, ◌<◌, List, [], ◌�
 use Rattle.redcode_text.specs.Results.{◌>>=◌}
 use Rattle.redcode_text.specs.declared.fault.TextFault.{TextFault}
 use Rattle.redcode_text.specs.declared.fault.TextProblem.{TextProblem}
-use Rattle.redcode_text.specs.declared.fault.TokenProblem.{TokenProblem}
+use Rattle.redcode_text.specs.declared.fault.TextTokenProblem.{TextTokenProblem}
 use Rattle.redcode_text.specs.declared.fault.TextProblem.TheVariants.{UnclosedFor, RofAlone}
 use Rattle.redcode_text.specs.declared.source.row.SourceRow as code
 use Rattle.redcode_text.specs.Expansion.{flat, unpaired_line}
@@ -34,7 +34,7 @@ step-lone (Ok a) f g h same = go a.ended refl
 unpaired-fails : (p : TextProblem) (row : SourceRow) (n : ℕ) (st : Reading) (h : Reading → Result Reading TextFault) → at_line n (unpaired_line p row st) ≡ (at_line n (unpaired_line p row st) >>= λ b. unless_ended b h)
 unpaired-fails p row n st h = go (line_read st)
   where
-    go : (r : Result Reading TokenProblem) → at_line n (r >>= λ _. Err (problem_at (loop_word row) p)) ≡ (at_line n (r >>= λ _. Err (problem_at (loop_word row) p)) >>= λ b. unless_ended b h)
+    go : (r : Result Reading TextTokenProblem) → at_line n (r >>= λ _. Err (problem_at (loop_word row) p)) ≡ (at_line n (r >>= λ _. Err (problem_at (loop_word row) p)) >>= λ b. unless_ended b h)
     go (Ok a) = refl
     go (Err e) = refl
 

@@ -7,7 +7,7 @@ use Rattle.redcode_text.specs.Code.Pairs.{here_from, EndsAt}
 use Rattle.redcode_text.proofs.PairSteps.{for-at}
 use Rattle.redcode_text.specs.declared.fault.TextFault.{TextFault}
 use Rattle.redcode_text.specs.declared.fault.TextProblem.{TextProblem}
-use Rattle.redcode_text.specs.declared.fault.TokenProblem.{TokenProblem}
+use Rattle.redcode_text.specs.declared.fault.TextTokenProblem.{TextTokenProblem}
 use Rattle.redcode_text.specs.declared.fault.TextProblem.TheVariants.{NotAscii, BadToken, UnclosedFor, RofAlone, BadCount, LabelInCount, Duplicate, EquDepth, TooLong, Expression, OutOfMemory}
 use Rattle.redcode_text.specs.Expansion.{Head, flat, head_line, in_round, rof_line, rounds}
 use Rattle.redcode_text.specs.Lines.{Predefined, Reading, unless_ended}
@@ -55,7 +55,7 @@ after-rof : (ps : Predefined) (rof : SourceRow) (rest : Items) (a : Reading) (c 
 after-rof ps rof rest a true e = sym (stops a (flat ps rest) e)
 after-rof ps rof rest a false e = go (rof_line rof a) (rof-ended rof a)
   where
-    go : (r : Result Reading TokenProblem) → Kept (λ st. st.ended) a.ended r → (at_line rof.number r >>= flat ps rest) ≡ (at_line rof.number r >>= λ b. unless_ended b (flat ps rest))
+    go : (r : Result Reading TextTokenProblem) → Kept (λ st. st.ended) a.ended r → (at_line rof.number r >>= flat ps rest) ≡ (at_line rof.number r >>= λ b. unless_ended b (flat ps rest))
     go (Ok b) k = sym (goes-on b (flat ps rest) (k ∙ e))
     go (Err p) k = refl
 

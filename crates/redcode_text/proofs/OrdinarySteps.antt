@@ -1,17 +1,17 @@
 -- An ordinary line, in terms of its parts.
 use Rattle.std.proofs.Common.{◌≡◌, ℕ, zero, suc, ◌-◌, List, Option, None, Some, Result, Ok, refl, ap, ◌∙◌, arith}
 use Rattle.redcode_text.specs.Results.{◌>>=◌}
-use Rattle.redcode_text.specs.declared.fault.TokenProblem.{TokenProblem}
+use Rattle.redcode_text.specs.declared.fault.TextTokenProblem.{TextTokenProblem}
 use Rattle.redcode_text.specs.declared.token.Token.{Token}
 use Rattle.redcode_text.specs.Lines.{Parts, Predefined, Reading, Step, prepend_to_first, append_to_last, each_line, line_added, on_line, operation_lines, ordinary_line, parts_of, parts_read}
 use Rattle.redcode_text.specs.Code.Problems.{Fails}
 use Rattle.redcode_text.proofs.Failing.{fails-bind}
 
 module _ (ps : Predefined) (number : ℕ) (ts : List Token) (st : Reading) where
-  abbrev then_read : Option (List Token → Step) → Parts → Result Reading TokenProblem
+  abbrev then_read : Option (List Token → Step) → Parts → Result Reading TextTokenProblem
   then_read deeper p = parts_read deeper number p (operation_lines st p.operation) st
 
-  pub ordinary-fails : (depth : ℕ) (e : TokenProblem) → Fails e (parts_of ps st ts) → Fails e (ordinary_line ps number depth ts st)
+  pub ordinary-fails : (depth : ℕ) (e : TextTokenProblem) → Fails e (parts_of ps st ts) → Fails e (ordinary_line ps number depth ts st)
   ordinary-fails zero e h = fails-bind e (parts_of ps st ts) (then_read None) h
   ordinary-fails (suc depth) e h = fails-bind e (parts_of ps st ts) (then_read (Some (ordinary_line ps number depth))) h
 

@@ -1,7 +1,7 @@
 -- The parts of a line, one token at a time.
 use Rattle.std.proofs.Common.{◌≡◌, ℕ, zero, suc, ◌+◌, ◌<◌, ◌≤◌, List, [], ◌∷◌, ◌++◌, length, length-drop, drop, drop-drop, take, get_or, Bool, true, false, Option, Some, None, Result, Ok, Err, refl, ap, sym, ◌∙◌, arith}
 use Rattle.std.proofs.Math.Seq.{drop-cons}
-use Rattle.redcode_text.specs.declared.fault.TokenProblem.{TokenProblem}
+use Rattle.redcode_text.specs.declared.fault.TextTokenProblem.{TextTokenProblem}
 use Rattle.redcode_text.specs.declared.fault.TextProblem.TheVariants.{Duplicate}
 use Rattle.redcode_text.specs.declared.token.Span.{Span}
 use Rattle.redcode_text.specs.declared.token.Token.{Token}
@@ -27,21 +27,21 @@ last-taken before (x ∷ xs) zero d h = refl
 last-taken before (x ∷ xs) (suc i) d h = last-taken (Some (span_of x)) xs i d (omega arith)
 
 module _ (ps : Predefined) (st : Reading) where
-  abbrev parted : ℕ → List ℕ → List Token → List Token → Result Parts TokenProblem
+  abbrev parted : ℕ → List ℕ → List Token → List Token → Result Parts TextTokenProblem
   parted k labels before ts = parts_within ps st k labels before ts
 
-  abbrev found : List ℕ → List Token → Option ℕ → Option Span → List Token → Result Parts TokenProblem
+  abbrev found : List ℕ → List Token → Option ℕ → Option Span → List Token → Result Parts TextTokenProblem
   found labels before operation span rest = Ok (record { labels = labels; label_tokens = before; operation = operation; operation_span = span; rest = rest })
 
-  abbrev found_none : List ℕ → List Token → List Token → Result Parts TokenProblem
+  abbrev found_none : List ℕ → List Token → List Token → Result Parts TextTokenProblem
   found_none labels before rest = found labels before None (last_span None before) rest
 
-  abbrev at_kind : ℕ → List ℕ → List Token → Token → List Token → TokenKind → Result Parts TokenProblem
+  abbrev at_kind : ℕ → List ℕ → List Token → Token → List Token → TokenKind → Result Parts TextTokenProblem
   at_kind k labels before t ts kind =
-      elim kind as (λ _. Result Parts TokenProblem) [
-        | Name n ↦ elim (is_operation st n) as (λ _. Result Parts TokenProblem) [
+      elim kind as (λ _. Result Parts TextTokenProblem) [
+        | Name n ↦ elim (is_operation st n) as (λ _. Result Parts TextTokenProblem) [
           | true ↦ found labels before (Some n) (Some (span_of t)) ts
-          | false ↦ elim (may_label ps st labels n) as (λ _. Result Parts TokenProblem) [
+          | false ↦ elim (may_label ps st labels n) as (λ _. Result Parts TextTokenProblem) [
             | true ↦ parted k (labels ++ n ∷ []) (before ++ t ∷ (split_colon ts).0) (split_colon ts).1
             | false ↦ Err (problem_of t Duplicate)
           ]
@@ -59,14 +59,14 @@ module _ (ps : Predefined) (st : Reading) where
       → parted (suc k) labels before (t ∷ ts) ≡ parted k (labels ++ n ∷ []) (before ++ t ∷ (split_colon ts).0) (split_colon ts).1
   head-label k n labels before t ts e o m =
       ap (at_kind k labels before t ts) e
-      ∙ ap (λ (b : Bool). elim b as (λ _. Result Parts TokenProblem) [
+      ∙ ap (λ (b : Bool). elim b as (λ _. Result Parts TextTokenProblem) [
         | true ↦ found labels before (Some n) (Some (span_of t)) ts
-        | false ↦ elim (may_label ps st labels n) as (λ _. Result Parts TokenProblem) [
+        | false ↦ elim (may_label ps st labels n) as (λ _. Result Parts TextTokenProblem) [
           | true ↦ parted k (labels ++ n ∷ []) (before ++ t ∷ (split_colon ts).0) (split_colon ts).1
           | false ↦ Err (problem_of t Duplicate)
         ]
       ]) o
-      ∙ ap (λ (b : Bool). elim b as (λ _. Result Parts TokenProblem) [
+      ∙ ap (λ (b : Bool). elim b as (λ _. Result Parts TextTokenProblem) [
         | true ↦ parted k (labels ++ n ∷ []) (before ++ t ∷ (split_colon ts).0) (split_colon ts).1
         | false ↦ Err (problem_of t Duplicate)
       ]) m
@@ -112,7 +112,7 @@ module _ (ps : Predefined) (st : Reading) where
       go (suc k) (x ∷ rest) none = absurd (omega arith)
 
   -- After a label, at most `m` labels more are read, and no more than `m` tokens remain.
-  pub label-at : (ts : List Token) (i k n p : ℕ) (d : Token) (labels : List ℕ) (whole : Result Parts TokenProblem) → i < length ts → length (drop i ts) ≤ k → (get_or ts i d).kind ≡ Name n → is_operation st n ≡ false → may_label ps st labels n ≡ true
+  pub label-at : (ts : List Token) (i k n p : ℕ) (d : Token) (labels : List ℕ) (whole : Result Parts TextTokenProblem) → i < length ts → length (drop i ts) ≤ k → (get_or ts i d).kind ≡ Name n → is_operation st n ≡ false → may_label ps st labels n ≡ true
       → split_colon (drop (i + 1) ts) ≡ (take p (drop (i + 1) ts), drop p (drop (i + 1) ts)) → parted k labels (take i ts) (drop i ts) ≡ whole
       → (m : ℕ) × (length (drop (i + 1 + p) ts) ≤ m) × (parted m (labels ++ n ∷ []) (take (i + 1 + p) ts) (drop (i + 1 + p) ts) ≡ whole)
   label-at ts i zero n p d labels whole h fuel e o m c is = absurd (omega (arith, length-drop i ts))

@@ -4,7 +4,7 @@ use Rattle.std.proofs.lemmas.List.{length-map}
 use Rattle.std.proofs.lemmas.List.Elements.{All-cons, All-nil}
 use Rattle.std.specs.List.{All}
 use Rattle.std.specs.Result.{IfOk}
-use Rattle.redcode_text.specs.declared.fault.TokenProblem.{TokenProblem}
+use Rattle.redcode_text.specs.declared.fault.TextTokenProblem.{TextTokenProblem}
 use Rattle.redcode_text.specs.Lines.{printable}
 use Rattle.redcode_text.specs.Code.Problems.{Gives}
 use Rattle.redcode_text.specs.Programs.{IsPrinted}
@@ -24,10 +24,10 @@ all-printed (b ∷ bs) = All-cons (λ b. (32 ≤ b) × (b ≤ 126)) (printable b
 pub is-printed : (bs : List ℕ) → length bs ≤ 60 → IsPrinted (map printable bs)
 is-printed bs few = record { short = omega (arith, few, length-map bs printable); printed = all-printed bs }
 
-abbrev bytes-in : Result (List ℕ) TokenProblem → List ℕ
+abbrev bytes-in : Result (List ℕ) TextTokenProblem → List ℕ
 bytes-in (Ok bs) = bs
 bytes-in (Err e) = []
 
-pub printed_is_printed : (bs : List ℕ) (made : Result (String Global) TokenProblem) → length bs ≤ 60 → Gives (λ text. string_bytes text) made (Ok (map printable bs)) → IfOk made (λ value. IsPrinted (string_bytes value))
+pub printed_is_printed : (bs : List ℕ) (made : Result (String Global) TextTokenProblem) → length bs ≤ 60 → Gives (λ text. string_bytes text) made (Ok (map printable bs)) → IfOk made (λ value. IsPrinted (string_bytes value))
 printed_is_printed bs (Ok text) few e = subst IsPrinted (ap bytes-in e) (is-printed bs few)
 printed_is_printed bs (Err problem) few e = tt

@@ -6,7 +6,7 @@ use Rattle.std.proofs.lemmas.List.{take_rest}
 use Rattle.std.specs.Char.{is_ascii}
 use Rattle.redcode_text.specs.Results.{◌>>=◌}
 use Rattle.redcode_text.specs.declared.fault.TextProblem.{TextProblem}
-use Rattle.redcode_text.specs.declared.fault.TokenProblem.{TokenProblem}
+use Rattle.redcode_text.specs.declared.fault.TextTokenProblem.{TextTokenProblem}
 use Rattle.redcode_text.specs.declared.fault.TextProblem.TheVariants.{NotAscii, TooLong}
 use Rattle.redcode_text.specs.declared.token.Sign.{Sign}
 use Rattle.redcode_text.specs.declared.token.Span.{Span}
@@ -46,15 +46,15 @@ sign-at loops names (b ∷ bs) r some a w e = subst (GivesBare (with_names names
 
 -- ---- A line
 
-abbrev pub measured : ℕ → Scanned → Result (ℕ × Scanned) TokenProblem
+abbrev pub measured : ℕ → Scanned → Result (ℕ × Scanned) TextTokenProblem
 measured len t = Ok (len, t)
 
 -- Splitting off the step that reads one token, if it is found and there is room, doesn't change the result.
-one-then : {A : Type 0} (r : Result Found TokenProblem) (w : Found → Result Scanned TokenProblem) (rest : ℕ → Scanned → Result A TokenProblem)
+one-then : {A : Type 0} (r : Result Found TextTokenProblem) (w : Found → Result Scanned TextTokenProblem) (rest : ℕ → Scanned → Result A TextTokenProblem)
     → (r >>= λ f. w f >>= λ t. rest f.len t) ≡ ((r >>= λ f. w f >>= measured f.len) >>= λ q. rest q.0 q.1)
 one-then {A} (Ok f) w rest = go (w f)
   where
-    go : (x : Result Scanned TokenProblem) → (x >>= λ t. rest f.len t) ≡ ((x >>= measured f.len) >>= λ q. rest q.0 q.1)
+    go : (x : Result Scanned TextTokenProblem) → (x >>= λ t. rest f.len t) ≡ ((x >>= measured f.len) >>= λ q. rest q.0 q.1)
     go (Ok t) = refl
     go (Err e) = refl
 one-then (Err e) w rest = refl
@@ -66,17 +66,17 @@ module _ (loops : List OpenLoop) (line room : ℕ) where
   skip (suc k) at [] s = refl
   skip (suc k) at (b ∷ bs) s = let e : at + 1 + k ≡ at + suc k = omega arith in skip k (at + 1) bs s ∙ ap (λ a. scan_from loops line room a 0 (drop k bs) s) e
 
-  abbrev from_token : ℕ → List ℕ → List ℕ → Scanned → Result Scanned TokenProblem
+  abbrev from_token : ℕ → List ℕ → List ℕ → Scanned → Result Scanned TextTokenProblem
   from_token at bs rest s = at_token (span_at at (unread_len bs)) (token_at loops s.names bs) >>= λ f. with_room room s line at f >>= λ t. scan_from loops line room (at + 1) (f.len - 1) rest t
 
   at-byte : (at i : ℕ) (bs : List ℕ) (s : Scanned) (t : Bool) → i < length bs → is_blank (get_or bs i 0) ≡ t
-      → scan_from loops line room (at + i) 0 (drop i bs) s ≡ elim t as (λ _. Result Scanned TokenProblem) [
+      → scan_from loops line room (at + i) 0 (drop i bs) s ≡ elim t as (λ _. Result Scanned TextTokenProblem) [
         | true ↦ scan_from loops line room (at + i + 1) 0 (drop (suc i) bs) s
         | false ↦ from_token (at + i) (get_or bs i 0 ∷ drop (suc i) bs) (drop (suc i) bs) s
       ]
   at-byte at i bs s t h e =
       ap (λ l. scan_from loops line room (at + i) 0 l s) (drop-cons bs i 0 h)
-      ∙ ap (λ t. elim t as (λ _. Result Scanned TokenProblem) [
+      ∙ ap (λ t. elim t as (λ _. Result Scanned TextTokenProblem) [
         | true ↦ scan_from loops line room (at + i + 1) 0 (drop (suc i) bs) s
         | false ↦ from_token (at + i) (get_or bs i 0 ∷ drop (suc i) bs) (drop (suc i) bs) s
       ]) e
@@ -100,7 +100,7 @@ module _ (loops : List OpenLoop) (line room : ℕ) where
       ∙ ap (λ l. scan_from loops line room (at + i + 1 + (len - 1)) 0 l t) (drop-drop (len - 1) (suc i) bs)
       ∙ (λ j. scan_from loops line room (a j) 0 (drop (n j) bs) t)
 
-  pub scan-fails : (at i : ℕ) (bs : List ℕ) (s : Scanned) (e : TokenProblem) → i < length bs → is_blank (get_or bs i 0) ≡ false → Fails e (one_token loops line room (at + i) (drop i bs) s)
+  pub scan-fails : (at i : ℕ) (bs : List ℕ) (s : Scanned) (e : TextTokenProblem) → i < length bs → is_blank (get_or bs i 0) ≡ false → Fails e (one_token loops line room (at + i) (drop i bs) s)
       → Fails e (scan_from loops line room (at + i) 0 (drop i bs) s)
   scan-fails at i bs s e h b f =
       subst (Fails e) (sym (at-token at i bs s h b)) (fails-bind e (one_token loops line room (at + i) (drop i bs) s) (λ q. scan_from loops line room (at + i + 1) (q.0 - 1) (drop (suc i) bs) q.1) f)
@@ -121,7 +121,7 @@ module _ (loops : List OpenLoop) (line room at i : ℕ) (bs : List ℕ) (s : Sca
   abbrev spanned : List ℕ → Option Span
   spanned l = span_at at (unread_len l)
 
-  abbrev then_added : Result Found TokenProblem → Result (ℕ × Scanned) TokenProblem
+  abbrev then_added : Result Found TextTokenProblem → Result (ℕ × Scanned) TextTokenProblem
   then_added r = r >>= λ f. with_room room s line at f >>= measured f.len
 
   looks : one_token loops line room at (drop i bs) s ≡ then_added (at_token (spanned (take (length bs - i) (drop i bs))) looked_at)
@@ -132,7 +132,7 @@ module _ (loops : List OpenLoop) (line room at i : ℕ) (bs : List ℕ) (s : Sca
       subst (Fails (problem_at span e)) (sym (looks ∙ ap (λ p. then_added (at_token p looked_at)) (sym is)))
       (fails-bind (problem_at span e) (at_token span looked_at) (λ f. with_room room s line at f >>= measured f.len) (fails-token span e looked_at h))
 
-  abbrev added : Result Found TextProblem → Result (ℕ × Scanned) TokenProblem
+  abbrev added : Result Found TextProblem → Result (ℕ × Scanned) TextTokenProblem
   added r = then_added (at_token (spanned (take (length bs - i) (drop i bs))) r)
 
   pub one-full : (f : Found) → looked_at ≡ Ok f → room ≤ length s.tokens → one_token loops line room at (drop i bs) s ≡ Err (problem_at (span_at at f.len) TooLong)

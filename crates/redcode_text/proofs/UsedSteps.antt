@@ -2,7 +2,7 @@
 use Rattle.std.proofs.Common.{◌≡◌, ℕ, zero, suc, ◌+◌, ◌-◌, ◌<◌, ◌≤◌, List, [], ◌∷◌, ◌++◌, length, drop, get_or, map, Bool, true, false, Option, Some, None, Ok, Result, refl, ap, sym, subst, ◌∙◌, arith}
 use Rattle.std.proofs.Math.Seq.{drop-cons}
 use Rattle.redcode_text.specs.Results.{◌>>=◌}
-use Rattle.redcode_text.specs.declared.fault.TokenProblem.{TokenProblem}
+use Rattle.redcode_text.specs.declared.fault.TextTokenProblem.{TextTokenProblem}
 use Rattle.redcode_text.specs.declared.token.Token.{Token}
 use Rattle.redcode_text.specs.Lines.{Reading, Step, prepend_to_first, append_to_last, each_line, unless_ended}
 use Rattle.redcode_text.specs.Code.Problems.{Fails}
@@ -54,7 +54,7 @@ pub under-same : (operation : Option ℕ) (st other : Reading) → st.equates �
 under-same None st other same = refl
 under-same (Some n) st other same = rw same refl
 
-abbrev ok : List Token → Result (List Token) TokenProblem
+abbrev ok : List Token → Result (List Token) TextTokenProblem
 ok l = Ok l
 
 -- The line that was built for an index is the defined line, if the EQU names are unchanged since the start.
@@ -64,7 +64,7 @@ line-at operation st first before behind at lines line read same is made e =
     let found : get_or (used before lines behind) at [] ≡ line = cc in
     ap (λ ls. get_or (used before ls behind) at []) (sym (is ∙ under-same operation st first same)) ∙ found ∙ sym e
 
-module _ (ordinary : List Token → Step) (ls : List (List Token)) (at : ℕ) (line : List Token) (st : Reading) (whole : Result Reading TokenProblem) where
+module _ (ordinary : List Token → Step) (ls : List (List Token)) (at : ℕ) (line : List Token) (st : Reading) (whole : Result Reading TextTokenProblem) where
   next : at < length ls → get_or ls at [] ≡ line → each_line ordinary (drop at ls) st ≡ whole → (read_one ordinary line st >>= λ a. unless_ended a (each_line ordinary (drop (at + 1) ls))) ≡ whole
   next h found is =
       let n : suc at ≡ at + 1 = omega arith in
@@ -73,14 +73,14 @@ module _ (ordinary : List Token → Step) (ls : List (List Token)) (at : ℕ) (l
       ∙ is
 
   -- If reading one line fails, reading the lines fails.
-  pub line-fails : (e : TokenProblem) → at < length ls → get_or ls at [] ≡ line → each_line ordinary (drop at ls) st ≡ whole → Fails e (read_one ordinary line st) → Fails e whole
+  pub line-fails : (e : TextTokenProblem) → at < length ls → get_or ls at [] ≡ line → each_line ordinary (drop at ls) st ≡ whole → Fails e (read_one ordinary line st) → Fails e whole
   line-fails e h found is fails =
       subst (Fails e) (next h found is) (fails-bind e (read_one ordinary line st) (λ a. unless_ended a (each_line ordinary (drop (at + 1) ls))) fails)
 
   -- After a line was read, the lines after it are read.
   pub line-done : (a : Reading) → at < length ls → get_or ls at [] ≡ line → each_line ordinary (drop at ls) st ≡ whole → read_one ordinary line st ≡ Ok a → a.ended ≡ false → each_line ordinary (drop (at + 1) ls) a ≡ whole
   line-done a h found is done goes =
-      ap (λ (b : Bool). elim b as (λ _. Result Reading TokenProblem) [ true ↦ Ok a | false ↦ each_line ordinary (drop (at + 1) ls) a ]) (sym goes)
+      ap (λ (b : Bool). elim b as (λ _. Result Reading TextTokenProblem) [ true ↦ Ok a | false ↦ each_line ordinary (drop (at + 1) ls) a ]) (sym goes)
       ∙ ap (λ r. r >>= λ a. unless_ended a (each_line ordinary (drop (at + 1) ls))) (sym done)
       ∙ next h found is
 
@@ -89,10 +89,10 @@ module _ (ordinary : List Token → Step) (ls : List (List Token)) (at : ℕ) (l
   line-ends a h found is done ends =
       sym (next h found is)
       ∙ ap (λ r. r >>= λ a. unless_ended a (each_line ordinary (drop (at + 1) ls))) done
-      ∙ ap (λ (b : Bool). elim b as (λ _. Result Reading TokenProblem) [ true ↦ Ok a | false ↦ each_line ordinary (drop (at + 1) ls) a ]) ends
+      ∙ ap (λ (b : Bool). elim b as (λ _. Result Reading TextTokenProblem) [ true ↦ Ok a | false ↦ each_line ordinary (drop (at + 1) ls) a ]) ends
 
 -- After the last line, reading is done.
-pub lines-done : (ordinary : List Token → Step) (ls : List (List Token)) (at : ℕ) (st : Reading) (whole : Result Reading TokenProblem) → length ls ≤ at → each_line ordinary (drop at ls) st ≡ whole → whole ≡ Ok st
+pub lines-done : (ordinary : List Token → Step) (ls : List (List Token)) (at : ℕ) (st : Reading) (whole : Result Reading TextTokenProblem) → length ls ≤ at → each_line ordinary (drop at ls) st ≡ whole → whole ≡ Ok st
 lines-done ordinary [] zero st whole h is = sym is
 lines-done ordinary [] (suc at) st whole h is = sym is
 lines-done ordinary (l ∷ ls) zero st whole h is = absurd (omega (arith, h))

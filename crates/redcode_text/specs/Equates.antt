@@ -4,7 +4,7 @@ use Rattle.redcode_text.specs.Results.{◌>>=◌}
 use Rattle.redcode_text.specs.declared.token.Token.{Token}
 use Rattle.redcode_text.specs.declared.token.TokenKind.{TokenKind}
 use Rattle.redcode_text.specs.declared.token.TokenKind.TheVariants.{Name}
-use Rattle.redcode_text.specs.declared.fault.TokenProblem.{TokenProblem}
+use Rattle.redcode_text.specs.declared.fault.TextTokenProblem.{TextTokenProblem}
 use Rattle.redcode_text.specs.declared.fault.TextProblem.TheVariants.{BadToken, EquDepth, TooLong}
 use Rattle.redcode_text.specs.declared.fault.TextFault.{TextFault}
 use Rattle.redcode_text.specs.Tokens.{at_line, problem_of}
@@ -39,30 +39,30 @@ pub record Replaced : Type 0 where
 
 -- A function that appends tokens to a result, with EQU names replaced.
 abbrev pub Replacing : Type 0
-Replacing = Replaced → List Token → Result Replaced TokenProblem
+Replacing = Replaced → List Token → Result Replaced TextTokenProblem
 
 -- The definition of the EQU name `t`, if it has at most one line.
-abbrev pub one_line : Token → List (List Token) → Result (List Token) TokenProblem
+abbrev pub one_line : Token → List (List Token) → Result (List Token) TextTokenProblem
 one_line t [] = Ok []
 one_line t (line ∷ []) = Ok line
 one_line t (line ∷ next ∷ lines) = Err (problem_of t BadToken)
 
 -- `r` with one more replacement, of the name `t`, unless the limit is reached.
-abbrev pub one_more : Token → Replaced → Result Replaced TokenProblem
+abbrev pub one_more : Token → Replaced → Result Replaced TextTokenProblem
 one_more t r = elim (nat_le limit r.count) [ true ↦ Err (problem_of t TooLong) | false ↦ Ok (record { tokens = r.tokens; count = r.count + 1 }) ]
 
 -- The EQU name `t` is replaced by the line of its definition, in which names are replaced by `deeper`. Without `deeper` the
 -- nesting is too deep.
-abbrev pub replaced_name : Option Replacing → Replaced → Token → List (List Token) → Result Replaced TokenProblem
+abbrev pub replaced_name : Option Replacing → Replaced → Token → List (List Token) → Result Replaced TextTokenProblem
 replaced_name None r t lines = Err (problem_of t EquDepth)
 replaced_name (Some deeper) r t lines = one_line t lines >>= λ line. one_more t r >>= λ s. deeper s line
 
 -- `r` with the token `t` appended, which is not an EQU name, unless the limit is reached.
-abbrev pub kept_token : Replaced → Token → Result Replaced TokenProblem
+abbrev pub kept_token : Replaced → Token → Result Replaced TextTokenProblem
 kept_token r t = elim (nat_le limit (length r.tokens)) [ true ↦ Err (problem_of t TooLong) | false ↦ Ok (record { tokens = r.tokens ++ t ∷ []; count = r.count }) ]
 
 -- `r` with the token `t` appended or, if it is an EQU name, the line of its definition.
-abbrev pub replaced_token : Option Replacing → Replaced → Token → Option (List (List Token)) → Result Replaced TokenProblem
+abbrev pub replaced_token : Option Replacing → Replaced → Token → Option (List (List Token)) → Result Replaced TextTokenProblem
 replaced_token deeper r t (Some lines) = replaced_name deeper r t lines
 replaced_token deeper r t None = kept_token r t
 

@@ -9,7 +9,7 @@ use Rattle.redcode_text.specs.declared.token.TokenKind.TheVariants.{Name}
 use Rattle.redcode_text.specs.declared.fault.ExprFault.{ExprFault}
 use Rattle.redcode_text.specs.declared.fault.TextFault.{TextFault}
 use Rattle.redcode_text.specs.declared.fault.TextProblem.{TextProblem}
-use Rattle.redcode_text.specs.declared.fault.TokenProblem.{TokenProblem}
+use Rattle.redcode_text.specs.declared.fault.TextTokenProblem.{TextTokenProblem}
 use Rattle.redcode_text.specs.declared.fault.TextProblem.TheVariants.{UnclosedFor, RofAlone, BadCount, LabelInCount, TooLong, Expression}
 use Rattle.redcode_text.specs.Expression.{fault_span, kinds, value_of}
 use Rattle.redcode_text.specs.Spans.{first_span, span_of}
@@ -51,12 +51,12 @@ count_span names before us (Expression e) = fault_span names before us e
 count_span names before us problem = first_span us
 
 -- A count whose error gets its bytes from `span`.
-abbrev pub counted : (TextProblem → Option Span) → Result ℕ TextProblem → Result ℕ TokenProblem
+abbrev pub counted : (TextProblem → Option Span) → Result ℕ TextProblem → Result ℕ TextTokenProblem
 counted span (Ok n) = Ok n
 counted span (Err e) = Err (problem_at (span e) e)
 
 -- The number of iterations for a count whose EQU names are replaced.
-abbrev pub replaced_count : Predefined → Reading → Option Span → List Token → Result ℕ TokenProblem
+abbrev pub replaced_count : Predefined → Reading → Option Span → List Token → Result ℕ TextTokenProblem
 replaced_count ps st before us =
     elim (label_span ps st us) [
       | Some span ↦ Err (problem_at (Some span) LabelInCount)
@@ -64,7 +64,7 @@ replaced_count ps st before us =
     ]
 
 -- The number of iterations for the tokens after the word FOR, which is the token `before`.
-abbrev pub count_of : Predefined → Reading → Option Span → List Token → Result ℕ TokenProblem
+abbrev pub count_of : Predefined → Reading → Option Span → List Token → Result ℕ TextTokenProblem
 count_of ps st before ts = without_line (substitution st.equates ts) >>= replaced_count ps st before
 
 -- The counter of a loop, the number of its iterations, and everything read up to and including its header.
@@ -83,7 +83,7 @@ abbrev pub loop_limit : ℕ
 loop_limit = 32
 
 -- Everything read, if one more loop may be open. The error has the bytes `span`.
-abbrev pub room_for_loop : Option Span → Reading → Result Reading TokenProblem
+abbrev pub room_for_loop : Option Span → Reading → Result Reading TextTokenProblem
 room_for_loop span st = elim (nat_le loop_limit (length st.loops)) [ true ↦ Err (problem_at span TooLong) | false ↦ Ok st ]
 
 -- The offset in the source of the word FOR of a FOR line.
@@ -91,7 +91,7 @@ abbrev pub for_word_at : SourceRow → ℕ
 for_word_at row = elim (source.line_kind row.bytes) [ source.ForLine at ↦ row.at + at | _ ↦ row.at ]
 
 -- The header of the loop whose FOR line is `row`.
-abbrev pub head_line : Predefined → SourceRow → Reading → Result Head TokenProblem
+abbrev pub head_line : Predefined → SourceRow → Reading → Result Head TextTokenProblem
 head_line ps row st =
     line_read st >>= row_tokens row 0 >>= λ r.
     name_in_front (tokens_before (for_word_at row) r.0) >>= λ counter.
@@ -100,11 +100,11 @@ head_line ps row st =
     Ok (record { counter = counter_name r.1 counter; count = count; reading = record (r.1) { equate_grows = false } })
 
 -- A ROF line: its tokens are read, but have no meaning.
-abbrev pub rof_line : SourceRow → Reading → Result Reading TokenProblem
+abbrev pub rof_line : SourceRow → Reading → Result Reading TextTokenProblem
 rof_line row st = line_read st >>= row_tokens row 0 >>= λ r. Ok (record (r.1) { equate_grows = false })
 
 -- A FOR without its ROF, or a ROF without its FOR.
-abbrev pub unpaired_line : TextProblem → SourceRow → Reading → Result Reading TokenProblem
+abbrev pub unpaired_line : TextProblem → SourceRow → Reading → Result Reading TextTokenProblem
 unpaired_line problem row st = line_read st >>= λ _. Err (problem_at (loop_word row) problem)
 
 -- ---- The whole source

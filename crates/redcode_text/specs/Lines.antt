@@ -8,7 +8,7 @@ use Rattle.redcode_text.specs.declared.token.TokenKind.{TokenKind}
 use Rattle.redcode_text.specs.declared.token.TokenKind.TheVariants.{Name}
 use Rattle.redcode_text.specs.declared.token.TokenKind.TheVariants as token
 use Rattle.redcode_text.specs.declared.token.Sign.TheVariants.{Colon}
-use Rattle.redcode_text.specs.declared.fault.TokenProblem.{TokenProblem}
+use Rattle.redcode_text.specs.declared.fault.TextTokenProblem.{TextTokenProblem}
 use Rattle.redcode_text.specs.declared.fault.TextProblem.TheVariants.{BadToken, Duplicate, EquDepth, TooLong}
 use Rattle.redcode_text.specs.Bytes.{first_printed, last_printed, question_mark, semicolon}
 use Rattle.redcode_text.specs.declared.token.Span.{Span}
@@ -55,7 +55,7 @@ pub record Reading : Type 0 where
 
 -- A step reads a part of a source: it returns everything read including that part, or an error.
 abbrev pub Step : Type 0
-Step = Reading → Result Reading TokenProblem
+Step = Reading → Result Reading TextTokenProblem
 
 -- The predefined names with their values, without CURLINE.
 abbrev pub Predefined : Type 0
@@ -107,7 +107,7 @@ WithTokens = List Token × Reading
 
 -- The tokens of a row from the offset `at` on, up to a comment, and everything read including them. There may be as
 -- many as the limit leaves.
-abbrev pub row_tokens : SourceRow → ℕ → Reading → Result WithTokens TokenProblem
+abbrev pub row_tokens : SourceRow → ℕ → Reading → Result WithTokens TextTokenProblem
 row_tokens row at st =
     tokens st.loops row.number (row.at + at) (limit - st.tokens_read) st.names (before_comment (drop at row.bytes)) >>= λ s.
     Ok (s.tokens, record st { names = s.names; tokens_read = st.tokens_read + length s.tokens })
@@ -127,21 +127,21 @@ is_colon (token.Sign Colon) = true
 is_colon _ = false
 
 -- The error of a token that is not allowed in its place.
-abbrev pub misplaced : Token → TokenProblem
+abbrev pub misplaced : Token → TextTokenProblem
 misplaced t = problem_of t BadToken
 
 -- The name `n`, if no token follows it.
-abbrev pub name_alone : ℕ → List Token → Result (Option ℕ) TokenProblem
+abbrev pub name_alone : ℕ → List Token → Result (Option ℕ) TextTokenProblem
 name_alone n [] = Ok (Some n)
 name_alone n (t ∷ ts) = Err (misplaced t)
 
 -- The name `n`, if at most a colon follows it.
-abbrev pub name_with_colon : ℕ → List Token → Result (Option ℕ) TokenProblem
+abbrev pub name_with_colon : ℕ → List Token → Result (Option ℕ) TextTokenProblem
 name_with_colon n [] = Ok (Some n)
 name_with_colon n (t ∷ ts) = elim (is_colon t.kind) [ true ↦ name_alone n ts | false ↦ Err (misplaced t) ]
 
 -- The name before FOR or EQU, if there is one. A colon may follow it. Any other token is not allowed there.
-abbrev pub name_in_front : List Token → Result (Option ℕ) TokenProblem
+abbrev pub name_in_front : List Token → Result (Option ℕ) TextTokenProblem
 name_in_front [] = Ok None
 name_in_front (t ∷ ts) = elim t.kind [ Name n ↦ name_with_colon n ts | _ ↦ Err (misplaced t) ]
 
@@ -204,7 +204,7 @@ without_operation labels before ts =
 
 -- The parts of a line whose first labels are `labels`, with the tokens `before`. At most `k` labels more are read from
 -- `ts`.
-abbrev pub parts_within : Predefined → Reading → ℕ → List ℕ → List Token → List Token → Result Parts TokenProblem
+abbrev pub parts_within : Predefined → Reading → ℕ → List ℕ → List Token → List Token → Result Parts TextTokenProblem
 parts_within ps st zero labels before ts = Ok (without_operation labels before ts)
 parts_within ps st (suc k) labels before [] = Ok (without_operation labels before [])
 parts_within ps st (suc k) labels before (t ∷ ts) =
@@ -220,7 +220,7 @@ parts_within ps st (suc k) labels before (t ∷ ts) =
     ]
 
 -- The parts of a line with the tokens `ts`.
-abbrev pub parts_of : Predefined → Reading → List Token → Result Parts TokenProblem
+abbrev pub parts_of : Predefined → Reading → List Token → Result Parts TextTokenProblem
 parts_of ps st ts = parts_within ps st (length ts) [] [] ts
 
 -- The operation is `word`, in either case.

@@ -16,29 +16,29 @@ use Rattle.redcode_text.specs.declared.token.Sign.{Sign}
 use Rattle.redcode_text.specs.declared.token.Sign.TheVariants.{Equal, NotEqual, LessEqual, GreaterEqual, And, Or, Plus, Minus, Star, Slash, Percent, Bang, Less, Greater, OpenParen, CloseParen, Comma, Dot, Colon, Hash, Dollar, At, OpenBrace, CloseBrace}
 use Rattle.redcode_text.specs.declared.fault.TextFault.{TextFault}
 use Rattle.redcode_text.specs.declared.fault.TextProblem.{TextProblem}
-use Rattle.redcode_text.specs.declared.fault.TokenProblem.{TokenProblem}
+use Rattle.redcode_text.specs.declared.fault.TextTokenProblem.{TextTokenProblem}
 use Rattle.redcode_text.specs.declared.fault.TextProblem.TheVariants.{NotAscii, BadToken, TooLong}
 
 -- A problem with the bytes of the token at which it arises.
-abbrev pub problem_at : Option Span → TextProblem → TokenProblem
+abbrev pub problem_at : Option Span → TextProblem → TextTokenProblem
 problem_at span problem = record { problem = problem; token = span }
 
 -- A problem with the bytes of the token `t`.
-abbrev pub problem_of : Token → TextProblem → TokenProblem
+abbrev pub problem_of : Token → TextProblem → TextTokenProblem
 problem_of t problem = problem_at (Some (span_of t)) problem
 
 -- A result whose error gets the bytes of the token at which it arises.
-abbrev pub at_token : {A : Type 0} → Option Span → Result A TextProblem → Result A TokenProblem
+abbrev pub at_token : {A : Type 0} → Option Span → Result A TextProblem → Result A TextTokenProblem
 at_token span (Ok x) = Ok x
 at_token span (Err e) = Err (problem_at span e)
 
 -- A result whose error gets the line number `n`.
-abbrev pub at_line : {A : Type 0} → ℕ → Result A TokenProblem → Result A TextFault
+abbrev pub at_line : {A : Type 0} → ℕ → Result A TextTokenProblem → Result A TextFault
 at_line n (Ok x) = Ok x
 at_line n (Err e) = Err (record { line = n; problem = e.problem; token = e.token })
 
 -- A result whose error loses its line number.
-abbrev pub without_line : {A : Type 0} → Result A TextFault → Result A TokenProblem
+abbrev pub without_line : {A : Type 0} → Result A TextFault → Result A TextTokenProblem
 without_line (Ok x) = Ok x
 without_line (Err e) = Err (record { problem = e.problem; token = e.token })
 
@@ -211,7 +211,7 @@ abbrev pub span_at : ℕ → ℕ → Option Span
 span_at at len = Some (record { from = at; to = at + len })
 
 -- As `with_token`, if there are fewer than `room` tokens.
-abbrev pub with_room : ℕ → Scanned → ℕ → ℕ → Found → Result Scanned TokenProblem
+abbrev pub with_room : ℕ → Scanned → ℕ → ℕ → Found → Result Scanned TextTokenProblem
 with_room room s line at f = if nat_lt (length s.tokens) room then Ok (with_token s line at f) else Err (problem_at (span_at at f.len) TooLong)
 
 -- The number of bytes that an error at the start of a text concerns: those of a word, or else one byte.
@@ -220,7 +220,7 @@ unread_len bs = if begins_word bs then word_len bs else 1
 
 -- The result of scanning the bytes from `at` on, after `s` was scanned. The next `skip` bytes belong to the last token.
 -- There may be at most `room` tokens.
-abbrev pub scan_from : List OpenLoop → ℕ → ℕ → ℕ → ℕ → List ℕ → Scanned → Result Scanned TokenProblem
+abbrev pub scan_from : List OpenLoop → ℕ → ℕ → ℕ → ℕ → List ℕ → Scanned → Result Scanned TextTokenProblem
 scan_from loops line room at skip [] s = Ok s
 scan_from loops line room at (suc skip) (b ∷ bs) s = scan_from loops line room (at + 1) skip bs s
 scan_from loops line room at zero (b ∷ bs) s =
@@ -232,7 +232,7 @@ scan_from loops line room at zero (b ∷ bs) s =
     ]
 
 -- The tokens of a line's bytes, at most `room`, and the names including theirs. The first byte is at `at` in the source.
-abbrev pub tokens : List OpenLoop → ℕ → ℕ → ℕ → List (List ℕ) → List ℕ → Result Scanned TokenProblem
+abbrev pub tokens : List OpenLoop → ℕ → ℕ → ℕ → List (List ℕ) → List ℕ → Result Scanned TextTokenProblem
 tokens loops line at room names bs = scan_from loops line room at 0 bs (record { tokens = []; names = names })
 
 -- The tokens and names of a text of one line, outside loops.

@@ -7,7 +7,7 @@ ghost use Rattle.redcode_text.specs.Outcomes.{IsResult};
 ghost use Rattle.redcode_text.specs.Code.Problems.{Gives};
 ghost use Rattle.redcode_text.specs.Tokens.{at_line};
 
-use crate::fault::{TextFault, TextProblem, TokenProblem};
+use crate::fault::{TextFault, TextProblem, TextTokenProblem};
 use crate::limits::{MAX_NESTING, MAX_REPLACED, MAX_REPLACEMENTS};
 use crate::token::{Token, TokenKind};
 use indexmap::IndexMap;
@@ -66,7 +66,7 @@ impl Model for Replaced {
 
 impl Replaced {
     /// Counts one more replaced name.
-    fn count_one(&mut self, name: Token) -> Result<(), TokenProblem>
+    fn count_one(&mut self, name: Token) -> Result<(), TextTokenProblem>
         ensures { Gives (λ _. self.new) result (one_more name self.old) }
     {
         if self.count >= MAX_REPLACEMENTS {
@@ -77,7 +77,7 @@ impl Replaced {
     }
 
     /// Appends a token that isn't an EQU name.
-    fn keep(&mut self, token: Token) -> Result<(), TokenProblem>
+    fn keep(&mut self, token: Token) -> Result<(), TextTokenProblem>
         ensures { Gives (λ _. self.new) result (kept_token self.old token) }
     {
         if self.tokens.len() >= MAX_REPLACED {
@@ -91,7 +91,7 @@ impl Replaced {
 }
 
 /// Returns the definition of an EQU name, which may have at most one line.
-fn only_line(name: Token, lines: &[Vec<Token>]) -> Result<&[Token], TokenProblem>
+fn only_line(name: Token, lines: &[Vec<Token>]) -> Result<&[Token], TextTokenProblem>
     ensures { let defined = one_line name (map (λ line. line.items) lines.now) in MatchResult result (λ line. defined ≡ Ok line.now)
         (λ problem. defined ≡ Err problem) }
 {
@@ -112,7 +112,7 @@ impl Equates {
         name: Token,
         lines: &[Vec<Token>],
         replaced: &mut Replaced,
-    ) -> Result<(), TokenProblem>
+    ) -> Result<(), TextTokenProblem>
         ensures { Gives (λ _. replaced.new) result
             (replaced_name (replacing depth self.now) replaced.old name (map (λ line. line.items) lines.now)) }
     {
@@ -126,7 +126,12 @@ impl Equates {
 
     /// Appends a token, or its expansion if it is an EQU name, to `replaced`.
     #[cycle(replacing)]
-    fn put(&self, depth: usize, token: Token, replaced: &mut Replaced) -> Result<(), TokenProblem>
+    fn put(
+        &self,
+        depth: usize,
+        token: Token,
+        replaced: &mut Replaced,
+    ) -> Result<(), TextTokenProblem>
         ensures { Gives (λ _. replaced.new) result
             (replaced_token (replacing depth self.now) replaced.old token (token_lines self.now token.kind)) }
     {
@@ -146,7 +151,7 @@ impl Equates {
         depth: usize,
         tokens: &[Token],
         replaced: &mut Replaced,
-    ) -> Result<(), TokenProblem>
+    ) -> Result<(), TextTokenProblem>
         ensures { Gives (λ _. replaced.new) result (each_replaced self.now (replacing depth self.now) replaced.old tokens.now) }
     {
         for token in tokens {
@@ -201,7 +206,7 @@ impl Equates {
         alloc: Global,
         name: usize,
         line: Vec<Token>,
-    ) -> Result<(), TokenProblem>
+    ) -> Result<(), TextTokenProblem>
         requires { equate_lines self.old name ≡ None }
         ensures { Gives (λ _. self.new) result (Ok (self.old ++ record { name = name; lines = line.items ∷ [] } ∷ [])) }
     {
@@ -212,7 +217,7 @@ impl Equates {
     }
 
     /// Adds a line to the definition of the last EQU name.
-    pub fn add_line(&mut self, line: Vec<Token>) -> Result<(), TokenProblem>
+    pub fn add_line(&mut self, line: Vec<Token>) -> Result<(), TextTokenProblem>
         ensures { Gives (λ _. self.new) result (Ok (with_line self.old line.items)) }
     {
         let Some((name, mut lines)) = self.lines.pop() else {

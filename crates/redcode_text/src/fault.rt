@@ -93,47 +93,47 @@ pub struct TextFault {
 
 /// An error that has no line yet.
 #[derive(Clone, Copy, Drop)]
-pub struct TokenProblem {
+pub struct TextTokenProblem {
     pub problem: TextProblem,
     /// The bytes of the token at which the error arises.
     pub token: Option<Span>,
 }
 
-impl From<AllocError> for TokenProblem {
+impl From<AllocError> for TextTokenProblem {
     ghost use Rattle.std.specs.Prelude.{◌≡◌, None};
     ghost use Rattle.redcode_text.specs.declared.fault.TextProblem.TheVariants.{OutOfMemory};
 
     ghost from_gives = { λ _ to. to ≡ record { problem = OutOfMemory; token = None } };
 
-    fn from(_error: AllocError) -> TokenProblem {
+    fn from(_error: AllocError) -> TextTokenProblem {
         TextProblem::OutOfMemory.at_token(None)
     }
 }
 
-impl<T: Drop> From<AllocFailed<T>> for TokenProblem {
+impl<T: Drop> From<AllocFailed<T>> for TextTokenProblem {
     ghost use Rattle.std.specs.Prelude.{◌≡◌, None};
     ghost use Rattle.redcode_text.specs.declared.fault.TextProblem.TheVariants.{OutOfMemory};
 
     ghost from_gives = { λ _ to. to ≡ record { problem = OutOfMemory; token = None } };
 
-    fn from(_failed: AllocFailed<T>) -> TokenProblem {
+    fn from(_failed: AllocFailed<T>) -> TextTokenProblem {
         TextProblem::OutOfMemory.at_token(None)
     }
 }
 
 impl TextProblem {
     /// Adds the bytes of the token at which an error arises.
-    pub(crate) fn at_token(self, token: Option<Span>) -> TokenProblem
+    pub(crate) fn at_token(self, token: Option<Span>) -> TextTokenProblem
         ensures { result ≡ problem_at token self }
     {
-        TokenProblem {
+        TextTokenProblem {
             problem: self,
             token,
         }
     }
 }
 
-impl TokenProblem {
+impl TextTokenProblem {
     /// Adds a line number to an error; `OutOfMemory` gets the line 0 and no token.
     pub fn at_line(self, line: usize) -> TextFault
         ensures problem { result.problem ≡ self.problem }
@@ -157,10 +157,10 @@ impl TokenProblem {
 
 impl TextFault {
     /// Returns the error without its line.
-    pub(crate) fn without_line(self) -> TokenProblem
+    pub(crate) fn without_line(self) -> TextTokenProblem
         ensures { result ≡ record { problem = self.problem; token = self.token } }
     {
-        TokenProblem {
+        TextTokenProblem {
             problem: self.problem,
             token: self.token,
         }

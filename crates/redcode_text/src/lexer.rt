@@ -12,7 +12,7 @@ pub mod source_names;
 mod words;
 
 use crate::characters::{begins_word, is_blank, word_len};
-use crate::fault::{TextFault, TextProblem, TokenProblem};
+use crate::fault::{TextFault, TextProblem, TextTokenProblem};
 use crate::lexer::source_names::SourceNames;
 use crate::lexer::words::read_word;
 use crate::names::NameTable;
@@ -105,7 +105,7 @@ fn add_token(
     room: usize,
     names: &mut SourceNames,
     tokens: &mut Vec<Token>,
-) -> Result<usize, TokenProblem>
+) -> Result<usize, TextTokenProblem>
     requires within { at < length text.bytes.now }
     requires fits { text.at + length text.bytes.now < 2 ^ 64 }
     ensures value { Gives (λ len. (len, scan_of tokens.new names.new.table)) result
@@ -142,7 +142,7 @@ pub fn read_tokens(
     room: usize,
     names: &mut SourceNames,
     tokens: &mut Vec<Token>,
-) -> Result<(), TokenProblem>
+) -> Result<(), TextTokenProblem>
     requires fits { text.at + length text.bytes.now < 2 ^ 64 }
     requires room { vec_len tokens.old ≤ room }
     ensures value { Gives (λ _. scan_of tokens.new names.new.table) result

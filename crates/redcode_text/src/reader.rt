@@ -15,7 +15,7 @@ mod used_lines;
 
 use crate::characters::is_word;
 use crate::equates::Equates;
-use crate::fault::{TextProblem, TokenProblem};
+use crate::fault::{TextProblem, TextTokenProblem};
 use crate::lexer::source_names::SourceNames;
 use crate::lexer::{Text, read_tokens};
 use crate::limits::{MAX_LINES, MAX_TOKENS};
@@ -108,7 +108,7 @@ impl Reading {
     }
 
     /// Counts one more line.
-    pub fn count_line(&mut self) -> Result<(), TokenProblem>
+    pub fn count_line(&mut self) -> Result<(), TextTokenProblem>
         ensures value { Gives (λ _. reading_of self.new) result (line_read (reading_of self.old)) }
         ensures equates { self.new.equates ≡ self.old.equates }
         ensures room { OnOk result (vec_len self.new.lines < self.new.lines_read) }
@@ -121,7 +121,7 @@ impl Reading {
     }
 
     /// Counts the tokens of a line that comes from EQU.
-    pub fn count_tokens(&mut self, tokens: &[Token]) -> Result<(), TokenProblem>
+    pub fn count_tokens(&mut self, tokens: &[Token]) -> Result<(), TextTokenProblem>
         ensures value { Gives (λ _. reading_of self.new) result (tokens_counted tokens.now (reading_of self.old)) }
         ensures equates { self.new.equates ≡ self.old.equates }
         ensures lines { vec_len self.new.lines ≡ vec_len self.old.lines }
@@ -140,7 +140,7 @@ impl Reading {
         alloc: Global,
         row: SourceRow<'_>,
         at: usize,
-    ) -> Result<Vec<Token>, TokenProblem>
+    ) -> Result<Vec<Token>, TextTokenProblem>
         requires within { at ≤ length row.bytes.now }
         requires fits { row.at + length row.bytes.now < 2 ^ 64 }
         ensures value { Gives (λ tokens. (tokens.items, reading_of self.new)) result
@@ -208,14 +208,14 @@ fn next_before(tokens: &[Token], at: usize) -> Option<(Token, &[Token])>
 }
 
 /// Returns the error of a token that isn't allowed in its place.
-fn misplaced(token: Token) -> TokenProblem
+fn misplaced(token: Token) -> TextTokenProblem
     ensures { result ≡ misplaced token }
 {
     TextProblem::BadToken.at_token(Some(token.span()))
 }
 
 /// Returns the name before an offset of the source, if there is one. A colon may follow it; any other token is an error.
-pub fn name_in_front(tokens: &[Token], at: usize) -> Result<Option<usize>, TokenProblem>
+pub fn name_in_front(tokens: &[Token], at: usize) -> Result<Option<usize>, TextTokenProblem>
     ensures { result ≡ name_in_front (tokens_before at tokens.now) }
 {
     let Some((first, rest)) = next_before(tokens, at) else {

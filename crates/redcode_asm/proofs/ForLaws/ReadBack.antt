@@ -24,7 +24,7 @@ use Rattle.redcode_text.specs.Programs.{IsPrinted}
 use Rattle.redcode_text.proofs.CallerLemmas.{program-printed}
 use Rattle.redcode_asm.specs.declared.fault.AsmFault.{AsmFault}
 use Rattle.redcode_asm.specs.declared.fault.AsmProblem.{AsmProblem}
-use Rattle.redcode_asm.specs.declared.fault.TokenProblem.{TokenProblem}
+use Rattle.redcode_asm.specs.declared.fault.AsmTokenProblem.{AsmTokenProblem}
 use Rattle.redcode_asm.specs.declared.fault.AsmProblem.TheVariants.{BadOrigin}
 use Rattle.redcode_asm.specs.Assembly.{Placed, as_start, assembly, asserts_hold, at_line, at_token, cell_from, cell_of, cell_with, cells_of, end_operand, end_start, given_operands, instructions, last_where, length_checked, modifier_span, name_value, none_past, not_empty, opcode_of, opcode_span, operand_value, operands_span, org_start, placed, predefined, replaced, split_mode, split_modifier, start_at, start_by, start_of, text_read, value_in, warrior_of}
 use Rattle.redcode_asm.proofs.Counts.{cells-counted}
@@ -34,7 +34,7 @@ given_by : {A B E : Type 0} (r : Result A E) (f : A → Result B E) (b : B) → 
 given_by (Ok a) f b e = (a, refl, e)
 given_by (Err x) f b e = absurd (cc)
 
-on_line : {A : Type 0} (n : ℕ) (r : Result A TokenProblem) (a : A) → at_line n r ≡ Ok a → r ≡ Ok a
+on_line : {A : Type 0} (n : ℕ) (r : Result A AsmTokenProblem) (a : A) → at_line n r ≡ Ok a → r ≡ Ok a
 on_line n (Ok x) a e = let same : x ≡ a = cc in ap (λ y. Ok y) same
 on_line n (Err x) a e = absurd (cc)
 
@@ -48,7 +48,7 @@ residue-below : (m : ℕ) (z : ℤ) → 1 ≤ m → residue m z < m
 residue-below m (pos n) some = omega arith
 residue-below m (negsuc n) some = omega arith
 
-abbrev number_in : Result (Mode × ℕ) TokenProblem → ℕ
+abbrev number_in : Result (Mode × ℕ) AsmTokenProblem → ℕ
 number_in (Ok v) = v.1
 number_in (Err e) = 0
 
@@ -56,7 +56,7 @@ operand-below : (m : ℕ) (names : ℕ → Option ℤ) (o : Option (List Token))
 operand-below m names None v some e = omega (arith, some, ap number_in e)
 operand-below m names (Some ts) v some e = go (value_in names (first_span ts) (split_mode ts).1) e
   where
-    go : (r : Result ℤ TokenProblem) → (r >>= λ z. Ok ((split_mode ts).0, residue m z)) ≡ Ok v → v.1 < m
+    go : (r : Result ℤ AsmTokenProblem) → (r >>= λ z. Ok ((split_mode ts).0, residue m z)) ≡ Ok v → v.1 < m
     go (Ok z) e = omega (arith, ap number_in e, residue-below m z some)
     go (Err x) e = absurd (cc)
 
@@ -72,7 +72,7 @@ cell-fits : (ps : Predefined) (m : ℕ) (source : ProgramValue) (p : Placed) (c 
 cell-fits ps m source p c some e =
     let names = name_value ps source p.index p.index in
     let split = at_token (modifier_span p.line.rest) (split_modifier source.names p.line.rest) in
-    let made : Op → Option Modifier × List Token → Result Cell TokenProblem = λ o rest. replaced source rest.1 >>= cell_from m names p.line.operation_span o rest.0 in
+    let made : Op → Option Modifier × List Token → Result Cell AsmTokenProblem = λ o rest. replaced source rest.1 >>= cell_from m names p.line.operation_span o rest.0 in
     let o = given_by (at_token (opcode_span p.line) (opcode_of source.names p.line.operation)) (λ o. split >>= made o) c e in
     let rest = given_by split (made o.0) c o.2 in
     let ts = given_by (replaced source rest.0.1) (cell_from m names p.line.operation_span o.0 rest.0.0) c rest.2 in

@@ -2,7 +2,7 @@
 use Rattle.std.proofs.Common.{◌+◌, ◌-◌, ℕ, false, List, length, drop, Option, Result, Ok, Err}
 use Rattle.std.specs.Prelude.{⊤}
 use Rattle.redcode_text.specs.Results.{◌>>=◌}
-use Rattle.redcode_text.specs.declared.fault.TokenProblem.{TokenProblem}
+use Rattle.redcode_text.specs.declared.fault.TextTokenProblem.{TextTokenProblem}
 use Rattle.redcode_text.specs.Equates.{limit}
 use Rattle.redcode_text.specs.Expansion.{Head, count_of, counter_name, for_word_at, head_line, room_for_loop}
 use Rattle.redcode_text.specs.Lines.{Predefined, Reading, WithTokens, before_comment, line_read, name_in_front, row_tokens, tokens_after, tokens_before}
@@ -26,7 +26,7 @@ no-matter (Err e) = tt
 
 -- The header of a loop, after its tokens were read. The word FOR has the given bytes, and the given offset in the
 -- source.
-abbrev pub headed : Predefined → Option Span → ℕ → WithTokens → Result Head TokenProblem
+abbrev pub headed : Predefined → Option Span → ℕ → WithTokens → Result Head TextTokenProblem
 headed ps word at r =
     name_in_front (tokens_before at r.0) >>= λ counter.
     room_for_loop word r.1 >>= λ _.

@@ -5,7 +5,7 @@ use Rattle.std.specs.List.{list_any, onto_first}
 use Rattle.redcode_text.specs.Results.{◌>>=◌}
 use Rattle.redcode_text.specs.declared.fault.TextFault.{TextFault}
 use Rattle.redcode_text.specs.declared.fault.TextProblem.{TextProblem}
-use Rattle.redcode_text.specs.declared.fault.TokenProblem.{TokenProblem}
+use Rattle.redcode_text.specs.declared.fault.TextTokenProblem.{TextTokenProblem}
 use Rattle.redcode_text.specs.declared.fault.TextProblem.TheVariants.{UnclosedFor, RofAlone}
 use Rattle.redcode_text.specs.Expansion.{expansion, flat, head_line, nothing_read, program_of, rof_line, rounds, unpaired_line}
 use Rattle.redcode_text.specs.Lines.{Reading, Predefined, line_read, plain_line, unless_ended}
@@ -148,7 +148,7 @@ begins-tree here more (w ∷ waiting) others e = rw (e.3, ← e.0) (begins-itsel
 pub unpaired-refused : (n : ℕ) (problem : TextProblem) (row : SourceRow) (st read : Reading) → at_line n (unpaired_line problem row st) ≡ Ok read → ⊥
 unpaired-refused n problem row st read = go (line_read st)
   where
-    go : (r : Result Reading TokenProblem) → at_line n (r >>= λ (a : Reading). Err (problem_at (loop_word row) problem)) ≡ Ok read → ⊥
+    go : (r : Result Reading TextTokenProblem) → at_line n (r >>= λ (a : Reading). Err (problem_at (loop_word row) problem)) ≡ Ok read → ⊥
     go (Ok a) e = cc
     go (Err x) e = cc
 
@@ -171,7 +171,7 @@ module _ (read : Reading) (ends : read.ended ≡ true) where
   rof-goes-on : (rof : SourceRow) (a b : Reading) → a.ended ≡ false → at_line rof.number (rof_line rof a) ≡ Ok b → b.ended ≡ false
   rof-goes-on rof a b going = go (rof_line rof a) (rof-ended rof a)
     where
-      go : (r : Result Reading TokenProblem) → Kept (λ st. st.ended) a.ended r → at_line rof.number r ≡ Ok b → b.ended ≡ false
+      go : (r : Result Reading TextTokenProblem) → Kept (λ st. st.ended) a.ended r → at_line rof.number r ≡ Ok b → b.ended ≡ false
       go (Ok x) k e = let same : x ≡ b = cc in ap (λ st. st.ended) (sym same) ∙ k ∙ going
       go (Err x) k e = cc
 

@@ -5,7 +5,7 @@ use Rattle.std.proofs.lemmas.List.{length-take}
 use Rattle.std.proofs.lemmas.List.Elements.{All-take}
 use Rattle.redcode_text.specs.Results.{◌>>=◌}
 use Rattle.redcode_text.specs.declared.fault.TextFault.{TextFault}
-use Rattle.redcode_text.specs.declared.fault.TokenProblem.{TokenProblem}
+use Rattle.redcode_text.specs.declared.fault.TextTokenProblem.{TextTokenProblem}
 use Rattle.redcode_text.specs.declared.fault.TextProblem.TheVariants.{BadToken, Duplicate, TooLong, UnclosedFor, RofAlone}
 use Rattle.redcode_text.specs.declared.token.Token.{Token}
 use Rattle.redcode_text.specs.declared.token.Span.{Span}
@@ -40,18 +40,18 @@ abbrev Keeps : {E : Type 0} → Result Reading E → Type 0
 Keeps (Ok a) = ArePrinted a
 Keeps (Err e) = ⊤
 
-keeps-then : (r : Result Reading TokenProblem) (g : Step) → Keeps r → ((a : Reading) → ArePrinted a → Keeps (g a)) → Keeps (r >>= g)
+keeps-then : (r : Result Reading TextTokenProblem) (g : Step) → Keeps r → ((a : Reading) → ArePrinted a → Keeps (g a)) → Keeps (r >>= g)
 keeps-then (Ok a) g k h = h a k
 keeps-then (Err e) g k h = tt
 
-keeps-bind : {A : Type 0} (r : Result A TokenProblem) (g : A → Result Reading TokenProblem) → ((a : A) → Keeps (g a)) → Keeps (r >>= g)
+keeps-bind : {A : Type 0} (r : Result A TextTokenProblem) (g : A → Result Reading TextTokenProblem) → ((a : A) → Keeps (g a)) → Keeps (r >>= g)
 keeps-bind (Ok a) g h = h a
 keeps-bind (Err e) g h = tt
 
-keeps-row : (st : Reading) (row : SourceRow) (at : ℕ) (g : WithTokens → Result Reading TokenProblem) → ArePrinted st → ((r : WithTokens) → ArePrinted r.1 → Keeps (g r)) → Keeps (row_tokens row at st >>= g)
+keeps-row : (st : Reading) (row : SourceRow) (at : ℕ) (g : WithTokens → Result Reading TextTokenProblem) → ArePrinted st → ((r : WithTokens) → ArePrinted r.1 → Keeps (g r)) → Keeps (row_tokens row at st >>= g)
 keeps-row st row at g p h = go (tokens st.loops row.number (row.at + at) (limit - st.tokens_read) st.names (before_comment (drop at row.bytes)))
   where
-    go : (r : Result Scanned TokenProblem) → Keeps ((r >>= λ s. Ok (s.tokens, record st { names = s.names; tokens_read = st.tokens_read + length s.tokens })) >>= g)
+    go : (r : Result Scanned TextTokenProblem) → Keeps ((r >>= λ s. Ok (s.tokens, record st { names = s.names; tokens_read = st.tokens_read + length s.tokens })) >>= g)
     go (Ok s) = h (s.tokens, record st { names = s.names; tokens_read = st.tokens_read + length s.tokens }) p
     go (Err e) = tt
 
@@ -65,14 +65,14 @@ keeps-unless {E} step st p h = go st.ended
 line-keeps : (st : Reading) → ArePrinted st → Keeps (line_read st)
 line-keeps st p = go (nat_le limit st.lines_read)
   where
-    go : (c : Bool) → Keeps (elim c as (λ _. Result Reading TokenProblem) [ true ↦ Err (problem_at None TooLong) | false ↦ Ok (record st { lines_read = st.lines_read + 1 }) ])
+    go : (c : Bool) → Keeps (elim c as (λ _. Result Reading TextTokenProblem) [ true ↦ Err (problem_at None TooLong) | false ↦ Ok (record st { lines_read = st.lines_read + 1 }) ])
     go true = tt
     go false = p
 
 counted-keeps : (ts : List Token) (st : Reading) → ArePrinted st → Keeps (tokens_counted ts st)
 counted-keeps ts st p = go (nat_lt limit (st.tokens_read + length ts))
   where
-    go : (c : Bool) → Keeps (elim c as (λ _. Result Reading TokenProblem) [ true ↦ Err (problem_at None TooLong) | false ↦ Ok (record st { tokens_read = st.tokens_read + length ts }) ])
+    go : (c : Bool) → Keeps (elim c as (λ _. Result Reading TextTokenProblem) [ true ↦ Err (problem_at None TooLong) | false ↦ Ok (record st { tokens_read = st.tokens_read + length ts }) ])
     go true = tt
     go false = p
 
@@ -106,12 +106,12 @@ ordinary-keeps ps number (suc depth) ts = with-keeps ps number (Some (ordinary_l
 equated-keeps : (ps : Predefined) (span : Option Span) (ts : List Token) (name : Option ℕ) → Steady (equated ps span ts name)
 equated-keeps ps span ts None st p = go st.equate_grows
   where
-    go : (c : Bool) → Keeps (elim c as (λ _. Result Reading TokenProblem) [ true ↦ Ok (record st { equates = with_line st.equates ts }) | false ↦ Err (problem_at span BadToken) ])
+    go : (c : Bool) → Keeps (elim c as (λ _. Result Reading TextTokenProblem) [ true ↦ Ok (record st { equates = with_line st.equates ts }) | false ↦ Err (problem_at span BadToken) ])
     go true = p
     go false = tt
 equated-keeps ps span ts (Some n) st p = go (is_equate st n || is_label st n || is_predefined ps st n)
   where
-    go : (c : Bool) → Keeps (elim c as (λ _. Result Reading TokenProblem) [ true ↦ Err (problem_at span Duplicate) | false ↦ Ok (record st { equates = st.equates ++ record { name = n; lines = ts ∷ [] } ∷ []; equate_grows = true }) ])
+    go : (c : Bool) → Keeps (elim c as (λ _. Result Reading TextTokenProblem) [ true ↦ Err (problem_at span Duplicate) | false ↦ Ok (record st { equates = st.equates ++ record { name = n; lines = ts ∷ [] } ∷ []; equate_grows = true }) ])
     go true = tt
     go false = p
 
@@ -131,11 +131,11 @@ given-printed (b ∷ bs) old t o = t
 comment-keeps : (row : SourceRow) → Steady (comment_line row)
 comment-keeps row st p = go (has_directive_word (codes "name") row.bytes) (has_directive_word (codes "author") row.bytes) (has_directive_word (codes "assert") row.bytes)
   where
-    go : (a b c : Bool) → Keeps (elim a as (λ _. Result Reading TokenProblem) [
+    go : (a b c : Bool) → Keeps (elim a as (λ _. Result Reading TextTokenProblem) [
       | true ↦ Ok (record st { name = unless_empty (directive_value (directive_text (codes "name") row.bytes)) st.name })
-      | false ↦ elim b as (λ _. Result Reading TokenProblem) [
+      | false ↦ elim b as (λ _. Result Reading TextTokenProblem) [
         | true ↦ Ok (record st { author = unless_empty (directive_value (directive_text (codes "author") row.bytes)) st.author })
-        | false ↦ elim c as (λ _. Result Reading TokenProblem) [ true ↦ assert_line row st | false ↦ Ok st ]
+        | false ↦ elim c as (λ _. Result Reading TextTokenProblem) [ true ↦ assert_line row st | false ↦ Ok st ]
       ]
     ])
     go true b c = (given-printed (directive_value (directive_text (codes "name") row.bytes)) st.name (value-printed (directive_text (codes "name") row.bytes)) p.0, p.1)
@@ -144,17 +144,17 @@ comment-keeps row st p = go (has_directive_word (codes "name") row.bytes) (has_d
     go false false false = p
 
 plain-keeps : (ps : Predefined) (row : SourceRow) → Steady (plain_line ps row)
-plain-keeps ps row st p = keeps-then (line_read st) (λ a. elim (is_comment row.bytes) as (λ _. Result Reading TokenProblem) [ true ↦ comment_line row a | false ↦ row_tokens row 0 a >>= λ r. tokens_line ps (line_kind row.bytes) row r.0 r.1 ])
+plain-keeps ps row st p = keeps-then (line_read st) (λ a. elim (is_comment row.bytes) as (λ _. Result Reading TextTokenProblem) [ true ↦ comment_line row a | false ↦ row_tokens row 0 a >>= λ r. tokens_line ps (line_kind row.bytes) row r.0 r.1 ])
     (line-keeps st p) (go (is_comment row.bytes))
   where
-    go : (c : Bool) (a : Reading) → ArePrinted a → Keeps (elim c as (λ _. Result Reading TokenProblem) [ true ↦ comment_line row a | false ↦ row_tokens row 0 a >>= λ r. tokens_line ps (line_kind row.bytes) row r.0 r.1 ])
+    go : (c : Bool) (a : Reading) → ArePrinted a → Keeps (elim c as (λ _. Result Reading TextTokenProblem) [ true ↦ comment_line row a | false ↦ row_tokens row 0 a >>= λ r. tokens_line ps (line_kind row.bytes) row r.0 r.1 ])
     go true a q = comment-keeps row a q
     go false a q = keeps-row a row 0 (λ r. tokens_line ps (line_kind row.bytes) row r.0 r.1) q (λ r s. tokens-keep ps (line_kind row.bytes) row r.0 r.1 s)
 
 rof-keeps : (row : SourceRow) → Steady (rof_line row)
 rof-keeps row st p = go (line_read st) (line-keeps st p)
   where
-    go : (r : Result Reading TokenProblem) → Keeps r → Keeps (r >>= row_tokens row 0 >>= λ r. Ok (record (r.1) { equate_grows = false }))
+    go : (r : Result Reading TextTokenProblem) → Keeps r → Keeps (r >>= row_tokens row 0 >>= λ r. Ok (record (r.1) { equate_grows = false }))
     go (Ok a) q = keeps-row a row 0 (λ r. Ok (record (r.1) { equate_grows = false })) q (λ r s. s)
     go (Err e) q = tt
 
@@ -172,11 +172,11 @@ after-keeps : (r : Result Reading TextFault) (g : Reading → Result Reading Tex
 after-keeps (Ok a) g q h = h a q
 after-keeps (Err e) g q h = tt
 
-after-head : (n : ℕ) (r : Result Head TokenProblem) (g : Head → Result Reading TextFault) → HeadKeeps r → ((h : Head) → ArePrinted h.reading → Keeps (g h)) → Keeps (at_line n r >>= g)
+after-head : (n : ℕ) (r : Result Head TextTokenProblem) (g : Head → Result Reading TextFault) → HeadKeeps r → ((h : Head) → ArePrinted h.reading → Keeps (g h)) → Keeps (at_line n r >>= g)
 after-head n (Ok h) g q k = k h q
 after-head n (Err e) g q k = tt
 
-at-line-keeps : (n : ℕ) (r : Result Reading TokenProblem) → Keeps r → Keeps (at_line n r)
+at-line-keeps : (n : ℕ) (r : Result Reading TextTokenProblem) → Keeps r → Keeps (at_line n r)
 at-line-keeps n (Ok a) q = q
 at-line-keeps n (Err e) q = tt
 
@@ -186,7 +186,7 @@ rounds-keep body k counter round (suc n) st p =
     after-keeps (body (in_round counter round st)) (λ a. unless_ended (record a { loops = st.loops }) (rounds body counter (round + 1) n)) (k (in_round counter round st) p)
     (λ a q. keeps-unless (rounds body counter (round + 1) n) (record a { loops = st.loops }) q (rounds-keep body k counter (round + 1) n (record a { loops = st.loops }) q))
 
-unpaired-keeps : (problem : TokenProblem) (r : Result Reading TokenProblem) → Keeps (r >>= λ (a : Reading). Err problem)
+unpaired-keeps : (problem : TextTokenProblem) (r : Result Reading TextTokenProblem) → Keeps (r >>= λ (a : Reading). Err problem)
 unpaired-keeps problem (Ok a) = tt
 unpaired-keeps problem (Err e) = tt
 

@@ -3,7 +3,7 @@ use Rattle.std.proofs.Common.{◌≡◌, ◌∙◌, refl, ℕ, suc, zero, List, 
 use Rattle.std.specs.List.{list_any}
 use Rattle.redcode_text.specs.Results.{◌>>=◌}
 use Rattle.redcode_text.specs.declared.fault.TextFault.{TextFault}
-use Rattle.redcode_text.specs.declared.fault.TokenProblem.{TokenProblem}
+use Rattle.redcode_text.specs.declared.fault.TextTokenProblem.{TextTokenProblem}
 use Rattle.redcode_text.specs.Tokens.{at_line}
 use Rattle.redcode_text.specs.Source.{SourceRow, Items, Loop, begins_redcode, from_redcode, read_rows}
 use Rattle.redcode_text.specs.Lines.{Reading, Predefined, unless_ended}
@@ -45,7 +45,7 @@ no-rounds-by : (counter : Option (List ℕ)) (count : ℕ) (f g : Reading → Re
 no-rounds-by counter zero f g st e = refl
 no-rounds-by counter (suc n) f g st e = cc
 
-in-no-round-by : (number : ℕ) (r : Result Head TokenProblem) (f g next : Reading → Result Reading TextFault) → IfOk r (λ (h : Head). h.count ≡ 0)
+in-no-round-by : (number : ℕ) (r : Result Head TextTokenProblem) (f g next : Reading → Result Reading TextFault) → IfOk r (λ (h : Head). h.count ≡ 0)
     → (at_line number r >>= λ h. rounds f h.counter 1 h.count h.reading >>= λ a. unless_ended a next)
     ≡ (at_line number r >>= λ h. rounds g h.counter 1 h.count h.reading >>= λ a. unless_ended a next)
 in-no-round-by number (Ok h) f g next e = ap (λ r. r >>= λ a. unless_ended a next) (no-rounds-by h.counter h.count f g h.reading e)

@@ -4,7 +4,7 @@ use Rattle.std.specs.List.{starts_with}
 use Rattle.std.specs.Str.{str_to_ascii_lowercase}
 use Rattle.redcode_text.specs.Results.{◌>>=◌}
 use Rattle.redcode_text.specs.Bytes.{semicolon}
-use Rattle.redcode_text.specs.declared.fault.TokenProblem.{TokenProblem}
+use Rattle.redcode_text.specs.declared.fault.TextTokenProblem.{TextTokenProblem}
 use Rattle.redcode_text.specs.declared.source.directives.Comment.{Comment}
 use Rattle.redcode_text.specs.declared.source.directives.Comment.TheVariants.{Name, Author, Assert, Other}
 use Rattle.redcode_text.specs.Lines.{Reading, max_name_len, printable, row_tokens, unless_empty}
@@ -27,7 +27,7 @@ abbrev pub with_author_text : List ℕ → Reading → Reading
 with_author_text text st = record st { author = unless_empty (printed_value text) st.author }
 
 -- The step that adds an assert, whose expression starts at the byte `at` of its row.
-abbrev pub assert_at : SourceRow → ℕ → Reading → Result Reading TokenProblem
+abbrev pub assert_at : SourceRow → ℕ → Reading → Result Reading TextTokenProblem
 assert_at row at st =
     row_tokens row at st >>= λ r.
     Ok (record (r.1) { asserts = r.1.asserts ++ record { number = row.number; current_line = r.1.instructions; tokens = r.0 } ∷ [] })
@@ -82,7 +82,7 @@ abbrev pub meaning : List ℕ → Meaning
 meaning bytes = name_or bytes (author_meaning bytes) (text_found (semicolon ∷ codes "name") bytes)
 
 -- The step that reads the comment line `row`, which has the given meaning.
-abbrev pub after_comment : Meaning → SourceRow → Reading → Result Reading TokenProblem
+abbrev pub after_comment : Meaning → SourceRow → Reading → Result Reading TextTokenProblem
 after_comment (IsName text) row st = Ok (with_name_text text st)
 after_comment (IsAuthor text) row st = Ok (with_author_text text st)
 after_comment (IsAssert at) row st = assert_at row at st

@@ -2,7 +2,7 @@
 use Rattle.std.specs.Prelude.{◌≡◌, ⊤, ℕ, Option, None, Result, Ok, Err}
 use Rattle.redcode_text.specs.declared.fault.TextProblem.{TextProblem}
 use Rattle.redcode_text.specs.declared.fault.TextProblem.TheVariants.{OutOfMemory}
-use Rattle.redcode_text.specs.declared.fault.TokenProblem.{TokenProblem}
+use Rattle.redcode_text.specs.declared.fault.TextTokenProblem.{TextTokenProblem}
 use Rattle.redcode_text.specs.declared.token.Span.{Span}
 
 -- The error `e`, which has the given problem, is the defined error, or memory ran out.
@@ -11,11 +11,11 @@ FailsBy OutOfMemory e defined = ⊤
 FailsBy problem e defined = defined ≡ Err e
 
 -- The error is the defined error, or memory ran out.
-abbrev pub Fails : {X : Type 0} → TokenProblem → Result X TokenProblem → Type 0
+abbrev pub Fails : {X : Type 0} → TextTokenProblem → Result X TextTokenProblem → Type 0
 Fails e defined = FailsBy e.problem e defined
 
 -- The result, mapped by `f`, is the defined result, or memory ran out.
-abbrev pub Gives : {X Y : Type 0} → (Y → X) → Result Y TokenProblem → Result X TokenProblem → Type 0
+abbrev pub Gives : {X Y : Type 0} → (Y → X) → Result Y TextTokenProblem → Result X TextTokenProblem → Type 0
 Gives f (Ok y) defined = defined ≡ Ok (f y)
 Gives f (Err e) defined = FailsBy e.problem e defined
 

@@ -7,7 +7,7 @@ use Rattle.redcode_text.specs.declared.token.TokenKind.TheVariants as token
 use Rattle.redcode_text.specs.declared.token.Sign.{Sign}
 use Rattle.redcode_text.specs.declared.token.Sign.TheVariants.{Equal, NotEqual, LessEqual, GreaterEqual, And, Or, Plus, Minus, Star, Slash, Percent, Bang, Less, Greater, OpenParen, CloseParen, Comma, Dot, Colon, Hash, Dollar, At, OpenBrace, CloseBrace}
 use Rattle.redcode_text.specs.declared.fault.TextProblem.{TextProblem}
-use Rattle.redcode_text.specs.declared.fault.TokenProblem.{TokenProblem}
+use Rattle.redcode_text.specs.declared.fault.TextTokenProblem.{TextTokenProblem}
 use Rattle.redcode_text.specs.declared.fault.TextProblem.TheVariants.{NotAscii, BadToken, TooLong}
 use Rattle.redcode_text.specs.Expression.{kinds}
 use Rattle.redcode_text.specs.Tokens.{OpenLoop, Scanned, tokens, scanned}
@@ -19,7 +19,7 @@ abbrev s : Sign → TokenKind
 s x = token.Sign x
 
 -- The tokens and names of a text.
-abbrev said : Result Scanned TokenProblem → Result (List TokenKind × List (List ℕ)) TextProblem
+abbrev said : Result Scanned TextTokenProblem → Result (List TokenKind × List (List ℕ)) TextProblem
 said (Ok r) = Ok (kinds r.tokens, r.names)
 said (Err e) = Err e.problem
 

@@ -6,7 +6,7 @@ ghost use Rattle.redcode_text.specs.Lines.{comment_line};
 ghost use Rattle.redcode_text.specs.Code.Problems.{Gives};
 ghost use Rattle.redcode_text.specs.Code.Rows.{row_of};
 
-use crate::fault::{TextProblem, TokenProblem};
+use crate::fault::{TextProblem, TextTokenProblem};
 use crate::program::Assert;
 use crate::reader::Reading;
 use crate::source::directives::{Comment, comment_of, directive_value};
@@ -15,7 +15,11 @@ use std::alloc::Global;
 
 impl Reading {
     /// Reads a comment line: `;name`, `;author`, `;assert`, or a comment without a meaning.
-    pub fn read_comment(&mut self, alloc: Global, row: SourceRow<'_>) -> Result<(), TokenProblem>
+    pub fn read_comment(
+        &mut self,
+        alloc: Global,
+        row: SourceRow<'_>,
+    ) -> Result<(), TextTokenProblem>
         requires fits { row.at + length row.bytes.now < 2 ^ 64 }
         ensures value { Gives (λ _. reading_of self.new) result (comment_line (row_of row.entry) (reading_of self.old)) }
     {
@@ -28,7 +32,7 @@ impl Reading {
     }
 
     /// Sets the name from the text of `;name` without whitespace at both ends.
-    fn take_name(&mut self, alloc: Global, text: &[u8]) -> Result<(), TokenProblem>
+    fn take_name(&mut self, alloc: Global, text: &[u8]) -> Result<(), TextTokenProblem>
         ensures value { Gives (λ _. reading_of self.new) result (Ok (with_name_text text.now (reading_of self.old))) }
     {
         let name = directive_value(alloc, text)?;
@@ -39,7 +43,7 @@ impl Reading {
     }
 
     /// Sets the author from the text of `;author` without whitespace at both ends.
-    fn take_author(&mut self, alloc: Global, text: &[u8]) -> Result<(), TokenProblem>
+    fn take_author(&mut self, alloc: Global, text: &[u8]) -> Result<(), TextTokenProblem>
         ensures value { Gives (λ _. reading_of self.new) result (Ok (with_author_text text.now (reading_of self.old))) }
     {
         let author = directive_value(alloc, text)?;
@@ -55,7 +59,7 @@ impl Reading {
         alloc: Global,
         row: SourceRow<'_>,
         at: usize,
-    ) -> Result<(), TokenProblem>
+    ) -> Result<(), TextTokenProblem>
         requires within { at ≤ length row.bytes.now }
         requires fits { row.at + length row.bytes.now < 2 ^ 64 }
         ensures value { Gives (λ _. reading_of self.new) result (assert_at (row_of row.entry) at (reading_of self.old)) }

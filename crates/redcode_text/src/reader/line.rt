@@ -7,7 +7,7 @@ ghost use Rattle.redcode_text.specs.Code.Problems.{Gives};
 ghost use Rattle.redcode_text.specs.Code.Kinds.{kind_of, word_place};
 ghost use Rattle.redcode_text.specs.Code.Rows.{row_of};
 
-use crate::fault::{TextProblem, TokenProblem};
+use crate::fault::{TextProblem, TextTokenProblem};
 use crate::limits::MAX_NESTING;
 use crate::names::predefined::PredefinedNames;
 use crate::reader::{Reading, keep_after, name_in_front};
@@ -23,7 +23,7 @@ impl Reading {
         names: &PredefinedNames,
         at: usize,
         mut tokens: Vec<Token>,
-    ) -> Result<(), TokenProblem>
+    ) -> Result<(), TextTokenProblem>
         ensures value { Gives (λ _. reading_of self.new) result (equ_line (predefined_of names.now) at tokens.items (reading_of self.old)) }
     {
         let name = name_in_front(&tokens, at)?;
@@ -51,7 +51,7 @@ impl Reading {
         kind: LineKind,
         row: SourceRow<'_>,
         tokens: Vec<Token>,
-    ) -> Result<(), TokenProblem>
+    ) -> Result<(), TextTokenProblem>
         requires room { vec_len self.old.lines < self.old.lines_read }
         requires fits { row.at + length row.bytes.now < 2 ^ 64 }
         requires inside { word_place kind ≤ length row.bytes.now }
@@ -73,7 +73,7 @@ impl Reading {
         alloc: Global,
         names: &PredefinedNames,
         row: SourceRow<'_>,
-    ) -> Result<(), TokenProblem>
+    ) -> Result<(), TextTokenProblem>
         requires fits { row.at + length row.bytes.now < 2 ^ 64 }
         ensures value { Gives (λ _. reading_of self.new) result
             (plain_line (predefined_of names.now) (row_of row.entry) (reading_of self.old)) }

@@ -7,7 +7,7 @@ ghost use Rattle.redcode_text.specs.Lines.{may_label, parts_of, split_colon, eac
 ghost use Rattle.redcode_text.specs.Code.Problems.{Gives};
 ghost use Rattle.redcode_text.specs.Code.Used.{lines_under, read_one, used};
 
-use crate::fault::{TextProblem, TokenProblem};
+use crate::fault::{TextProblem, TextTokenProblem};
 use crate::names::predefined::PredefinedNames;
 use crate::names::set::NameSet;
 use crate::program::{Line, is_end, is_instruction};
@@ -55,7 +55,7 @@ impl Reading {
         names: &PredefinedNames,
         tokens: &[Token],
         known: &mut NameSet,
-    ) -> Result<Parts, TokenProblem>
+    ) -> Result<Parts, TextTokenProblem>
         requires { known.old ≡ [] }
         ensures value { Gives (parts_at tokens.now) result (parts_of (predefined_of names.now) (reading_of self.now) tokens.now) }
         ensures within { IfOk result (λ parts. (parts.labels_end ≤ length tokens.now) × (parts.rest_at ≤ length tokens.now)) }
@@ -100,7 +100,7 @@ impl Reading {
         alloc: Global,
         names: &PredefinedNames,
         tokens: &[Token],
-    ) -> Result<Parts, TokenProblem>
+    ) -> Result<Parts, TextTokenProblem>
         ensures value { Gives (parts_at tokens.now) result (parts_of (predefined_of names.now) (reading_of self.now) tokens.now) }
         ensures within { IfOk result (λ parts. (parts.labels_end ≤ length tokens.now) × (parts.rest_at ≤ length tokens.now)) }
     {
@@ -126,7 +126,7 @@ fn add_labelled(lines: &mut Vec<Line>, labels: &mut NameSet, line: Line) -> Resu
 
 impl Reading {
     /// Adds a line whose operation isn't an EQU name.
-    fn add_line(&mut self, line: Line) -> Result<(), TokenProblem>
+    fn add_line(&mut self, line: Line) -> Result<(), TextTokenProblem>
         requires { vec_len self.old.lines < self.old.lines_read }
         ensures equates { self.new.equates ≡ self.old.equates }
         ensures value { Gives (λ _. reading_of self.new) result
@@ -155,7 +155,7 @@ struct Operation<'a> {
 }
 
 /// Copies tokens and gives them a line number, so that an error in a token that comes from EQU has the line of the use.
-fn on_line(alloc: Global, number: usize, tokens: &[Token]) -> Result<Vec<Token>, TokenProblem>
+fn on_line(alloc: Global, number: usize, tokens: &[Token]) -> Result<Vec<Token>, TextTokenProblem>
     ensures { Gives (λ made. made.items) result (Ok (on_line number tokens.now)) }
 {
     let mut made = Vec::new(alloc);
@@ -199,7 +199,7 @@ impl Reading {
         parts: Parts,
         operation_span: Option<Span>,
         rest: &[Token],
-    ) -> Result<(), TokenProblem>
+    ) -> Result<(), TextTokenProblem>
         requires { vec_len self.old.lines < self.old.lines_read }
         ensures equates { self.new.equates ≡ self.old.equates }
         ensures value { Gives (λ _. reading_of self.new) result
@@ -231,7 +231,7 @@ impl Reading {
         number: usize,
         depth: usize,
         tokens: &[Token],
-    ) -> Result<(), TokenProblem>
+    ) -> Result<(), TextTokenProblem>
         requires { vec_len self.old.lines < self.old.lines_read }
         ensures value { Gives (λ _. reading_of self.new) result
             (ordinary_line (predefined_of names.now) number depth tokens.now (reading_of self.old)) }
@@ -266,7 +266,7 @@ impl Reading {
         number: usize,
         depth: usize,
         line: &[Token],
-    ) -> Result<(), TokenProblem>
+    ) -> Result<(), TextTokenProblem>
         ensures value { Gives (λ _. reading_of self.new) result
             (read_one (ordinary_line (predefined_of names.now) number depth) line.now (reading_of self.old)) }
         ensures equates { self.new.equates ≡ self.old.equates }
@@ -285,7 +285,7 @@ impl Reading {
         number: usize,
         depth: usize,
         operation: Operation<'_>,
-    ) -> Result<(), TokenProblem>
+    ) -> Result<(), TextTokenProblem>
         ensures value { Gives (λ _. reading_of self.new) result
             (each_line (ordinary_line (predefined_of names.now) number depth) (used operation.entry.before.now (lines_under (reading_of self.old) operation.entry.name) operation.entry.behind.now) (reading_of self.old)) }
         ensures equates { self.new.equates ≡ self.old.equates }

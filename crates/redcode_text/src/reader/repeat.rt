@@ -18,7 +18,7 @@ ghost use Rattle.redcode_text.specs.Tokens.{at_line};
 
 pub mod head;
 
-use crate::fault::{TextFault, TextProblem, TokenProblem};
+use crate::fault::{TextFault, TextProblem, TextTokenProblem};
 use crate::names::predefined::PredefinedNames;
 use crate::reader::Reading;
 use crate::reader::repeat::head::Head;
@@ -28,7 +28,7 @@ use std::alloc::Global;
 
 impl Reading {
     /// Reads a ROF line, whose tokens have no meaning.
-    pub fn read_rof(&mut self, alloc: Global, row: SourceRow<'_>) -> Result<(), TokenProblem>
+    pub fn read_rof(&mut self, alloc: Global, row: SourceRow<'_>) -> Result<(), TextTokenProblem>
         requires fits { row.at + length row.bytes.now < 2 ^ 64 }
         ensures value { Gives (λ _. reading_of self.new) result (rof_line (row_of row.entry) (reading_of self.old)) }
     {

@@ -3,12 +3,12 @@ ghost use Rattle.std.specs.Prelude.{◌≡◌, ◌≤◌, ◌-◌, ◌++◌, [],
 ghost use Rattle.redcode_text.specs.Code.Problems.{Gives};
 ghost use Rattle.redcode_text.specs.Code.Used.{before_line, used};
 
-use crate::fault::{TextProblem, TokenProblem};
+use crate::fault::{TextProblem, TextTokenProblem};
 use crate::token::Token;
 use std::alloc::Global;
 
 /// Returns the tokens of `front`, followed by the tokens of `back`.
-fn joined(alloc: Global, front: &[Token], back: &[Token]) -> Result<Vec<Token>, TokenProblem>
+fn joined(alloc: Global, front: &[Token], back: &[Token]) -> Result<Vec<Token>, TextTokenProblem>
     ensures { Gives (λ made. made.items) result (Ok (front.now ++ back.now)) }
 {
     let mut made = Vec::from_slice(alloc, front)?;
@@ -30,7 +30,7 @@ fn last_line(
     before: &[Token],
     lines: &[Vec<Token>],
     behind: &[Token],
-) -> Result<Vec<Token>, TokenProblem>
+) -> Result<Vec<Token>, TextTokenProblem>
     requires { length lines.now ≤ 1 }
     ensures { Gives (λ made. made.items) result (Ok (get_or (used before.now (map (λ line. line.items) lines.now) behind.now) 0 [])) }
 {
@@ -51,7 +51,7 @@ pub fn used_line(
     lines: &[Vec<Token>],
     behind: &[Token],
     at: usize,
-) -> Result<Vec<Token>, TokenProblem>
+) -> Result<Vec<Token>, TextTokenProblem>
     requires { at ≤ length lines.now - 1 }
     ensures { Gives (λ made. made.items) result (Ok (get_or (used before.now (map (λ line. line.items) lines.now) behind.now) at [])) }
 {

@@ -9,7 +9,7 @@ ghost use Rattle.redcode_text.specs.Programs.{IsPrinted};
 ghost use Rattle.redcode_text.specs.Source.{blank_len, without_blanks};
 
 use crate::characters::{blank_len, is_blank, is_word};
-use crate::fault::{TextProblem, TokenProblem};
+use crate::fault::{TextProblem, TextTokenProblem};
 use crate::limits::MAX_NAME;
 use std::alloc::Global;
 
@@ -71,7 +71,7 @@ fn trimmed_len(text: &[u8]) -> usize
 }
 
 /// Returns bytes as a string for a name, with `?` for those that aren't printable.
-fn printed(alloc: Global, bytes: &[u8]) -> Result<String, TokenProblem>
+fn printed(alloc: Global, bytes: &[u8]) -> Result<String, TextTokenProblem>
     ensures { Gives (λ text. string_bytes text) result (Ok (map printable bytes.now)) }
 {
     let mut text = String::new(alloc);
@@ -91,7 +91,7 @@ fn trimmed(text: &[u8]) -> &[u8]
 
 /// Returns the value of `;name` or `;author`: the printable form of at most 60 bytes of `trimmed`, which has no
 /// whitespace at both ends.
-pub fn directive_value(alloc: Global, trimmed: &[u8]) -> Result<String, TokenProblem>
+pub fn directive_value(alloc: Global, trimmed: &[u8]) -> Result<String, TextTokenProblem>
     ensures value { Gives (λ value. string_bytes value) result (Ok (printed_value trimmed.now)) }
     ensures printed { IfOk result (λ value. IsPrinted (string_bytes value)) }
 {

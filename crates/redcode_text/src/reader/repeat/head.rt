@@ -12,7 +12,7 @@ ghost use Rattle.redcode_text.specs.Source.{ForLine, line_kind};
 
 use crate::expression::positions::fault_span;
 use crate::expression::{Env, eval};
-use crate::fault::{ExprFault, TextProblem, TokenProblem};
+use crate::fault::{ExprFault, TextProblem, TextTokenProblem};
 use crate::limits::{MAX_COUNT, MAX_LOOPS};
 use crate::names::NameTable;
 use crate::names::predefined::PredefinedNames;
@@ -78,7 +78,11 @@ fn count_span<E: Env>(
 }
 
 /// Returns the value of a count.
-fn counted<E: Env>(names: &E, before: Option<Span>, tokens: &[Token]) -> Result<u32, TokenProblem>
+fn counted<E: Env>(
+    names: &E,
+    before: Option<Span>,
+    tokens: &[Token],
+) -> Result<u32, TextTokenProblem>
     ensures { result ≡ counted (count_span (E.value_of names.now) before tokens.now) (as_count (value_of (E.value_of names.now) (kinds tokens.now))) }
 {
     match as_count(eval(tokens, names)) {
@@ -129,7 +133,7 @@ impl Reading {
         names: &PredefinedNames,
         before: Option<Span>,
         tokens: &[Token],
-    ) -> Result<u32, TokenProblem>
+    ) -> Result<u32, TextTokenProblem>
         ensures { result ≡ replaced_count (predefined_of names.now) (reading_of self.now) before tokens.now }
     {
         match self.label_span(names, tokens) {
@@ -146,7 +150,7 @@ impl Reading {
         names: &PredefinedNames,
         before: Option<Span>,
         tokens: &[Token],
-    ) -> Result<u32, TokenProblem>
+    ) -> Result<u32, TextTokenProblem>
         ensures { Gives (λ count. count) result (count_of (predefined_of names.now) (reading_of self.now) before tokens.now) }
     {
         let replaced = match self.equates.substitute(alloc, tokens) {
@@ -165,7 +169,7 @@ impl Reading {
         names: &PredefinedNames,
         row: SourceRow<'_>,
         word_at: usize,
-    ) -> Result<Head, TokenProblem>
+    ) -> Result<Head, TextTokenProblem>
         requires fits { row.at + length row.bytes.now < 2 ^ 64 }
         requires inside { word_at ≤ length row.bytes.now }
         requires word { ForLine word_at ≡ line_kind row.bytes.now }
