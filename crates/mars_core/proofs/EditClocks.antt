@@ -7,7 +7,7 @@ use Rattle.std.proofs.lemmas.Bool.{cases_eq}
 use Rattle.mars_core.specs.State.{is_empty, first_live, live_from, survivors_of, moved_clock, advanced}
 use Rattle.mars_core.specs.Validity.{IsClock}
 use Rattle.mars_core.specs.declared.machine.clock.Clock.{Clock}
-use Rattle.mars_core.proofs.Clocks.{IsLive, live_from_is, somebody}
+use Rattle.mars_core.proofs.Clocks.{IsLive, live_from_is, living_warrior}
 use Rattle.mars_core.proofs.Turns.{filled_one}
 
 -- The first live index is at most every live index.
@@ -102,15 +102,15 @@ module _ (cycles : ℕ) (qs : List (List ℕ)) (clock : Clock) (made w : ℕ) (k
         turns_alive = λ _. rw length-set more;
       }
   clock_moved None None e f =
-      let nobody : (h : 1 ≤ survivors_of (set qs w [])) → ⊥ = λ h. (let s = (somebody (set qs w []) h).1 in cc) in
+      let none_lives : (h : 1 ≤ survivors_of (set qs w [])) → ⊥ = λ h. (let s = (living_warrior (set qs w []) h).1 in cc) in
       let turns = k.turns_alive alive in
       record {
         next = rw length-set k.next;
-        next_lives = λ h. absurd (nobody h);
+        next_lives = λ h. absurd (none_lives h);
         cycle = k.cycle;
-        last_cycle = λ _ h. absurd (nobody h);
+        last_cycle = λ _ h. absurd (none_lives h);
         turns = rw length-set (omega (arith, turns));
-        turns_alive = λ h. absurd (nobody h);
+        turns_alive = λ h. absurd (none_lives h);
       }
 
   pub clock_after_death : IsClock cycles (set qs w []) (advanced (set qs w []) clock clock.next) made

@@ -176,8 +176,8 @@ full_at_end : (s : State) → IsValid s → s.deaths ≡ [] → is_over_of s ≡
 unfolding ends
 full_at_end s v none over =
     let counted = valid_counted s v in
-    let nobody : length s.deaths ≡ 0 = rw none refl in
-    let alive : survivors_of s.queues ≡ length s.queues = omega (arith, counted, nobody) in
+    let none_died : length s.deaths ≡ 0 = rw none refl in
+    let alive : survivors_of s.queues ≡ length s.queues = omega (arith, counted, none_died) in
     let cycle = cycles_over s.params.cycles s.cycle (length s.queues) (survivors_of s.queues) alive v.some over in
     let first = live_from_here s.queues 0 v.some (all_live s v none 0 v.some) in
     let next : Some 0 ≡ Some s.next = sym first ∙ v.clock.last_cycle cycle (omega (arith, alive, v.some)) in

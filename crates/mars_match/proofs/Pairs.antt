@@ -74,11 +74,11 @@ abbrev pub pairs_left : ℕ → ℕ → List WarriorValue → List WarriorValue 
 pairs_left i j [] others = []
 pairs_left i j (one ∷ rest) others = pairs_with i one j others
 
-nobody : WarriorValue
-nobody = record { name = []; author = []; cells = []; start = 0 }
+no_warrior : WarriorValue
+no_warrior = record { name = []; author = []; cells = []; start = 0 }
 
 pub from_first : (ws : List WarriorValue) (i : ℕ) → i < length ws → pairs_left i (i + 1) (drop i ws) (drop (i + 1) ws) ≡ pairs_of_first i (drop i ws)
-from_first ws i h = rw (drop_more ws i nobody h) refl
+from_first ws i h = rw (drop_more ws i no_warrior h) refl
 
 -- The list from warrior `i` on starts with that warrior.
 pub from_one : (ws : List WarriorValue) (i : ℕ) (a : WarriorValue) → i < length ws → a ≡ get_or ws i a → drop i ws ≡ a ∷ drop (i + 1) ws
@@ -113,7 +113,7 @@ module _ (p : Parameters) (f : Scanned) (fixed : Option ℕ) (n seed : ℕ) wher
 
   all_split : (ws : List WarriorValue) (i : ℕ) (ts : List Tally) → i < length ws →
       after_matches p f fixed n seed (all_pairs i (drop i ws)) ts ≡ (after_matches p f fixed n seed (pairs_of_first i (drop i ws)) ts >>= λ ts. after_matches p f fixed n seed (all_pairs (i + 1) (drop (i + 1) ws)) ts)
-  all_split ws i ts h = rw (drop_more ws i nobody h) (after-append (pairs_with i (get_or ws i nobody) (i + 1) (drop (i + 1) ws)) (all_pairs (i + 1) (drop (i + 1) ws)) ts)
+  all_split ws i ts h = rw (drop_more ws i no_warrior h) (after-append (pairs_with i (get_or ws i no_warrior) (i + 1) (drop (i + 1) ws)) (all_pairs (i + 1) (drop (i + 1) ws)) ts)
 
   pub first_err : (ws : List WarriorValue) (i : ℕ) (ts : List Tally) (x : MatchFault) → i < length ws →
       after_matches p f fixed n seed (pairs_of_first i (drop i ws)) ts ≡ Err x → after_matches p f fixed n seed (all_pairs i (drop i ws)) ts ≡ Err x

@@ -17,7 +17,7 @@ use Rattle.mars_core.specs.Validity.{IsValid}
 use Rattle.mars_core.specs.declared.machine.clock.Clock.{Clock}
 use Rattle.mars_core.proofs.ForLaws.Apart.{own_counts, other_counts, own_turn, other_turn, turn_first, left_first, left_later, keeps_first, keeps_later, own_cells_left}
 use Rattle.mars_core.proofs.CallerLemmas.{shape-turn_of, cycle-turn_of}
-use Rattle.mars_core.proofs.Clocks.{live_from_is, somebody}
+use Rattle.mars_core.proofs.Clocks.{live_from_is, living_warrior}
 use Rattle.mars_core.proofs.Fights.{next_lives}
 use Rattle.mars_core.proofs.Turns.{running, turn_valid, filled_one, same_eq, other_eq}
 
@@ -28,7 +28,7 @@ StepsOn clock after = ((after.cycle ≡ clock.cycle) × (clock.next < after.next
 clock_steps : (qs : List (List ℕ)) (clock : Clock) (o z : Option ℕ) → live_from qs (clock.next + 1) ≡ o → live_from qs 0 ≡ z → 1 ≤ survivors_of qs → StepsOn clock (moved_clock clock o z)
 clock_steps qs clock (Some k) z e f alive = let h = live_from_is qs (clock.next + 1) k e in inl (refl, omega (arith, h.above))
 clock_steps qs clock None (Some k) e f alive = inr refl
-clock_steps qs clock None None e f alive = absurd (let s = (somebody qs alive).1 in cc)
+clock_steps qs clock None None e f alive = absurd (let s = (living_warrior qs alive).1 in cc)
 
 turn_steps : (s : State) → IsValid s → is_over_of s ≡ false → is_over_of (turn_of s) ≡ false → StepsOn (clock_of s) (clock_of (turn_of s))
 unfolding turn_of executed advanced
@@ -127,16 +127,16 @@ undisturbed_alone w n s t v u one early g left =
     fights_alone (is_in (touched_in w n s)) w n s t v u one early g (each_is_in (touched_in w n s)) left
 
 -- A warrior that does not exist touches nothing.
-nobody_keeps : (part : ℕ → Bool) (w n : ℕ) (s : State) → IsValid s → length s.queues ≤ w → StaysWithin part w n s
-nobody_keeps part w zero s v past = All-nil (λ a. part a ≡ true)
-nobody_keeps part w (suc n) s v past =
+absent_keeps : (part : ℕ → Bool) (w n : ℕ) (s : State) → IsValid s → length s.queues ≤ w → StaysWithin part w n s
+absent_keeps part w zero s v past = All-nil (λ a. part a ≡ true)
+absent_keeps part w (suc n) s v past =
     let other = other_eq s.next w (λ e. absurd (omega (arith, e, v.clock.next, past))) in
     elim (is_over_of s) as (λ b. is_over_of s ≡ b → AllPass part (if b then [] else cond (s.next == w) (touched_in_turn s) [] ++ touched_in w n (turn_of s))) [
       | true ↦ λ over. All-nil (λ a. part a ≡ true)
-      | false ↦ λ over. rw other (nobody_keeps part w n (turn_of s) (turn_valid s v over) (omega (arith, past, (shape-turn_of s).warriors)))
+      | false ↦ λ over. rw other (absent_keeps part w n (turn_of s) (turn_valid s v over) (omega (arith, past, (shape-turn_of s).warriors)))
     ] refl
 
 pub untouched_alone : (owner : ℕ → ℕ) (w n : ℕ) (s t : State) → IsValid s → IsValid t → length t.queues ≡ 1 → t.cycle ≤ s.cycle → AgreesOn (λ a. owner a == w) w s 0 t → ((v : ℕ) → v < length s.queues → StaysWithin (λ a. owner a == v) v n s) → AgreesOn (λ a. owner a == w) w (after_turns n s) 0 (after_turns (own_turns w n s) t)
 untouched_alone owner w n s t v u one early g keeps =
-    let mine = elim (cases_lt w (length s.queues)) as (λ _. StaysWithin (λ a. owner a == w) w n s) [ inl known ↦ keeps w known | inr past ↦ nobody_keeps (λ a. owner a == w) w n s v past ] in
+    let mine = elim (cases_lt w (length s.queues)) as (λ _. StaysWithin (λ a. owner a == w) w n s) [ inl known ↦ keeps w known | inr past ↦ absent_keeps (λ a. owner a == w) w n s v past ] in
     fights_alone (λ a. owner a == w) w n s t v u one early g mine (own_cells_left owner n s v keeps w)

@@ -24,9 +24,9 @@ no_deaths [] e = refl
 no_deaths (d ∷ ds) e = absurd (omega (arith, e))
 
 -- No warrior is dead in a battle of two that is not over.
-nobody_died : (s : State) → IsValid s → length s.queues ≡ 2 → is_over_of s ≡ false → s.deaths ≡ []
+none_died : (s : State) → IsValid s → length s.queues ≡ 2 → is_over_of s ≡ false → s.deaths ≡ []
 unfolding ends
-nobody_died s v two over =
+none_died s v two over =
     let counted = valid_counted s v in
     let alive = two_alive s.params.cycles s.cycle (length s.queues) (survivors_of s.queues) two over in
     no_deaths s.deaths (omega (arith, counted, alive, two))
@@ -47,7 +47,7 @@ unfolding turn_of executed
 by_turns s v two over on =
     let after = turn_valid s v over in
     let same = (shape-turn_of s).warriors in
-    let live = all_live (turn_of s) after (nobody_died (turn_of s) after (same ∙ two) on) in
+    let live = all_live (turn_of s) after (none_died (turn_of s) after (same ∙ two) on) in
     other_next (executed s).queues (clock_of s) live (same ∙ two) (subst (λ n. s.next < n) (sym same) v.clock.next)
 
 goes_on : (n : ℕ) (s : State) → GoesOn (suc n) s → GoesOn n (turn_of s)

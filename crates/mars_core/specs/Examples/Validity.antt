@@ -41,8 +41,8 @@ another_number_beyond_the_core v = let e : 8 < 8 = (v.core.cells 0 empty_cell (o
 
 -- ---- The queues
 
-pub nobody : IsValid (record two { queues = [] }) → ⊥
-nobody v = let e : 1 ≤ 0 = v.some in omega (arith, e)
+pub a_battle_without_warriors : IsValid (record two { queues = [] }) → ⊥
+a_battle_without_warriors v = let e : 1 ≤ 0 = v.some in omega (arith, e)
 
 pub seventeen : IsValid (record two { queues = replicate 17 (0 ∷ []) }) → ⊥
 seventeen v = let e : 17 ≤ 16 = v.few in omega (arith, e)
@@ -70,13 +70,13 @@ a_dead_warrior_that_did_not_die v = let e : 0 ≡ 1 = v.deaths.once 0 (omega ari
 pub a_warrior_that_died_twice : IsValid (record (with_queues [] (4 ∷ [])) { next = 1; turns = 1; deaths = death_of 0 ∷ death_of 0 ∷ [] }) → ⊥
 a_warrior_that_died_twice v = let e : 2 ≡ 1 = v.deaths.once 0 (omega arith) in omega (arith, e)
 
-pub the_death_of_nobody : IsValid (record two { deaths = death_of 2 ∷ [] }) → ⊥
-the_death_of_nobody v = let e : 2 < 2 = v.deaths.known 0 (death_of 2) (omega arith) in omega (arith, e)
+pub the_death_of_an_absent_warrior : IsValid (record two { deaths = death_of 2 ∷ [] }) → ⊥
+the_death_of_an_absent_warrior v = let e : 2 < 2 = v.deaths.known 0 (death_of 2) (omega arith) in omega (arith, e)
 
 -- ---- The clock
 
-pub a_turn_of_nobody : IsValid (record two { next = 2 }) → ⊥
-a_turn_of_nobody v = let e : 2 < 2 = v.clock.next in omega (arith, e)
+pub a_turn_of_an_absent_warrior : IsValid (record two { next = 2 }) → ⊥
+a_turn_of_an_absent_warrior v = let e : 2 < 2 = v.clock.next in omega (arith, e)
 
 pub a_turn_of_the_dead : IsValid (record (with_queues [] (4 ∷ [])) { turns = 1; deaths = death_of 0 ∷ [] }) → ⊥
 a_turn_of_the_dead v = v.clock.next_lives (omega arith) refl

@@ -179,7 +179,7 @@ pub fn core_with_warriors(
 {
     let core_size = params.core_size();
     let mut core = vec![in alloc; PackedCell::empty(); core_size as usize]?;
-    lay_warriors(core.as_mut_slice(), core_size, warriors, starts);
+    load_warriors(core.as_mut_slice(), core_size, warriors, starts);
     Ok(core)
 }
 
@@ -192,7 +192,7 @@ pub fn reload(core: &mut [PackedCell], params: &Params, warriors: &[Warrior], st
     ensures core { IsCore params.now.core_size core.new }
 {
     clear(core);
-    lay_warriors(core, params.core_size(), warriors, starts);
+    load_warriors(core, params.core_size(), warriors, starts);
 }
 
 /// Empties cells: the first half by a recursive call, and the rest as a copy of it, since copying many cells costs less
@@ -212,7 +212,7 @@ fn clear(cells: &mut [PackedCell])
 
 /// Loads each warrior at its starting position.
 #[tactic(auto, using(crate::proofs::StartState::inside_at))]
-fn lay_warriors(core: &mut [PackedCell], core_size: u32, warriors: &[Warrior], starts: &[u32])
+fn load_warriors(core: &mut [PackedCell], core_size: u32, warriors: &[Warrior], starts: &[u32])
     requires core { IsCore core_size core.old }
     requires positive { 1 ≤ core_size }
     requires size { core_size ≤ max_core_size }
@@ -222,13 +222,13 @@ fn lay_warriors(core: &mut [PackedCell], core_size: u32, warriors: &[Warrior], s
     ensures core { IsCore core_size core.new }
 {
     for i in 0..warriors.len() {
-        lay_warrior(core, core_size, starts[i], warriors[i].cells());
+        load_cells(core, core_size, starts[i], warriors[i].cells());
     }
 }
 
 /// Loads cells from `start` on.
 #[tactic(auto, using(crate::proofs::Words::Back::fits_largest))]
-fn lay_warrior(core: &mut [PackedCell], core_size: u32, start: u32, cells: &[Cell])
+fn load_cells(core: &mut [PackedCell], core_size: u32, start: u32, cells: &[Cell])
     requires core { IsCore core_size core.old }
     requires positive { 1 ≤ core_size }
     requires size { core_size ≤ max_core_size }

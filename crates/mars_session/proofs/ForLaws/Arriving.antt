@@ -50,9 +50,9 @@ none_survive ((p ∷ ps) ∷ queues) e = absurd (cc)
 over_by : (b : Bool) (n alive : ℕ) → 1 ≤ n → alive ≡ 0 → (b || (nat_le 2 n && nat_le alive 1) || (n == 1 && alive == 0)) ≡ true
 over_by b n alive l e = grind (common_steps, arith)
 
-over_when_nobody : (cycles cycle : ℕ) (queues : List (List ℕ)) → 1 ≤ length queues → live_from queues 0 ≡ None → ends cycles cycle queues ≡ true
+over_when_none_lives : (cycles cycle : ℕ) (queues : List (List ℕ)) → 1 ≤ length queues → live_from queues 0 ≡ None → ends cycles cycle queues ≡ true
 unfolding ends
-over_when_nobody cycles cycle queues l e =
+over_when_none_lives cycles cycle queues l e =
     over_by (nat_eq cycle cycles) (length queues) (survivors_of queues) l (none_survive queues (none_under (λ j. 0 + j) (first_live queues) e))
 
 -- The distance of a clock from the start in turns, with `w` warriors.
@@ -94,7 +94,7 @@ turn_moves w s q l =
     (λ k f. omega (arith, (live_at e.queues 0 k f).1, size)) in
     record {
       next = moved.0;
-      further = over_or _ _ _ (λ none. over_when_nobody s.params.cycles _ e.queues (omega (arith, size, l)) none) moved.1;
+      further = over_or _ _ _ (λ none. over_when_none_lives s.params.cycles _ e.queues (omega (arith, size, l)) none) moved.1;
     }
 
 -- A clock that is far enough has reached the cycle.

@@ -1,7 +1,7 @@
 use Rattle.std.proofs.Common.{◌≡◌, drop}
 use Rattle.mars_core.specs.Validity.{IsCore}
 use Rattle.mars_core.specs.Start.{with_warriors}
-use Rattle.mars_core.proofs.battle.start.lay_warriors.Given as goal
+use Rattle.mars_core.proofs.battle.start.load_warriors.Given as goal
 
 abbrev pub invariant-loop-i : goal.invariant-loop-i
 invariant-loop-i l = record {

@@ -1,7 +1,7 @@
 use Rattle.std.proofs.Common.{◌≡◌, ◌+◌, drop}
 use Rattle.mars_core.specs.Validity.{IsCore}
 use Rattle.mars_core.specs.Start.{with_warrior}
-use Rattle.mars_core.proofs.battle.start.lay_warrior.Given as goal
+use Rattle.mars_core.proofs.battle.start.load_cells.Given as goal
 
 abbrev pub invariant-loop-i : goal.invariant-loop-i
 invariant-loop-i l = record {
