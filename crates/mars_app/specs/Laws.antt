@@ -4,7 +4,7 @@ use Rattle.std.specs.Prelude.{◌≡◌, ℕ, Bool, false, true, List, [], ◌�
 use Rattle.std.specs.Io.KnownBytes.{Keeps}
 use Rattle.mars_cell.specs.Load.{lines_of}
 use Rattle.mars_session.specs.Script.{SessionState}
-use Rattle.mars_app.specs.Debugger.Lines.{line_asks}
+use Rattle.mars_app.specs.Debugger.Lines.{line_request}
 use Rattle.mars_app.specs.Debugger.Transcript.{ReadFails, Transcript, WriteFails, answer, until_quit}
 use Rattle.mars_app.specs.Faults.{RunFails}
 use Rattle.mars_app.specs.Options.{AskForHelp, said_by}
@@ -75,5 +75,5 @@ FailedReadsArePauses = (core : ℕ) (input left v w : Option (List ℕ)) (s t u 
 abbrev pub FailedWritesArePauses : Type 0
 FailedWritesArePauses = (core : ℕ) (input left v w : Option (List ℕ)) (s t u : SessionState) (failed : WriteFails core input left s v t w)
     (lines : List (List ℕ)) (text : List ℕ) → Transcript core t lines u text →
-    let reply = (answer failed.broken.poor failed.broken.between (line_asks core failed.last)).1 in
+    let reply = (answer failed.broken.poor failed.broken.between (line_request core failed.last)).1 in
     Transcript core s (failed.lines ++ failed.last ∷ lines) u (failed.text ++ drop failed.broken.count reply ++ text)

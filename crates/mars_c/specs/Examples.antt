@@ -207,9 +207,9 @@ unfolding block_of head_of field_words ends
 block_is_laid_out = refl
 
 -- The words after a block stay.
-pub words_behind_stay : IsWritten of_many_numbers (replicate 72 3 ++ 7 ∷ 8 ∷ []) (block_of of_many_numbers ++ 7 ∷ 8 ∷ [])
+pub words_after_the_block_stay : IsWritten of_many_numbers (replicate 72 3 ++ 7 ∷ 8 ∷ []) (block_of of_many_numbers ++ 7 ∷ 8 ∷ [])
 unfolding block_of head_of field_words ends
-words_behind_stay = refl
+words_after_the_block_stay = refl
 
 -- The setup of one round of one cycle in a core of four cells, with this formula.
 abbrev by_formula : List ℕ → Setup
@@ -234,9 +234,9 @@ abbrev dead : WarriorValue
 dead = one_cell Dat F
 
 -- The first round draws once for two warriors, so the second round uses the second draw.
-pub second_round_is_drawn_anew : placed_in (sizes 8000 100) 2 None 1 1 ≡ Ok (0 ∷ 1139 ∷ [])
+pub second_round_draws_again : placed_in (sizes 8000 100) 2 None 1 1 ≡ Ok (0 ∷ 1139 ∷ [])
 unfolding starts_of next_seed drawn
-second_round_is_drawn_anew = refl
+second_round_draws_again = refl
 
 pub fixed_position_stays : placed_in (sizes 8000 100) 2 (Some 4000) 5 1 ≡ Ok (0 ∷ 4000 ∷ [])
 fixed_position_stays = refl
@@ -262,22 +262,22 @@ nano rounds seed position = record {
 }
 
 -- A match of no rounds or of 100,001 is out of range; one of 1 or 100,000 is not.
-pub rounds_are_judged : IsOutside (nano 0 1 0) 2 Rounds × IsOutside (nano 100001 1 0) 2 Rounds
+pub rounds_are_checked : IsOutside (nano 0 1 0) 2 Rounds × IsOutside (nano 100001 1 0) 2 Rounds
     × (IsOutside (nano 1 1 0) 2 Rounds → ⊥) × (IsOutside (nano 100000 1 0) 2 Rounds → ⊥)
-rounds_are_judged = (λ r. omega (arith, r), λ r. omega (arith, r), λ outside. outside (omega arith, omega arith), λ outside. outside (omega arith, omega arith))
+rounds_are_checked = (λ r. omega (arith, r), λ r. omega (arith, r), λ outside. outside (omega arith, omega arith), λ outside. outside (omega arith, omega arith))
 
-pub seeds_are_judged : IsOutside (nano 1 0 0) 2 Seed × IsOutside (nano 1 2147483647 0) 2 Seed
+pub seeds_are_checked : IsOutside (nano 1 0 0) 2 Seed × IsOutside (nano 1 2147483647 0) 2 Seed
     × (IsOutside (nano 1 1 0) 2 Seed → ⊥) × (IsOutside (nano 1 2147483646 0) 2 Seed → ⊥)
-seeds_are_judged = (λ s. omega (arith, s), λ s. omega (arith, s), λ outside. outside (omega arith, omega arith), λ outside. outside (omega arith, omega arith))
+seeds_are_checked = (λ s. omega (arith, s), λ s. omega (arith, s), λ outside. outside (omega arith, omega arith), λ outside. outside (omega arith, omega arith))
 
 -- A position that fits these settings fits the parameters that they make.
 fits_two : (position : ℕ) (p : Parameters) → checked_parameters (parameters_in (nano 1 1 position)) ≡ Ok p → FitsTwo (parameters_in (nano 1 1 position)) 2 (Some position) → FitsTwo p 2 (Some position)
 fits_two position p checked fixed = let same : parameters_in (nano 1 1 position) ≡ p = cc in subst (λ p. FitsTwo p 2 (Some position)) same fixed
 
 -- The second of two warriors may start at 5 to 75, and three warriors may have no position. Position 0 stands for none.
-pub positions_are_judged : IsOutside (nano 1 1 4) 2 Position × IsOutside (nano 1 1 76) 2 Position × IsOutside (nano 1 1 5) 3 Position
+pub positions_are_checked : IsOutside (nano 1 1 4) 2 Position × IsOutside (nano 1 1 76) 2 Position × IsOutside (nano 1 1 5) 3 Position
     × (IsOutside (nano 1 1 5) 2 Position → ⊥) × (IsOutside (nano 1 1 75) 2 Position → ⊥) × (IsOutside (nano 1 1 0) 3 Position → ⊥)
-positions_are_judged = (
+positions_are_checked = (
   (parameters_in (nano 1 1 4), refl, λ fixed. omega (arith, fixed.1)),
   (parameters_in (nano 1 1 76), refl, λ fixed. omega (arith, fixed.2)),
   (parameters_in (nano 1 1 5), refl, λ fixed. omega (arith, fixed.0)),
@@ -298,9 +298,9 @@ abbrev of_length : ℕ → ℕ → MarsWarrior
 of_length length start = record { length = length; start = start }
 
 -- Warriors of 2 and 1 cells need three cells; four cells are an error.
-pub lengths_are_judged : LengthsDiffer (numbers ∷ numbers ∷ numbers ∷ numbers ∷ []) (of_length 2 0 ∷ of_length 1 0 ∷ [])
+pub lengths_are_checked : LengthsDiffer (numbers ∷ numbers ∷ numbers ∷ numbers ∷ []) (of_length 2 0 ∷ of_length 1 0 ∷ [])
     × (LengthsDiffer (numbers ∷ numbers ∷ numbers ∷ []) (of_length 2 0 ∷ of_length 1 0 ∷ []) → ⊥)
-lengths_are_judged = (λ same. cc, λ outside. outside refl)
+lengths_are_checked = (λ same. cc, λ outside. outside refl)
 
 -- A warrior that consists of imps.
 abbrev imps : ℕ → ℕ → WarriorValue

@@ -26,9 +26,9 @@ abbrev pub stands : ℕ → ℕ → ℕ → Result Standing Refusal
 stands turns position last = Ok (record { turns = turns; cycle = turns; next = 0; alive = 1; position = position; last = last })
 
 -- These are the replies to calls over the imp if all places are kept, at most `limit` of them after the first.
-abbrev pub IsToldWithin : ℕ → List Call → List (Result Standing Refusal) → Type 0
-IsToldWithin limit calls replies = (script never limit calls [] (beginning imp)).replies ≡ replies
+abbrev pub RepliesWithin : ℕ → List Call → List (Result Standing Refusal) → Type 0
+RepliesWithin limit calls replies = (script never limit calls [] (beginning imp)).replies ≡ replies
 
 -- These are the replies to calls over the imp if `k` places are kept beside the last one.
-abbrev pub IsToldKeeping : ℕ → List Call → List (Result Standing Refusal) → Type 0
-IsToldKeeping k calls replies = (script (record { most = Some k; forgotten = false }) 0 calls [] (beginning imp)).replies ≡ replies
+abbrev pub RepliesKeeping : ℕ → List Call → List (Result Standing Refusal) → Type 0
+RepliesKeeping k calls replies = (script (record { most = Some k; forgotten = false }) 0 calls [] (beginning imp)).replies ≡ replies

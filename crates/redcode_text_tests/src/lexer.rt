@@ -151,7 +151,7 @@ fn check_read(rt: &impl Abort, read: &LineTokens) {
 }
 
 #[test]
-fn tokens_know_where_they_stand(rt: HostRuntime) -> Result<(), Fail> {
+fn tokens_have_their_bytes(rt: HostRuntime) -> Result<(), Fail> {
     let read = scan(rt.alloc(), b" ab+ 12")?;
     check_read(&rt, &read);
     drop(read);
@@ -160,7 +160,7 @@ fn tokens_know_where_they_stand(rt: HostRuntime) -> Result<(), Fail> {
 
 /// If an allocation fails, the error is `OutOfMemory` with line 0.
 #[test]
-fn want_of_memory_has_no_line(rt: HostRuntime) {
+fn out_of_memory_has_no_line(rt: HostRuntime) {
     match scan(rt.alloc(), b"first second third + 4") {
         Ok(read) => {
             assert_eq!(rt; read.tokens.len(), 5);

@@ -19,7 +19,7 @@ def transcript(definitions: Evaluator, session: Value, data: tuple[int, ...]) ->
     lines = definitions("mars_cell.Load.lines_of", data)
     text: Value = ()
     for line in definitions("mars_app.Debugger.Transcript.until_quit", core, lines):
-        request = definitions("mars_app.Debugger.Lines.line_asks", core, line)
+        request = definitions("mars_app.Debugger.Lines.line_request", core, line)
         session, reply = definitions("mars_app.Debugger.Transcript.answer", False, session, request)
         text += reply
     return text

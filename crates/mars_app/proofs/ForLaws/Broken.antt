@@ -6,7 +6,7 @@ use Rattle.std.specs.List.{flat_map, AllByRecursion}
 use Rattle.mars_session.specs.Script.{SessionState}
 use Rattle.mars_cell.specs.Load.{lines_of}
 use Rattle.mars_cell.specs.Written.{with_newline}
-use Rattle.mars_app.specs.Debugger.Lines.{IsLine, line_asks}
+use Rattle.mars_app.specs.Debugger.Lines.{IsLine, line_request}
 use Rattle.mars_app.specs.Debugger.Requests.{request_of}
 use Rattle.mars_app.specs.Debugger.Words.{first_word}
 use Rattle.mars_app.specs.Debugger.Transcript.{EndsIn, GoesOn, ReadFails, Transcript, WriteFails, answer, core_size_of, until_quit}
@@ -23,7 +23,7 @@ use Rattle.mars_app.proofs.Transcripts.Reading.{Transcript-append, Transcript-on
 replies-append : (core : ℕ) (t : SessionState) (front more : List (List ℕ)) → (rest : List ℕ) × (replies core t (front ++ more) ≡ replies core t front ++ rest)
 replies-append core t [] more = (replies core t more, refl)
 replies-append core t (l ∷ front) more =
-    let here = answer false t (line_asks core l) in
+    let here = answer false t (line_request core l) in
     let next = replies-append core here.0 front more in
     (next.0, ap (λ text. here.1 ++ text) next.1 ∙ sym (append_assoc here.1 (replies core here.0 front) next.0))
 
@@ -32,7 +32,7 @@ quiet_quit : (poor : Bool) (t : SessionState) (r : Request) (n : ℕ) → n < le
 unfolding answer
 quiet_quit poor t r n short is = let none : n < 0 = rw is at short in absurd (omega (arith, none))
 
-quiet_nothing : (core : ℕ) (poor : Bool) (t : SessionState) (n : ℕ) → n < length (answer poor t (line_asks core [])).1 → ⊥
+quiet_nothing : (core : ℕ) (poor : Bool) (t : SessionState) (n : ℕ) → n < length (answer poor t (line_request core [])).1 → ⊥
 unfolding answer request_of first_word
 quiet_nothing core poor t n short = omega (arith, short)
 
@@ -77,7 +77,7 @@ module _ (input : List ℕ) (s : SessionState) (evicts : is_some s.retention.mos
   -- The lines of the input that are executed begin with these and the line whose reply was cut off.
   last_line : (left : Option (List ℕ)) (bytes more : List ℕ) (front : List (List ℕ)) (last : List ℕ) (poor : Bool) (t : SessionState) (n : ℕ)
       → input ≡ bytes ++ more → left ≡ Some more → AllByRecursion IsLine (front ++ last ∷ []) → AllByRecursion (GoesOn core) front
-      → n < length (answer poor t (line_asks core last)).1 → EndsIn bytes front last left
+      → n < length (answer poor t (line_request core last)).1 → EndsIn bytes front last left
       → (others : List (List ℕ)) × (until_quit core (lines_of input) ≡ (front ++ last ∷ []) ++ others)
   unfolding until_quit
   last_line left bytes more front last poor t n is unread each goes_on short (at_newline after whole) =
@@ -86,7 +86,7 @@ module _ (input : List ℕ) (s : SessionState) (evicts : is_some s.retention.mos
       let are = is ∙ ap (λ bytes. bytes ++ more) whole ∙ append_assoc (flat_map with_newline front) (last ++ 10 ∷ after) more
       ∙ ap (λ rest. flat_map with_newline front ++ rest) (append_assoc last (10 ∷ after) more) in
       let rest = ap (until_quit core) (lines_of-line last (after ++ more) lines.1)
-      ∙ until_quit-lines core (last ∷ []) following (quiet_quit poor t (line_asks core last) n short, tt) in (
+      ∙ until_quit-lines core (last ∷ []) following (quiet_quit poor t (line_request core last) n short, tt) in (
         until_quit core following,
         executed front (last ++ 10 ∷ (after ++ more)) are lines.0 goes_on ∙ ap (λ rest. front ++ rest) rest ∙ sym (append_assoc front (last ∷ []) (until_quit core following)),
       )
@@ -96,7 +96,7 @@ module _ (input : List ℕ) (s : SessionState) (evicts : is_some s.retention.mos
       let lines = every_split IsLine front last each in
       let ended : more ≡ [] = rw unread at end in
       let are = is ∙ ap (λ more. bytes ++ more) ended ∙ append-nil bytes ∙ whole in
-      let rest = ap (until_quit core) (lines_of-open last lines.1) ∙ until_quit-lines core (last ∷ []) [] (quiet_quit poor t (line_asks core last) n short, tt) in
+      let rest = ap (until_quit core) (lines_of-open last lines.1) ∙ until_quit-lines core (last ∷ []) [] (quiet_quit poor t (line_request core last) n short, tt) in
       ([], executed front last are lines.0 goes_on ∙ ap (λ rest. front ++ rest) rest ∙ sym (append_assoc front (last ∷ []) []))
 
   pub write_fails : (one other left : Option (List ℕ)) (t : SessionState) → WriteFails core (Some input) left s (Some []) t one
@@ -104,7 +104,7 @@ module _ (input : List ℕ) (s : SessionState) (evicts : is_some s.retention.mos
   write_fails one other left t h wrote =
       let b = h.broken in
       let unread = left_of left h.bytes h.consumed in
-      let reply = (answer b.poor b.between (line_asks core h.last)).1 in
+      let reply = (answer b.poor b.between (line_request core h.last)).1 in
       let lines = last_line left h.bytes unread.0 h.lines h.last b.poor b.between b.count unread.1 unread.2 h.each h.goes_on b.short h.ends in
       let answers = Transcript-append core b.answers (Transcript-one core b.poor b.between h.last) in
       let whole = begins (h.lines ++ h.last ∷ []) lines.0 _ (b.before ++ reply) lines.1 answers in

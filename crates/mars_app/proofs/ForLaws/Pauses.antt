@@ -3,7 +3,7 @@ use Rattle.std.proofs.Common.{◌≡◌, refl, ap, subst, sym, ◌∙◌, ◌∷
 use Rattle.std.specs.List.{flat_map}
 use Rattle.mars_cell.specs.Load.{lines_of}
 use Rattle.mars_cell.specs.Written.{with_newline}
-use Rattle.mars_app.specs.Debugger.Lines.{line_asks}
+use Rattle.mars_app.specs.Debugger.Lines.{line_request}
 use Rattle.mars_app.specs.Debugger.Transcript.{Transcript, answer, until_quit}
 use Rattle.mars_app.specs.Debugger.Transcript.Transcript.{line}
 use Rattle.mars_app.specs.Laws.{FailedReadsArePauses, FailedWritesArePauses}
@@ -23,7 +23,7 @@ failed_reads_are_pauses core input left v w s t u failed more text answers =
 pub failed_writes_are_pauses : FailedWritesArePauses
 failed_writes_are_pauses core input left v w s t u failed lines text answers =
     let b = failed.broken in
-    let reply = (answer b.poor b.between (line_asks core failed.last)).1 in
+    let reply = (answer b.poor b.between (line_request core failed.last)).1 in
     let rest : Transcript core b.between (failed.last ∷ lines) u (reply ++ text) =
     line b.poor failed.last (subst (λ t. Transcript core t lines u text) b.session answers) refl in
     subst (Transcript core s (failed.lines ++ failed.last ∷ lines) u)

@@ -9,7 +9,7 @@ use Rattle.mars_session.specs.Retention.{Retention}
 use Rattle.mars_session.specs.Script.{CallKind, Command, Move, SessionState, Outcome, appended, command_outcome, kind_of, move_outcome, outcome_of, room_refusal}
 use Rattle.mars_app.specs.declared.debugger.request.Request.{Request}
 use Rattle.mars_app.specs.declared.debugger.request.Request.TheVariants as request
-use Rattle.mars_app.specs.Debugger.Lines.{line_asks}
+use Rattle.mars_app.specs.Debugger.Lines.{line_request}
 use Rattle.mars_app.specs.Debugger.Replies.{reply_text}
 use Rattle.mars_app.specs.Debugger.Transcript.{Transcript, answer}
 use Rattle.mars_app.specs.Debugger.Transcript.Transcript.{none, line}
@@ -68,13 +68,13 @@ answer_evicts s poor request.Unknown evicts = evicts
 abbrev pub replies : ℕ → SessionState → List (List ℕ) → List ℕ
 replies core_size s [] = []
 replies core_size s (l ∷ ls) =
-    (answer false s (line_asks core_size l)).1 ++ replies core_size (answer false s (line_asks core_size l)).0 ls
+    (answer false s (line_request core_size l)).1 ++ replies core_size (answer false s (line_request core_size l)).0 ls
 
 pub transcript_is : (core_size : ℕ) {s t : SessionState} {ls : List (List ℕ)} {text : List ℕ} → is_some s.retention.most ≡ true
     → Transcript core_size s ls t text → text ≡ replies core_size s ls
 transcript_is core_size evicts none = refl
 transcript_is core_size {s = s} evicts (line poor {text = text} l {ls = ls} later e) =
-    let r = line_asks core_size l in
+    let r = line_request core_size l in
     let after = transcript_is core_size (answer_evicts s poor r evicts) later in
     e ∙ ap (λ rest. (answer poor s r).1 ++ rest) after
     ∙ ap (λ (x : SessionState × List ℕ). x.1 ++ replies core_size x.0 ls) (answer_alike s poor r evicts)

@@ -5,7 +5,7 @@ use Rattle.mars_app.specs.declared.debugger.request.Request.{Request}
 use Rattle.mars_app.specs.declared.debugger.request.Request.TheVariants as request
 use Rattle.mars_cell.specs.Load.{lines_of}
 use Rattle.mars_cell.specs.Written.{with_newline}
-use Rattle.mars_app.specs.Debugger.Lines.{IsLine, Splits, line_asks}
+use Rattle.mars_app.specs.Debugger.Lines.{IsLine, Splits, line_request}
 use Rattle.mars_app.specs.Debugger.Transcript.{GoesOn, HasQuit, is_quit, until_quit}
 
 not_newline : (b : ℕ) → b ≢ 10 → nat_eq b 10 ≡ false
@@ -51,15 +51,15 @@ is_no_quit request.Unknown h = refl
 pub until_quit-lines : (m : ℕ) (ls more : List (List ℕ)) → AllByRecursion (GoesOn m) ls → until_quit m (ls ++ more) ≡ ls ++ until_quit m more
 unfolding until_quit
 until_quit-lines m [] more h = refl
-until_quit-lines m (l ∷ ls) more h = rw (is_no_quit (line_asks m l) h.0, until_quit-lines m ls more h.1) refl
+until_quit-lines m (l ∷ ls) more h = rw (is_no_quit (line_request m l) h.0, until_quit-lines m ls more h.1) refl
 
-pub until_quit-quit : (m : ℕ) (l : List ℕ) (ls : List (List ℕ)) → line_asks m l ≡ request.Quit → until_quit m (l ∷ ls) ≡ []
+pub until_quit-quit : (m : ℕ) (l : List ℕ) (ls : List (List ℕ)) → line_request m l ≡ request.Quit → until_quit m (l ∷ ls) ≡ []
 unfolding until_quit
 until_quit-quit m l ls e = rw e refl
 
 pub until_quit-one : (m : ℕ) (l : List ℕ) → GoesOn m l → until_quit m (l ∷ []) ≡ l ∷ []
 unfolding until_quit
-until_quit-one m l h = rw (is_no_quit (line_asks m l) h) refl
+until_quit-one m l h = rw (is_no_quit (line_request m l) h) refl
 
 -- The lines before a `quit` are those that are executed.
 pub until_quit-is : (m : ℕ) (bytes : List ℕ) (quit : HasQuit m bytes) → until_quit m (lines_of bytes) ≡ quit.lines

@@ -12,7 +12,7 @@ use Rattle.mars_app.specs.declared.debugger.request.Request.{Request}
 use Rattle.mars_app.specs.declared.debugger.request.Request.TheVariants.{Quit}
 use Rattle.mars_app.specs.Code.LineBuffer.{Holds}
 use Rattle.mars_cell.specs.Written.{with_newline}
-use Rattle.mars_app.specs.Debugger.Lines.{IsLine, line_asks}
+use Rattle.mars_app.specs.Debugger.Lines.{IsLine, line_request}
 use Rattle.mars_cell.specs.Output.{CutShort}
 use Rattle.mars_app.specs.Debugger.Transcript.{Transcript, GoesOn, Completes, WriteFails, answer, until_quit}
 use Rattle.mars_app.specs.Debugger.Transcript.EndsIn.{at_newline, at_end}
@@ -44,7 +44,7 @@ module _ (core : ℕ) where
   Transcript-append (line poor l p e) q = line poor l (Transcript-append p q) (rw (e, append_assoc) refl)
 
   -- Executing one line.
-  pub Transcript-one : (poor : Bool) (t : SessionState) (l : List ℕ) → Transcript core t (l ∷ []) (answer poor t (line_asks core l)).0 (answer poor t (line_asks core l)).1
+  pub Transcript-one : (poor : Bool) (t : SessionState) (l : List ℕ) → Transcript core t (l ∷ []) (answer poor t (line_request core l)).0 (answer poor t (line_request core l)).1
   Transcript-one poor t l = line poor l none (rw append-nil refl)
 
   -- ---- One byte
@@ -71,7 +71,7 @@ module _ (core : ℕ) where
 
   -- The byte ends the line, and the line is executed.
   pub goes_through_line : (a b : LineBuffer) (t u : SessionState) (v w : Option (List ℕ)) (request : Request) (poor : Bool)
-      → ((l : List ℕ) → Holds a l → request ≡ line_asks core l) → Holds b [] → request ≢ Quit
+      → ((l : List ℕ) → Holds a l → request ≡ line_request core l) → Holds b [] → request ≢ Quit
       → u ≡ (answer poor t request).0 → Appends v w (answer poor t request).1
       → GoesThrough core (10 ∷ []) a t v b u w
   goes_through_line a b t u v w request poor asks empty other tape written s bytes text r =
@@ -94,7 +94,7 @@ module _ (core : ℕ) where
 
   -- The byte ends the line, and the line is `quit`.
   pub quits_at_line : (a : LineBuffer) (t : SessionState) (v : Option (List ℕ)) (request : Request)
-      → ((l : List ℕ) → Holds a l → request ≡ line_asks core l) → request ≡ Quit → Quits core (10 ∷ []) a t v t v
+      → ((l : List ℕ) → Holds a l → request ≡ line_request core l) → request ≡ Quit → Quits core (10 ∷ []) a t v t v
   quits_at_line a t v request asks quit s bytes text r = (
     [],
     Appends-nil v,
@@ -114,7 +114,7 @@ module _ (core : ℕ) where
 
   -- The byte ends the line, and a write of its reply fails.
   pub breaks_at_line : (a : LineBuffer) (t u : SessionState) (v w : Option (List ℕ)) (request : Request) (poor : Bool)
-      → ((l : List ℕ) → Holds a l → request ≡ line_asks core l)
+      → ((l : List ℕ) → Holds a l → request ≡ line_request core l)
       → u ≡ (answer poor t request).0 → CutShort v w (answer poor t request).1 → WriteFailsWithin core (10 ∷ []) a t v u w
   breaks_at_line a t u v w request poor asks tape cut s bytes text r =
       let e = asks r.rest r.holds in (
@@ -224,14 +224,14 @@ module _ (core : ℕ) where
 
   -- The unfinished line is `quit`.
   pub finishes_quit : (a : LineBuffer) (t : SessionState) (v : Option (List ℕ)) (request : Request) → ((l : List ℕ) → Holds a l → false ≡ nat_eq (length l) 0)
-      → ((l : List ℕ) → Holds a l → request ≡ line_asks core l) → request ≡ Quit → Finishes core a t v t v
+      → ((l : List ℕ) → Holds a l → request ≡ line_request core l) → request ≡ Quit → Finishes core a t v t v
   finishes_quit a t v request some asks quit s bytes text r =
       let one = is_last r.rest (some r.rest r.holds) in
       ([], Appends-nil v, rw (executed_lines core bytes r.lines r.rest r.splits r.goes_on, one, until_quit-quit core r.rest [] (sym (asks r.rest r.holds) ∙ quit), append-nil, append-nil) r.answers)
 
   -- The unfinished line is executed.
   pub finishes_line : (a : LineBuffer) (t u : SessionState) (v w : Option (List ℕ)) (request : Request) (poor : Bool) → ((l : List ℕ) → Holds a l → false ≡ nat_eq (length l) 0)
-      → ((l : List ℕ) → Holds a l → request ≡ line_asks core l) → request ≢ Quit
+      → ((l : List ℕ) → Holds a l → request ≡ line_request core l) → request ≢ Quit
       → u ≡ (answer poor t request).0 → Appends v w (answer poor t request).1 → Finishes core a t v u w
   finishes_line a t u v w request poor some asks other tape written s bytes text r =
       let e = asks r.rest r.holds in
@@ -244,7 +244,7 @@ module _ (core : ℕ) where
 
   -- The unfinished line is executed, and a write of its reply fails.
   pub breaks_at_last : (a : LineBuffer) (t u : SessionState) (v w : Option (List ℕ)) (request : Request) (poor : Bool)
-      → ((l : List ℕ) → Holds a l → request ≡ line_asks core l)
+      → ((l : List ℕ) → Holds a l → request ≡ line_request core l)
       → u ≡ (answer poor t request).0 → CutShort v w (answer poor t request).1 → WriteFailsAtEnd core a t v u w
   breaks_at_last a t u v w request poor asks tape cut s bytes text r =
       let e = asks r.rest r.holds in (

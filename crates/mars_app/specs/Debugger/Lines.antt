@@ -11,8 +11,8 @@ abbrev pub max_line_len : ℕ
 max_line_len = 256
 
 -- The request of a line in a core of size `core_size`. A line of more than 256 bytes is unknown as a whole.
-abbrev pub line_asks : ℕ → List ℕ → Request
-line_asks core_size l = if nat_lt max_line_len (length l) then Unknown else request_of core_size l
+abbrev pub line_request : ℕ → List ℕ → Request
+line_request core_size l = if nat_lt max_line_len (length l) then Unknown else request_of core_size l
 
 -- A line contains no LF.
 abbrev pub IsLine : List ℕ → Type 0

@@ -8,7 +8,7 @@ use Rattle.mars_app.specs.declared.debugger.request.Request.{Request}
 use Rattle.mars_app.specs.declared.debugger.request.Request.TheVariants as request
 use Rattle.mars_cell.specs.Load.{lines_of}
 use Rattle.mars_cell.specs.Written.{with_newline}
-use Rattle.mars_app.specs.Debugger.Lines.{line_asks, Splits, IsLine}
+use Rattle.mars_app.specs.Debugger.Lines.{line_request, Splits, IsLine}
 use Rattle.mars_app.specs.Debugger.Readings.{list_text, queue_text, show_text}
 use Rattle.mars_app.specs.Debugger.Replies.{reply_text}
 
@@ -33,8 +33,8 @@ answer poor s request.Unknown = (s, codes "unknown\n")
 pub data Transcript (core_size : ℕ) : SessionState → List (List ℕ) → SessionState → List ℕ → Type 0 where
   none : {s : SessionState} → Transcript core_size s [] s []
   line : (poor : Bool) {s t : SessionState} {text whole : List ℕ} (l : List ℕ) {ls : List (List ℕ)}
-      → Transcript core_size (answer poor s (line_asks core_size l)).0 ls t text
-      → whole ≡ (answer poor s (line_asks core_size l)).1 ++ text
+      → Transcript core_size (answer poor s (line_request core_size l)).0 ls t text
+      → whole ≡ (answer poor s (line_request core_size l)).1 ++ text
       → Transcript core_size s (l ∷ ls) t whole
 
 -- Whether a request is `quit`.
@@ -50,11 +50,11 @@ is_quit request.Unknown = false
 -- The lines before the first `quit`.
 unfoldable pub until_quit : ℕ → List (List ℕ) → List (List ℕ)
 until_quit core_size [] = []
-until_quit core_size (l ∷ ls) = if is_quit (line_asks core_size l) then [] else l ∷ until_quit core_size ls
+until_quit core_size (l ∷ ls) = if is_quit (line_request core_size l) then [] else l ∷ until_quit core_size ls
 
 -- The line does not end the debugger.
 abbrev pub GoesOn : ℕ → List ℕ → Type 0
-GoesOn core_size l = line_asks core_size l ≢ request.Quit
+GoesOn core_size l = line_request core_size l ≢ request.Quit
 
 -- The bytes contain a complete line, with its LF, that is `quit`; `last` is the first such line.
 pub record HasQuit (core_size : ℕ) (bytes : List ℕ) : Type 0 where
@@ -64,7 +64,7 @@ pub record HasQuit (core_size : ℕ) (bytes : List ℕ) : Type 0 where
   pub whole : bytes ≡ flat_map with_newline lines ++ (last ++ 10 ∷ more)
   pub each : AllByRecursion IsLine (lines ++ last ∷ [])
   pub goes_on : AllByRecursion (GoesOn core_size) lines
-  pub quits : line_asks core_size last ≡ request.Quit
+  pub quits : line_request core_size last ≡ request.Quit
 
 -- The debugger ended at a `quit` or at the end of its input. `bytes` were read. Their lines before the first `quit` were
 -- executed, which led from the session `s` to `t`, and all replies were written. Either one of the lines is `quit`, or the
@@ -108,9 +108,9 @@ pub record BrokenAt (core_size : ℕ) (s : SessionState) (lines : List (List ℕ
   pub poor : Bool
   pub count : ℕ
   pub answers : Transcript core_size s lines between before
-  pub session : t ≡ (answer poor between (line_asks core_size last)).0
-  pub short : count < length (answer poor between (line_asks core_size last)).1
-  pub text_is : text ≡ before ++ take count (answer poor between (line_asks core_size last)).1
+  pub session : t ≡ (answer poor between (line_request core_size last)).0
+  pub short : count < length (answer poor between (line_request core_size last)).1
+  pub text_is : text ≡ before ++ take count (answer poor between (line_request core_size last)).1
 
 -- The bytes are the complete lines and then the line `last`, which ends in an LF or at the end of the input.
 pub data EndsIn (bytes : List ℕ) (lines : List (List ℕ)) (last : List ℕ) (rest : Option (List ℕ)) : Type 0 where

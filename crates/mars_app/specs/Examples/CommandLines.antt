@@ -80,18 +80,18 @@ abbrev Forbidden : List (List ℕ) → Type 0
 Forbidden words = are_allowed (said_by words) ≡ false
 
 -- `--load` requires exactly one file, a league requires at least two warriors, and neither may be combined with the debugger.
-pub contests_are_judged :
+pub contests_are_checked :
     Allowed (codes "--load" ∷ codes "a.red" ∷ [])
     × Forbidden (codes "--load" ∷ codes "a.red" ∷ codes "b.red" ∷ [])
     × Forbidden (codes "-e" ∷ codes "--load" ∷ codes "a.red" ∷ [])
     × Allowed (codes "--league" ∷ codes "a.red" ∷ codes "b.red" ∷ [])
     × Forbidden (codes "--league" ∷ codes "a.red" ∷ [])
 unfolding clap_on_literals
-contests_are_judged = (refl, refl, refl, refl, refl)
+contests_are_checked = (refl, refl, refl, refl, refl)
 
 -- A position is for the second of two warriors, at least the minimum distance from the first in both directions around the
 -- core.
-pub positions_are_judged :
+pub positions_are_checked :
     Allowed (codes "-F" ∷ codes "100" ∷ two_files)
     × Allowed (codes "-F" ∷ codes "7900" ∷ two_files)
     × Forbidden (codes "-F" ∷ codes "99" ∷ two_files)
@@ -99,4 +99,4 @@ pub positions_are_judged :
     × Forbidden (codes "-F" ∷ codes "4000" ∷ codes "c.red" ∷ two_files)
     × Forbidden (codes "-F" ∷ codes "4000" ∷ codes "--league" ∷ two_files)
 unfolding clap_on_literals
-positions_are_judged = (refl, refl, refl, refl, refl, refl)
+positions_are_checked = (refl, refl, refl, refl, refl, refl)

@@ -16,7 +16,7 @@ use Rattle.mars_core.specs.Examples.{the_machine, battle_of, cell_of, eight, of_
 use Rattle.mars_session.specs.Script.{SessionState}
 use Rattle.mars_session.specs.Examples.{imp}
 use Rattle.mars_app.specs.Debugging.{session_at}
-use Rattle.mars_app.specs.Debugger.Lines.{line_asks}
+use Rattle.mars_app.specs.Debugger.Lines.{line_request}
 use Rattle.mars_app.specs.Debugger.Readings.{line_at, list_text, queue_text, show_text, texts, warrior_text}
 use Rattle.mars_app.specs.Debugger.Replies.{refusal_text}
 use Rattle.mars_app.specs.Debugger.Requests.{alone, command_request, one_number, request_of, three_numbers, two_numbers, with_arguments}
@@ -26,7 +26,7 @@ use Rattle.mars_app.specs.Debugger.Words.{after_word, first_word, number_at as n
 -- What is written for the lines, one after another, if no allocation fails.
 abbrev answers : SessionState → List (List ℕ) → List ℕ
 answers s [] = []
-answers s (l ∷ ls) = let after = answer false s (line_asks 8 l) in after.1 ++ answers after.0 ls
+answers s (l ∷ ls) = let after = answer false s (line_request 8 l) in after.1 ++ answers after.0 ls
 
 -- `text` is the transcript of the lines over a session that keeps `most` places beside the last one.
 abbrev IsTranscript : ℕ → State → List (List ℕ) → List ℕ → Type 0

@@ -1,6 +1,6 @@
 //! The line that is being read.
 ghost use Rattle.std.specs.Prelude.{◌≡◌, ℕ, List, [], ◌∷◌, ◌++◌, ◌==◌, ◌<◌, length};
-ghost use Rattle.mars_app.specs.Debugger.Lines.{line_asks};
+ghost use Rattle.mars_app.specs.Debugger.Lines.{line_request};
 
 use crate::debugger::request::{Request, read_request};
 use arrayvec::ArrayVec;
@@ -48,7 +48,7 @@ impl LineBuffer {
     /// Returns the request of the line in a core of this size, and clears the buffer for the next line.
     pub fn take_request(&mut self, core_size: u32) -> Request
         requires { 0 < core_size }
-        ensures request { (line : List ℕ) → Holds self.old line → result ≡ line_asks core_size line }
+        ensures request { (line : List ℕ) → Holds self.old line → result ≡ line_request core_size line }
         ensures next { Holds self.new [] }
     {
         let request = if self.is_overlong {

@@ -213,8 +213,8 @@ a_block s words refused.OutOfMemory spells refuses = refl
 a_block s words (refused.Block fault) spells refuses = absurd (refuses.2 s spells)
 a_block s words other spells refuses = absurd refuses
 
-pub out_of_memory_is_told_as_such : (words : List ℕ) → RefusesWords words (refused.Block block.OutOfMemory) → ⊥
-out_of_memory_is_told_as_such words r = r.0 refl
+pub no_block_has_the_error_out_of_memory : (words : List ℕ) → RefusesWords words (refused.Block block.OutOfMemory) → ⊥
+no_block_has_the_error_out_of_memory words r = r.0 refl
 
 -- A start and an edit write a block, which is never empty.
 pub written : (s : MarsSettings) (cells : List MarsCell) (entrants : List MarsWarrior) (round : ℕ) (n : MarsEdit) (words : List ℕ)

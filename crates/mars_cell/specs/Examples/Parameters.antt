@@ -85,12 +85,12 @@ abbrev program : List Cell → ℕ → WarriorValue
 program cells start = record { name = []; author = []; cells = cells; start = start }
 
 -- A warrior has at least one cell, and starts at one of its cells.
-pub programs_are_judged :
+pub programs_are_checked :
     (checked_warrior (program (nop ∷ nop ∷ []) 1) ≡ Ok (program (nop ∷ nop ∷ []) 1))
     × (checked_warrior (program (nop ∷ nop ∷ []) 2) ≡ Err warrior.BadOrigin)
     × (checked_warrior (program [] 0) ≡ Err warrior.Empty)
     × (checked_warrior (program [] 1) ≡ Err warrior.Empty)
-programs_are_judged = (refl, refl, refl, refl)
+programs_are_checked = (refl, refl, refl, refl)
 
 -- The cell of an empty core, and its two fields.
 pub cell_of_an_empty_core :

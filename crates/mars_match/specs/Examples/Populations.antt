@@ -45,19 +45,19 @@ unfolding table_of starts_of drawn next_seed survivors_of_round end_of start_sta
 first_match_is_reported = refl
 
 -- Each row fits 64 bits, but the sum of both rows does not.
-pub sums_are_judged : sums_by (codes "4611686018427387904") (stay ∷ stay ∷ []) (stay ∷ []) ≡ Err (fault.Score Range)
+pub sums_are_checked : sums_by (codes "4611686018427387904") (stay ∷ stay ∷ []) (stay ∷ []) ≡ Err (fault.Score Range)
 unfolding table_of starts_of drawn next_seed survivors_of_round end_of start_state overlap scanned value_of tree_within turn_of executed accepted execution_of effect_of evaluated direct_operand address_after fold advanced ends
-sums_are_judged = refl
+sums_are_checked = refl
 
 -- The sum of the first two rows does not fit 64 bits, but that of all three does.
-pub only_whole_sums_are_judged : sums_by (codes "4611686018427387904*(3-2*S)") (dead ∷ dead ∷ stay ∷ []) (stay ∷ [])
+pub only_whole_sums_are_checked : sums_by (codes "4611686018427387904*(3-2*S)") (dead ∷ dead ∷ stay ∷ []) (stay ∷ [])
     ≡ Ok (record { points = pos 4611686018427387904; wins = 2; ties = 1; losses = 0 } ∷ [])
 unfolding table_of starts_of drawn next_seed survivors_of_round end_of start_state overlap scanned value_of tree_within turn_of executed accepted execution_of effect_of evaluated direct_operand address_after fold advanced ends
-only_whole_sums_are_judged = refl
+only_whole_sums_are_checked = refl
 
 -- Wins, ties and losses fit 64 bits, each by itself.
-pub each_number_is_judged :
+pub each_number_is_checked :
     (checked_sum (record { points = pos 0; wins = 2 ^ 64; ties = 0; losses = 0 }) ≡ Err (fault.Score Range))
     × (checked_sum (record { points = pos 0; wins = 0; ties = 2 ^ 64; losses = 0 }) ≡ Err (fault.Score Range))
     × (checked_sum (record { points = pos 0; wins = 0; ties = 0; losses = 2 ^ 64 }) ≡ Err (fault.Score Range))
-each_number_is_judged = (refl, refl, refl)
+each_number_is_checked = (refl, refl, refl)

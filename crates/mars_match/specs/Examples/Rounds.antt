@@ -92,14 +92,14 @@ unfolding table_of starts_of drawn next_seed survivors_of_round end_of start_sta
 three_live = refl
 
 -- Points are exact until the end, and then must fit a signed 64-bit number, also in a league.
-pub points_are_judged :
+pub points_are_checked :
     (table_of (sizes 4 2) (stay ∷ []) (formula (codes "9223372036854775807")) None 1 1 ≡ Ok (fared (pos 9223372036854775807) 1 0 0 ∷ []))
     × (table_of (sizes 4 2) (stay ∷ []) (formula (codes "4611686018427387904")) None 2 1 ≡ Err (fault.Score Range))
     × (table_of (sizes 4 2) (stay ∷ []) (formula (codes "-9223372036854775807-1")) None 1 1 ≡ Ok (fared (negsuc 9223372036854775807) 1 0 0 ∷ []))
     × (table_of (sizes 4 2) (stay ∷ []) (formula (codes "-9223372036854775807-1")) None 2 1 ≡ Err (fault.Score Range))
     × (league_of (sizes 4 2) (stay ∷ stay ∷ stay ∷ []) (formula (codes "4611686018427387904")) None 1 1 ≡ Err (fault.Score Range))
 unfolding league_of table_of starts_of drawn next_seed survivors_of_round end_of start_state overlap scanned value_of tree_within turn_of executed accepted execution_of effect_of evaluated direct_operand address_after fold write_cell advanced ends
-points_are_judged = (refl, refl, refl, refl, refl)
+points_are_checked = (refl, refl, refl, refl, refl)
 
 -- No warrior, or more than 16, is reported before an invalid seed.
 pub warriors_are_counted :

@@ -21,93 +21,93 @@ use Rattle.mars_session.specs.Script.{outcome, command_outcome, move_outcome, un
 use Rattle.mars_session.specs.Laws.{NeverFull}
 
 -- The refusal is `JournalFull` or `OutOfMemory`.
-abbrev wants : Refusal → Bool
-wants (JournalFull room) = true
-wants OutOfMemory = true
-wants _ = false
+abbrev lacks_room : Refusal → Bool
+lacks_room (JournalFull room) = true
+lacks_room OutOfMemory = true
+lacks_room _ = false
 
-abbrev is_wanting : Result Standing Refusal → Bool
-is_wanting (Ok standing) = false
-is_wanting (Err r) = wants r
+abbrev is_lacking_room : Result Standing Refusal → Bool
+is_lacking_room (Ok standing) = false
+is_lacking_room (Err r) = lacks_room r
 
 -- A command's own refusal is neither `JournalFull` nor `OutOfMemory`.
-abbrev IsJudged : Result States Refusal → Type 0
-IsJudged (Ok states) = Unit {0}
-IsJudged (Err r) = wants r ≡ false
+abbrev IsOwnRefusal : Result States Refusal → Type 0
+IsOwnRefusal (Ok states) = Unit {0}
+IsOwnRefusal (Err r) = lacks_room r ≡ false
 
-judged_if : (b : Bool) (x y : Result States Refusal) → IsJudged x → IsJudged y → IsJudged (if b then x else y)
-judged_if true x y h k = h
-judged_if false x y h k = k
+own_if : (b : Bool) (x y : Result States Refusal) → IsOwnRefusal x → IsOwnRefusal y → IsOwnRefusal (if b then x else y)
+own_if true x y h k = h
+own_if false x y h k = k
 
-step_judged : (s : State) → IsJudged (step_states s)
-step_judged s = judged_if (is_over_of s) (Err Over) (Ok (turn_of s, [])) refl tt
+step_own : (s : State) → IsOwnRefusal (step_states s)
+step_own s = own_if (is_over_of s) (Err Over) (Ok (turn_of s, [])) refl tt
 
-run_judged : (n : ℕ) (s : State) → IsJudged (run_states n s)
-run_judged n s =
+run_own : (n : ℕ) (s : State) → IsOwnRefusal (run_states n s)
+run_own n s =
     let turns : Result States Refusal = Ok (turn_of s, turns_until (stops_at None) (n - 1) (turn_of s)) in
-    judged_if (nat_eq n 0 || nat_lt command_limit n) (Err Count) (if is_over_of s then Err Over else turns) refl (judged_if (is_over_of s) (Err Over) turns refl tt)
+    own_if (nat_eq n 0 || nat_lt command_limit n) (Err Count) (if is_over_of s then Err Over else turns) refl (own_if (is_over_of s) (Err Over) turns refl tt)
 
-until_judged : (c : ℕ) (s : State) → IsJudged (until_states c s)
-until_judged c s =
+until_own : (c : ℕ) (s : State) → IsOwnRefusal (until_states c s)
+until_own c s =
     let turns : Result States Refusal = Ok (turn_of s, turns_until (stops_at (Some c)) (until_bound c s - 1) (turn_of s)) in
     let passed : Result States Refusal = if nat_le c s.cycle then Err (CyclePassed s.cycle) else turns in
-    judged_if (nat_lt command_limit (until_bound c s)) (Err Count) (if is_over_of s then Err Over else passed) refl
-    (judged_if (is_over_of s) (Err Over) passed refl (judged_if (nat_le c s.cycle) (Err (CyclePassed s.cycle)) turns refl tt))
+    own_if (nat_lt command_limit (until_bound c s)) (Err Count) (if is_over_of s then Err Over else passed) refl
+    (own_if (is_over_of s) (Err Over) passed refl (own_if (nat_le c s.cycle) (Err (CyclePassed s.cycle)) turns refl tt))
 
-fault_judged : (fault : EditFault) → wants (refusal_of fault) ≡ false
-fault_judged faults.Address = refl
-fault_judged faults.FieldOutside = refl
-fault_judged faults.NoSuchWarrior = refl
-fault_judged faults.NoSuchProcess = refl
-fault_judged faults.WarriorDead = refl
-fault_judged faults.QueueFull = refl
+fault_own : (fault : EditFault) → lacks_room (refusal_of fault) ≡ false
+fault_own faults.Address = refl
+fault_own faults.FieldOutside = refl
+fault_own faults.NoSuchWarrior = refl
+fault_own faults.NoSuchProcess = refl
+fault_own faults.WarriorDead = refl
+fault_own faults.QueueFull = refl
 
-unless_judged : (fault : Option EditFault) (states : States) → IsJudged (unless_fault fault states)
-unless_judged None states = tt
-unless_judged (Some fault) states = fault_judged fault
+unless_own : (fault : Option EditFault) (states : States) → IsOwnRefusal (unless_fault fault states)
+unless_own None states = tt
+unless_own (Some fault) states = fault_own fault
 
-edit_judged : (e : Edit) (s : State) → IsJudged (edit_states e s)
-edit_judged e s = unless_judged (edit_fault s e) (edited s e, [])
+edit_own : (e : Edit) (s : State) → IsOwnRefusal (edit_states e s)
+edit_own e s = unless_own (edit_fault s e) (edited s e, [])
 
-fill_judged : (from to : ℕ) (cell : Cell) (s : State) → IsJudged (fill_states from to cell s)
-fill_judged from to cell s =
+fill_own : (from to : ℕ) (cell : Cell) (s : State) → IsOwnRefusal (fill_states from to cell s)
+fill_own from to cell s =
     let one : State = edited s (edits.SetCell from cell) in
-    let judged : Result States Refusal = unless_fault (edit_fault s (edits.SetCell to cell)) (one, fills (to - from) (from + 1) cell one) in
-    judged_if (nat_lt command_limit (cells_between from to)) (Err Count) (if nat_lt to from then Err Address else judged) refl
-    (judged_if (nat_lt to from) (Err Address) judged refl (unless_judged (edit_fault s (edits.SetCell to cell)) (one, fills (to - from) (from + 1) cell one)))
+    let filled : Result States Refusal = unless_fault (edit_fault s (edits.SetCell to cell)) (one, fills (to - from) (from + 1) cell one) in
+    own_if (nat_lt command_limit (cells_between from to)) (Err Count) (if nat_lt to from then Err Address else filled) refl
+    (own_if (nat_lt to from) (Err Address) filled refl (unless_own (edit_fault s (edits.SetCell to cell)) (one, fills (to - from) (from + 1) cell one)))
 
 module _ (k : ℕ) (forgotten : Bool) (limit : ℕ) (poor : Bool) (h : History) where
   abbrev retention : Retention
   retention = record { most = Some k; forgotten = forgotten }
 
-  commanded_judged : (bound : ℕ) (x : Result States Refusal) → IsJudged x → is_wanting (command_outcome retention limit bound poor h x).reply ≡ false
-  commanded_judged bound (Err r) j = j
-  commanded_judged bound (Ok states) j = refl
+  commanded_own : (bound : ℕ) (x : Result States Refusal) → IsOwnRefusal x → is_lacking_room (command_outcome retention limit bound poor h x).reply ≡ false
+  commanded_own bound (Err r) j = j
+  commanded_own bound (Ok states) j = refl
 
-  moved_judged : (r : Refusal) (x : Option History) → wants r ≡ false → is_wanting (move_outcome retention h r x).reply ≡ false
-  moved_judged r None j = j
-  moved_judged r (Some to) j = refl
+  moved_own : (r : Refusal) (x : Option History) → lacks_room r ≡ false → is_lacking_room (move_outcome retention h r x).reply ≡ false
+  moved_own r None j = j
+  moved_own r (Some to) j = refl
 
-  undo_judged : (b : Bool) → wants (if b then Forgotten else NothingToUndo) ≡ false
-  undo_judged true = refl
-  undo_judged false = refl
+  undo_own : (b : Bool) → lacks_room (if b then Forgotten else NothingToUndo) ≡ false
+  undo_own true = refl
+  undo_own false = refl
 
-  judged : (call : Call) → is_wanting (outcome retention limit call poor h).reply ≡ false
-  judged Step = commanded_judged 1 (step_states h.present.state) (step_judged h.present.state)
-  judged (Run n) = commanded_judged n (run_states n h.present.state) (run_judged n h.present.state)
-  judged (Until c) = commanded_judged (until_bound c h.present.state) (until_states c h.present.state) (until_judged c h.present.state)
-  judged (SetCell address cell) = commanded_judged 1 (edit_states (edits.SetCell address cell) h.present.state) (edit_judged (edits.SetCell address cell) h.present.state)
-  judged (Fill from to cell) = commanded_judged (cells_between from to) (fill_states from to cell h.present.state) (fill_judged from to cell h.present.state)
-  judged (MoveProcess w i address) = commanded_judged 1 (edit_states (edits.MoveProcess w i address) h.present.state) (edit_judged (edits.MoveProcess w i address) h.present.state)
-  judged (Kill w i) = commanded_judged 1 (edit_states (edits.KillProcess w i) h.present.state) (edit_judged (edits.KillProcess w i) h.present.state)
-  judged (Spawn w address) = commanded_judged 1 (edit_states (edits.Spawn w address) h.present.state) (edit_judged (edits.Spawn w address) h.present.state)
-  judged Undo = moved_judged (undo_refusal retention) (undo h) (undo_judged forgotten)
-  judged Redo = moved_judged NothingToRedo (redo h) refl
-  judged (Goto t) = moved_judged (NotInHistory (first_turns h) (last_turns h)) (goto t h) refl
+  filled : (call : Call) → is_lacking_room (outcome retention limit call poor h).reply ≡ false
+  filled Step = commanded_own 1 (step_states h.present.state) (step_own h.present.state)
+  filled (Run n) = commanded_own n (run_states n h.present.state) (run_own n h.present.state)
+  filled (Until c) = commanded_own (until_bound c h.present.state) (until_states c h.present.state) (until_own c h.present.state)
+  filled (SetCell address cell) = commanded_own 1 (edit_states (edits.SetCell address cell) h.present.state) (edit_own (edits.SetCell address cell) h.present.state)
+  filled (Fill from to cell) = commanded_own (cells_between from to) (fill_states from to cell h.present.state) (fill_own from to cell h.present.state)
+  filled (MoveProcess w i address) = commanded_own 1 (edit_states (edits.MoveProcess w i address) h.present.state) (edit_own (edits.MoveProcess w i address) h.present.state)
+  filled (Kill w i) = commanded_own 1 (edit_states (edits.KillProcess w i) h.present.state) (edit_own (edits.KillProcess w i) h.present.state)
+  filled (Spawn w address) = commanded_own 1 (edit_states (edits.Spawn w address) h.present.state) (edit_own (edits.Spawn w address) h.present.state)
+  filled Undo = moved_own (undo_refusal retention) (undo h) (undo_own forgotten)
+  filled Redo = moved_own NothingToRedo (redo h) refl
+  filled (Goto t) = moved_own (NotInHistory (first_turns h) (last_turns h)) (goto t h) refl
 
 pub never_full : NeverFull
 never_full k forgotten limit call poor h =
-    let fine = judged k forgotten limit poor h call in (
-      (λ room e. absurd (let f : false ≡ true = sym fine ∙ ap is_wanting e in cc)),
-      (λ e. absurd (let f : false ≡ true = sym fine ∙ ap is_wanting e in cc)),
+    let fine = filled k forgotten limit poor h call in (
+      (λ room e. absurd (let f : false ≡ true = sym fine ∙ ap is_lacking_room e in cc)),
+      (λ e. absurd (let f : false ≡ true = sym fine ∙ ap is_lacking_room e in cc)),
     )

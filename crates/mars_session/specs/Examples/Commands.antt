@@ -15,18 +15,18 @@ use Rattle.mars_session.specs.declared.calls.Standing.{Standing}
 use Rattle.mars_session.specs.History.{beginning}
 use Rattle.mars_session.specs.Retention.{never}
 use Rattle.mars_session.specs.Script.{script}
-use Rattle.mars_session.specs.Examples.{stands, IsToldWithin}
+use Rattle.mars_session.specs.Examples.{stands, RepliesWithin}
 
 -- A battle of ten cycles, whose single warrior survives, ends after them. `Count` is checked before `Over`, and `Over` before
 -- `CyclePassed`.
-pub commands_of_a_battle_that_ends : IsToldWithin 100
+pub commands_of_a_battle_that_ends : RepliesWithin 100
     (Run 12 ∷ Step ∷ Run 1 ∷ Run 0 ∷ Until 11 ∷ Until 3 ∷ Undo ∷ Until 12 ∷ Redo ∷ [])
     (stands 10 10 10 ∷ Err Over ∷ Err Over ∷ Err Count ∷ Err Over ∷ Err Over ∷ stands 0 0 10 ∷ stands 10 10 10 ∷ Err NothingToRedo ∷ [])
 unfolding the_machine
 commands_of_a_battle_that_ends = refl
 
 -- The refusal for a cycle that has passed contains the present cycle.
-pub passed_cycles : IsToldWithin 100 (Run 3 ∷ Until 2 ∷ Until 4 ∷ []) (stands 3 3 3 ∷ Err (CyclePassed 3) ∷ stands 4 4 4 ∷ [])
+pub passed_cycles : RepliesWithin 100 (Run 3 ∷ Until 2 ∷ Until 4 ∷ []) (stands 3 3 3 ∷ Err (CyclePassed 3) ∷ stands 4 4 4 ∷ [])
 unfolding the_machine
 passed_cycles = refl
 
@@ -35,14 +35,14 @@ nop = cell_of Nop F Direct 0 Direct 0
 
 -- After edits several places have the same number of turns. Goto finds the first of them, also if this is the last place of
 -- all.
-pub goto_finds_the_first_of_equal_turns : IsToldWithin 100
+pub goto_finds_the_first_of_equal_turns : RepliesWithin 100
     (Step ∷ SetCell 7 nop ∷ SetCell 6 nop ∷ Step ∷ Goto 1 ∷ Goto 2 ∷ Goto 0 ∷ [])
     (stands 1 1 1 ∷ stands 1 2 2 ∷ stands 1 3 3 ∷ stands 2 4 4 ∷ stands 1 1 4 ∷ stands 2 4 4 ∷ stands 0 0 4 ∷ [])
 unfolding the_machine
 goto_finds_the_first_of_equal_turns = refl
 
 -- Edits and their refusals, in the order in which they are checked.
-pub edits_are_refused : IsToldWithin 100
+pub edits_are_refused : RepliesWithin 100
     (SetCell 8 (numbers 8 8) ∷ SetCell 7 (numbers 0 8) ∷ MoveProcess 1 0 8 ∷ MoveProcess 1 0 7 ∷ MoveProcess 0 1 7 ∷ Kill 1 0 ∷ Spawn 1 8 ∷ Spawn 1 7 ∷ [])
     (Err Address ∷ Err FieldOutside ∷ Err Address ∷ Err NoSuchWarrior ∷ Err NoSuchProcess ∷ Err NoSuchWarrior ∷ Err Address ∷ Err NoSuchWarrior ∷ [])
 unfolding the_machine
@@ -50,11 +50,11 @@ edits_are_refused = refl
 
 -- A fill appends a place for each cell, both ends included, and needs room for all of them; this is checked last. A fill only
 -- goes upwards.
-pub fills_are_told : IsToldWithin 3
+pub fills_have_replies : RepliesWithin 3
     (Fill 5 7 nop ∷ SetCell 8 nop ∷ Run 0 ∷ Undo ∷ Fill 4 7 nop ∷ Fill 7 8 nop ∷ Fill 6 5 nop ∷ Fill 6 6 (numbers 0 8) ∷ Fill 6 6 nop ∷ [])
     (stands 0 3 3 ∷ Err Address ∷ Err Count ∷ stands 0 0 3 ∷ Err (JournalFull 3) ∷ Err Address ∷ Err Address ∷ Err FieldOutside ∷ stands 0 1 1 ∷ [])
 unfolding the_machine
-fills_are_told = refl
+fills_have_replies = refl
 
 -- The cell JMP.B $0, $0.
 abbrev waiting : Cell
@@ -102,12 +102,12 @@ unfolding the_machine
 room_for_a_cycle = refl
 
 -- Cycles are counted from the present one.
-pub room_for_the_cycles_that_are_left : IsToldWithin 3 (Run 2 ∷ Until 3 ∷ []) (stands 2 2 2 ∷ stands 3 3 3 ∷ [])
+pub room_for_the_cycles_that_are_left : RepliesWithin 3 (Run 2 ∷ Until 3 ∷ []) (stands 2 2 2 ∷ stands 3 3 3 ∷ [])
 unfolding the_machine
 room_for_the_cycles_that_are_left = refl
 
 -- A command has at most 1,000,000 turns or cells, also if the battle is over.
-pub counts_are_limited : IsToldWithin 100
+pub counts_are_limited : RepliesWithin 100
     (Run 1000001 ∷ Fill 0 1000000 nop ∷ Until 1000001 ∷ Run 10 ∷ Until 1000011 ∷ [])
     (Err Count ∷ Err Count ∷ Err Count ∷ stands 10 10 10 ∷ Err Count ∷ [])
 unfolding the_machine

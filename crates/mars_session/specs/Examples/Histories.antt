@@ -6,33 +6,33 @@ use Rattle.mars_session.specs.declared.calls.Refusal.TheVariants.{Count, NoSuchP
 use Rattle.mars_session.specs.History.{beginning}
 use Rattle.mars_session.specs.Retention.{never}
 use Rattle.mars_session.specs.Script.{script}
-use Rattle.mars_session.specs.Examples.{imp, stands, IsToldWithin}
+use Rattle.mars_session.specs.Examples.{imp, stands, RepliesWithin}
 
-pub steps_are_undone_and_redone : IsToldWithin 100
+pub steps_are_undone_and_redone : RepliesWithin 100
     (Step ∷ Step ∷ Undo ∷ Undo ∷ Undo ∷ Redo ∷ Redo ∷ Redo ∷ [])
     (stands 1 1 1 ∷ stands 2 2 2 ∷ stands 1 1 2 ∷ stands 0 0 2 ∷ Err NothingToUndo ∷ stands 1 1 2 ∷ stands 2 2 2 ∷ Err NothingToRedo ∷ [])
 unfolding the_machine
 steps_are_undone_and_redone = refl
 
-pub undo_from_the_middle_of_a_run : IsToldWithin 100
+pub undo_from_the_middle_of_a_run : RepliesWithin 100
     (Run 4 ∷ Goto 2 ∷ Goto 9 ∷ Undo ∷ Redo ∷ Goto 9 ∷ [])
     (stands 4 4 4 ∷ stands 2 2 4 ∷ Err (NotInHistory 0 4) ∷ stands 0 0 4 ∷ stands 4 4 4 ∷ Err (NotInHistory 0 4) ∷ [])
 unfolding the_machine
 undo_from_the_middle_of_a_run = refl
 
-pub a_command_drops_what_follows : IsToldWithin 100
+pub a_command_drops_what_follows : RepliesWithin 100
     (Run 4 ∷ Goto 2 ∷ Step ∷ Undo ∷ Redo ∷ [])
     (stands 4 4 4 ∷ stands 2 2 4 ∷ stands 3 3 3 ∷ stands 2 2 3 ∷ stands 3 3 3 ∷ [])
 unfolding the_machine
 a_command_drops_what_follows = refl
 
-pub a_history_of_two_places : IsToldWithin 2
+pub a_history_of_two_places : RepliesWithin 2
     (Run 3 ∷ Run 2 ∷ Step ∷ Undo ∷ Step ∷ [])
     (Err (JournalFull 2) ∷ stands 2 2 2 ∷ Err (JournalFull 0) ∷ stands 0 0 2 ∷ stands 1 1 1 ∷ [])
 unfolding the_machine
 a_history_of_two_places = refl
 
-pub refused_calls : IsToldWithin 100
+pub refused_calls : RepliesWithin 100
     (Until 3 ∷ Until 3 ∷ Run 0 ∷ Kill 0 1 ∷ [])
     (stands 3 3 3 ∷ Err (CyclePassed 3) ∷ Err Count ∷ Err NoSuchProcess ∷ [])
 unfolding the_machine
@@ -40,11 +40,11 @@ refused_calls = refl
 
 -- If an allocation fails, a run that needs more places than follow is refused, and nothing is lost. A run that needs no more
 -- than follow is executed.
-pub want_of_memory : (script never 100 (Step ∷ Step ∷ Undo ∷ Undo ∷ Run 3 ∷ Redo ∷ Redo ∷ Goto 0 ∷ Run 2 ∷ []) (false ∷ false ∷ false ∷ false ∷ true ∷ false ∷ false ∷ false ∷ true ∷ []) (beginning imp)).replies
+pub memory_runs_out : (script never 100 (Step ∷ Step ∷ Undo ∷ Undo ∷ Run 3 ∷ Redo ∷ Redo ∷ Goto 0 ∷ Run 2 ∷ []) (false ∷ false ∷ false ∷ false ∷ true ∷ false ∷ false ∷ false ∷ true ∷ []) (beginning imp)).replies
     ≡ stands 1 1 1 ∷ stands 2 2 2 ∷ stands 1 1 2 ∷ stands 0 0 2 ∷ Err OutOfMemory ∷ stands 1 1 2 ∷ stands 2 2 2 ∷ stands 0 0 2 ∷ stands 2 2 2 ∷ []
 unfolding the_machine
-want_of_memory = refl
+memory_runs_out = refl
 
-pub want_of_room_is_told_before_want_of_memory : (script never 2 (Run 3 ∷ []) (true ∷ []) (beginning imp)).replies ≡ Err (JournalFull 2) ∷ []
+pub full_journal_comes_before_out_of_memory : (script never 2 (Run 3 ∷ []) (true ∷ []) (beginning imp)).replies ≡ Err (JournalFull 2) ∷ []
 unfolding the_machine
-want_of_room_is_told_before_want_of_memory = refl
+full_journal_comes_before_out_of_memory = refl

@@ -34,10 +34,10 @@ unfolding scanned value_of tree_within
 row_no_formulas = (refl, refl, refl, refl, refl, refl)
 
 -- Only the names W and S, in upper case, are allowed, and a text has at most 256 bytes.
-pub texts_are_judged :
+pub texts_are_checked :
     (formula_of (codes "w") ≡ Err Unknown)
     × (formula_of (codes "S+s") ≡ Err Unknown)
     × (scored (replicate 255 32 ++ codes "7") 2 1 ≡ Ok (pos 7))
     × (scored (replicate 256 32 ++ codes "7") 2 1 ≡ Err Syntax)
 unfolding scanned value_of tree_within
-texts_are_judged = (refl, refl, refl, refl)
+texts_are_checked = (refl, refl, refl, refl)

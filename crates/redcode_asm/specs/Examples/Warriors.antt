@@ -123,11 +123,11 @@ unfolding assembly expansion value_of tree_within digits default_modifier op_of 
 row_order = (refl, refl, refl, refl, refl, refl, refl, refl)
 
 -- An assert holds if its value is not 0. It may use EQU names that are defined after it, and every assert must hold.
-pub asserts_are_judged :
+pub asserts_are_checked :
     (assembled (codes ";assert 2" ∷ codes ";assert -1" ∷ codes ";assert x" ∷ codes "NOP" ∷ codes "x EQU 1" ∷ []) ≡ Ok (0, codes "NOP.F $0, $0" ∷ []))
     × (assembled (codes ";assert 1" ∷ codes ";assert x-1" ∷ codes "NOP" ∷ codes "x EQU 1" ∷ []) ≡ fault 2 AssertFailed)
 unfolding assembly expansion value_of tree_within digits default_modifier op_of modifier_of
-asserts_are_judged = (refl, refl)
+asserts_are_checked = (refl, refl)
 
 -- In a core of one cell every number is 0.
 pub row_small_core :

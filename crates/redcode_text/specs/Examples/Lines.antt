@@ -32,11 +32,11 @@ unfolding expansion value_of tree_within digits
 lines_take_the_place_of_the_name = refl
 
 -- END stops reading, also inside a loop, and also if it comes from EQU.
-pub nothing_is_read_behind_end :
+pub nothing_is_read_after_end :
     (lines (codes "FOR 2" ∷ codes "NOP" ∷ codes "END" ∷ codes "ROF" ∷ codes "NOP" ∷ []) ≡ Ok (line 2 [] (codes "NOP") [] ∷ line 3 [] (codes "END") [] ∷ []))
     × (lines (codes "x EQU END" ∷ codes " EQU NOP" ∷ codes "x" ∷ codes "NOP" ∷ []) ≡ Ok (line 3 [] (codes "END") [] ∷ []))
 unfolding expansion value_of tree_within digits
-nothing_is_read_behind_end = (refl, refl)
+nothing_is_read_after_end = (refl, refl)
 
 -- Lines of one word each, numbered from `number` on.
 abbrev each_alone : ℕ → List (List ℕ) → List ShownLine
