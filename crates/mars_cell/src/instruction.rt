@@ -1,6 +1,6 @@
 //! The parts of an instruction, and the cell that holds one.
 
-/// An opcode of the ICWS'94 draft, or SEQ, SNE or NOP. CMP is another name of SEQ.
+/// An opcode of the ICWS'94 draft, or SNE or NOP of pMARS. SEQ is pMARS's name of the draft's CMP.
 #[derive(Clone, Copy, Debug, PartialEq, Eq)]
 pub enum Op {
     Dat,

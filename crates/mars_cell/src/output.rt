@@ -32,7 +32,7 @@ pub fn write_text<W: Write>(writer: &mut W, text: &[u8]) -> Result<(), WriteFaul
 
 /// The capacity of a line in bytes. The longest line is a row of results with 210 bytes: four numbers of at most 20
 /// characters, five spaces, two names of at most 60 bytes, ` by ` and an LF.
-pub const LINE: usize = 211;
+pub const LINE: usize = 210;
 
 /// A line of output, or a part of one.
 pub type Line = ArrayString<LINE>;

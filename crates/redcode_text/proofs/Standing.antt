@@ -15,8 +15,8 @@ use Rattle.redcode_text.specs.declared.expression.evaluation.Pending.TheVariants
 use Rattle.redcode_text.specs.declared.expression.shape.ShapeState.{ShapeState}
 use Rattle.redcode_text.specs.Code.Progress.{Progress}
 use Rattle.redcode_text.specs.Expression.{precedence, binary, kinds, known, next_state, before_sign, after_sign}
-use Rattle.redcode_text.specs.Code.Climbing.{signed, AreInside}
-use Rattle.redcode_text.specs.Code.Positions.{reduced_on, popped, taken, opened_on, before_on, after_on, advance, StaysBelow, IsOrdered, Corresponds}
+use Rattle.redcode_text.specs.Code.Climbing.{StaysAt, signed, AreInside}
+use Rattle.redcode_text.specs.Code.Positions.{reduced_on, popped, taken, opened_on, before_on, after_on, advance, IsOrdered, Corresponds}
 use Rattle.redcode_text.proofs.Trees.{precedence-≤5}
 
 pub bind-ok : {A B : Type 0} (r : Result A ExprFault) (f : A → Result B ExprFault) (y : B) → (r >>= f) ≡ Ok y → (x : A) × (r ≡ Ok x) × (f x ≡ Ok y)
@@ -36,7 +36,7 @@ guarded false e x y h = (refl, ok-same x y h)
 -- The rest of a stack is ordered and no longer than before.
 pub record Rest (m k n : ℕ) (old new : List Pending) : Type 0 where
   pub ordered : IsOrdered new n
-  pub below : StaysBelow k new
+  pub below : StaysAt k new
   pub inside : AreInside m new
   pub shorter : length new ≤ length old
 
@@ -57,12 +57,12 @@ rest_of m k n (Value u s ∷ stack) v w new e o i =
     record { ordered = r.ordered; below = r.below; inside = r.inside; shorter = omega (arith, r.shorter) })
     (cases_lt k (precedence s))
 
-below-zero : (stack : List Pending) (n : ℕ) → IsOrdered stack n → StaysBelow 0 stack
+below-zero : (stack : List Pending) (n : ℕ) → IsOrdered stack n → StaysAt 0 stack
 below-zero [] n o = tt
 below-zero (Value u s ∷ stack) n o = o.0
 below-zero (Open a b ∷ stack) n o = tt
 
-height : (k n : ℕ) (stack : List Pending) → k ≤ 5 → StaysBelow k stack → IsOrdered stack n → length stack + k ≤ 6 * n + 5
+height : (k n : ℕ) (stack : List Pending) → k ≤ 5 → StaysAt k stack → IsOrdered stack n → length stack + k ≤ 6 * n + 5
 height k n [] h b o = omega arith
 height k n (Value u s ∷ stack) h b o = omega (arith, height (precedence s) n stack (precedence-≤5 s) o.1 o.2)
 height k n (Open a c ∷ stack) h b o = omega (arith, height 0 (n - 1) stack (omega arith) (below-zero stack (n - 1) o.1) o.1)

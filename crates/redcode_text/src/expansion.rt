@@ -80,8 +80,9 @@ fn read_source(alloc: Global, bytes: &[u8], names: &PredefinedNames) -> Result<R
 /// Reads a source from its first `;redcode` line on, or all of it if there is none, up to END. Expands FOR loops, and
 /// EQU names that are used as operations.
 ///
-/// The running time is linear in the number of bytes that are read, where a line of a loop counts once per iteration, and
-/// in the number of replacements in counts. Each count has at most 65,536 replacements.
+/// Unless names collide (`NameTable`), the running time is linear in the number of bytes that are read, where a line of
+/// a loop counts once per iteration, and in the number of replacements in counts. Each count has at most 65,536
+/// replacements.
 ///
 /// # Errors
 ///

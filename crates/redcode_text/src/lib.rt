@@ -41,7 +41,7 @@
 //! - `scan` returns the tokens and the names of a text of one line, or its first error, as `specs/Tokens` defines them.
 //! - `check_shape` checks whether tokens have the shape of an expression, and `eval` returns the value of an expression
 //!   for given values of names, or its first error, as `specs/Expression` defines it; `fault_span` returns the bytes of
-//!   the token at which it has that error. They don't allocate.
+//!   the token at which it has that error, and `first_span` those of the first token. They don't allocate.
 //!
 //! Functions that allocate return `OutOfMemory` if an allocation fails. When that happens isn't specified.
 #![tactic(auto)]

@@ -14,7 +14,7 @@ use Rattle.redcode_text.specs.declared.expression.evaluation.Pending.TheVariants
 use Rattle.redcode_text.specs.declared.expression.shape.ShapeState.{ShapeState}
 use Rattle.redcode_text.specs.Code.Progress.{Progress}
 use Rattle.redcode_text.specs.Expression.{max_parens, precedence, binary, kinds, known}
-use Rattle.redcode_text.specs.Code.Climbing.{signed, AreInside}
+use Rattle.redcode_text.specs.Code.Climbing.{signed, AreInside, StaysAt}
 
 -- As `reduced` of `Climbing`, on the stack of the code.
 abbrev pub reduced_on : ℕ → List Pending → ℤ → Result (ℤ × List Pending) ExprFault
@@ -79,16 +79,10 @@ abbrev pub run_on : (ℕ → Option ℤ) → List Token → ℕ → Progress →
 run_on names ts at r [] = finished r
 run_on names ts at r (t ∷ rest) = advance names ts at r t.kind >>= λ q. run_on names ts (at + 1) q rest
 
--- If an operator is on top of the stack, it is looser than the precedence `k`.
-abbrev pub StaysBelow : ℕ → List Pending → Type 0
-StaysBelow k [] = Unit {0}
-StaysBelow k (Value v s ∷ stack) = k < precedence s
-StaysBelow k (Open from to ∷ stack) = Unit {0}
-
 -- Each waiting operator is tighter than an operator directly below it, and `n` parentheses are open.
 abbrev pub IsOrdered : List Pending → ℕ → Type 0
 IsOrdered [] n = n ≡ 0
-IsOrdered (Value v s ∷ stack) n = (0 < precedence s) × StaysBelow (precedence s) stack × IsOrdered stack n
+IsOrdered (Value v s ∷ stack) n = (0 < precedence s) × StaysAt (precedence s) stack × IsOrdered stack n
 IsOrdered (Open from to ∷ stack) n = (0 < n) × IsOrdered stack (n - 1)
 
 -- The code's state `r` before the token `n` corresponds to the state `p` of the shape. The stack has at most one entry for

@@ -15,11 +15,11 @@ module _ (s : State) (address : ℕ) (valid : IsValid s) (inside : address < s.p
   fits : (cell : Cell) → slice_get s.core address ≡ Some cell → FitsCore s.params.core_size cell
   fits cell is = subst (FitsCore s.params.core_size) (get_or_from_slice_get s.core address cell empty_cell is) (valid.core.cells address empty_cell (rw valid.core.size inside))
 
-room : (head text : ℕ) → head ≤ 21 → text ≤ 48 → head + text ≤ 211
+room : (head text : ℕ) → head ≤ 21 → text ≤ 48 → head + text ≤ 210
 room head text h t = omega arith
 
-room_behind : (head text line : ℕ) → line ≡ head + text → head ≤ 21 → text ≤ 48 → line + 1 ≤ 211
-room_behind head text line e h t = omega arith
+room_after : (head text line : ℕ) → line ≡ head + text → head ≤ 21 → text ≤ 48 → line + 1 ≤ 210
+room_after head text line e h t = omega arith
 
 together : (a b c d first second line : List ℕ) → first ≡ a ++ b → second ≡ first ++ c → line ≡ second ++ d → line ≡ a ++ b ++ c ++ d
 together a b c d first second line e f g = g ∙ ap (λ l. l ++ d) (f ∙ ap (λ l. l ++ c) e)
@@ -41,7 +41,7 @@ pub push_str-requires : goal.push_str-requires
 push_str-requires c = (lit< tt, room _ _ c.numbered-line.ensures.len c.as_str.ensures.fits)
 
 pub push_str-requires-2 : goal.push_str-requires-2
-push_str-requires-2 c = (lit< tt, room_behind _ _ _ c.push_str.ensures.len c.numbered-line.ensures.len c.as_str.ensures.fits)
+push_str-requires-2 c = (lit< tt, room_after _ _ _ c.push_str.ensures.len c.numbered-line.ensures.len c.as_str.ensures.fits)
 
 pub returns : goal.returns
 returns c =
