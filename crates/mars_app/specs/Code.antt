@@ -1,4 +1,4 @@
--- How the code stores and computes what is defined. Only the proofs use these definitions.
+-- How the code stores and computes what is defined. Only internal functions and proofs use these definitions.
 pub mod Plays
 pub mod Allowed
 pub mod Blames

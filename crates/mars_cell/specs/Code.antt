@@ -1,2 +1,2 @@
--- How the code represents what the specification defines. Only the proofs use these definitions.
+-- How the code represents what the specification defines. Only internal functions and proofs use these definitions.
 pub mod Listing

@@ -1,4 +1,4 @@
--- How the code represents what the specification defines. These definitions serve only the proofs.
+-- How the code represents what the specification defines. Only internal functions, proofs and the value of a `PackedCell` use these definitions.
 pub mod Operands
 pub mod Opcodes
 pub mod Turns

@@ -1,4 +1,4 @@
--- How the code represents and computes what the specification defines. Only the proofs use these definitions.
+-- How the code represents and computes what the specification defines. Only internal functions and proofs use these definitions.
 pub mod Tallies
 pub mod LeagueSteps
 pub mod Levels
