@@ -166,7 +166,7 @@ module _ (m : ℕ) (positive : 1 ≤ m) where
   rows_share zero k s t h l = absurd (omega arith)
   rows_share (suc n) k s t h l = rows_share_from n k s t l
 
--- Tests of lists that are appended to one another, and disjunctions in another order.
+-- `share` and `has_duplicate` of appended lists, by disjunctions in another order.
 swap_or : (a b c d : Bool) → ((a || b) || (c || d)) ≡ ((a || c) || (b || d))
 swap_or true b c d = refl
 swap_or false true true d = refl
