@@ -65,7 +65,7 @@ def header(words: Words) -> Any:
 
 
 def is_turn(before: Battle, row: Any, touched: Any, after: Battle) -> bool:
-    """Whether the rows of a turn are what it changed."""
+    """Returns whether the rows of a turn are what it changed."""
     warrior, cells = before.next, before.cells.copy()
     for change in row["change"][: row["changes"]]:
         if cells[change["address"]] != change["before"] or change["address"] not in touched["address"]:
@@ -140,7 +140,7 @@ SMALL = Settings(core=8, processes=3, cycles=10, longest=1, distance=1)
 
 
 def three() -> Words:
-    """Three warriors of one process each, after four turns."""
+    """Returns a battle of three warriors with one process each, after four turns."""
     words = started(Match((assemble("JMP 0", settings=SMALL),) * 3, settings=SMALL))
     play(words, 4)
     return words

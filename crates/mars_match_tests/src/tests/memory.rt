@@ -16,7 +16,7 @@ use std::test::Fail;
 
 const IMP: &str = "MOV.I $0, $1";
 
-/// Whether an error means that memory ran out.
+/// Returns whether an error means that memory ran out.
 fn is_of_memory(fault: MatchFault) -> bool {
     matches!(
         fault,
@@ -26,7 +26,7 @@ fn is_of_memory(fault: MatchFault) -> bool {
     )
 }
 
-/// Warriors of one cell each in a core of 8000 cells, if there is memory for them.
+/// Returns warriors of one cell each in a core of 8000 cells, if there is memory for them.
 fn one_cells(alloc: Global, texts: &[&str]) -> Option<Vec<Warrior>> {
     let mut warriors = Vec::new(alloc);
     for text in texts {
@@ -39,7 +39,7 @@ fn one_cells(alloc: Global, texts: &[&str]) -> Option<Vec<Warrior>> {
     Some(warriors)
 }
 
-/// Warriors of one cell each in a core of 8000 cells; tries again if memory runs out.
+/// Returns warriors of one cell each in a core of 8000 cells; tries again if memory runs out.
 fn warriors_of(alloc: Global, texts: &[&str]) -> Result<Vec<Warrior>, Fail> {
     match one_cells(alloc, texts) {
         Some(warriors) => Ok(warriors),
@@ -47,7 +47,7 @@ fn warriors_of(alloc: Global, texts: &[&str]) -> Result<Vec<Warrior>, Fail> {
     }
 }
 
-/// The setup of `count` rounds with the first seed and no fixed position; tries again if memory runs out.
+/// Returns the setup of `count` rounds with the first seed and no fixed position; tries again if memory runs out.
 fn setup_of(alloc: Global, count: u32) -> Result<Setup, Fail>
     ensures { IfOk result (λ setup. setup.plan.fixed ≡ None) }
 {
@@ -67,7 +67,7 @@ fn setup_of(alloc: Global, count: u32) -> Result<Setup, Fail>
     })
 }
 
-/// The points, wins, ties and losses of each row.
+/// Returns the points, wins, ties and losses of each row.
 fn sums(table: &Table) -> [(i64, [u64; 3]); 3] {
     let mut sums = [(0, [0, 0, 0]); 3];
     for (sum, row) in sums.iter_mut().zip(table.rows.as_slice()) {
@@ -117,7 +117,7 @@ fn a_round_is_fought(rt: HostRuntime) -> Result<(), Fail> {
     checked
 }
 
-/// The table of a match; tries again if memory runs out.
+/// Returns the table of a match; tries again if memory runs out.
 fn table_of_rounds(
     rt: &impl Abort,
     alloc: Global,
@@ -135,7 +135,7 @@ fn table_of_rounds(
     }
 }
 
-/// The fates of a match; tries again if memory runs out.
+/// Returns the fates of a match; tries again if memory runs out.
 fn fates_of_rounds(
     rt: &impl Abort,
     alloc: Global,
@@ -173,7 +173,7 @@ fn fates_are_reported(rt: HostRuntime) -> Result<(), Fail> {
     Ok(())
 }
 
-/// The table of a league; tries again if memory runs out.
+/// Returns the table of a league; tries again if memory runs out.
 fn table_of_league(
     rt: &impl Abort,
     alloc: Global,
@@ -238,7 +238,7 @@ fn a_league_is_fought(rt: HostRuntime) -> Result<(), Fail> {
     checked
 }
 
-/// The sums of the first two of some warriors against the others; tries again if memory runs out.
+/// Returns the sums of the first two of some warriors against the others; tries again if memory runs out.
 fn sums_of_two(
     rt: &impl Abort,
     alloc: Global,
