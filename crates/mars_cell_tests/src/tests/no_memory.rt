@@ -12,7 +12,7 @@ use mars_cell::{
 use std::alloc::Global;
 use std::test::Fail;
 
-/// Allocates once. This is the first allocation that may fail.
+/// Allocates once. If this fails, there is no memory for the calls that follow.
 fn ask(alloc: Global) {
     let _asked: Result<Vec<u64>, _> = Vec::with_capacity(alloc, 1);
 }
@@ -61,8 +61,8 @@ fn ann(alloc: Global) -> Option<String>
     }
 }
 
-/// Returns a warrior by Ann, or the error of making it. The allocation that may fail is just before the call. Returns
-/// `None` if the parts of the warrior can't be allocated.
+/// Returns a warrior by Ann, or the error of making it; `ask` is called just before. Returns `None` if the parts of the
+/// warrior can't be allocated.
 fn anns(alloc: Global, len: usize, start: u32) -> Option<Result<Warrior, WarriorFault>> {
     let (Some(name), Some(author), Some(cells)) = (ann(alloc), ann(alloc), idle(alloc, len)) else {
         return None;
