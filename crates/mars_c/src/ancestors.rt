@@ -12,8 +12,11 @@ use std::alloc::Global;
 ///
 /// # Errors
 ///
-/// Returns `Block` if the words are no battle, then `Process`, and `OutOfMemory` if an allocation fails. `births` is
-/// unchanged then.
+/// - `Block` if the words are no battle
+/// - `Process` if there is no such process after the turns
+/// - `OutOfMemory` if an allocation fails
+///
+/// After an error, `births` is unchanged.
 pub fn ancestors_in(
     alloc: Global,
     words: &[u32],

@@ -20,7 +20,11 @@ struct Followed {
 ///
 /// # Errors
 ///
-/// In this order: `Condition`, `Block`, `Capacity`, `Pasts`; `OutOfMemory` if an allocation fails.
+/// - `Condition` with the index of the first numbers that mean no condition
+/// - `Block` if the words are no battle
+/// - `Capacity` if the words have less capacity than the battle needs
+/// - `Pasts` if there are not as many pasts as cells
+/// - `OutOfMemory` if an allocation fails
 fn to_follow(
     alloc: Global,
     words: &[u32],
@@ -50,8 +54,13 @@ fn to_follow(
 ///
 /// # Errors
 ///
-/// In this order: `Condition`, `Block`, `Capacity`, `Pasts`; `OutOfMemory` if an allocation fails. All arguments are
-/// unchanged then.
+/// - `Condition` with the index of the first numbers that mean no condition
+/// - `Block` if the words are no battle
+/// - `Capacity` if the words have less capacity than the battle needs
+/// - `Pasts` if there are not as many pasts as cells
+/// - `OutOfMemory` if an allocation fails
+///
+/// After an error, all arguments are unchanged.
 pub fn follow_in(
     alloc: Global,
     words: &mut [u32],
@@ -82,8 +91,13 @@ pub fn follow_in(
 ///
 /// # Errors
 ///
-/// In this order: `Condition`, `Block`, `Capacity`, `Pasts`; `OutOfMemory` if an allocation fails. All arguments are
-/// unchanged then.
+/// - `Condition` with the index of the first numbers that mean no condition
+/// - `Block` if the words are no battle
+/// - `Capacity` if the words have less capacity than the battle needs
+/// - `Pasts` if there are not as many pasts as cells
+/// - `OutOfMemory` if an allocation fails
+///
+/// After an error, all arguments are unchanged.
 pub fn moments_in(
     alloc: Global,
     words: &mut [u32],
