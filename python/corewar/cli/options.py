@@ -150,7 +150,7 @@ class CellName(click.ParamType):
 
 
 class Picture(Output):
-    """A picture to write, of the kind that its name ends in."""
+    """The file of a picture to write, in the format that the end of its name gives."""
 
     def convert(self, value: Any, param: click.Parameter | None, context: click.Context | None) -> Any:
         if not str(value).endswith(PICTURES):

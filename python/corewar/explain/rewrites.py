@@ -1,4 +1,4 @@
-"""Writes what both programs accept and read differently so that this kit reads it as pMARS does."""
+"""Rewrites what this kit and pMARS both accept but read differently, so that the kit reads it as pMARS does."""
 from __future__ import annotations
 
 import re
@@ -55,7 +55,7 @@ def write_version(source: Source, lines: list[str], _: Load) -> None:
 
 
 def write_seq(source: Source, lines: list[str], _: Load) -> None:
-    """Writes SEQ for CMP, which pMARS keeps apart, if the warrior has only one of them."""
+    """Writes SEQ for CMP if the warrior has no SEQ: for pMARS they are different opcodes."""
     kept = source.read_lines()
     if not any("SEQ" in (word.upper() for word in (line.operation, *line.rest[:1])) for line in kept):
         for line in kept:

@@ -10,5 +10,5 @@ FORK = "fork" if sys.platform == "linux" else "spawn"
 
 
 def processors() -> int:
-    """Returns the number of processors that this process may use, as far as the system says that."""
+    """Returns the number of processors that this process may use, or of all if the system does not report that."""
     return len(os.sched_getaffinity(0)) if hasattr(os, "sched_getaffinity") else os.cpu_count() or 1

@@ -33,5 +33,5 @@ def render(template: str, **fields: object) -> str:
 
 
 def write_page(path: Path, text: str) -> None:
-    """Writes a page. Bytes in names of files that are not text become `?`."""
+    """Writes a page. Bytes of file names that are not UTF-8 become `?`."""
     replace_file(path, text.encode("utf-8", "replace"))
