@@ -1,4 +1,4 @@
-"""The process of an `Assembler`: whose answers a caller gets after an interrupt, a fork and in other processes."""
+"""The process of an `Assembler`: each caller gets its own answers, also after an interrupt or a fork and in a pool."""
 from __future__ import annotations
 
 import multiprocessing
@@ -44,7 +44,7 @@ def test_an_interrupt(seconds: float) -> None:
 
 
 def test_forks() -> None:
-    """The parent and its children ask at once, each the process of its own."""
+    """The parent and its children ask at once, each a process of its own."""
     ask(0)
     children = []
     for child in range(1, 4):
@@ -58,7 +58,7 @@ def test_forks() -> None:
 
 
 def test_a_fork_that_ends_ends_no_assembler_of_its_parent() -> None:
-    """Python terminates the children of its parent then, and the source is assembled again."""
+    """Python in the fork then terminates the children of the parent, whose assembler starts its process again."""
     code = "import os, sys, corewar; a = corewar.Assembler(); a.assemble('NOP'); child = os.fork() or sys.exit(); "
     code += "os.waitpid(child, 0); print(len(a.assemble('NOP')))"
     done = subprocess.run([sys.executable, "-c", code], env=ENVIRONMENT, capture_output=True, text=True, timeout=60)
@@ -85,7 +85,7 @@ def test_a_fork_while_a_thread_asks() -> None:
             signal.alarm(60)
             os._exit(len(assembler.assemble("NOP\nNOP\n")))
         assert os.waitstatus_to_exitcode(os.waitpid(process, 0)[1]) == 2
-        # The process of the thread is its own, too.
+        # The thread waits until its process ends.
         for child in multiprocessing.active_children():
             child.kill()
         thread.join()
