@@ -34,18 +34,18 @@ def wait_for(condition: Callable[[], Any]) -> None:
 @pytest.fixture
 def start(tmp_path: Path) -> Iterator[Start]:
     """Starts a part of a cluster, which ends with the test. A worker has the package if its path leads to it."""
-    started = []
+    started: list[subprocess.Popen[bytes]] = []
 
-    def begin(*words: str, path: str = str(TOP / "python")) -> subprocess.Popen[bytes]:
+    def start_part(*words: str, path: str = str(TOP / "python")) -> subprocess.Popen[bytes]:
         command = [sys.executable, "-m", "dask", *words, "--host", "127.0.0.1", "--no-dashboard"]
         environment = {**os.environ, "PYTHONPATH": path}
         process = subprocess.Popen(
             command, cwd=tmp_path, env=environment, stdout=subprocess.DEVNULL, stderr=subprocess.DEVNULL
         )
         started.append(process)
-        return started[-1]
+        return process
 
-    yield begin
+    yield start_part
     for process in started:
         process.kill()
         process.wait()
