@@ -39,11 +39,11 @@ def build_race(place: str) -> str:
 
 
 def turn_cost(command: list[str]) -> int:
-    """Returns the cost of a turn after those of the first thousand cycles."""
-    first, answer = instructions([*command, "x"])
-    all_turns, later = instructions([*command, *["x"] * 20])
+    """Returns the machine instructions of a turn after the first thousand cycles; each `x` is a thousand cycles."""
+    few, answer = instructions([*command, "x"])
+    many, later = instructions([*command, *["x"] * 20])
     turns = int(later.split()[0]) - int(answer.split()[0])
-    return (all_turns - first) // turns
+    return (many - few) // turns
 
 
 def measure(_words: argparse.Namespace) -> None:
