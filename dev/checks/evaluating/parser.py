@@ -1,4 +1,4 @@
-"""The parser of terms and patterns."""
+"""Parses the terms and the patterns of definitions."""
 from __future__ import annotations
 
 import ast
@@ -144,7 +144,7 @@ class Parser:
         return Apply(head, tuple(arguments)) if arguments else head
 
     def begins_atom(self) -> bool:
-        """Whether the next word begins an argument."""
+        """Returns whether the next word begins an argument."""
         word = self.next
         if word.kind == "mark":
             return word.text in {"(", "{"}
