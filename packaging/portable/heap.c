@@ -1,5 +1,6 @@
 
-/* ---- The heap, as the toolchain's: an allocation that failed returns a pointer too, which is not used. */
+/* ---- The heap that the library calls, in place of the toolchain's: an allocation that failed returns a pointer too, which is not
+ * used. */
 
 static u64 nowhere[2];
 
