@@ -9,7 +9,7 @@ import { placeOf } from "./places.js";
 import { FIRST } from "./sources.js";
 import { damagedNames, deleteDamaged } from "./store.js";
 
-/** Whether the user wants no movement. */
+/** Returns whether the user wants no movement. */
 const isStill = () => matchMedia("(prefers-reduced-motion: reduce)").matches;
 
 export class Arrival {
@@ -101,7 +101,7 @@ export class Arrival {
     return view === "battle" ? clamp(number ?? 0, 0, this.page.terms.value.rounds - 1) : 0;
   }
 
-  /** A page shows a battle, also if its address, the sources that are marked or the terms have errors. */
+  /** Shows a battle, even if the address, the sources that are marked or the terms have errors. */
   async #beginAnyway() {
     const { page } = this;
     const isPlayed = !element("battle").hidden && !isStill();

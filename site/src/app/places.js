@@ -100,7 +100,7 @@ export class Places {
   }
 
   /**
-   * Names a view that the user has chosen.
+   * Writes the address of a view that the user has chosen.
    * @param {string} view
    */
   visit(view) {
@@ -108,7 +108,10 @@ export class Places {
     if (hash !== location.hash) this.#write(hash, true);
   }
 
-  /** Names the battle again: its lesson has been closed, or the link in the address could not be opened. */
+  /**
+   * Writes the address of the battle again: its lesson has been closed, or the link in the address could not be
+   * opened.
+   */
   rename() {
     const { fight } = this.session;
     if (fight) this.#key = this.#keyOf(fight);
@@ -136,7 +139,10 @@ export class Places {
   }
 }
 
-/** @param {string} hash */
+/**
+ * Returns whether an address shows a battle: that of a round, of a lesson that is open, or of a link.
+ * @param {string} hash
+ */
 function isBattle(hash) {
   const place = placeOf(hash);
   return !place || place.view === "battle" || place.number !== null;

@@ -1,4 +1,4 @@
-/** The turns in which a process of a history and its ancestors were born, also if there are edits between them. */
+/** The turns in which a process of a history and its ancestors were born, even if there are edits between them. */
 
 /** @typedef {import("../model/fight.js").Edit} Edit */
 /**
@@ -8,8 +8,8 @@
  */
 
 /**
- * Returns where a process comes from, given by its place in the queue of its warrior after a turn and after the edits
- * made there. Throws a MarsError if there is none.
+ * Returns where a process comes from. `place` is its place in the queue of its warrior after the turn and the edits
+ * after that turn. Throws a MarsError if there is no such process.
  * @param {import("./history.js").History} history
  * @param {number} turn
  * @param {number} warrior

@@ -109,7 +109,7 @@ class WorkerClient {
 const JOB_TIMEOUT = 60_000;
 const LINT_TIMEOUT = 4_000;
 const OPEN_TIMEOUT = 20_000;
-/** The calls that make a future. */
+/** The calls that open a battle or make a future of it. */
 const OPENING = ["open", "edit"];
 
 /**
@@ -139,7 +139,7 @@ class RemoteDesk {
     try {
       const answer = await client.ask(call, given, OPEN_TIMEOUT);
       if (call === "open") this.#made = [];
-      if (call === "open" || call === "edit") this.#made.push({ call, given });
+      if (OPENING.includes(call)) this.#made.push({ call, given });
       return answer;
     } catch (error) {
       // The calls that waited for a worker that was ended are made again.
@@ -189,6 +189,7 @@ export class Pool {
   #idle = [];
   /** @type {Job[]} */
   #jobs = [];
+  /** The number of workers that have been started and not ended. */
   #count = 0;
   /**
    * The number of jobs of each group that wait or run.
