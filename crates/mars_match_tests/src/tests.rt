@@ -26,7 +26,7 @@ const STAY: &str = "JMP.B $0, $0";
 /// The cell of a warrior that dies in its first turn.
 const DEAD: &str = "DAT.F $0, $0";
 
-/// Parameters with this core size and minimum distance.
+/// Returns parameters with this core size and minimum distance.
 fn sizes(core_size: u32, distance: u32) -> Result<Params, Fail> {
     let params = Params::new(core_size, 8, 10, core_size, core_size, 1, distance)
         .ok()
@@ -62,7 +62,7 @@ impl Write for Narrow {
     }
 }
 
-/// A writer that accepts `size` bytes at a time and `room` bytes in total.
+/// Returns a writer that accepts `size` bytes at a time and `room` bytes in total.
 fn writer_of(alloc: Global, size: usize, room: usize, idles: bool) -> Narrow {
     Narrow {
         bytes: Vec::new(alloc),
@@ -72,13 +72,13 @@ fn writer_of(alloc: Global, size: usize, room: usize, idles: bool) -> Narrow {
     }
 }
 
-/// The bytes that a writer accepted of the results, and whether they were written.
+/// Returns the bytes that a writer accepted of the results, and whether all were written.
 fn written(table: &Table, sorted: bool, mut writer: Narrow) -> (Vec<u8>, Result<(), WriteFault>) {
     let done = write_results(table, sorted, &mut writer);
     (writer.bytes, done)
 }
 
-/// A row with these points, wins, ties and losses.
+/// Returns a row with these points, wins, ties and losses.
 fn row(name: &str, author: &str, points: i64, counts: [u64; 3]) -> Row
     requires name { IsName name.now }
     requires author { IsName author.now }
@@ -99,7 +99,7 @@ const LEAGUE: &str = "  points   wins   ties losses  warrior
        0      0      0      2  Dead by Anonymous
 ";
 
-/// A warrior of one cell.
+/// Returns a warrior of one cell.
 fn one_cell(
     alloc: Global,
     name: &str,
@@ -122,7 +122,7 @@ fn one_cell(
     Ok(warrior)
 }
 
-/// Warriors of one cell each.
+/// Returns warriors of one cell each.
 fn one_cells(alloc: Global, core_size: u32, texts: &[&str]) -> Result<Vec<Warrior>, Fail> {
     let mut warriors = Vec::new(alloc);
     for text in texts {
@@ -131,7 +131,7 @@ fn one_cells(alloc: Global, core_size: u32, texts: &[&str]) -> Result<Vec<Warrio
     Ok(warriors)
 }
 
-/// Whether each warrior survives a round.
+/// Returns whether each warrior survives a round.
 fn fought(
     alloc: Global,
     params: &Params,
@@ -148,7 +148,7 @@ fn fought(
 /// One warrior more than the maximum.
 const TOO_MANY: [&str; 17] = [STAY; 17];
 
-/// Whether a fixed position is allowed for two warriors, or none is given.
+/// Returns whether no position is fixed, or the fixed one is valid and there are two warriors.
 fn fits_two(params: &Params, warriors: usize, fixed: Option<u32>) -> bool
     ensures { IsTrue result → IfSome fixed (λ position. (warriors ≡ 2) × (params.now.distance ≤ position) × (position ≤ params.now.core_size - params.now.distance)) }
 {
@@ -167,7 +167,7 @@ type Plans = (u32, u32, Option<u32>, &'static str);
 /// The result of a match or a league: the lines after the heading, in load order, or the error.
 type Outcome = Result<&'static str, MatchFault>;
 
-/// The setup with these parameters and this plan, if there is memory for it.
+/// Returns the setup with these parameters and this plan, if there is memory for it.
 fn setup_of(alloc: Global, params: &Params, plans: Plans) -> Option<Setup>
     ensures { IfSome result (λ setup. (setup.params ≡ params.now) × (setup.plan.fixed ≡ plans.entry.2)) }
 {
@@ -184,7 +184,7 @@ fn setup_of(alloc: Global, params: &Params, plans: Plans) -> Option<Setup>
     })
 }
 
-/// The table of a match, or its error.
+/// Runs a match and returns its table, or its error.
 fn held(
     alloc: Global,
     params: &Params,
@@ -230,7 +230,7 @@ fn check_outcome(
 /// One round with the first seed, without a fixed position.
 const ONE_ROUND: Plans = (1, 1, None, BY_DEFAULT);
 
-/// The imp and the warrior that survives.
+/// Returns the imp and the warrior that survives.
 fn imp_and_stay(alloc: Global) -> Result<Vec<Warrior>, Fail> {
     let mut warriors = Vec::new(alloc);
     warriors.push(one_cell(alloc, "Imp", "Dewdney", 8000, "MOV.I $0, $1")?)?;

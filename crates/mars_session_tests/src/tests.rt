@@ -131,7 +131,7 @@ fn one_cell(alloc: Global, cell: Cell) -> Result<Warrior, Fail> {
     warrior_of(alloc, &[cell])
 }
 
-/// A battle of one warrior with these cells.
+/// Returns a battle of one warrior with these cells.
 fn lone_battle(alloc: Global, processes: u32, cells: &[Cell]) -> Result<Battle, Fail> {
     let warriors = vec![in alloc; warrior_of(alloc, cells)?]?;
     battle_of(alloc, processes, &warriors, &[0])
@@ -141,7 +141,7 @@ fn lone_tape<T: Start>(alloc: Global, processes: u32, cells: &[Cell]) -> Result<
     T::start(alloc, lone_battle(alloc, processes, cells)?)
 }
 
-/// A battle of one imp.
+/// Returns a battle of one imp.
 fn imp_battle(alloc: Global) -> Result<Battle, Fail> {
     lone_battle(alloc, 8, &[COPIER])
 }
@@ -154,7 +154,7 @@ fn imp<T: Start>(alloc: Global, limit: u64) -> Result<Session<T>, Fail> {
     Ok(Session::new(imp_tape(alloc)?, limit))
 }
 
-/// A session of warriors that execute JMP.B $0, $0 at these addresses.
+/// Returns a session of warriors that execute JMP.B $0, $0 at these addresses.
 fn stayers<T: Start>(alloc: Global, processes: u32, starts: &[u32]) -> Result<Session<T>, Fail> {
     let mut warriors = Vec::new(alloc);
     for _start in starts {
@@ -320,7 +320,7 @@ fn check_same(rt: &impl Abort, one: &Battle, other: &Battle) {
     check_same_counters(rt, one, other);
 }
 
-/// A session of the imp over a tape that can allocate `growths` times; later allocations fail.
+/// Returns a session of the imp over a tape that can allocate `growths` times; later allocations fail.
 fn poor_imp<T: Start>(alloc: Global, growths: u64) -> Result<Session<PoorTape<T>>, Fail>
     requires { T.FORGETS ≡ false }
 {

@@ -12,7 +12,7 @@ use std::alloc::Global;
 use std::process::Abort;
 use std::test::Fail;
 
-/// The table of a league, or its error.
+/// Runs a league and returns its table, or its error.
 fn league_held(
     alloc: Global,
     params: &Params,

@@ -14,7 +14,7 @@ fn ask(alloc: Global) {
     let _asked: Result<Vec<u64>, _> = Vec::with_capacity(alloc, 1);
 }
 
-/// The table with the rows of `LEAGUE`.
+/// Returns the table with the rows of `LEAGUE`.
 fn league_table(alloc: Global) -> Option<Table> {
     let mut rows = Vec::with_capacity(alloc, 3).ok()?;
     for row in [

@@ -71,7 +71,7 @@ fn queue_after_edits(rt: HostRuntime) -> Result<(), Fail> {
     check_edited_queue::<RingTape>(&rt, alloc)
 }
 
-/// A session of a warrior with a full queue, in a core of jumps to the next cell, after a number of turns.
+/// Returns a session of a warrior with a full queue, in a core of jumps to the next cell, after a number of turns.
 fn full_queue<T: Start>(
     rt: &impl Abort,
     alloc: Global,

@@ -9,7 +9,7 @@ use std::alloc::Global;
 use std::process::Abort;
 use std::test::Fail;
 
-/// A session of the imp over a tape that keeps `most` places beside the last one.
+/// Returns a session of the imp over a tape that keeps `most` places beside the last one.
 fn forgetful_imp(alloc: Global, most: usize) -> Result<Session<RingTape>, Fail>
     requires some { 1 ≤ most }
     requires few { most ≤ max_history }

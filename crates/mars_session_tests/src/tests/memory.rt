@@ -31,7 +31,7 @@ impl Begin for RingTape {
     }
 }
 
-/// The imp in a core of 8 cells.
+/// Returns the battle of the imp in a core of 8 cells.
 pub fn battle(alloc: Global) -> Option<Battle> {
     let params = Params::new(8, 8, 80000, 8, 8, 1, 1).ok()?;
     let mut cells = Vec::new(alloc);
@@ -40,12 +40,12 @@ pub fn battle(alloc: Global) -> Option<Battle> {
     Battle::new(alloc, &params, &[warrior], &[0]).ok()
 }
 
-/// The imp's battle, if at most one allocation fails.
+/// Returns the imp's battle, if at most one allocation fails.
 fn second_battle(alloc: Global) -> Option<Battle> {
     battle(alloc).or_else(|| battle(alloc))
 }
 
-/// The imp's tape. If the first try fails, it starts at the battle that was returned.
+/// Returns the imp's tape. If the first try fails, it starts at the battle that was returned.
 pub fn tape<T: Begin>(alloc: Global) -> Option<T> {
     match T::begin(alloc, second_battle(alloc)?) {
         Err(battle) => T::begin(alloc, battle).ok(),
@@ -53,7 +53,7 @@ pub fn tape<T: Begin>(alloc: Global) -> Option<T> {
     }
 }
 
-/// The imp's session.
+/// Returns the imp's session.
 fn session<T: Begin>(alloc: Global) -> Option<Session<T>> {
     Some(Session::new(tape(alloc)?, 100))
 }
@@ -72,7 +72,7 @@ fn second_reply<T: Tape>(session: &mut Session<T>, call: Call) -> Reply {
     reply
 }
 
-/// A session after five turns, back at place 2.
+/// Returns a session after five turns, back at place 2.
 pub fn with_future<T: Begin>(alloc: Global) -> Option<Session<T>> {
     let mut session = session(alloc)?;
     second_reply(&mut session, Call::Run(5)).ok()?;
@@ -217,7 +217,7 @@ const CALLS: &[Call] = &[
     Call::Step,
 ];
 
-/// A list of one reply, if at most one allocation fails.
+/// Returns a list of one reply, if at most one allocation fails.
 fn second_list(alloc: Global) -> Result<Vec<Reply>, Fail> {
     let mut out = Vec::new(alloc);
     if out.push(imp_at!(2, 2, 5)).is_err() {

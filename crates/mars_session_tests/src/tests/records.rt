@@ -223,7 +223,7 @@ const TURNS: &[Turn] = &[
     },
 ];
 
-/// A tape at the battle of the single warrior, before its turn.
+/// Returns a tape at the battle of the single warrior, before its turn.
 fn tape_before<T: Start>(alloc: Global, turn: &Turn) -> Result<T, Fail> {
     let longest = u32::try_from(turn.before.len()).ok().ok_or("length")?;
     let params = params_of(turn.core_size, turn.processes, longest)?;
@@ -268,7 +268,7 @@ fn check_turn<T: Start + Drop>(rt: &impl Abort, alloc: Global, turn: &Turn) -> R
     checked
 }
 
-/// A tape of records after one turn.
+/// Returns a tape of records after one turn.
 fn one_turn(mut tape: DeltaTape) -> Result<DeltaTape, Fail> {
     tape.cut();
     tape.reserve(1)?;

@@ -18,7 +18,7 @@ const OF_MEMORY: TextFault = TextFault {
     token: None,
 };
 
-/// The numbers of lines and asserts of a program, and of the labels and tokens of its lines.
+/// Returns the numbers of lines and asserts of a program, and of the labels and tokens of its lines.
 fn sizes(program: &Program) -> [usize; 4] {
     let lines = program.lines();
     let labels = lines
