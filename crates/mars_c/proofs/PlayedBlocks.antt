@@ -69,7 +69,7 @@ pub mean_next : (numbers : List MarsEdit) (edits : List Edit) (i : ℕ) (one d :
 mean_next numbers edits i one d e before inside is means =
     rw (add-one, take-suc numbers i d inside, is) (zip_push (take i numbers) edits one e before means)
 
--- The record of an edit that was made shows that it had no error.
+-- If the result `r` of an edit is a record, the edit had no error, so the battle has become `state`.
 pub edit_made : (o : Option EditFault) (r : Result Atom EditFault) (x y : Atom) (new state old : State) → r ≡ Ok x → MatchOption o (r ≡ Ok y) (λ fault. r ≡ Err fault) → MatchOption o (new ≡ state) (λ _. new ≡ old) → new ≡ state
 edit_made None r x y new state old is answer made = made
 edit_made (Some fault) r x y new state old is answer made = absurd (cc)

@@ -49,7 +49,6 @@ base_accepted h s ss =
     let end : History = after_command h s ss in
     ap (λ (a : List Place). record { before = end.before; present = end.present; after = a }) (sym (after_append_all (append (cut (marked h)) s) ss refl))
 
--- `n + 1` moves are `n` moves and one more.
 some_again : (x : Option History) → option_and_then (λ k. Some k) x ≡ x
 some_again None = refl
 some_again (Some k) = refl
@@ -58,6 +57,7 @@ more_from : (n : ℕ) (move : History → Option History) → ((k : History) →
 more_from n move e None = refl
 more_from n move e (Some k) = e k
 
+-- `n + 1` moves are `n` moves and one more.
 pub times_more : (n : ℕ) (move : History → Option History) (h : History) → times (suc n) move h ≡ option_and_then move (times n move h)
 times_more zero move h = some_again (move h)
 times_more (suc n) move h = more_from n move (times_more n move) (move h)

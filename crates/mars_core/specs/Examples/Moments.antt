@@ -1,4 +1,4 @@
--- Battles at moments.
+-- Moments of a battle: the cells and processes of each warrior after every few turns, and how many of these turns meet a condition.
 use Rattle.std.specs.Prelude.{◌≡◌, ℕ, List, [], ◌∷◌, ◌++◌, refl}
 use Rattle.std.proofs.Common.{replicate}
 use Rattle.mars_core.specs.Moments.{moments_after}

@@ -1,4 +1,4 @@
-//! Edits, and copies of battles.
+//! Edits, copies of battles, and the texts of errors.
 
 use super::{
     NOP, OUTSIDE, check_clock, check_queue, check_refused, lone_battle, make_edit, make_turns,

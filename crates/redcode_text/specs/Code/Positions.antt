@@ -16,7 +16,8 @@ use Rattle.redcode_text.specs.Code.Progress.{Progress}
 use Rattle.redcode_text.specs.Expression.{max_parens, precedence, binary, kinds, known}
 use Rattle.redcode_text.specs.Code.Climbing.{signed, AreInside, StaysAt}
 
--- As `reduced` of `Climbing`, on the stack of the code.
+-- The value and the stack that are left after the operators on top of the code's stack are applied, as long as their
+-- precedence is at most `k`. `v` is the right operand of the first one. `reduced` of `Climbing` has another form of stack.
 abbrev pub reduced_on : ℕ → List Pending → ℤ → Result (ℤ × List Pending) ExprFault
 reduced_on k [] v = Ok (v, [])
 reduced_on k (Value u s ∷ stack) v = if nat_le (precedence s) k then (binary s u v >>= λ w. reduced_on k stack w) else Ok (v, Value u s ∷ stack)
