@@ -13,7 +13,15 @@ LISTS = os.path.join(TOP, "dev", "bench", "mistakes")
 
 @dataclass
 class Mistake:
-    """A mistake in one place of a definition, and what noticed it."""
+    """A mistake in one place of a definition, and what noticed it.
+
+    - `meaning`: the mistake in words
+    - `file`: the file of the definition, below the crate
+    - `before`, `after`: the text that is replaced, and its replacement
+    - `imports`: the imports that the replacement needs
+    - `same`: why nothing can notice the mistake; "" if something should
+    - `found_by`: the kind of what noticed it, or "nothing", and its name
+    """
 
     crate: str
     meaning: str

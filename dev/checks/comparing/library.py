@@ -68,7 +68,7 @@ def call(name: str, *given: Any) -> Value:
     """Calls the library. Returns the error as a record, whose code is 0 if there is none."""
     fault = new("MarsFault *", {"code": 0})
     answer = getattr(library()[1], name)(*given, fault)
-    # (the error of ROOM is not looked at, except for its code)
+    # ROOM is not an error, so only its code is used.
     return {**plain(fault[0]), "code": answer}
 
 

@@ -24,7 +24,7 @@ def random_cell(dice: random.Random, core: int) -> Value:
     """Returns a cell of a core of this size."""
     cell: Value = {name: (dice.choice(names),) for name, names in PARTS.items()}
     if dice.random() < 0.3:
-        # (opcodes that split or copy keep a battle alive)
+        # These opcodes are frequent, so that battles last longer.
         cell["op"] = (dice.choice(["Spl", "Mov", "Seq", "Djn"]),)
     return {**cell, "a": dice.randrange(core), "b": dice.randrange(core)}
 
@@ -74,7 +74,7 @@ def block_words(definitions: Evaluator, state: Value) -> tuple[int, ...]:
     """Returns the words of a battle, with the capacity that it needs."""
     words: tuple[int, ...] = definitions("mars_core.Block.block_of", state)
     capacity: int = definitions("mars_c.Blocks.capacity_of", state)
-    # (other words than 0 after the block show that they stay as they are)
+    # Words other than 0 after the block show that a call leaves them as they are.
     return words + (SEVEN,) * (capacity - len(words))
 
 
@@ -174,7 +174,7 @@ def compare_blocks(definitions: Evaluator, dice: random.Random) -> Iterator[Comp
     """Words of a battle with one or two of them changed: whether they are still those of a valid battle."""
     words = list(definitions("mars_core.Block.block_of", random_state(dice, dice.choice([0.85, 0.85, 0]))))
     if dice.random() < 0.2:
-        # (about the greatest number of turns that these cycles allow)
+        # A number of turns about the greatest that these cycles allow.
         words[10] = words[11] * words[9] + words[12] + dice.randrange(3)
     for _ in range(dice.choice([1, 1, 2])):
         place = dice.choice([dice.randrange(16), dice.randrange(HEADER), dice.randrange(len(words))])

@@ -76,7 +76,7 @@ class Round:
 
     def core_after(self, turns: int) -> tuple[Value, Value]:
         """Returns the core that its debugger lists after some turns, at least one, and the next address."""
-        # (`skip 0` makes one turn; more lines than PAGE would wait for a key)
+        # `skip 0` executes one turn. After PAGE lines, pMARS waits for a key.
         pages = [f"list {first},{min(first + PAGE, self.core) - 1}" for first in range(0, self.core, PAGE)]
         text = self.run("-b", "-e", lines="\n".join([f"skip {turns - 1}", *pages, "quit", ""]))
         # The first line is the instruction before the first turn, the second one that after the turns.

@@ -72,7 +72,7 @@ def read_lines(*words: object) -> Value:
     lines = room("MarsLine", ROOM_FOR_CELLS)
     labels = read_text("mars_assemble", *words, *cells, program, *lines)
     if isinstance(labels, dict):
-        # (the error)
+        # A record in place of the text is the error.
         return labels
     return {"lines": rows_in(lines[0], program.warrior.length), "labels": labels}
 
