@@ -30,10 +30,10 @@ test("a link carries the whole fight", async () => {
     const shared = { fight, turn: 12, pinned };
     assert.deepEqual(await unpack(await pack(shared)), shared);
   }
-  // A battle of long settings may be short.
+  // Settings that are not those of a hill.
   const settings = { ...HILLS.nano, cycles: 10_000_000, readLimit: 7 };
-  const long = { ...fight, settings, position: 0, edits: [] };
-  assert.deepEqual((await unpack(await pack({ fight: long, turn: 0, pinned: null }))).fight, long);
+  const other = { ...fight, settings, position: 0, edits: [] };
+  assert.deepEqual((await unpack(await pack({ fight: other, turn: 0, pinned: null }))).fight, other);
 });
 
 test("a link does not inflate without end", async () => {

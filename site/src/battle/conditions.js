@@ -70,8 +70,8 @@ function rowsOf({ word, cells, of, origin, was, becomes, by, and }, core) {
 const isBefore = ({ word, and }) => word === "at" || (and !== undefined && isBefore(and));
 
 /**
- * Yields the places of a span at which a condition holds, as `turn`, and the warriors: several at once, which are in
- * order; of these groups the earliest or the latest comes first.
+ * Yields the places of a span at which a condition holds, as `turn`, and the warriors. Each list is in order; the
+ * earliest list comes first if `isForward`, otherwise the latest.
  * @param {History} history
  * @param {Condition} condition
  * @param {{first: number, last: number, isForward: boolean}} span
@@ -85,7 +85,8 @@ function* placesOf(history, condition, { first, last, isForward }) {
 }
 
 /**
- * Returns the first place of a span at which a condition holds, or the last one; null if there is none.
+ * Returns the first place of a span at which a condition holds, or the last one unless `isForward`; null if there is
+ * none.
  * @param {History} history
  * @param {Condition} condition
  * @param {{first: number, last: number, isForward: boolean}} span
@@ -98,8 +99,8 @@ function nearest(history, condition, span) {
 }
 
 /**
- * Returns the place after a turn where one of the conditions holds next, or the one before it where one held last, and
- * the index of that condition; null if there is none.
+ * Returns the nearest place at which one of the conditions holds, after `turn` if `isForward` and before it otherwise,
+ * and the index of that condition; null if there is none.
  * @param {History} history
  * @param {Condition[]} conditions
  * @param {number} turn

@@ -171,8 +171,8 @@ export class History {
   }
 
   /**
-   * Yields the turns after `first`, up to `last`, that meet all conditions of the library: several at once, which are
-   * in order; of these groups the earliest or the latest comes first.
+   * Yields the turns after `first`, up to `last`, that meet all conditions of the library. Each list is in order; the
+   * earliest list comes first if `isForward`, otherwise the latest.
    * @param {import("./records.js").Row[]} conditions
    * @param {number} first
    * @param {number} last
@@ -297,8 +297,8 @@ export class History {
   }
 
   /**
-   * The most processes of each warrior that has had more than two; not if an edit cut off the turn in which it had
-   * them.
+   * Returns an event for each warrior that has had more than two processes: the turn in which it had the most of them.
+   * There is none if an edit cut that turn off.
    * @returns {Event[]}
    */
   #peaks() {

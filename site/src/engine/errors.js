@@ -28,7 +28,7 @@ export function errorText(error) {
 }
 
 /**
- * Returns an error without its place, such as `refused 2 Address`.
+ * Returns the text of an error without its line or index, such as `refused 2 Address`.
  * @param {Numbers} error
  */
 function errorName({ code, number, problem, expression }) {
@@ -44,7 +44,7 @@ function errorName({ code, number, problem, expression }) {
 }
 
 /**
- * Returns a number with its name, or nothing for 0.
+ * Returns a number with its name, or 0 if it is 0.
  * @param {string} names
  * @param {number} number
  */

@@ -154,7 +154,7 @@ function correct(lines, source, misspelt) {
 }
 
 /**
- * Puts a ROF at the end of what is read: before an END, whose line then begins with it, or after the last line.
+ * Closes a FOR: the line of END becomes `ROF` and `END`; without an END, `ROF` is added after the last line.
  * @param {string[]} lines
  * @param {Source} source
  */

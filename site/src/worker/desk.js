@@ -159,7 +159,7 @@ export class Desk {
       cycle: battle.cycle,
       next: battle.next,
       head: at === history.end ? null : queues[battle.next][0],
-      // The message would contain the whole buffer of a view. That of a copy is handed over to the page.
+      // The message would contain the whole buffer of a view. That of a copy is transferred.
       cells: battle.cells.slice(),
       ...place.columns,
       queues: all,

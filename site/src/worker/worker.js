@@ -22,6 +22,7 @@ let calls = Promise.reject(new Error("the worker has not started"));
 calls.catch(() => {});
 
 /**
+ * Starts the machine, and returns what can be called.
  * @param {WebAssembly.Module} module
  * @returns {Promise<Calls>}
  */
@@ -37,7 +38,7 @@ async function start(module) {
 }
 
 /**
- * Returns the buffers of an answer, which are handed over instead of copied.
+ * Returns the buffers of an answer, which are transferred instead of copied.
  * @param {unknown} value
  * @returns {ArrayBuffer[]}
  */
