@@ -169,8 +169,9 @@ class Place:
             text=True,
             env=self.environment(sleeps=sleeps),
             start_new_session=True,
+            # A background process of a shell ignores the signal.
             preexec_fn=lambda: signal.signal(signal.SIGINT, signal.SIG_DFL),
-        )  # (a background process of a shell ignores the signal)
+        )
         while not os.path.exists(f"{self.log}-{sleeps}"):
             time.sleep(0.05)
         time.sleep(0.5)

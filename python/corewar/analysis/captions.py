@@ -14,7 +14,7 @@ def title(history: History) -> str:
 
 
 def outcome(history: History) -> str:
-    """Returns who won, or lives if there is no opponent, as a sentence without its end."""
+    """Returns who won, or lives if there is no opponent, as a sentence without a full stop."""
     living = [name for number, name in enumerate(history.names) if history.death(number) is None]
     if not living:
         return "No survivors"
@@ -46,9 +46,9 @@ def describe_settings(history: History) -> list[str]:
 
 def arguments(history: History) -> list[str]:
     """Returns the arguments of `corewar` that select this battle, with its files."""
-    match, given = history.match, Settings()
+    match = history.match
     numbers = {**vars(match.settings), "rounds": match.rounds, "seed": match.seed, "position": match.position}
-    usual = {**vars(given), "rounds": 1, "seed": 1, "position": None}
+    usual = {**vars(Settings()), "rounds": 1, "seed": 1, "position": None}
     options = [
         text for name, value in numbers.items() if value != usual[name] for text in (NUMBERS[name].word, str(value))
     ]

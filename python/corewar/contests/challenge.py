@@ -13,8 +13,8 @@ from .exact import strip_of
 from .matches import Matches
 from .standings import HEAD, NAMES, RATES, Standings, Sums, best_of, head_of, row_of
 
-# A strip shows the points by distance as bars. Its width in a table, so that the head of that fits into 80 columns, and
-# its least width in a narrow terminal.
+# The width of a strip, which shows the points by distance as bars: in a table, whose head then fits into 80 columns,
+# and the minimum in a narrow terminal.
 STRIP, NARROW_STRIP = 24, 8
 
 
@@ -74,8 +74,8 @@ class Challenge(Standings):
         return self.table()
 
     def table(self, width: int = 0) -> str:
-        """Returns the table. If its rows are longer than a width, unless that is 0, strips are narrower and titles cut,
-        unless even the files do not fit.
+        """Returns the table. If its rows are longer than `width`, strips are narrower and titles are cut, unless even
+        the names of the files do not fit. A width of 0 is no limit.
         """
         columns = self._files, [one.title for one in self.warriors]
         files, titles = (max(map(len, column), default=0) for column in columns)

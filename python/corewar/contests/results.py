@@ -79,7 +79,7 @@ class Results:
 
     @contextmanager
     def file_errors(self) -> Iterator[None]:
-        """Raises an error of SQLite as one of the file."""
+        """Raises a CorewarError that names the file in place of an error of SQLite."""
         try:
             yield
         except sqlite3.Error as fault:

@@ -68,7 +68,8 @@ class Battle:
     def __repr__(self) -> str:
         return f"<Battle of {self._head['warriors']} warriors after {self.turns} turns>"
 
-    __hash__ = None  # type: ignore[assignment]  # (a battle changes)
+    # A battle changes.
+    __hash__ = None  # type: ignore[assignment]
 
     def _slice(self) -> tuple[Any, int]:
         return slice_of("uint32_t", self._words)

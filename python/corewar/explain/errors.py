@@ -1,4 +1,4 @@
-"""Finds all errors of a source. The library reports the first one, so it is asked again with that line replaced."""
+"""Finds the errors of a source. The library reports the first one, so it is called again with that line replaced."""
 from __future__ import annotations
 
 import re
@@ -142,7 +142,7 @@ def correct(lines: list[bytes], source: Source, misspelt: str) -> None:
 
 
 def close(lines: list[bytes], source: Source) -> None:
-    """Puts a ROF at the end of what is read: before an END, whose line then begins with it, or after the last line."""
+    """Closes a FOR: the line of END becomes `ROF` and `END`; without an END, `ROF` is added after the last line."""
     end = next((line.number for line in source.lines if line.word == "END" and not line.unread), None)
     if end is None:
         lines.append(b"ROF")
