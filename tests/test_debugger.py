@@ -347,7 +347,7 @@ def test_over_a_pipe(run: Run) -> None:
     assert lines[0].startswith("turn 1: Dwarf") and lines[2] == "unknown command `bad`; `help` lists all commands"
     assert lines[-1] == "next: Dwarf at 1: MOV.I $2, @2    ; 10: MOV bomb, @bomb"
     late = run("debug", "@dwarf", "@imp", "--turn", 7799)
-    assert late.returncode == 2 and "the battle has turns 1 to 7798" in late.stderr
+    assert late.returncode == 2 and "the battle ends after turn 7798" in late.stderr
     again = run("debug", "@dwarf", "@imp", "--turn", 4, input="source kept\nsource nowhere\n")
     assert again.stdout.splitlines()[0].startswith("turn 6: Imp")
     assert again.stdout.splitlines()[-1] == "nowhere: No such file or directory"

@@ -95,7 +95,7 @@ def test_trace(run: Run) -> None:
         "turn 2: Imp at 1305: MOV.I $0, $1\n    1306: DAT.F $0, $0 -> MOV.I $0, $1\n"
     )
     assert len([line for line in run("trace", "@dwarf", "@imp").stdout.splitlines() if line.startswith("turn")]) == 20
-    assert "the battle has turns 1 to 7798" in run("trace", "--from", 7799, "@dwarf", "@imp").stderr
+    assert "the battle ends after turn 7798" in run("trace", "--from", 7799, "@dwarf", "@imp").stderr
 
 
 def test_changed(run: Run) -> None:

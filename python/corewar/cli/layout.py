@@ -46,7 +46,7 @@ class Number(click.ParamType):
 def checked_turn(turn: int, end: int, option: str) -> int:
     """Returns a turn that an option names. Raises an error of click if it is after the end of the battle."""
     if turn > end:
-        raise click.BadParameter(f"the battle has turns 1 to {end}", param_hint=option)
+        raise click.BadParameter(f"the battle ends after turn {end}", param_hint=option)
     return turn
 
 
