@@ -162,8 +162,11 @@ fn record<R: TurnRow>(
 ///
 /// # Errors
 ///
-/// Returns `Block` if the words are no battle, then `Capacity` if there are too few words, and `OutOfMemory` if an allocation
-/// fails. All arguments are unchanged then.
+/// - `Block` if the words are no battle
+/// - `Capacity` if there are too few words
+/// - `OutOfMemory` if an allocation fails
+///
+/// After an error all arguments are unchanged.
 pub fn play_in(
     alloc: Global,
     words: &mut [u32],
@@ -194,8 +197,13 @@ pub fn play_in(
 ///
 /// # Errors
 ///
-/// In this order: `NoSuchEdit`, `Block`, `Capacity`, `Edit`; `OutOfMemory` if an allocation fails. The words are unchanged
-/// then.
+/// - `NoSuchEdit` if the numbers mean no edit
+/// - `Block` if the words are no battle
+/// - `Capacity` if there are too few words
+/// - `Edit` if an edit is impossible
+/// - `OutOfMemory` if an allocation fails
+///
+/// After an error the words are unchanged.
 pub fn edit_in(alloc: Global, words: &mut [u32], numbers: &MarsEdit) -> Result<(), BlockRefusal>
     ensures done { OnOk result (HoldsEdited numbers.now words.old words.new) }
     ensures refused { IfErr result (RefusesEdit words.old numbers.now) }
@@ -239,8 +247,13 @@ fn make(battle: &mut Battle, edits: &[Edit]) -> Result<(), (usize, EditFault)>
 ///
 /// # Errors
 ///
-/// In this order: `NoSuchEdit`, `Block`, `Capacity`, `Edit`; `OutOfMemory` if an allocation fails. The words are unchanged
-/// then.
+/// - `NoSuchEdit` if the numbers mean no edit
+/// - `Block` if the words are no battle
+/// - `Capacity` if there are too few words
+/// - `Edit` if an edit is impossible
+/// - `OutOfMemory` if an allocation fails
+///
+/// After an error the words are unchanged.
 pub fn edits_in(alloc: Global, words: &mut [u32], numbers: &[MarsEdit]) -> Result<(), BlockRefusal>
     ensures done { OnOk result (HoldsEdits numbers.now words.old words.new) }
     ensures refused { IfErr result (RefusesEdits words.old numbers.now) }

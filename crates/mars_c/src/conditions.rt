@@ -71,7 +71,8 @@ fn condition_of(numbers: &MarsCondition) -> Option<Condition>
 ///
 /// # Errors
 ///
-/// Returns `Condition` with the index of the first numbers that mean none, and `OutOfMemory` if an allocation fails.
+/// - `Condition` with the index of the first numbers that mean no condition
+/// - `OutOfMemory` if an allocation fails
 pub fn conditions_of(
     alloc: Global,
     numbers: &[MarsCondition],

@@ -51,7 +51,8 @@ pub fn edit_of(numbers: &MarsEdit) -> Option<Edit>
 ///
 /// # Errors
 ///
-/// Returns `NoSuchEdit` with the index of the first numbers that mean none, and `OutOfMemory` if an allocation fails.
+/// - `NoSuchEdit` with the index of the first numbers that mean no edit
+/// - `OutOfMemory` if an allocation fails
 pub fn edits_of(alloc: Global, numbers: &[MarsEdit]) -> Result<Vec<Edit>, BlockRefusal>
     ensures edits { IfOk result (λ edits. AllZip Means numbers.now edits.items) }
     ensures refused { IfErr result (IsNoEdit numbers.now) }

@@ -12,7 +12,9 @@ use std::alloc::Global;
 ///
 /// # Errors
 ///
-/// `Formula` if the text is no formula, then `Score` if the formula has no value; `OutOfMemory` if an allocation fails.
+/// - `Formula` if the text is no formula
+/// - `Score` if the formula has no value
+/// - `OutOfMemory` if an allocation fails
 pub fn score(
     alloc: Global,
     formula: &[u8],

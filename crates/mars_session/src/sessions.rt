@@ -92,7 +92,8 @@ impl<T: Tape> Session<T> {
     ///
     /// # Errors
     ///
-    /// `Count` if `n` is out of range; `Over` if the battle is over.
+    /// - `Count` if `n` is out of range
+    /// - `Over` if the battle is over
     pub fn run(&mut self, n: u64) -> Result<Standing, Refusal>
         ensures { CallMeetsSpec self.old (Call.Run n) result self.new }
     {
@@ -103,8 +104,9 @@ impl<T: Tape> Session<T> {
     ///
     /// # Errors
     ///
-    /// `Count` if the remaining cycles times the number of all warriors exceed 1,000,000; `Over` if the battle is over;
-    /// `CyclePassed` if the cycle is not after the present one.
+    /// - `Count` if the remaining cycles times the number of all warriors exceed 1,000,000
+    /// - `Over` if the battle is over
+    /// - `CyclePassed` if the cycle is not after the present one
     pub fn until(&mut self, cycle: u64) -> Result<Standing, Refusal>
         ensures { CallMeetsSpec self.old (Call.Until cycle) result self.new }
     {
@@ -115,7 +117,8 @@ impl<T: Tape> Session<T> {
     ///
     /// # Errors
     ///
-    /// `Address`, `FieldOutside`.
+    /// - `Address` if the core has no such address
+    /// - `FieldOutside` if a number of the cell is outside the core
     pub fn set_cell(&mut self, address: u64, cell: Cell) -> Result<Standing, Refusal>
         ensures { CallMeetsSpec self.old (Call.SetCell address cell) result self.new }
     {
@@ -126,7 +129,9 @@ impl<T: Tape> Session<T> {
     ///
     /// # Errors
     ///
-    /// `Count` for more than 1,000,000 cells; `Address`, also if the first address is above the last; `FieldOutside`.
+    /// - `Count` for more than 1,000,000 cells
+    /// - `Address` if the core has no such address, or the first one is above the last one
+    /// - `FieldOutside` if a number of the cell is outside the core
     pub fn fill(&mut self, from: u64, to: u64, cell: Cell) -> Result<Standing, Refusal>
         ensures { CallMeetsSpec self.old (Call.Fill from to cell) result self.new }
     {
@@ -137,7 +142,9 @@ impl<T: Tape> Session<T> {
     ///
     /// # Errors
     ///
-    /// `Address`, `NoSuchWarrior`, `NoSuchProcess`.
+    /// - `Address` if the core has no such address
+    /// - `NoSuchWarrior` if the battle has no such warrior
+    /// - `NoSuchProcess` if the warrior has no such process
     pub fn move_process(
         &mut self,
         warrior: u64,
@@ -153,7 +160,8 @@ impl<T: Tape> Session<T> {
     ///
     /// # Errors
     ///
-    /// `NoSuchWarrior`, `NoSuchProcess`.
+    /// - `NoSuchWarrior` if the battle has no such warrior
+    /// - `NoSuchProcess` if the warrior has no such process
     pub fn kill(&mut self, warrior: u64, place: u64) -> Result<Standing, Refusal>
         ensures { CallMeetsSpec self.old (Call.Kill warrior place) result self.new }
     {
@@ -164,7 +172,10 @@ impl<T: Tape> Session<T> {
     ///
     /// # Errors
     ///
-    /// `Address`, `NoSuchWarrior`, `WarriorDead`, `QueueFull`.
+    /// - `Address` if the core has no such address
+    /// - `NoSuchWarrior` if the battle has no such warrior
+    /// - `WarriorDead` if the warrior has no process
+    /// - `QueueFull` if the warrior has the maximum number of processes
     pub fn spawn(&mut self, warrior: u64, address: u64) -> Result<Standing, Refusal>
         ensures { CallMeetsSpec self.old (Call.Spawn warrior address) result self.new }
     {
@@ -175,7 +186,10 @@ impl<T: Tape> Session<T> {
     ///
     /// # Errors
     ///
-    /// If there is none, `Forgotten` if a place was ever evicted, otherwise `NothingToUndo`.
+    /// If there is none:
+    ///
+    /// - `Forgotten` if a place was ever evicted
+    /// - otherwise `NothingToUndo`
     pub fn undo(&mut self) -> Result<Standing, Refusal>
         ensures { CallMeetsSpec self.old Call.Undo result self.new }
     {

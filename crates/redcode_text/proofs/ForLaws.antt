@@ -1,5 +1,5 @@
 -- Lemmas for the laws and for the crates above, which no function of this crate needs.
-pub mod Alone
+pub mod ResultValues
 pub mod BehindEnd
 pub mod PrintedNames
 pub mod ShapedTrees

@@ -1,6 +1,6 @@
-//! Calls that don't allocate. Each test makes its objects, allocates again, and then makes the calls.
-//! dev/checks/memory lets each allocation fail in turn, together with all later ones; a test must pass whether its last
-//! one fails or not. If its objects can't be allocated, a test checks nothing.
+//! Calls that do not allocate. Each test creates its objects, allocates again, and passes whether or not that
+//! allocation and all later ones fail; dev/checks/memory lets all allocations from each one on fail. If the objects
+//! themselves cannot be allocated, the test checks nothing.
 ghost use Rattle.std.specs.Prelude.{IfSome, string_bytes};
 ghost use Rattle.mars_cell.specs.Warriors.{IsName};
 
@@ -12,7 +12,7 @@ use mars_cell::{
 use std::alloc::Global;
 use std::test::Fail;
 
-/// Allocates once. If this fails, there is no memory for the calls that follow.
+/// Allocates once. In some runs this is the first allocation that fails.
 fn ask(alloc: Global) {
     let _asked: Result<Vec<u64>, _> = Vec::with_capacity(alloc, 1);
 }

@@ -48,7 +48,7 @@ impl Battle {
     /// - `OutOfMemory` if an allocation fails
     /// - `NoSuchProcess` if there is no such process after the turns
     ///
-    /// `births` is unchanged then.
+    /// After an error `births` is unchanged.
     pub fn ancestors(
         &self,
         alloc: Global,

@@ -1,6 +1,6 @@
-//! Calls that do not allocate. Each test makes its objects, then makes one request for memory, then makes the calls.
-//! dev/checks/memory lets each request fail in turn, together with all later ones; a test must pass whether its last
-//! request fails or not. If its objects cannot be allocated, a test shows nothing.
+//! Calls that do not allocate. Each test creates its objects, allocates again, and passes whether or not that
+//! allocation and all later ones fail; dev/checks/memory lets all allocations from each one on fail. If the objects
+//! themselves cannot be allocated, the test checks nothing.
 ghost use Rattle.std.specs.Prelude.{◌≡◌, IfSome};
 ghost use Rattle.mars_core.specs.Leads.{Leads};
 
@@ -12,7 +12,7 @@ use std::alloc::Global;
 use std::process::Abort;
 use std::test::Fail;
 
-/// Allocates, to be the first of the allocations that fail.
+/// Allocates once. In some runs this is the first allocation that fails.
 fn ask(alloc: Global) {
     let _asked: Result<Vec<u64>, _> = Vec::with_capacity(alloc, 1);
 }

@@ -17,7 +17,7 @@ use Rattle.redcode_text.specs.Programs.{IsPrinted}
 use Rattle.redcode_text.specs.Source as source
 use Rattle.redcode_text.specs.Source.{SourceRow, loop_word, Items, Plain, Loop, LineKind, RofLine, ForLine, EquLine, OtherLine, directive_text, directive_text_at, has_directive_word, is_comment, line_kind, tree_of, without_blanks}
 use Rattle.redcode_text.specs.Tokens.{Scanned, at_line, problem_at, tokens}
-use Rattle.redcode_text.proofs.ForLaws.Alone.{Alone, head-alone}
+use Rattle.redcode_text.proofs.ForLaws.ResultValues.{HoldsOfValue, head-holds}
 use Rattle.redcode_text.proofs.Printing.{all-printed, is-printed}
 
 -- ---- Names
@@ -161,10 +161,10 @@ rof-keeps row st p = go (line_read st) (line-keeps st p)
 -- ---- Loops
 
 abbrev HeadKeeps : {E : Type 0} → Result Head E → Type 0
-HeadKeeps r = Alone (λ (h : Head). ArePrinted h.reading) r
+HeadKeeps r = HoldsOfValue (λ (h : Head). ArePrinted h.reading) r
 
 head-keeps : (ps : Predefined) (row : SourceRow) (st : Reading) → ArePrinted st → HeadKeeps (head_line ps row st)
-head-keeps ps row st p = head-alone ps row st ArePrinted (λ a names n q. q) (λ a q. q) (line-keeps st p)
+head-keeps ps row st p = head-holds ps row st ArePrinted (λ a names n q. q) (λ a q. q) (line-keeps st p)
 
 -- ---- The whole source
 
