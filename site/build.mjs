@@ -2,7 +2,8 @@
 //
 //     node site/build.mjs MARS.wasm FOLDER [CODEMIRROR]
 //
-// CODEMIRROR is the folder of Debian's libjs-codemirror. esbuild, terser and Debian's binaryen have to be on the path.
+// FOLDER is emptied first. CODEMIRROR is the folder of Debian's libjs-codemirror. esbuild, terser and Debian's binaryen
+// have to be on the path.
 import { execFileSync } from "node:child_process";
 import fs from "node:fs";
 import path from "node:path";
@@ -22,7 +23,7 @@ const filesOf = (place, ending) => fs.readdirSync(place).filter((name) => name.e
 /** Where Debian has the modules that terser imports. Only Debian's own Node looks there by itself. */
 const NODE_PATH = "/usr/share/nodejs:/usr/lib/nodejs";
 
-/** Makes a minified bundle smaller: both by 4 kB, compressed. The comment of several lines stays, the licence. */
+/** Shortens a bundle; this saves 4 kB of both, compressed. Keeps the comment of several lines, CodeMirror's licence. */
 function shorten(file) {
   const words = [file, "--compress", "passes=2,toplevel", "--mangle", "--toplevel", "--comments", "/^\\n/"];
   execFileSync("terser", [...words, "--output", file], { env: { ...process.env, NODE_PATH } });
@@ -38,7 +39,7 @@ function bundle(from, name, banner) {
   shorten(output(name));
 }
 
-/** Styles of what the site lacks of the editor: Vim mode, theme, addons, wrapped lines, widgets, searches. */
+/** Styles of what the site does not use of CodeMirror: Vim mode, theme, addons, wrapped lines, widgets, searches. */
 const UNUSED = [
   /^\.cm-fat-cursor [^]*(?=^\.cm-tab )/m,
   /^\.CodeMirror-rulers [^]*\/\* STOP \*\//m,
@@ -49,7 +50,7 @@ const UNUSED = [
   /^.*::-moz-selection .*/gm,
 ];
 
-/** The style sheets in one. */
+/** Returns the style sheets of CodeMirror, without the unused styles, and of the site as one. */
 function style() {
   const whole = read(path.join(codemirror, "lib", "codemirror.css"));
   const editor = UNUSED.reduce((text, unused) => text.replace(unused, ""), whole);
@@ -57,18 +58,19 @@ function style() {
   return execFileSync("esbuild", ["--loader=css", "--minify"], { input, encoding: "utf8" });
 }
 
-/** The sentences on errors of sources: what they mean, those of expressions by their last words, and their causes. */
+/** Returns the sentences about errors of sources and about their causes, by the keys that src/words/errors.js uses. */
 function meanings() {
   const file = inside("..", "python", "corewar", "explain", "meanings.json");
   const { expressions, errors, causes } = JSON.parse(read(file));
   return { ...expressions, ...errors, ...causes };
 }
 
-/** The calls of the library that the page does not make, and what mars.wasm needs of WebAssembly. */
+/** The calls of the library that the page does not make. */
 const UNCALLED = ["check", "debug", "edits", "league", "population", "read_load"];
+/** The features of WebAssembly that mars.wasm uses. */
 const FEATURES = ["bulk-memory", "sign-ext", "nontrapping-float-to-int", "multivalue", "mutable-globals"];
 
-/** Writes the machine with the calls that the page makes, and nothing else. */
+/** Writes mars.wasm with the calls that the page makes, and nothing else. */
 function machine() {
   const isCalled = (name) => !UNCALLED.some((call) => name === `mars_${call}`);
   const names = WebAssembly.Module.exports(new WebAssembly.Module(fs.readFileSync(wasm))).map(({ name }) => name);
@@ -81,7 +83,7 @@ function machine() {
   fs.rmSync(from);
 }
 
-/** What the page knows: examples, lessons, and what errors mean. */
+/** Returns what the page knows: examples, lessons, and what errors mean. */
 function data() {
   const [examples, lessons] = [inside("..", "examples"), inside("lessons")];
   return {
@@ -91,7 +93,7 @@ function data() {
   };
 }
 
-/** A script element. Its text has no end of an element in it. */
+/** Returns a script element, with any end of a script in its text escaped. */
 const script = (text, attributes = "") => `<script${attributes}>${text.replaceAll("</script", "<\\/script")}</script>`;
 const plain = (id, text) => script(text, ` id="${id}" type="text/plain"`);
 

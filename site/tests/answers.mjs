@@ -10,8 +10,8 @@ import { Desk } from "../src/worker/desk.js";
 
 const mars = await Mars.load(fs.readFileSync(process.argv[2]));
 
-/** Opens a fight with those of its edits that are possible. */
-function opened(desk, { edits, ...fight }) {
+/** Opens a fight and makes its edits; leaves out the impossible ones. */
+function open(desk, { edits, ...fight }) {
   let opened = desk.open({ ...fight, rounds: fight.round + 1, position: 0, formula: "", edits: [] });
   for (const { turn, text } of edits) {
     try {
@@ -23,18 +23,19 @@ function opened(desk, { edits, ...fight }) {
   return opened;
 }
 
+/** Returns the battle of a fight after the given turns, what each question finds, and the overview of the battle. */
 function answer({ turns, questions, ...fight }) {
   const desk = new Desk(mars);
-  const { future, end, deaths, lines } = opened(desk, fight);
+  const { future, end, deaths, lines } = open(desk, fight);
   const states = turns.map((given) => {
     const turn = Math.min(given, end);
     const { owner, written, head, cycle, queues, processes } = desk.turn(future, turn);
     const edited = [...owner.keys()].map((address) => desk.cell(future, address, turn).edited?.turn ?? null);
-    const found = [...desk.origins(future, turn)].map((origin) => lines[origin]?.line ?? 0);
+    const own = [...desk.origins(future, turn)].map((origin) => lines[origin]?.line ?? 0);
     const born = processes.flatMap((count, warrior) => {
       return Array.from({ length: count }, (_, place) => desk.born(future, turn, warrior, place));
     });
-    const shown = { owner: [...owner], written: [...written], edited, lines: found, queues: [...queues], born };
+    const shown = { owner: [...owner], written: [...written], edited, lines: own, queues: [...queues], born };
     return { turn, head, cycle, ...shown };
   });
   const found = questions.map(({ condition, turn, forward }) =>

@@ -1,4 +1,4 @@
-// Two versions of a warrior, as tests/test_challenge.py compares them: scores of a round in place of 100 rounds.
+// Tests what the scores of two versions of a warrior show: the change with its standard error, and the verdict.
 import assert from "node:assert/strict";
 import { test } from "node:test";
 
@@ -21,7 +21,7 @@ test("a change in every round is no chance", () => {
   const same = changeOf(now, now, true);
   assert.deepEqual([same.change, same.error, isSure(same)], [0, 0, false]);
   assert.equal(verdict(same), "Both versions score the same in every round.");
-  // The mean of five opponents is no whole number.
+  // The mean change over five opponents is not a whole number.
   const rows = (value) => [Array(7).fill(value), ...Array(4).fill(Array(7).fill(2))];
   const found = changeOf(rows(0), rows(1), true);
   assert.deepEqual([found.change, found.error, isSure(found)], [0.2, 0, true]);

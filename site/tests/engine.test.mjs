@@ -1,4 +1,5 @@
-// Compares mars.wasm with the native program over random battles.
+// Tests mars.wasm and its calls: random battles as the native program plays them, and the results, errors and memory of
+// each call.
 //
 //     MARS_WASM=build/mars.wasm MARS=crates/mars/out/mars node --test site/tests/
 import assert from "node:assert/strict";
@@ -23,6 +24,7 @@ const mars = await Mars.load(code);
 const folder = fs.mkdtempSync(path.join(os.tmpdir(), "engine-"));
 after(() => fs.rmSync(folder, { recursive: true }));
 
+// A generator of the test's own, so that each run has the same battles.
 let state = 12345;
 const random = (limit) => {
   state = (Math.imul(state, 1103515245) + 12345) >>> 0;
@@ -48,7 +50,7 @@ function randomFight() {
   return { settings, sources, seed: 1 + random(1e6), rounds: 1 + random(4) };
 }
 
-/** Runs the native program on a fight. */
+/** Runs the native program on a fight, and returns its output. */
 function native({ settings, sources, seed, rounds }, options, input = "") {
   const files = sources.map((source, index) => {
     const file = path.join(folder, `${index}.red`);
@@ -63,7 +65,7 @@ function native({ settings, sources, seed, rounds }, options, input = "") {
   return execFileSync(process.env.MARS, [...given, ...options, ...files], { input, encoding: "latin1" });
 }
 
-/** The code and the number of the error that an act throws. */
+/** Returns the code and the number of the error that an act throws, or null if it throws none. */
 function errorOf(act) {
   try {
     act();

@@ -1,4 +1,5 @@
-// Shows that each lesson about a warrior can be passed, and that the source that it begins with does not pass.
+// Shows that each lesson can be passed, that the source that a lesson begins with does not pass, and that wrong lessons
+// are rejected.
 //
 //     MARS_WASM=build/mars.wasm node --test site/tests/
 import assert from "node:assert/strict";
@@ -66,7 +67,7 @@ const SOLUTIONS = {
 const names = fs.readdirSync(LESSONS).sort();
 const lessons = names.map((name) => readLesson(name, fs.readFileSync(new URL(name, LESSONS), "utf8")));
 
-/** Whether a source reaches the goal of a lesson, as the page checks it. */
+/** Returns whether a source reaches the goal of a lesson, as the page checks it. */
 function passes({ goal, opponents, sources }, source) {
   const others = [...opponents.map(example), ...sources.map(({ text }) => text)];
   const warriors = [source, ...others].map((text) => mars.assemble(text, { rounds: 100 }));
@@ -92,9 +93,9 @@ for (const lesson of lessons.filter(({ judge }) => judge === "match")) {
   });
 }
 
-/** Opens the battle of a lesson. */
-function opened(desk, kind) {
-  const lesson = lessons.find(({ judge }) => judge === kind);
+/** Opens the battle of the first lesson that a judge, such as "death", checks. */
+function opened(desk, judge) {
+  const lesson = lessons.find((one) => one.judge === judge);
   const warriors = lesson.opponents.map((name) => ({ name, text: example(name) }));
   const terms = { settings: DEFAULTS, seed: 1, rounds: 100, round: 0, position: 0, formula: "" };
   return desk.open({ ...terms, warriors, edits: [] });

@@ -1,4 +1,4 @@
-// What workers do: the desk, which has the battle that is shown, with the sentences about its turns, and jobs.
+// Tests what workers do: the desk, which has the battle that is shown, also in words; and jobs.
 //
 //     MARS_WASM=build/mars.wasm node --test site/tests/
 import assert from "node:assert/strict";
@@ -13,13 +13,13 @@ import { Jobs } from "../src/worker/jobs.js";
 
 const mars = await Mars.load(fs.readFileSync(process.env.MARS_WASM));
 
-/** A fight of some sources, with edits. */
+/** Returns a fight of some sources, with edits. */
 function fightOf(texts, edits = []) {
   const warriors = texts.map((text, index) => ({ name: `${index}.red`, text }));
   return { settings: DEFAULTS, seed: 1, rounds: 1, round: 0, position: 0, formula: "", warriors, edits };
 }
 
-/** What moveWords has to know of a battle without labels. */
+/** Returns what moveWords has to know of a battle without labels. */
 const known = (names) => ({ names, core: 8000, end: 100, deaths: [], addresses: new Map(), labels: new Map() });
 
 test("a fight that cannot be opened leaves the battle that is open", () => {
@@ -44,7 +44,7 @@ test("a score formula is checked", () => {
   for (const formula of ["", "W/", "X"]) assert.throws(() => jobs.checkFormula(formula), /1 |Syntax|formula|FORMULA/);
 });
 
-/** The text of an example. */
+/** Returns the text of an example. */
 const example = (name) => fs.readFileSync(new URL(`../../examples/${name}.red`, import.meta.url), "utf8");
 
 test("a death has a chain of turns", () => {
@@ -117,7 +117,7 @@ test("hits are the places that searches find", () => {
   assert.deepEqual(desk.hits(0, conditions, 2), found.slice(0, 2));
 });
 
-/** Paints a whole picture, and returns who is where in it, and how bright. */
+/** Paints a whole picture. Returns a function of a column and a row: the owner there, and how bright it is. */
 function painted(desk, frame, future = 0) {
   const [owner, light] = [[], []];
   for (let from = 0; from < frame.columns; from = owner.length / frame.rows) {

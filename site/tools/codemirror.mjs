@@ -1,5 +1,5 @@
-// CodeMirror 5 as its src/edit/main.js makes it, without the fields of forms, the extensions and the older names.
-// `codemirror-src` is its folder src.
+// Makes CodeMirror 5 for the site as CodeMirror's src/edit/main.js does, without support for the fields of forms,
+// extensions and older names. build.mjs lets `codemirror-src` stand for CodeMirror's folder src.
 import { CodeMirror } from "codemirror-src/edit/CodeMirror.js";
 import addEditorMethods from "codemirror-src/edit/methods.js";
 import { defineOptions } from "codemirror-src/edit/options.js";

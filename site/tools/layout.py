@@ -18,11 +18,12 @@ from cffi import FFI
 sys.path.insert(0, str(Path(__file__).resolve().parents[2] / "python"))
 from corewar.model.header import characters, content, declarations, enumerations, names  # noqa: E402
 
-# The enumerations of errors: by the results that have numbered errors, and those of expressions and of source texts.
+# The kinds of numbered errors: the results that have such errors, and those inside expressions (EXPRESSION) and source
+# texts (TEXT).
 ERRORS = """SETTINGS PARAMETERS EXPRESSION ASSEMBLY TEXT LOAD PLACEMENT BATTLE BLOCK EDIT WARRIOR LINEUP""".split()
-# The enumerations whose names are printed as lists, by their first name; and the enumerations of opcodes, modifiers and
-# modes, whose numbers are not printed one by one.
+# By the first name of an enumeration, the name of the list that is printed of its names.
 LISTS = {"DAT": "OPCODES", "A": "MODIFIERS", "DONE": "RESULTS"}
+# The first names of the opcodes, modifiers and modes, whose numbers are not printed one by one.
 CELLS = "DAT", "A", "IMMEDIATE"
 
 

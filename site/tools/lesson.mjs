@@ -1,14 +1,14 @@
 // Reads the lessons of site/lessons: a head, paragraphs, and sources.
 //
-// The lines of the head are `title`, `judge`, `opponents` (names of examples), `goal` (`wins`, `survives` and `cells`,
-// each with a number) and `hint`. `--- start` is followed by the source that the learner begins with, `--- NAME.red` by
-// an opponent that is not an example.
+// The lines of the head are `title`, `judge` (src/app/lessons.js explains each), `opponents` (names of examples),
+// `goal` (`wins`, `survives` and `cells`, each with a number) and `hint`. `--- start` is followed by the source that
+// the learner begins with, `--- NAME.red` by an opponent that is not an example.
 
 const KEYS = ["title", "judge", "opponents", "goal", "hint"];
 const JUDGES = ["end", "death", "saved", "match"];
 const GOALS = ["wins", "survives", "cells"];
 
-/** Returns the words of a goal as numbers by names. */
+/** Returns the numbers of a goal by their names, such as `wins`. */
 function goalOf(text) {
   const words = text.split(/\s+/).filter(Boolean);
   const entries = words.flatMap((word, at) => (at % 2 ? [] : [[word, Number(words[at + 1])]]));
@@ -17,7 +17,7 @@ function goalOf(text) {
   return Object.fromEntries(entries);
 }
 
-/** Returns a lesson by the name and the text of its file. */
+/** Returns the lesson of a file, given the file's name and text. Throws an Error if the head is wrong. */
 export function readLesson(name, text) {
   const [front, ...parts] = text.split(/^--- (.*)\n/m);
   const [head, ...paragraphs] = front.trim().split(/\n{2,}/);

@@ -2,8 +2,8 @@
 
 /** @typedef {import("../model/fight.js").Edit} Edit */
 /**
- * The turns in which a process and its ancestors were born, that of its own birth first. `added` is the turn after
- * which an edit added the first of them, or null if it was loaded.
+ * The turns in which a process and its ancestors were born, its own birth first. `added` is the turn after which an
+ * edit added the first ancestor, or null if that was loaded.
  * @typedef {{births: number[], added: number | null}} Descent
  */
 

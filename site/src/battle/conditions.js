@@ -16,9 +16,10 @@ const { NUMBER_OWNER, NUMBER_WARRIOR, OPCODES, READS } = layout;
  * - `origin`: where its instruction was loaded, the first and the last address
  * - `was`, `becomes`: its opcode before the turn, and the one that the turn gave it in place of another
  * - `by`: the warrior of the turn
- * - `and`: what the same turn meets, too; if the word is the same, with the same cell
+ * - `and`: a condition that the same turn meets, too, with the same cell if the word is the same
  *
- * It holds at a place, a number of executed turns: after its turn, or before it if a word is `at`.
+ * A condition holds at a place, which is a number of executed turns: after the turn that meets it, or before that turn
+ * if a word is `at`.
  * @typedef {{word: Word, cells?: number[], of?: number, origin?: number[], was?: string, becomes?: string, by?: number,
  *   and?: Condition}} Condition
  */
@@ -30,6 +31,7 @@ const { NUMBER_OWNER, NUMBER_WARRIOR, OPCODES, READS } = layout;
  * @type {Partial<Record<Word, number>>}
  */
 const WAYS = { at: EXECUTES, changes: CHANGES, reads: READS };
+/** The last address of a condition on any cell. */
 const MAX = 0xffffffff;
 
 /**

@@ -23,8 +23,8 @@ import { EVENT } from "./story.js";
  * @typedef {Omit<import("../model/fight.js").Fight, "warriors" | "edits"> & {warriors: Warrior[]}} Match
  */
 
-/** The maximum number of moments of an overview. */
-const MOMENTS = 1200;
+/** The maximum number of steps between the moments of an overview, if edits do not cut them. */
+const STEPS = 600;
 /** The index of an origin that was not loaded. */
 const UNKNOWN = 0xffffffff;
 
@@ -105,7 +105,7 @@ export class History {
   }
 
   /**
-   * Returns the segment of the state after a turn and after the edits made there.
+   * Returns the segment that has the battle after a turn and after the edits that follow that turn.
    * @param {number} turn
    */
   segment(turn) {
@@ -115,8 +115,8 @@ export class History {
   }
 
   /**
-   * Returns the place of the battle after a turn and after the edits made there. The next call changes it: copy it to
-   * keep it.
+   * Returns the battle after a turn and after the edits that follow that turn. The next call changes the returned
+   * place: copy it to keep it.
    * @param {number} turn
    */
   place(turn) {
@@ -132,8 +132,8 @@ export class History {
   }
 
   /**
-   * Returns for a cell after a turn, and after the edits made there, of which loaded cell it is a copy: its index among
-   * those of all warriors, or a number beyond them.
+   * Returns of which loaded cell a cell is a copy after a turn and the edits that follow it: an index of `loaded`, or
+   * UNKNOWN if it is a copy of none.
    * @param {number} address
    * @param {number} turn
    */
@@ -142,7 +142,7 @@ export class History {
   }
 
   /**
-   * Returns the origin of each cell.
+   * Returns the origin of each cell after a turn, as `origin` does.
    * @param {number} turn
    */
   origins(turn) {
@@ -196,7 +196,7 @@ export class History {
   nextChange(address, turn) {
     for (const { run, last } of this.segments) {
       if (run.first > turn && run.start.written(address) === run.first) return run.first;
-      // The marks know between which of them it is.
+      // Each mark has the last change of the cell, so the change is before the first mark with a later one.
       const places = [...run.marks, run.ending];
       const index = places.findIndex((place) => place.written(address) > turn);
       if (index < 1) continue;
@@ -226,7 +226,7 @@ export class History {
   }
 
   /**
-   * Returns the history in which an edit changes the battle after a turn. Throws a MarsError if it is impossible.
+   * Returns the history in which an edit changes the battle after a turn. Throws a MarsError if the edit is impossible.
    * @param {number} turn
    * @param {Edit} edit
    */
@@ -254,7 +254,7 @@ export class History {
    */
   overview(first, last) {
     let place = this.place(first).copy();
-    const sampler = new Sampler(place, Math.max(1, Math.ceil((2 * (last - first)) / MOMENTS)));
+    const sampler = new Sampler(place, Math.max(1, Math.ceil((last - first) / STEPS)));
     for (const { run, last: end } of this.segments) {
       if (end <= place.turn || run.first >= last) continue;
       // After an edit the battle is another one.

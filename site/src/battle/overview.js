@@ -1,4 +1,4 @@
-/** A battle at a glance: at some moments how much each warrior has. */
+/** A battle at a glance: how many cells and processes each warrior has at some moments. */
 import { MarsMoment } from "../model/layout.js";
 import { EVENTS } from "./records.js";
 
@@ -19,7 +19,7 @@ export class Sampler {
 
   /**
    * @param {Place} place
-   * @param {number} step
+   * @param {number} step the number of turns between two moments
    */
   constructor(place, step) {
     const { turns, cells, processes, splits, ends } = this.overview;
@@ -40,6 +40,7 @@ export class Sampler {
    */
   playTo(mars, place, turn) {
     while (place.turn < turn && !place.battle.over) {
+      // How many turns of a step are already played, because it was cut by an edit, and how many turns are left.
       const [late, left] = [(place.turn - this.first) % this.step, turn - place.turn];
       const isWhole = late === 0 && left >= this.step;
       const [step, count] = isWhole ? [this.step, Math.floor(left / this.step)] : [Math.min(this.step - late, left), 1];
@@ -49,9 +50,10 @@ export class Sampler {
   }
 
   /**
-   * @param {Uint32Array} rows
+   * Appends moments to the overview.
+   * @param {Uint32Array} rows words of MarsMoment
    * @param {number} warriors
-   * @param {number} before the number of processes before them
+   * @param {number} before the number of processes at the moment before the rows
    */
   #take(rows, warriors, before) {
     const { turns, cells, processes, splits, ends } = this.overview;

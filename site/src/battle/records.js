@@ -1,4 +1,4 @@
-/** What the library says of turns: their records, and those that meet conditions. */
+/** What the library says of turns: the records of turns, and which turns meet conditions. */
 import * as layout from "../model/layout.js";
 import { CELL_WORDS } from "../model/cells.js";
 
@@ -11,7 +11,8 @@ import { CELL_WORDS } from "../model/cells.js";
  *   changes: Change[]}} Deed
  */
 /**
- * A turn that was found. `owner` and `written` are those of the cell that it executed, before it.
+ * A turn that was found. `queued` is how many processes it queued; `owner` and `written` are the owner of the cell that
+ * it executed and the turn that changed that cell last, before this turn.
  * @typedef {{turn: number, warrior: number, queued: number, address: number, owner: number, written: number}} Found
  */
 

@@ -9,8 +9,9 @@ import { EVENT, Story } from "./story.js";
 /** @typedef {import("./place.js").Place} Place */
 /** @typedef {import("./story.js").Event} Event */
 
-/** The least distance of marks, in turns, and the most bytes that all marks of a run take. */
+/** The least distance of marks, in turns. */
 const STRIDE = 16_384;
+/** The most bytes that all marks of a run take. */
 const MAX_MARK_BYTES = 76 << 20;
 const TOO_LONG = `The battle is too long: the site shows at most ${MAX_TURNS.toLocaleString("en")} turns.`;
 
@@ -49,7 +50,7 @@ export class Run {
    * Plays a battle to its end. Throws an error if it has too many turns.
    * @param {Mars} mars
    * @param {Place} place its start, which is moved to the end
-   * @param {{edit: Edit | null, dead: number}} before the edit before the start, and the number of deaths before that
+   * @param {{edit: Edit | null, dead: number}} before the edit at the start, and the number of deaths before it
    */
   constructor(mars, place, { edit, dead } = { edit: null, dead: 0 }) {
     this.mars = mars;
@@ -91,6 +92,7 @@ export class Run {
   }
 
   /**
+   * Returns the event of a death, with the cell on which the warrior died.
    * @param {{warrior: number, turns: number}} death
    * @returns {Event}
    */

@@ -32,7 +32,7 @@ export class Story {
   constructor(run) {
     this.run = run;
     this.processes = run.start.processes;
-    /** The turn in which each warrior had the most processes. */
+    /** The most processes that each warrior has had, and the first turn in which it had as many. */
     this.peaks = this.processes.map((count) => ({ count, turn: run.first }));
     const warriors = this.processes.length > MAX_STORY_WARRIORS ? [] : [...this.processes.keys()];
     /** Which warriors have not split yet, and which have not yet hit which others. */
@@ -54,6 +54,7 @@ export class Story {
   }
 
   /**
+   * Returns the first splits in the turns after a mark, and notes peaks.
    * @param {Place} mark
    * @param {number} turns
    */
@@ -72,6 +73,7 @@ export class Story {
   }
 
   /**
+   * Returns the first hits of one warrior on another in the turns after a mark.
    * @param {Place} mark
    * @param {number} turns
    */

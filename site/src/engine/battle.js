@@ -16,7 +16,10 @@ export class Battle {
     this.words = words;
   }
 
-  /** @param {number} offset */
+  /**
+   * Returns a word of the header.
+   * @param {number} offset in bytes, as MarsBattle has it
+   */
   field(offset) {
     return this.words[offset / WORD];
   }
@@ -75,7 +78,7 @@ export class Battle {
   }
 
   /**
-   * The addresses of the processes of a warrior, the front of its queue first.
+   * Returns the addresses of the processes of a warrior, the front of its queue first.
    * @param {number} warrior
    */
   queue(warrior) {
@@ -85,7 +88,7 @@ export class Battle {
     return this.words.subarray(first, first + counts[warrior]);
   }
 
-  /** A copy, which later turns and edits do not change. */
+  /** Returns a copy, which later turns and edits do not change. */
   copy() {
     return new Battle(this.words.slice());
   }

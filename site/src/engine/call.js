@@ -199,11 +199,11 @@ export class Call {
   }
 
   /**
-   * Makes a call that writes a program, and if there is `room` for labels the lines of its cells with them; a second
-   * time with larger buffers if the first are too short.
+   * Makes a call that writes a program, again with larger buffers if the first ones are too short. If `room` is not 0,
+   * the call also writes the lines of the cells, with their labels.
    * @param {string} name
    * @param {Arguments} given
-   * @param {number} room the bytes for the labels
+   * @param {number} room the number of bytes for labels in the first buffer
    * @returns {{warrior: Warrior, lines: Line[]}}
    */
   program(name, given, room = 0) {
@@ -234,7 +234,7 @@ export class Call {
    * Returns the lines that a call wrote.
    * @param {bigint} address
    * @param {number} count
-   * @param {string} labels those of all lines, each with a zero character after it
+   * @param {string} labels the labels of all lines, each with a zero character after it
    */
   #linesAt(address, count, labels) {
     const view = this.view(address);
@@ -247,10 +247,10 @@ export class Call {
   }
 
   /**
-   * Makes a call that writes a text, and returns it: a second time with a larger buffer if the first is too short.
+   * Makes a call that writes a text, again with a larger buffer if the first one is too short. Returns the text.
    * @param {string} name
    * @param {Arguments} given
-   * @param {number} size
+   * @param {number} size the number of bytes of the first buffer
    */
   text(name, given, size) {
     const length = this.allocate(8);

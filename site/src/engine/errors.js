@@ -1,4 +1,4 @@
-/** The texts of errors of the library: those of `mars` and of the package for Python. */
+/** The texts of errors of the library, as `mars` and the Python package write them. */
 import { ASSEMBLY, BLOCK, EDIT, ERROR_NAMES, FORMULA, LINEUP, LOAD, RESULTS, SCORE, WARRIOR } from "../model/layout.js";
 import { MarsError } from "../model/errors.js";
 

@@ -101,8 +101,8 @@ export class Machine {
    * Makes turns of a battle in place, as `follow`. Returns the battle after each step: the words of rows as MarsMoment,
    * which count the turns since the row before that meet all conditions.
    * @param {Followed} followed
-   * @param {number} step the number of turns
-   * @param {number} count
+   * @param {number} step the number of turns between two rows
+   * @param {number} count the number of rows
    * @param {Condition[]} conditions
    */
   moments(followed, step, count, conditions) {
@@ -116,14 +116,13 @@ export class Machine {
   }
 
   /**
-   * Finds the turns in which a process and its ancestors were born; the battle stays as it is. The process is given by
-   * its warrior and its place in the queue after `turns` turns, or at the end of the battle. Returns the turns, that of
-   * its own birth first, and the place, in the queue of the battle, of the process from which all of them descend.
-   * Throws a MarsError if there is no such process.
+   * Finds the turns in which a process and its ancestors were born; the battle stays as it is. Returns these turns, the
+   * birth of the process itself first, and the place, in the queue of the battle, of the process from which all of them
+   * descend. Throws a MarsError if there is no such process.
    * @param {Battle} battle
    * @param {number} turns
    * @param {number} warrior
-   * @param {number} place
+   * @param {number} place of the process in its queue after `turns` turns, or at the end if the battle ends before
    */
   ancestors(battle, turns, warrior, place) {
     return this.within((call) => {
@@ -142,7 +141,7 @@ export class Machine {
   }
 
   /**
-   * Makes an edit of a battle in place. Throws a MarsError if it is refused; then the battle is unchanged.
+   * Edits a battle in place. Throws a MarsError if the edit is refused; then the battle is unchanged.
    * @param {Battle} battle
    * @param {{kind: "cell" | "move" | "kill" | "add", warrior?: number, place?: number, address?: number,
    *   cell?: import("../model/cells.js").Cell}} edit

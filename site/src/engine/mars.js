@@ -24,7 +24,10 @@ export { MarsError } from "../model/errors.js";
  * @typedef {{survived: number, turns: number, start: number, own_turns: number, spawned: number, executed: number,
  *   written: number, touched: number}} Outcome
  */
-/** @typedef {{settings?: Settings, rounds?: number, seed?: number, position?: number}} Terms */
+/**
+ * What a match is fought by. `position` is the address of the second of two warriors, or 0 if positions are drawn.
+ * @typedef {{settings?: Settings, rounds?: number, seed?: number, position?: number}} Terms
+ */
 
 const encoder = new TextEncoder();
 /**
@@ -33,8 +36,9 @@ const encoder = new TextEncoder();
  * @param {string} name
  */
 const nameBytes = (name) => encoder.encode(name.replaceAll("\0", "\n")).subarray(0, 64);
-// The bytes of labels for which a buffer is made first.
+/** The number of bytes for labels in the first buffer of `assemble`. */
 const LABELS = 1024;
+
 export class Mars extends Machine {
   /** @param {WebAssembly.Instance} instance */
   constructor(instance) {
@@ -144,8 +148,8 @@ export class Mars extends Machine {
    * Runs matches of some of the warriors, and returns how each warrior of each match fares in each round.
    * @param {Warrior[]} warriors
    * @param {number[][]} lineups the indices of the warriors of each match
-   * @param {Terms & {seeds?: number[], counts?: boolean}} terms `seeds`: that of each match in place of one for all;
-   *   `counts`: whether to count what each warrior does
+   * @param {Terms & {seeds?: number[], counts?: boolean}} terms `seeds`: the seed of each match, in place of one for
+   *   all; `counts`: whether to count what each warrior does
    * @returns {Outcome[][][]} by match, round and warrior of the match
    */
   outcomes(warriors, lineups, terms = {}) {

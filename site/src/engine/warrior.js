@@ -1,4 +1,4 @@
-/** What is shown of a warrior. */
+/** What is shown of a warrior; and how the sources of a match are assembled. */
 import { CELL_WORDS, readCell } from "../model/cells.js";
 import { MarsError } from "../model/errors.js";
 
@@ -11,6 +11,7 @@ import { MarsError } from "../model/errors.js";
  */
 
 /**
+ * Returns what is shown of a warrior.
  * @param {Warrior} warrior
  * @param {string} [text] its source
  * @returns {Description}

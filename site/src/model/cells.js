@@ -12,8 +12,9 @@ export { MODES, MODIFIERS, OPCODES };
 /** The number of 32-bit words of a cell, in a battle and in a warrior. */
 export const CELL_WORDS = 3;
 
-/** Owners of a cell besides the numbers of warriors: of one that was never loaded or written, and of an edited one. */
+/** The owner of a cell that was never loaded or written, in place of the number of a warrior. */
 export const NOBODY = 255;
+/** The owner of a cell that an edit changed last. */
 export const BY_HAND = 254;
 
 /** The first word of an empty cell, `DAT.F $0, $0`; its other words are 0. */

@@ -1,7 +1,7 @@
 /** An error of a call of the library. */
 
 /**
- * The result of a call, one of mars.h, and the fields of its MarsFault; those that do not apply are 0.
+ * The result of a call, `code`, as mars.h numbers it, and the fields of its MarsFault, 0 if they do not apply.
  * @typedef {{code: number, number: number, problem: number, expression: number, line: number, warrior: number,
  *   begin: number, end: number}} Numbers
  */

@@ -1,4 +1,4 @@
-/** What is fought: a round of a match, with the edits that are made in it. */
+/** What is fought: a round of a match, with the edits that are made in it, which can be written as text. */
 import { cellText, parseCell } from "./cells.js";
 
 /** @typedef {import("./cells.js").Cell} Cell */
@@ -14,7 +14,8 @@ import { cellText, parseCell } from "./cells.js";
  */
 /** @typedef {{turn: number, edit: Edit}} Made an edit, and the turn after which it is made */
 /**
- * A round of a match; `round` is its number, from 0.
+ * A round of a match; `round` is its number, from 0. `position` is the address of the second of two warriors, or 0 if
+ * positions are drawn from the seed.
  * @typedef {object} Fight
  * @property {Settings} settings
  * @property {number} seed

@@ -1,4 +1,4 @@
-/** The settings of a match, with the defaults of `mars`, and those of known hills. */
+/** The settings of a match: their ranges, the defaults of `mars`, and the settings of known hills. */
 import { MAX_CORE, MAX_CYCLES, MAX_PROCESSES } from "./layout.js";
 
 /**

@@ -139,6 +139,7 @@ export class Desk {
   }
 
   /**
+   * Returns the battle after a turn, or at the end if it has fewer turns.
    * @param {number} future
    * @param {number} turn
    * @returns {View}
@@ -159,7 +160,7 @@ export class Desk {
       cycle: battle.cycle,
       next: battle.next,
       head: at === history.end ? null : queues[battle.next][0],
-      // The message would contain the whole buffer of a view. That of a copy is transferred.
+      // A message would copy the whole buffer of the battle, of which the cells are a view; a copy's is transferred.
       cells: battle.cells.slice(),
       ...place.columns,
       queues: all,
@@ -177,7 +178,7 @@ export class Desk {
   }
 
   /**
-   * Returns what a turn did, from 1.
+   * Returns what a turn did; turns count from 1.
    * @param {number} future
    * @param {number} turn
    * @returns {import("../words/battle.js").Move}
@@ -196,6 +197,7 @@ export class Desk {
   }
 
   /**
+   * Returns samples of the turns from `first` to `last`.
    * @param {number} future
    * @param {number} first
    * @param {number} last
@@ -227,7 +229,8 @@ export class Desk {
   }
 
   /**
-   * Returns the place where one of the conditions holds next, or held before, and which; null if there is none.
+   * Returns the nearest place where one of the conditions holds, after `turn` if `forward` and before it otherwise, and
+   * the index of that condition; null if there is none.
    * @param {number} future
    * @param {Condition[]} conditions
    * @param {number} turn
@@ -331,7 +334,7 @@ export class Desk {
 
   /**
    * Assembles a line of source as a cell of this battle. Throws a MarsError.
-   * @param {string} source the line, after those that give values to its names
+   * @param {string} source the line, after the lines that define its names
    * @returns {import("../model/cells.js").Cell}
    */
   cellOf(source) {

@@ -3,11 +3,12 @@ import { History } from "../battle/history.js";
 
 /** @typedef {import("../model/fight.js").Made} Made */
 /**
- * A future: its edits, its last turn, which future it branched from, and which one of those that branch from it was
+ * A future: its edits, its last turn, the index of the future that it branched from, and of the branch of it that was
  * shown last. -1 is none.
  * @typedef {{edits: Made[], end: number, parent: number, visited: number}} Future
  */
 
+/** The maximum number of histories that are kept. */
 const MAX_KEPT = 4;
 
 export class Histories {
@@ -19,7 +20,7 @@ export class Histories {
   #round = null;
 
   /**
-   * Begins with a future for each edit of a battle.
+   * Begins with a future without edits, and another one for each edit.
    * @param {History} first
    * @param {Made[]} edits
    */

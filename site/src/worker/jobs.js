@@ -24,12 +24,12 @@ import { ASSEMBLY, FORMULA } from "../model/layout.js";
  * @typedef {{round: number, end: number, outcomes: Outcome[], deaths: Death[]}} Round
  */
 
+/** More turns than a battle can have. */
 const EVERYTHING = 0xffffffff;
 
 /**
- * Returns for each round of a match of two what `survivors` says of it: 0 if the first warrior lost, 1 if it won, 2 if
- * both survived.
- * @param {Uint8Array} survived
+ * Returns how each round of a match of two ended: 0 if the first warrior lost, 1 if it won, 2 if both survived.
+ * @param {Uint8Array} survived what `survivors` of Mars returned
  */
 const endsOf = (survived) =>
   Array.from({ length: survived.length / 2 }, (_, round) => {
@@ -126,8 +126,8 @@ export class Jobs {
   }
 
   /**
-   * Fights a pair at some distances, first with the first warrior first, then with the other one. Returns for each of
-   * these battles 1 if the first warrior loses, 2 if it wins, 3 if both survive.
+   * Fights two rounds of a pair at each position: in the first one the first warrior begins, in the second the other.
+   * Returns for each round 1 if the first warrior loses, 2 if it wins, 3 if both survive.
    * @param {Warrior[]} pair
    * @param {number[]} positions
    * @param {import("../engine/mars.js").Terms} terms
@@ -141,7 +141,7 @@ export class Jobs {
   }
 
   /**
-   * Throws a MarsError if a text is no score formula. It may have no value for some numbers.
+   * Throws a MarsError if a text is not a score formula. A formula may have no value for some numbers.
    * @param {string} formula
    */
   checkFormula(formula) {

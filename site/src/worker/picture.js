@@ -17,7 +17,7 @@ const AFTERGLOW = 7;
 /** The brightness of a row of old cells, and what it gains if all of them are fresh. */
 const OLD = 0.5;
 const FRESH = 0.62;
-/** The maximum number of processes of a warrior at which their cells shine, and how much a process adds. */
+/** The cells of processes shine if their warrior has at most this number of them; and how much a process adds. */
 const MAX_SHINING = 24;
 const SHINE = 1;
 /** How a cell fades: its brightness at equal steps of the time until it no longer shines. */

@@ -22,6 +22,7 @@ class TimedOut extends Error {}
 /** What opening a battle fails with if the user cancels it. */
 class Cancelled extends Error {}
 
+/** A worker, and the calls that wait for its answers. */
 class WorkerClient {
   /** @type {Map<number, Waiting>} */
   #waiting = new Map();
@@ -71,7 +72,7 @@ class WorkerClient {
   async ask(call, given, timeout) {
     await this.ready;
     const answer = this.#send(call, given);
-    // If it is late, nothing waits for it.
+    // Nothing waits for an answer that is late, so its error is ignored.
     answer.catch(() => {});
     let timer;
     const late = new Promise((_, failed) => {
@@ -95,7 +96,10 @@ class WorkerClient {
     this.#waiting.clear();
   }
 
-  /** @param {Error} why */
+  /**
+   * Ends the worker.
+   * @param {Error} why what the calls that wait fail with
+   */
   end(why = new Stopped("stopped")) {
     this.worker.terminate();
     this.#fail(why);
@@ -130,6 +134,7 @@ class RemoteDesk {
   }
 
   /**
+   * Makes a call of the desk. If it takes too long, another worker takes over.
    * @param {string} call
    * @param {unknown[]} given
    * @returns {Promise<unknown>}
@@ -142,7 +147,7 @@ class RemoteDesk {
       if (OPENING.includes(call)) this.#made.push({ call, given });
       return answer;
     } catch (error) {
-      // The calls that waited for a worker that was ended are made again.
+      // A call that was waiting when its worker was ended is made again, unless the user cancelled it.
       const isEnded = error instanceof Stopped || (error instanceof Cancelled && !OPENING.includes(call));
       if (isEnded && client !== this.client) return this.ask(call, given);
       if (error instanceof TimedOut && client === this.client) await this.#restart(new Stopped("stopped"));
@@ -179,7 +184,7 @@ export function remoteDesk(parts) {
 }
 
 /**
- * A job that waits for a worker: of several the most urgent one is taken, and of those the first.
+ * A job that waits for a worker. The most urgent one is taken next, the earliest one of equally urgent jobs.
  * @typedef {Waiting & {call: string, given: unknown[], urgency: number, group: string}} Job
  */
 

@@ -11,9 +11,12 @@ import { CHANGES, EXECUTES, NUMBER_ADDRESS, NUMBER_ORIGIN, NUMBER_QUEUED } from 
 const INDIRECT = "*@{<}>";
 
 /**
- * Returns the turns that led to the death of a warrior, in the order of time: those that aimed, wrote and changed the
- * cell in which it died, the one that led its process there, those that wrote the instruction which led it there if
- * another warrior did so, and the death; none if the warrior lives or an edit killed it.
+ * Returns the turns that led to the death of a warrior, in the order of time; none if it lives or an edit killed it.
+ *
+ * - the turns that aimed at, wrote and changed the cell on which it died
+ * - the turn that led its process to that cell; and if another warrior wrote the instruction of that turn, the turns
+ *   that aimed at, wrote and changed it
+ * - the turn in which it died
  * @param {History} history
  * @param {number} warrior
  * @returns {Link[]}
@@ -81,6 +84,7 @@ export function copiedIn(history, address, turn) {
 }
 
 /**
+ * Returns a turn as a link of the chain.
  * @param {History} history
  * @param {Link["kind"]} kind
  * @param {number} turn

@@ -1,4 +1,4 @@
-/** A worker: it has a machine of its own, and answers calls by messages. */
+/** A worker: it has a machine of its own, and answers calls of a desk or of jobs by messages. */
 import { Mars } from "../engine/mars.js";
 import { MarsError } from "../model/errors.js";
 import { Desk } from "./desk.js";
