@@ -1,4 +1,4 @@
-/** Lessons: a goal each, checked by fights. */
+/** Lessons: what they say, what they begin with, and whether the learner has reached their goals. */
 import { element, make, refill, withCode } from "../view/dom.js";
 import { errorWords } from "../view/host.js";
 import { FORMULA, HILLS } from "../model/settings.js";
@@ -136,6 +136,7 @@ export class Lessons {
   }
 
   /**
+   * Opens a lesson: marks its sources, shows the learner's own one in the editor, and fights.
    * @param {Lesson} lesson
    * @param {boolean} isRead whether its text is already shown
    */
@@ -161,6 +162,7 @@ export class Lessons {
   }
 
   /**
+   * Says whether the goal of a lesson is reached.
    * @param {Lesson} lesson
    * @returns {Promise<Verdict>}
    */

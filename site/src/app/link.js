@@ -12,7 +12,7 @@ import { DEFAULTS, FORMULA, HILLS, MAX_SOURCE_SIZE, RANGES, SETTINGS, hillOf } f
  */
 
 const VERSION = 1;
-/** The maximum number of characters of a name, and of edits. */
+/** The maximum number of characters of a name, and of edits; and the last turn that is read. */
 const MAX_NAME_LENGTH = 100;
 const MAX_EDITS = 1000;
 const LAST_TURN = 1e9;
@@ -20,6 +20,7 @@ const LAST_TURN = 1e9;
 const MAX_INFLATED = MAX_WARRIORS * MAX_SOURCE_SIZE;
 
 /**
+ * Returns what a stream makes of bytes.
  * @param {Uint8Array} bytes
  * @param {CompressionStream | DecompressionStream} stream
  */
@@ -33,7 +34,10 @@ export async function through(bytes, stream) {
  */
 export const bytesOf = (text) => Uint8Array.from(atob(text), (letter) => letter.charCodeAt(0));
 
-/** @param {Uint8Array} bytes */
+/**
+ * Returns bytes as base64url, without padding.
+ * @param {Uint8Array} bytes
+ */
 function base64(bytes) {
   let text = "";
   for (const byte of bytes) text += String.fromCharCode(byte);

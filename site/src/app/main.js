@@ -1,4 +1,4 @@
-/** What the page begins with. */
+/** Begins the page: makes its parts and shows what its address names, or says why the page cannot start. */
 import { begun, data, pageWith } from "./parts.js";
 import { element, make, refill } from "../view/dom.js";
 import { Page } from "./page.js";

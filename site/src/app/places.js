@@ -81,7 +81,10 @@ export class Places {
     return JSON.stringify([this.lesson(), settings, seed, round, rounds, position, warriors.map(({ text }) => text)]);
   }
 
-  /** @param {Fight} fight */
+  /**
+   * Returns whether the battle that is shown is a fight, whatever its edits are.
+   * @param {Fight} fight
+   */
   isShown(fight) {
     return this.#keyOf(fight) === this.#key;
   }
@@ -94,6 +97,7 @@ export class Places {
     if (!this.#arriving) this.#write(this.#battle, true);
   }
 
+  /** The address that names the lesson that is open, or else the round. */
   get #named() {
     const [lesson, round] = [this.lesson(), this.session.fight?.round];
     return lesson ? `#learn/${lesson}` : round ? `#battle/${round}` : "";

@@ -25,6 +25,7 @@ export class Sources {
     this.shelf = shelf;
     this.server = server;
     this.examples = examples;
+    /** Whether nothing is stored, as for a newcomer. */
     this.isNew = !stored.marked && this.#kept.size === 0;
     listenToSources((name, now, before) => this.#takeOther(name, now, before));
     if (server) addEventListener("focus", () => this.#askFolder());

@@ -1,4 +1,7 @@
-/** What is kept in this browser, if it lets the page do that; of each folder by itself. */
+/**
+ * What this browser keeps for each folder, if it lets the page do that: sources, the last league, and how the page was
+ * left. What is damaged is left out.
+ */
 import { MAX_FORMULA } from "../model/layout.js";
 import { RANGES, SETTINGS } from "../model/settings.js";
 import { folderKey } from "./server.js";
@@ -6,7 +9,7 @@ import { folderKey } from "./server.js";
 /** @typedef {import("../view/host.js").MatchTerms} MatchTerms */
 /** @typedef {import("../view/league.js").KeptLeague} KeptLeague */
 /** @typedef {import("../view/shelf.js").Kind} Kind */
-/** @typedef {{text: string, saved: string, kind: Kind, made: number}} KeptSource `made` orders them */
+/** @typedef {{text: string, saved: string, kind: Kind, made: number}} KeptSource `made` orders the sources */
 /**
  * @typedef {object} Kept
  * @property {string} [shown] the source in the editor
@@ -23,8 +26,9 @@ import { folderKey } from "./server.js";
 const NAME = `corewar ${folderKey}`.trim();
 /** Each source has a key of its own, so that a window never writes over what another one has written. */
 const SOURCE = `${NAME}: `;
-/** So has the league that was run last. One of more characters is not kept: sources need the room. */
+/** The key of the league that was run last. */
 const LEAGUE = `${NAME}; league`;
+/** A league of more characters is not kept: sources need the room. */
 const MAX_LEAGUE_SIZE = 1_000_000;
 
 /** @typedef {(value: any) => boolean} Check */
@@ -89,6 +93,7 @@ const areCounts = (/** @type {any} */ value) => {
 };
 
 /**
+ * Returns whether a value is an object that has all parts, which are right.
  * @param {any} value
  * @param {Record<string, Check>} checks
  */
@@ -100,10 +105,10 @@ const isLeague = (value) =>
   value.names.length === value.sources.length &&
   value.results.every((/** @type {number[]} */ [, other]) => other < value.sources.length);
 
-/** What sources can be that are stored. */
+/** The kinds of stored sources. */
 const KINDS = ["own", "example", "lesson"];
 /**
- * The keys of what is damaged, at least in part; that is left out.
+ * The keys of the damaged entries, of which the damaged part is left out.
  * @type {Set<string>}
  */
 const damaged = new Set();
@@ -176,6 +181,7 @@ function renew() {
 }
 
 /**
+ * Stores a text, or removes it if it is null. Returns whether the browser lets the page do that.
  * @param {string} key
  * @param {string | null} text
  */

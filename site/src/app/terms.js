@@ -10,8 +10,9 @@ import { errorWords } from "../view/host.js";
 
 /** The terms of a page on which nothing is stored. */
 export const DEFAULT_TERMS = { settings: DEFAULTS, seed: 1, rounds: 100, position: 0, formula: FORMULA };
-/** The value of the list while the settings are custom ones, and of its line that opens their dialog. */
+/** The value of the list of hills while the settings are custom ones. */
 const OWN = "";
+/** The value of the line of that list which opens the dialog of custom settings. */
 const EDIT = "edit";
 
 export class Terms {
@@ -47,7 +48,7 @@ export class Terms {
     };
     this.seed.onchange = () => take("seed");
     this.rounds.onchange = () => take("rounds");
-    this.#openDialog();
+    this.#makeDialog();
   }
 
   /** @returns {MatchTerms} */
@@ -80,7 +81,7 @@ export class Terms {
     this.changed({ settings: this.#settings }, true);
   }
 
-  #openDialog() {
+  #makeDialog() {
     const fields = SETTINGS.map((name) => {
       const { name: title, minimum, maximum } = RANGES[name];
       const field = make("input", { id: `own-${name}`, type: "number", min: minimum, max: maximum, required: true });

@@ -200,7 +200,7 @@ async function futures(session, rest) {
 }
 
 /**
- * By the names of the commands.
+ * What each command does, by its name.
  * @type {Record<string, Act>}
  */
 export const ACTS = {

@@ -28,6 +28,7 @@ const withoutSeparators = (text) => text.replace(SEPARATED, (digits) => digits.r
 export class CommandError extends Error {}
 
 /**
+ * Returns the number that a text states. Throws a CommandError that names what was expected.
  * @param {string} text
  * @param {string} what
  */
@@ -140,6 +141,7 @@ function addMore(session, condition, word, rest) {
 }
 
 /**
+ * Returns the argument of a word, and removes it from the words that are left.
  * @param {Session} session
  * @param {string} word
  * @param {string[]} rest

@@ -214,6 +214,7 @@ export class Finder {
 }
 
 /**
+ * Returns the columns in a line at which a text begins.
  * @param {string} text
  * @param {string} wanted
  */

@@ -44,9 +44,10 @@ export class Bench {
   #began = 0;
   #took = 0;
   #run = 0;
+  /** The source, terms and opponents that were fought last, as JSON. */
   #fought = "";
   #later = throttle(() => this.#draw(), 100);
-  /** Fights again soon, or says that the source has an error: it was checked, or other sources fight. */
+  /** Once the source was checked or other sources fight: fights again soon, or says that the source has an error. */
   checked = debounce(() => {
     if (this.isOpen && this.host.shelf.checker.isBroken) element("bench-note").textContent = STALE;
     else if (this.isOpen) this.fight();
@@ -77,6 +78,7 @@ export class Bench {
     if (this.rows.size + this.#faults.size < this.#opponents.length) this.#fought = "";
   }
 
+  /** Fights the source in the editor against each opponent, unless these matches were fought last. */
   async fight() {
     const { shelf, pool } = this.host;
     const own = shelf.current;

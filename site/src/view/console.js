@@ -101,7 +101,7 @@ export class Console {
    */
   #print(texts, className) {
     const answers = element("answers");
-    // A reply may be longer.
+    // Old lines are removed only before a command, since a reply may have more than the maximum.
     while (className === "asked" && answers.children.length > MAX_LINES) answers.firstChild?.remove();
     answers.append(...texts.map((text) => make("li", { className }, withCode(text))));
     answers.scrollTop = answers.scrollHeight;

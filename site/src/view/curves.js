@@ -3,7 +3,8 @@ import { number } from "../words/battle.js";
 import { clamp } from "./dom.js";
 
 /**
- * What a film is drawn with: `x` is where a turn is; `middle` and `bottom` are the feet of the two curves.
+ * What the curves of a battle are drawn with: `x` returns where a turn is; `middle` and `bottom` are the feet of the
+ * curves of cells and of processes.
  * @typedef {object} Drawing
  * @property {CanvasRenderingContext2D} context
  * @property {import("./palette.js").Palette} palette
@@ -37,7 +38,7 @@ export function drawScale(context, { first, last, width, bottom, x }) {
 }
 
 /**
- * Returns the least round number from a minimum on.
+ * Returns the least round number that is not below a minimum.
  * @param {number} minimum
  */
 function roundStep(minimum) {

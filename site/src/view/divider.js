@@ -1,8 +1,8 @@
 /** The divider between the editor and what is beside it. */
 import { clamp, element } from "./dom.js";
 
+/** In pixels: the least widths of the editor and of the rest of the page, and how far a key moves the divider. */
 const LEAST = 260;
-/** What is left for the rest of the page, and how far a key moves the divider, in pixels. */
 const REST = 360;
 const STEP = 24;
 

@@ -1,4 +1,4 @@
-/** Elements, found and made. */
+/** Elements, found and made; and what all views use: delayed calls, tips, colours and downloads. */
 
 /** @typedef {Node | string | number | null | undefined | false} Part */
 

@@ -15,7 +15,7 @@ const NUMBERED = ["of", "by", ...TABLE.conditions.warriors].map((word) => `(?<= 
 const WARRIORS = new RegExp(`\\b\\d+(?=\\.[A-Za-z_])|(?:${NUMBERED})\\d+(?!\\S)`, "g");
 
 /**
- * Returns how often a condition holds, and the first places. If it does not say which warrior is meant, they do.
+ * Returns how often a condition holds, and the first places, with warriors if the condition names none.
  * @param {{count: number, first: import("../battle/conditions.js").Held[]}} found
  * @param {Condition} condition
  * @param {string[]} names

@@ -213,7 +213,8 @@ async function changeLines(session, address) {
 }
 
 /**
- * Returns how a cell got its value: its last change, and the turn that copied its instruction there if that is another.
+ * Returns how a cell got its value: its last change, and the turn that copied its instruction there if it is another
+ * turn.
  * @param {Session} session
  * @param {number} address
  */

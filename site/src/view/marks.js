@@ -24,8 +24,9 @@ const SLOW = 15;
 const MAX_DIFFERENCES = 2000;
 
 /**
+ * Returns what is marked while a turn is drawn.
  * @param {Session} session
- * @param {import("../worker/desk.js").View} view the turn that is drawn
+ * @param {import("../worker/desk.js").View} view the turn
  * @param {number | null} hovered the cell under the pointer
  * @returns {Marks}
  */

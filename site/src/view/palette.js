@@ -99,6 +99,7 @@ export class Palette {
   }
 
   /**
+   * Sets the shades and the glows of an owner.
    * @param {number} owner
    * @param {Colour} colour
    */

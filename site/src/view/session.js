@@ -39,7 +39,7 @@ export class Session extends Turns {
   #tell = debounce(() => this.#readStory().catch(() => {}), 90);
 
   /**
-   * Calls a function after those before it: they lead to another battle, future or turn.
+   * Calls a function once the functions before it have ended, each of which may lead to another battle, future or turn.
    * @template T
    * @param {() => Promise<T>} act
    * @returns {Promise<T>}

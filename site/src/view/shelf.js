@@ -42,6 +42,7 @@ import { lineOf, titleOf } from "./names.js";
  * @type {Kind[]}
  */
 const GUESTS = ["guest", "lesson"];
+/** The lines of a new source. */
 const NEW = [";redcode-94", ";name My first warrior", ";author ", "; What does it do?", ""];
 NEW.push("start   MOV     0, 1            ; copies itself to the next cell", "        END     start", "");
 
@@ -65,7 +66,7 @@ export class Shelf {
     const [lint, store] = [debounce(() => this.lint(), 250), debounce(() => this.#store(), 400)];
     this.editor = new Editor({
       save: () => this.save(false),
-      // What follows the editor; otherwise the Tab key would lead into it again.
+      // Escape focuses what follows the editor: if the editor only lost the focus, Tab would lead into it again.
       leave: () => element("load-head").focus(),
       changed: () => {
         // What a stranger has written becomes the user's own as soon as it is changed.

@@ -5,7 +5,7 @@ import { number } from "../words/battle.js";
 /** @typedef {{who: number, many: number}[]} Standing warriors, and the number of their processes */
 
 /**
- * Returns for each address at which there are processes, of those that are wanted, which warriors have them.
+ * Returns which warriors have processes on each of the wanted cells that has any, by addresses.
  * @param {View} view
  * @param {(address: number) => boolean} isWanted
  */

@@ -5,6 +5,7 @@ import { colourOf } from "./dom.js";
 /** @typedef {import("../engine/mars.js").Row} Row */
 /** @typedef {{value: number, row: Row | null, left: number}} Result `left` counts the matches that are not done */
 
+/** In pixels: the height of the curve with all around it, of the scale below it, and of the margin above it. */
 const HEIGHT = 190;
 const FOOT = 18;
 const TOP = 14;
@@ -13,6 +14,7 @@ const TOP = 14;
 export const meanOf = ({ row }) => (row ? row.points / (row.wins + row.ties + row.losses) : 0);
 
 /**
+ * Draws a bar for each result, and a scale of the values.
  * @param {HTMLCanvasElement} canvas
  * @param {Result[]} results
  * @param {{best: Result | undefined, most: number, current: number}} marks the best result, the points of a round at

@@ -93,7 +93,7 @@ export class Track {
     this.#warriors = order.length;
     this.first = 0;
     this.picture.clear();
-    // The turn that is shown first comes before it.
+    // The desk is asked for the turn that is shown first before it is asked for the picture.
     this.#paint();
     this.#sample();
   }
@@ -133,7 +133,7 @@ export class Track {
     await this.#sample();
   }
 
-  /** Reads the samples of what is shown, if curves are. Those before stay until then. */
+  /** Reads the samples of the turns that are shown, if curves are shown. The old samples stay until then. */
   async #sample() {
     const request = ++this.#request;
     if (!this.hasCurves || !this.opened) return;
@@ -260,6 +260,7 @@ export class Track {
   }
 
   /**
+   * Draws what lies over the picture: curves, the scale, edits, deaths, and where playing stops.
    * @param {Palette} palette
    * @param {number} width
    * @param {number} height

@@ -14,7 +14,7 @@ import { drawSweep, meanOf } from "./sweep.js";
 /** The number of values at first, and at most. */
 const AROUND = 400;
 const MAX_VALUES = 20_000;
-/** The number of values of a job: those of the first ones are few, so that values appear soon. */
+/** The number of values of a job, and of each of the first jobs, which are small so that values appear soon. */
 const BATCH = 8;
 const FIRST_BATCHES = [1, 1, 2, 4];
 /** The urgency of the jobs: all others take less time, and come first. */
@@ -287,6 +287,7 @@ const numbersIn = (code, line) =>
   [...code.matchAll(NUMBER)].map(({ index: from = 0, 0: text }) => ({ line, from, to: from + text.length, text }));
 
 /**
+ * Adds the row of a match to a result.
  * @param {Result} result
  * @param {import("../engine/mars.js").Row | null} row null if the source with this value has an error
  */

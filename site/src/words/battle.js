@@ -24,12 +24,16 @@ import { BY_HAND, NOBODY, cellText, readCell } from "../model/cells.js";
  * @property {number} left
  */
 
-/** @param {number} value */
+/**
+ * Returns a number as the page shows it, with separators.
+ * @param {number} value
+ */
 export const number = (value) => value.toLocaleString("en");
 
 /**
+ * Returns a number with a noun.
  * @param {number} value
- * @param {string} what
+ * @param {string} what the noun in the singular
  */
 export function pluralize(value, what) {
   const ending = /(s|ch)$/.test(what) ? "es" : "s";
@@ -247,6 +251,7 @@ export const standingWords = (names, { processes, owned }) =>
  */
 export function captionWords(turn, events, known, { processes, cells }) {
   const { names, end, core } = known;
+  // What has happened is said for a twelfth of the battle; otherwise, in its first tenth, what Core War is.
   if (turn >= end) return `${eventWords(events[events.length - 1], known)}.`;
   const isRecent = (/** @type {Event} */ event) => event.turn <= turn && event.turn > 0 && turn - event.turn < end / 12;
   const latest = [...events].reverse().find(isRecent);

@@ -26,6 +26,7 @@ const LAST = ["1 Text 9 TooLong", "7 Empty", "8 TooLong"];
 const UNCLOSED = "1 Text 3 UnclosedFor";
 
 /**
+ * Returns the sentence of a cause, with what the cause names in place of the words in braces.
  * @param {Cause} given
  * @param {Meanings} meanings
  * @returns {string}
@@ -92,8 +93,8 @@ function placeOf(text, { begin, end }) {
 }
 
 /**
- * Returns the columns of a word in a line: of the first one that ends after the start of `place`, or of the first one.
- * Without a word, returns those of `place`, or else those of the code of the line.
+ * Returns the columns of a word in a line: of its first occurrence that ends after the start of `place`, or else of its
+ * first one. Without a word, returns the columns of `place`, or else of the code of the line.
  * @param {string} text
  * @param {string | undefined} word
  * @param {Place | null} place

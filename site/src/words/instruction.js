@@ -27,6 +27,7 @@ const FIELDS = { A: ["A", "A"], B: ["B", "B"], AB: ["A", "B"], BA: ["B", "A"] };
 const filled = (text, words) => text.replace(/\{(\w+)\}/g, (_, name) => words[name]);
 
 /**
+ * Returns a cell by the name of its address, or else by its distance from the instruction.
  * @param {number} value
  * @param {Where} where
  */

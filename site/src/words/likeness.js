@@ -65,8 +65,8 @@ function closest(word, choices) {
 }
 
 /**
- * Returns the choice that is most similar to a word, or undefined; the same letters in another order come first, and of
- * equally similar ones that with the same first letter.
+ * Returns the choice that is most similar to a word, or undefined. The same letters in another order are most similar;
+ * of equally similar choices, one with the same first letter is returned.
  * @param {string} word
  * @param {string[]} choices
  */

@@ -6,11 +6,13 @@ import { joinNames, where } from "./battle.js";
 /** @typedef {import("./battle.js").Move} Move */
 /** @typedef {import("../battle/births.js").Descent} Descent */
 
-/** How many of many addresses or turns are listed, and the widths of the first columns of a list of cells. */
+/** How many of many addresses or turns are listed. */
 export const MAX_LISTED = 8;
+/** The widths of the first columns of a list of cells. */
 const COLUMNS = [1, 6, 10, 24];
 
 /**
+ * Returns a number with a noun, without separators.
  * @param {number} count
  * @param {string} noun
  */

@@ -18,15 +18,22 @@ export const DIRECTIVES = ["FOR", "ROF", "EQU", "ORG", "END"];
 export const OPERATIONS = [...OPCODES, ...DIRECTIVES];
 /** A name with its joins, a number, or punctuation, even if Redcode has no such token. */
 const TOKEN = /(?:\w|&(?=[A-Za-z_]))+|==|!=|<=|>=|&&|\|\||[^\0- ]/gu;
+/** A name with its joins. */
 export const NAME = /^[A-Za-z_][\w&]*$/;
 
-/** @param {string} text */
+/**
+ * Returns a line without its comment.
+ * @param {string} text
+ */
 export const codeOf = (text) => text.split(";")[0];
 
 /** @param {string} text */
 export const tokensOf = (text) => text.match(TOKEN) ?? [];
 
-/** @param {Line} line */
+/**
+ * Returns the operation of a line in capital letters, or "".
+ * @param {Line} line
+ */
 export const wordOf = ({ operation }) => operation.toUpperCase();
 
 /**
@@ -66,7 +73,7 @@ function parseLine(number, text, names) {
 }
 
 /**
- * Splits the lines of a source. Loops are read once.
+ * Splits a source into lines. A loop is read once, whatever its count is.
  * @param {string} text
  * @returns {Source}
  */

@@ -4,10 +4,15 @@ import { place } from "./battle.js";
 
 /** @typedef {import("./battle.js").Known} Known */
 /**
- * A turn that led to a death. It `aim`ed by setting the pointer of the write, it was the `write` that copied the
- * instruction, a `change` of a number after that, the `arrival` of the process at the cell, or the `death`. `target` is
- * the cell that it set, wrote, changed or led to, with `after` in it; `executed` is the instruction, at `address`, and
- * `origin` the index of the loaded cell of which that is a copy.
+ * A turn that led to a death. Its kind says what it did to the cell at `target`, which has the words `after` then:
+ *
+ * - `aim`: it set the cell, the pointer by which the write found another one
+ * - `write`: it copied an instruction to the cell
+ * - `change`: it changed a number of that instruction
+ * - `arrival`: it led the process to the cell
+ * - `death`: it executed the cell
+ *
+ * `executed` is the turn's instruction, at `address`; `origin` is the index of the loaded cell of which that is a copy.
  * @typedef {object} Link
  * @property {"aim" | "write" | "change" | "arrival" | "death"} kind
  * @property {number} turn

@@ -229,12 +229,11 @@ export class Desk {
   }
 
   /**
-   * Returns the nearest place where one of the conditions holds, after `turn` if `forward` and before it otherwise, and
-   * the index of that condition; null if there is none.
+   * Returns the nearest place where one of the conditions holds, and the condition's index; null if there is none.
    * @param {number} future
    * @param {Condition[]} conditions
    * @param {number} turn
-   * @param {boolean} forward
+   * @param {boolean} forward whether the place is after `turn`, and not before it
    */
   search(future, conditions, turn, forward) {
     return search(this.#history(future), conditions, turn, forward);
@@ -311,8 +310,7 @@ export class Desk {
   }
 
   /**
-   * Returns the last changes of a cell up to a turn, the latest first, and the turn of the next one; also the last
-   * change by an edit, if no turn has changed the cell since.
+   * Returns the last changes of a cell up to a turn and the turn of the next one, as changesOf does.
    * @param {number} future
    * @param {number} address
    * @param {number} turn
