@@ -93,7 +93,7 @@ export class Track {
     this.#warriors = order.length;
     this.first = 0;
     this.picture.clear();
-    // The desk is asked for the turn that is shown first before it is asked for the picture.
+    // The picture is requested later than the turn that is shown first.
     this.#paint();
     this.#sample();
   }
