@@ -27,7 +27,9 @@ KEYS |= {
     "Tab": "\ue004",
     "Backspace": "\ue003",
 }
+# Seconds to wait for a condition in the page, or for the browser to start.
 PATIENCE = 30
+# A script of WebDriver that calls an asynchronous function and reports its value, or its error.
 ASYNC = """const done = arguments[arguments.length - 1], given = [...arguments].slice(0, -1);
 (async () => {%s})().then(done, error => done({error: `${error}\\n${error.stack}`}));"""
 
@@ -236,6 +238,7 @@ def firefox() -> Browser:
         "script": lambda **given: fox.call("WebDriver:ExecuteAsyncScript", {**given, "sandbox": None}),
         "actions": lambda actions: fox.call("WebDriver:PerformActions", {"actions": actions}),
         "resize": fox.resize,
+        # Marionette has no command for the errors of the console.
         "errors": lambda: [],
         "end": fox.end,
     }

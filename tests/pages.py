@@ -26,7 +26,7 @@ from corewar.model.cells import MODES, MODIFIERS, OPCODES
 
 @pytest.fixture(scope="module")
 def site() -> Iterator[str]:
-    """The address of the built site, served as files."""
+    """Yields the address of the built site, served as files."""
     if not (TOP / "build" / "site").is_dir():
         skip("the site", "it is not built; `make site` builds it", "esbuild")
     with served(TOP / "build" / "site") as address:
@@ -35,7 +35,7 @@ def site() -> Iterator[str]:
 
 @pytest.fixture
 def page(browser: Browser, site: str) -> Iterator[Browser]:
-    """The page as a newcomer opens it."""
+    """Yields the page as a newcomer opens it."""
     browser.open(site)
     # A page that is left may still store its settings.
     browser.run("localStorage.clear(); Storage.prototype.setItem = () => {}")
@@ -47,6 +47,7 @@ def page(browser: Browser, site: str) -> Iterator[Browser]:
 
 
 def native(*words: object, input: str = "") -> str:
+    """Returns the output of the native program."""
     command = [PROGRAM, *map(str, words)]
     return subprocess.run(command, input=input, capture_output=True, encoding="latin-1", check=True).stdout
 
@@ -184,7 +185,7 @@ def test_turns_are_those_of_the_program(page: Browser, names: tuple[str, str]) -
 
 
 def text_of(words: list[int]) -> str:
-    """The text of a cell of a core of 8,000."""
+    """Returns the text of a cell of a core of 8,000, given as the three words of a battle."""
     head, a, b = words
     first, second = ((value + 3999) % 8000 - 3999 for value in (a, b))
     modes = MODES[head >> 16 & 255], MODES[head >> 24]
@@ -197,7 +198,7 @@ def test_the_end_leads_to_the_death(page: Browser) -> None:
     page.until("!document.getElementById('ending').hidden")
     go_to_turn(page, 7700)
     assert page.value("document.getElementById('ending').hidden")
-    # Also if the end was reached by a key.
+    # What can be done at the end is offered, too, if a key leads there.
     page.press("End")
     page.until("!document.getElementById('ending').hidden")
     assert page.text("caption") == "Dwarf wins after 7,798 turns."
@@ -206,7 +207,7 @@ def test_the_end_leads_to_the_death(page: Browser) -> None:
     lines = page.value("[...document.querySelectorAll('#chain li')].map(one => one.textContent)")
     assert [line[:5] for line in lines] == ["7,795", "7,796", "7,797", "7,798"]
     page.until("document.getElementById('caption').textContent === 'Dwarf wrote DAT.F #0, #-2800 to 5,203.'")
-    # What can be done at the end can still be done.
+    # While a death is explained, all but the explanation is still offered.
     shown = "['why-now', 'again', 'next-fight'].map(id => document.getElementById(id).checkVisibility())"
     assert page.value(shown) == [False, True, True]
     assert lines[2].startswith("7,797Dwarf wrote DAT.F #0, #-2800 to 5,203.")
@@ -459,7 +460,7 @@ return replies;"""
 
 
 def terminal_replies(names: list[str], lines: list[str], width: int) -> Iterator[list[str]]:
-    """The replies of `corewar debug` to some lines, in a terminal of a width."""
+    """Yields the replies of `corewar debug` to some lines, in a terminal of a width."""
     warriors = tuple(read(str(path), rounds=10, warriors=len(names)) for path in files(*names))
     history = History(Match(warriors, rounds=10))
     session = Session(history, Sources(history), width=lambda: width)
@@ -471,15 +472,15 @@ def terminal_replies(names: list[str], lines: list[str], width: int) -> Iterator
 
 
 def comparable(line: str, reply: list[str]) -> list[str]:
-    """What of a reply is the same in both: the page shows code without backquotes, and why a warrior died by the turns
-    that it marks.
+    """Returns the part of a reply that is the same in the terminal: the page shows code without backquotes, and
+    explains a death by the turns that it marks.
     """
     is_death = line.startswith("why") and " died in turn " in reply[0]
     return [text.replace("`", "") for text in reply[: 1 if is_death else None]]
 
 
 def test_replies_are_those_of_the_terminal(page: Browser) -> None:
-    """Good and bad lines of all commands, after moves and edits, in a terminal as wide as the page's replies."""
+    """Good and bad lines of all commands have the replies of a terminal as wide as the page's, also after edits."""
     page.run("corewar.session.stop()")
     width = page.value("corewar.session.width()")
     assert 25 < width < 50
@@ -609,7 +610,7 @@ def test_views_lessons_and_rounds_have_addresses(page: Browser, site: str) -> No
 
 
 def test_loading_again_keeps_the_place(page: Browser) -> None:
-    """The lesson, the battle with its edits, and the turn are those of before."""
+    """The lesson, the battle with its edits, and the turn are the same after the page is loaded again."""
     page.run("await corewar.lessons.begin(corewar.lessons.lessons[2])")
     go_to_turn(page, 500)
     answer(page, "edit 3 jmp 0")
@@ -640,7 +641,7 @@ SHOWN %= "document.getElementById(id).checkVisibility()"
 
 
 def test_a_battle_is_embedded(page: Browser, site: str, tmp_path: Path) -> None:
-    """Only core, strip and Play are shown, of a link and of the page in one file; Share copies the code."""
+    """A link or a page in one file, if embedded, shows only the core, the strip and Play; Share copies the code."""
     go_to_turn(page, 4000)
     link = page.run("return shared(corewar.session)")
     page.click("#share")
@@ -887,7 +888,7 @@ INVALID = {
 
 
 def test_a_source_with_errors_has_no_cells(page: Browser) -> None:
-    """Nothing of the source before is shown for it, and settings that are not valid are no error of a line."""
+    """Nothing of the previous source is shown for it, and the error of settings that are not valid names no line."""
     page.press("e")
     page.until("document.getElementById('load').textContent.startsWith(';load')")
     page.run("corewar.shelf.show(corewar.shelf.add({name: 'broken.red', text: 'MVO 0, 1'}))")
@@ -919,7 +920,7 @@ def test_damaged_storage_is_left_out(page: Browser, site: str, stored: str) -> N
     """The page starts whatever is stored, names what is damaged, and deletes that and nothing else on request."""
     page.run("localStorage.clear(); localStorage.setItem('corewar', given[0])", stored)
     page.run("localStorage.setItem('corewar; league', given[0])", stored)
-    # Of the second one only the text is sound, and that is what counts.
+    # In other.red only the text is sound, and the text is what counts.
     for name, kept in (("own", '{"text":7}'), ("other", '{"text":"MOV 0, 1","saved":7,"kind":"x"}')):
         page.run("localStorage.setItem(`corewar: ${given[0]}.red`, given[1])", name, kept)
     page.open(f"{site}?damaged{hash(stored)}")
@@ -936,7 +937,7 @@ def test_damaged_storage_is_left_out(page: Browser, site: str, stored: str) -> N
 
 
 def test_sources_with_names_of_examples_are_kept(page: Browser, site: str) -> None:
-    """An example that this version no longer has, and an own source whose name is that of a new example."""
+    """The page keeps an example that this version lacks, and an own source whose name a new example has, too."""
     for name, kind in (("gone", "example"), ("silk", "own")):
         kept = f'{{"text":"MOV 0, 1 ; {name}","saved":"","kind":"{kind}","made":1}}'
         page.run("localStorage.setItem(`corewar: ${given[0]}.red`, given[1])", name, kept)
@@ -966,7 +967,7 @@ def test_sources_of_earlier_versions_are_found(page: Browser, site: str) -> None
 
 @pytest.fixture
 def pair(browser: Browser, tmp_path: Path) -> Iterator[Browser]:
-    """Two windows of the page, as frames."""
+    """Yields a page with two windows of the site, as frames."""
     for path in (TOP / "build" / "site").iterdir():
         (tmp_path / path.name).symlink_to(path)
     frames = "".join(f'<iframe src="index.html?{name}" width=1200 height=700></iframe>' for name in "ab")
@@ -1158,7 +1159,7 @@ def test_a_new_source_fights(page: Browser) -> None:
 
 
 def test_files_are_opened(page: Browser) -> None:
-    """Sources, load files, and files that are not UTF-8."""
+    """The page opens sources, load files, and files that are not UTF-8."""
     code = """await corewar.shelf.take([new File([new Uint8Array(given[1])], given[0])]);
       await corewar.shelf.lint();
       return [corewar.shelf.shown.name, document.getElementById('fault').textContent];"""
@@ -1175,7 +1176,7 @@ def test_files_are_opened(page: Browser) -> None:
 
 
 def table(*words: object) -> list[list[int]]:
-    """The points, wins, ties and losses of a table of the program."""
+    """Returns the points, wins, ties and losses of each row of a table of the program."""
     lines = native("-b", *words).splitlines()[1:]
     return [[int(number) for number in line.split()[:4]] for line in lines]
 
@@ -1191,7 +1192,7 @@ def test_rounds_are_those_of_the_program(page: Browser) -> None:
     assert len({*reasons}) == len(reasons) > 1
     page.click("#strip button:nth-child(8)")
     page.until("corewar.session.fight.round === 7 && document.querySelectorAll('#strip [aria-current]').length === 1")
-    # They stay if the battle is edited, also after the shelf has named the sources of a link.
+    # The rounds stay if the battle is edited, also after the shelf has named the sources of a link.
     page.run("corewar.session.rename(corewar.session.fight.warriors.map(({text}, at) => ({name: `${at}.red`, text})))")
     answer(page, "edit 3 jmp 0")
     assert page.value("document.querySelectorAll('#strip button').length") == 100
@@ -1255,7 +1256,7 @@ def test_versions_on_the_bench(page: Browser, tmp_path: Path) -> None:
 def test_a_number_is_tuned(page: Browser, tmp_path: Path) -> None:
     """The bench fights with many values of a number, exactly; a click takes one, and what fails leaves a gap."""
     page.run("corewar.views.showDesk(true); corewar.shelf.show(corewar.shelf.find('dwarf.red'))")
-    # The first click in the editor offers it, too.
+    # The first click in the editor, too, offers to tune the number.
     page.click("#editor .cm-number")
     page.until("document.getElementById('tune-here').checkVisibility()")
     assert page.text("tune-here") == "Tune 4"
@@ -1269,7 +1270,7 @@ def test_a_number_is_tuned(page: Browser, tmp_path: Path) -> None:
     page.run("rounds.value = '20'; rounds.dispatchEvent(new Event('change'))")
     page.click("#tune-here")
     page.until("location.hash === '#bench' && corewar.bench.tune.results.length === 400")
-    # Then the pool has all of its jobs.
+    # When a part of the sweep is done, the pool has all jobs of the sweep.
     page.until("document.getElementById('tune-note').textContent.includes(' of ')")
     for name, value in (("from", -3), ("to", 8), ("step", 1)):
         page.run(f"document.getElementById('tune-{name}').value = {value}")
@@ -1394,7 +1395,7 @@ def test_a_match_of_the_league_is_watched(page: Browser) -> None:
 
 
 def test_a_league_is_kept(page: Browser) -> None:
-    """The page that is loaded again shows it, and continues with the matches that are missing."""
+    """The page that is loaded again shows the league, and continues with the matches that are missing."""
     page.run("corewar.terms.value = {...corewar.terms.value, rounds: 2}; corewar.views.show('league')")
     page.run("await corewar.league.runAll()")
     again = "window.isOld = true; location.reload()"
@@ -1469,7 +1470,7 @@ def test_own_settings(page: Browser) -> None:
 
 
 def test_own_settings_are_opened_again(page: Browser) -> None:
-    """The list has a line that opens their dialog, also while they are used."""
+    """The list of hills has a line that opens the dialog of custom settings, also while these are used."""
     page.run("hill.value = 'edit'; hill.dispatchEvent(new Event('change'))")
     page.run("document.getElementById('own-cycles').value = '50'; document.querySelector('#own-form .main').click()")
     page.until("corewar.session.end === 100 && hill.value === ''")
@@ -1566,7 +1567,7 @@ def test_no_window_scrolls_sideways(page: Browser, view: str) -> None:
 
 @pytest.fixture
 def narrow(page: Browser) -> Iterator[Browser]:
-    """The page as wide as a telephone."""
+    """Yields the page in a window as wide as a telephone."""
     page.resize(390, 844)
     yield page
     page.resize(1280, 800)
@@ -1614,7 +1615,7 @@ def test_a_narrow_page_has_tabs(narrow: Browser) -> None:
     assert narrow.value(shown) == ["battle"]
     narrow.click("#tabs [data-tab=code]")
     assert narrow.value(shown) == ["desk"]
-    # The bar of the editor, whose lines are long, is not above the tabs.
+    # The scroll bar of the editor, whose lines are long, is not above the tabs.
     above = "document.elementFromPoint(given[0], innerHeight - given[1]).closest('#tabs, #editor')?.id"
     narrow.until("document.querySelector('.CodeMirror-hscrollbar').offsetHeight")
     assert {narrow.run(f"return {above}", x, y) for x in (60, 300) for y in range(2, 44, 3)} == {"tabs"}
@@ -1623,7 +1624,7 @@ def test_a_narrow_page_has_tabs(narrow: Browser) -> None:
     assert narrow.value(shown) == ["lesson-box"]
     narrow.click("#tabs [data-tab=view]")
     assert narrow.value(shown) == ["battle"]
-    # So are the bench and the league, with the list of sources.
+    # The bench and the league, too, are a tap apart from the list of sources.
     for view in ("bench", "league"):
         narrow.click(f"[data-view={view}]")
         for tab, place in (("code", "desk"), ("view", view)):

@@ -1,4 +1,4 @@
-"""Ties, losses and what a warrior does by itself; and how a terminal shows what is printed."""
+"""Tests what `why`, `study` and `rounds` say of a match or a warrior, how a terminal shows it, and `help` and `new`."""
 from __future__ import annotations
 
 import os
@@ -18,7 +18,7 @@ from corewar.model.printing import broken
 
 
 def test_a_tie(run: Run, tmp_path: Path) -> None:
-    """The report on the last turns of survivors: lines of others, load files, hits, and a limited number of lines."""
+    """The report on the last turns of survivors has lines of other warriors and of load files, but not too many."""
     lines = run("why", "@boot", "@imp").stdout.splitlines()
     assert lines[:5] == [
         "No warrior died; the battle is over: Stranger and Imp survive.",
@@ -63,7 +63,7 @@ def test_lines_at_the_end_are_those_of_the_turns(names: tuple[str, ...]) -> None
 
 
 def test_the_ways_to_die(run: Run, tmp_path: Path) -> None:
-    """On its own cell that it hit itself, on a cell that has not changed, in empty core, and in load files."""
+    """A warrior dies on a cell that it hit itself, on one that has not changed, in empty core, or by a load file."""
     sources = {
         "suicide": ";name Suicide\nMOV 2, 1\nNOP\nDAT 0\n",
         "dat": ";name Dat\nDAT 0\n",
@@ -197,7 +197,7 @@ def test_help_is_a_command(run: Run) -> None:
 
 
 def test_a_first_folder(run: Run, tmp_path: Path) -> None:
-    """The warrior is that of the tutorial, and the command that is named runs."""
+    """`new` writes the warrior of the tutorial, and names a command that runs."""
     done = run("new", "mine")
     assert done.returncode == 0 and "next: corewar challenge mine/first.red mine/examples\n" in done.stdout
     tutorial = (EXAMPLES.parent / "docs" / "user" / "TUTORIAL.md").read_text()

@@ -1,4 +1,4 @@
-"""The language server: errors during typing, hover, names, and requests and sources of other kinds."""
+"""Tests the language server: errors and corrections, hover, values, names, renames and completion, over any text."""
 from __future__ import annotations
 
 import ast
@@ -14,7 +14,7 @@ from typing import Any
 import costly
 import pytest
 import test_explain
-from conftest import ENVIRONMENT, EXAMPLES, TOP, Run, begin
+from conftest import COMMAND, ENVIRONMENT, EXAMPLES, TOP, Run, begin
 from hypothesis import given, strategies as st
 
 from corewar.cli.main import COMMANDS
@@ -54,7 +54,7 @@ def text_of(source: str) -> Text:
 
 
 def request(text: Text, method: str, line: int, column: int, **more: Any) -> Any:
-    """The answer about a position, from 0."""
+    """Returns the answer to a request about a position, whose line and column count from 0."""
     where = {"line": line, "character": column}
     params = {"textDocument": {"uri": URI}, "position": where, "range": {"start": where, "end": where}, **more}
     return ANSWERS[f"textDocument/{method}"](text, params)
@@ -69,7 +69,7 @@ class Editor:
         self.count = 0
 
     def ask(self, method: str, **params: Any) -> Params:
-        """The answer to a request, which comes before any other message."""
+        """Returns the answer to a request, which comes before any other message."""
         self.count += 1
         self.wire.send({"id": self.count, "method": method, "params": params})
         answer = self.wire.receive()
@@ -83,7 +83,7 @@ class Editor:
         self.wire.send({"method": method, "params": params})
 
     def write(self, text: str) -> list[Params]:
-        """The errors after a change of the whole text."""
+        """Returns the errors after a change of the whole text."""
         self.notify("textDocument/didChange", textDocument={"uri": URI}, contentChanges=[{"text": text}])
         message = self.wire.receive()
         assert message is not None and message["method"] == "textDocument/publishDiagnostics"
@@ -195,7 +195,7 @@ def test_each_correction_removes_an_error() -> None:
 
 
 def edited(text: str, edit: Params) -> str:
-    """The text after an edit, whose positions are in UTF-16 units, as a client applies it."""
+    """Returns the text after an edit, whose positions are in UTF-16 units, as a client applies it."""
     for change in sorted(edit["changes"][URI], key=lambda one: [*one["range"]["start"].values()], reverse=True):
         lines = text.split("\n")
         ends = []
@@ -209,13 +209,13 @@ def edited(text: str, edit: Params) -> str:
 
 def test_no_error_of_an_answer_ends_the_server(editor: Editor, tmp_path: Path) -> None:
     assert editor.write(GOOD) == []
-    request: list[tuple[str, dict[str, Any], int]] = [
+    requests: list[tuple[str, dict[str, Any], int]] = [
         ("textDocument/hover", {"textDocument": {"uri": URI}}, -32603),
         ("textDocument/hover", {"textDocument": {"uri": "file:///other.red"}, "position": {}}, -32803),
         ("textDocument/hover", {"textDocument": 5}, -32603),
         ("textDocument/formatting", {"textDocument": {"uri": URI}}, -32601),
     ]
-    for method, params, code in request:
+    for method, params, code in requests:
         assert editor.ask(method, **params)["error"]["code"] == code
     for body in (b"{", b"[]", b"\xff", b"", b"[" * 100_000):
         editor.process.stdin.write(b"Content-Length: %d\r\nX: y\r\n\r\n%s" % (len(body), body))
@@ -253,17 +253,11 @@ def test_start_and_end(run: Run) -> None:
     done = run("lsp")
     assert (done.returncode, done.stdout, done.stderr) == (1, "", "")
     code = "import pty, sys; sys.exit(pty.spawn(sys.argv[1:]) >> 8)"
-    words = [sys.executable, "-c", code, *begin_words("lsp")]
+    words = [sys.executable, "-c", code, *COMMAND, "lsp"]
     done = subprocess.run(words, env=ENVIRONMENT, capture_output=True, text=True, stdin=subprocess.DEVNULL)
     assert done.returncode == 2 and "expected an editor on standard input" in done.stdout
     assert run("lsp", "--hill", "none").returncode == 2
     assert "lsp" in COMMANDS
-
-
-def begin_words(*words: str) -> list[str]:
-    from conftest import COMMAND
-
-    return [*COMMAND, *words]
 
 
 def test_a_source_that_costs_too_much(editor: Editor) -> None:
@@ -410,7 +404,7 @@ def outcomes(source: str) -> list[bytes | str]:
 
 def test_no_rename_changes_a_warrior() -> None:
     """Each name of each source is renamed to a fresh name and to names that may clash, with each hill's settings."""
-    dice, count = Random(7), [0, 0]
+    dice, refused, renamed = Random(7), 0, 0
     for source in SOURCES:
         text = text_of(source)
         before, names = outcomes(source), {(one.kind, one.key): one for one in text.names.tokens if one.key}
@@ -423,12 +417,12 @@ def test_no_rename_changes_a_warrior() -> None:
                     edit = request(text, "rename", where["line"], where["character"], newName=new)
                 except CorewarError:
                     is_possible = not text.errors and token.kind != "predefined" and new == "fresh_name"
-                    count[0] += is_possible
+                    refused += is_possible
                     continue
-                count[1] += 1
+                renamed += 1
                 assert outcomes(edited(source, edit)) == before, (source, token, new)
     # A fresh name is never refused in a source without errors.
-    assert count[1] > 100 and count[0] == 0, count
+    assert renamed > 100 and refused == 0, (renamed, refused)
 
 
 @given(st.sampled_from(SOURCES), st.data())

@@ -77,9 +77,9 @@ def test_the_error_is_how_seeds_differ() -> None:
     """The scores of 60 seeds lie as far from each other as the error of each says."""
     dice, limits = random.Random(1), (16, 7, 8, 8, 80, 80)
     cells: Any = [[tuple(map(dice.randrange, limits)) for _ in range(5)] for _ in range(12)]
-    warriors = [corewar.Warrior.from_cells(one, settings="nano") for one in cells]
+    fighters = [corewar.Warrior.from_cells(one, settings="nano") for one in cells]
     contests = [Contest("nano", rounds=3, seed=1 + 7919 * seed) for seed in range(60)]
-    tables = [contest.melee(warriors, 3, 60, jobs=2) for contest in contests]
+    tables = [contest.melee(fighters, 3, 60, jobs=2) for contest in contests]
     spreads = np.std([table.scores for table in tables], axis=0, ddof=1)
     assert abs(spreads.sum() / np.mean([table.errors for table in tables], axis=0).sum() - 1) < 0.2
 
@@ -101,7 +101,7 @@ def test_formats_for_programs(run: Run) -> None:
 
 
 def test_the_command(run: Run, tmp_path: Path) -> None:
-    """The table, files that are left out, and errors."""
+    """The command prints the table, names the files that it leaves out, and reports errors."""
     (tmp_path / "bad.red").write_text("foo 1\n")
     (tmp_path / "many.red").write_text(";assert WARRIORS == 3\nmov 0, 1\n")
     files = [f"@{name}" for name in NAMES]
@@ -152,7 +152,7 @@ def test_results_are_stored(run: Run, tmp_path: Path) -> None:
     assert one.stdout == other.stdout and one.returncode == 0 and run("league", *words).returncode == 0
     with sqlite3.connect(path) as file:
         assert [len([*file.execute(f"SELECT * FROM {name}")]) for name in ("melees", "fought")] == [8, 15]
-        # Another formula or another order of the warriors, whose digests are in the key, is another match.
+    # The digests of the warriors are in the key in their order, so in another order these are other matches.
     assert contest.melee(warriors()[::-1], 3, 8, results=path, progress=seen.append).lineups.shape == (8, 3)
     assert seen[-2].done == 0
 
@@ -169,10 +169,10 @@ def test_stored_results_that_cannot_be(run: Run, tmp_path: Path, lives: str) -> 
 
 def test_it_reports_its_progress(monkeypatch: pytest.MonkeyPatch) -> None:
     """The table does not depend on how many matches are run between two reports."""
-    warriors = [assemble(f"jmp {number}, <5", settings="nano") for number in range(5)]
+    fighters = [assemble(f"jmp {number}, <5", settings="nano") for number in range(5)]
     contest, seen = Contest("nano"), list[Progress]()
-    whole = contest.melee(warriors, 2, 10, progress=seen.append).to_dict()
+    whole = contest.melee(fighters, 2, 10, progress=seen.append).to_dict()
     assert seen == [Progress(0, 10), Progress(10, 10)]
     monkeypatch.setattr("corewar.engine.outcomes.TURNS", 3 * 1600)
-    assert contest.melee(warriors, 2, 10, jobs=1, progress=seen.append).to_dict() == whole
+    assert contest.melee(fighters, 2, 10, jobs=1, progress=seen.append).to_dict() == whole
     assert [one.done for one in seen[2:]] == [0, 3, 6, 9, 10]

@@ -1,4 +1,4 @@
-"""The outcomes of many matches: those of matches and battles, on any executor, with points and rewards."""
+"""Tests `outcomes`: that they are those of matches and battles, on any executor; and what is computed of them."""
 from __future__ import annotations
 
 import random
@@ -92,7 +92,7 @@ def counts_in(records: Any, touched: Any) -> tuple[int, ...]:
 
 
 def test_lineups() -> None:
-    """One lineup of all warriors by default, threads, a seed for each lineup, and errors."""
+    """The default is one lineup of all warriors, each lineup may have a seed, and errors have the lineup's index."""
     warriors = [corewar.read(EXAMPLES / f"{name}.red") for name in ("dwarf", "imp", "silk")]
     pairs = [[0, 1], [1, 2], [2, 0]]
     outcomes = corewar.outcomes(warriors, pairs, rounds=4, seeds=[3, 4, 5])
@@ -235,6 +235,7 @@ def test_sums_in_parts(monkeypatch: pytest.MonkeyPatch) -> None:
     assert results() == whole
 
 
+# Calls that would take long.
 CALLS = [
     "corewar.match(two, rounds=100000)",
     "corewar.league(two * 2, rounds=100000)",
@@ -273,6 +274,7 @@ except KeyboardInterrupt:
     print(time.process_time() - began[0])
 """
     done = subprocess.run([sys.executable, "-c", program], env=ENVIRONMENT, capture_output=True, text=True, timeout=60)
+    # The CPU time of two threads adds up.
     assert float(done.stdout) < 0.5 * (2 if "jobs" in call else 1), done.stderr
 
 

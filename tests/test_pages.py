@@ -26,7 +26,7 @@ if not (TOP / "build" / "site").is_dir():
 
 
 def unpacked(page: str) -> dict[str, Any]:
-    """The fight of a page."""
+    """Returns the fight of a page."""
     found = re.search(r'<script id="page-fight" type="text/plain">([\w-]+)</script>', page)
     assert found
     fight: dict[str, Any] = json.loads(zlib.decompress(base64.urlsafe_b64decode(found[1] + "=="), wbits=-15))
@@ -52,7 +52,7 @@ def test_files_are_replaced_whole_or_not_at_all(run: Run, tmp_path: Path) -> Non
 
 
 def test_a_page_is_written(run: Run, tmp_path: Path) -> None:
-    """It has the sources, the settings, a turn and edits, and is not overwritten without --force."""
+    """A page has the sources, the settings, a turn and edits, and is not overwritten without --force."""
     words = ["--round", 2, "-r", 5, "--seed", 9, "-c", 5000, "--score", "W", "--turn", 300]
     words += ["--edit", "100 edit 3 mov 0, 1", "--edit", "200 fill 5 6 dat <1, #2", "--edit", "200 move 0 0 7"]
     done = run("page", *words, "--edit", "200 kill 1 0", "--edit", "200 spawn 0 9", "@dwarf", "@imp")
@@ -105,7 +105,7 @@ def test_wrong_edits(run: Run, tmp_path: Path, edit: str, why: str) -> None:
     ],
 )
 def test_impossible_edits(run: Run, tmp_path: Path, edits: list[str], why: str) -> None:
-    """Each edit is checked in the battle, after those of earlier turns."""
+    """Each edit is checked in the battle, after the edits of earlier turns."""
     done = run("page", *(word for edit in edits for word in ("--edit", edit)), "@imp", "@gate")
     assert done.returncode == 2 and why in done.stderr and not (tmp_path / "battle.html").exists()
 
@@ -117,7 +117,7 @@ def test_edits_are_in_the_order_of_their_turns(run: Run, tmp_path: Path) -> None
 
 
 def test_battles_that_the_site_does_not_show(run: Run, tmp_path: Path) -> None:
-    """Those that are too long. A short battle may have the most cycles."""
+    """A battle that is too long is refused, but a short one may have as high a limit of cycles."""
     long = ["-c", 8_000_001]
     done = run("page", *long, "@imp", "@imp")
     assert done.returncode == 1 and "the battle has 16000002 turns, but a page shows at most 16000000" in done.stderr
@@ -145,7 +145,7 @@ def test_pictures_of_each_kind(run: Run, tmp_path: Path) -> None:
 
 
 def test_a_picture_is_the_same_each_time(run: Run, tmp_path: Path) -> None:
-    """Also if it is drawn at another time, by another process."""
+    """A picture has the same bytes if it is drawn at another time, by another process."""
     for ending in ("png", "svg", "pdf"):
         for name in ("a", "b"):
             run("picture", "-o", f"{name}.{ending}", "--rows", 5, "--columns", 5, "@imp", "@gate")

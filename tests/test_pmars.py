@@ -45,7 +45,9 @@ def ours(
 
 
 def readable(settings: Settings) -> list[tuple[Path, Warrior]]:
-    """The sources that both programs read, each with its warrior. Two of Debian use P-space or an EQU across loops."""
+    """Returns the sources that both programs read, each with its warrior. Two of Debian's, which use P-space or an EQU
+    across loops, are left out.
+    """
     found = []
     for path in [*sorted(EXAMPLES.glob("*.red")), *sorted(DEBIAN.glob("*.red"))]:
         try:
@@ -74,7 +76,7 @@ def different(pmars: Path, file: Path, warrior: Warrior) -> list[tuple[str, str]
 
 
 def test_matches_by_both_series(pmars: Path) -> None:
-    """Every pair of sources in both orders, 40 rounds by a position and 40 by the cells."""
+    """Every pair of sources has the same results in both orders, in 40 rounds by a position and in 40 by the cells."""
     settings, dice = HILLS["94nop"], random.Random(1)
     # One series begins with a sum of the cells, so both programs need the same cells.
     sources = [(file, warrior) for file, warrior in readable(settings) if not different(pmars, file, warrior)]
@@ -87,7 +89,7 @@ def test_matches_by_both_series(pmars: Path) -> None:
 
 
 def test_positions_one_by_one(pmars: Path) -> None:
-    """Every position of a pair in a nano core, in each order; beyond the last one pMARS begins again."""
+    """Every position of a pair in a nano core has the same results; beyond the last one pMARS begins again."""
     settings = HILLS["nano"]
     for files in permutations([EXAMPLES / "dwarf.red", EXAMPLES / "imp.red"]):
         warriors = [read(file, settings=settings) for file in files]
@@ -101,7 +103,7 @@ def test_positions_one_by_one(pmars: Path) -> None:
 
 @pytest.mark.parametrize("name", ["tiny", "nano", "94x", "small"])
 def test_random_warriors(pmars: Path, tmp_path: Path, name: str) -> None:
-    """Battles of random cells, which use every opcode, modifier and mode, by both series."""
+    """Battles of random cells, which use every opcode, modifier and mode, have the same results by both series."""
     settings, dice = HILLS.get(name, SMALL), random.Random(name)
     for number in range(4 if name == "94x" else 60):
         files = [tmp_path / f"{number}-{side}.red" for side in (0, 1)]
@@ -146,7 +148,7 @@ def test_the_options(pmars: Path, run: Run) -> None:
 
 
 def test_every_position(pmars: Path, run: Run) -> None:
-    """All positions in both orders are those of `pmars -P`."""
+    """A match at all positions, in both orders, has the results of `pmars -P`."""
     for names in (("dwarf", "scanner"), ("imp", "bomber")):
         files = [EXAMPLES / f"{name}.red" for name in names]
         done = run("fight", "--hill", "tiny", "--positions", "all", *files)

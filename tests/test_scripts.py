@@ -1,4 +1,4 @@
-"""The scripts of examples/ over the package: a hill, and evolvers."""
+"""Tests the scripts of examples/ that use the package: a hill, evolvers, feedback for a model, and environments."""
 from __future__ import annotations
 
 import json
@@ -55,7 +55,7 @@ def test_a_hill_is_ordered_by_the_scores_that_it_shows(tmp_path: Path) -> None:
 
 
 def test_a_warrior_is_on_a_hill_once(tmp_path: Path) -> None:
-    """Its copy, also one of another name, is left out, and changes nothing."""
+    """A copy of a warrior, also one of another name, is left out, and changes nothing."""
     (tmp_path / "copy.red").write_bytes(b";name Copy\n;author Another\n" + (EXAMPLES / "imp.red").read_bytes())
     first = run("hill.py", "hill.json", *FILES[:2], cwd=tmp_path).stdout
     stored = (tmp_path / "hill.json").read_bytes()
@@ -101,7 +101,7 @@ def test_errors_of_a_hill(tmp_path: Path, words: list[object], status: int, erro
 
 
 def test_challenges_at_once(tmp_path: Path) -> None:
-    """Each waits for the one before it, and none is lost."""
+    """Each challenge waits for the one before it, and none is lost."""
     command = [sys.executable, str(EXAMPLES / "hill.py"), "--rounds", "20", "hill.json"]
     options: dict[str, Any] = {"cwd": tmp_path, "env": ENVIRONMENT, "stdout": subprocess.PIPE, "text": True}
     for number in range(10):
@@ -150,7 +150,7 @@ def test_elites(tmp_path: Path) -> None:
 
 @pytest.mark.parametrize("script", ["elites.py", "evolver.py", "hill.py"])
 def test_arguments(tmp_path: Path, script: str) -> None:
-    """The help, and wrong arguments."""
+    """Each script has help, and rejects wrong arguments."""
     assert run(script, "--help", cwd=tmp_path).stdout.splitlines()[2].startswith(f"usage: examples/{script} [")
     wrong: dict[str, list[str]] = {"elites.py": ["0"], "evolver.py": ["\u00b2"], "hill.py": []}
     for words in (["--none"], wrong[script]):
@@ -176,7 +176,7 @@ def test_the_red_queen(tmp_path: Path) -> None:
 
 
 def test_feedback_for_a_model(tmp_path: Path) -> None:
-    """Errors with advice, and then what the warrior does and how it lost, as JSON."""
+    """The script prints errors with advice, then what the warrior does and how it lost, as JSON."""
     command = [sys.executable, str(EXAMPLES / "feedback.py")]
     given = "MVO 0, 1\n.\nSPL 0, 0\nJMP -1, 0\n.\n"
     done = subprocess.run(command, input=given, cwd=tmp_path, env=ENVIRONMENT, capture_output=True, text=True)

@@ -19,7 +19,7 @@ COMMANDS = (
 
 @pytest.fixture(params=("windows", "macos"))
 def environment(request: pytest.FixtureRequest) -> dict[str, str]:
-    """The variables with which the package lacks what a system lacks."""
+    """Returns the variables with which the package lacks what a system lacks."""
     path, library = f"{SIMULATED}:{ENVIRONMENT['PYTHONPATH']}", str(TOP / "build" / "libmars.so.2")
     return {**ENVIRONMENT, "PYTHONPATH": path, "SIMULATED": request.param, "MARS_LIBRARY": library, "NO_COLOR": "1"}
 
@@ -32,7 +32,7 @@ def test_commands(run: Run, tmp_path: Path, environment: dict[str, str]) -> None
 
 
 def test_limits(run: Run, tmp_path: Path, environment: dict[str, str]) -> None:
-    """A process ends after the CPU time for its source, and what this process makes of a source ends, too."""
+    """The limit of CPU time for a source ends the process that assembles it, and the reading in the command itself."""
     (tmp_path / "slow.red").write_text(slow())
     (tmp_path / "large.red").write_text("a NOP\n" * 150_000)
     for words, what in ((("fight", "slow.red"), "assembling"), (("explain", "large.red"), "reading the source")):

@@ -56,7 +56,7 @@ def folder(tmp_path_factory: pytest.TempPathFactory) -> Path:
 
 
 def started(shell: str, folder: Path) -> Any:
-    """A shell that knows the completion."""
+    """Starts a shell that knows the completion."""
     pexpect = pytest.importorskip("pexpect", reason="package python3-pexpect")
     if not shutil.which(shell):
         skip("the completion", f"there is no {shell}", shell)

@@ -1,4 +1,4 @@
-"""What a program gets to know of errors and battles: problems, turns, reasons and studies as values, and their JSON."""
+"""Tests what the package says of errors and battles: values, their JSON, columns of arrays, and exported types."""
 from __future__ import annotations
 
 import builtins
@@ -24,7 +24,7 @@ def fight(*names: str, **how: Any) -> Match:
 
 
 def test_problems() -> None:
-    """All errors of a source at once, with advice; what to write in place of a word; and none."""
+    """`problems` returns all errors of a source, with advice and what to write in place of a word."""
     source = "loop mvo 0, 1\n dat #0\njmp lop\n"
     first, second = corewar.problems(source)
     assert (first.line, first.error, first.source) == (1, "2 Operation", "loop mvo 0, 1")
@@ -37,7 +37,7 @@ def test_problems() -> None:
 
 
 def test_why() -> None:
-    """The last turn, what changed its cell, and the turns before; and the lines of one that lives."""
+    """`why` returns the last turn, what changed its cell, and the turns before; of a living warrior, its lines."""
     history = History(fight("dwarf", "imp"))
     why = history.why("imp")
     assert (why.warrior, why.name, why.fate, why.turn) == (1, "Imp", "died", 7798) and history.why(1) == why
@@ -66,7 +66,7 @@ def test_trace() -> None:
 
 
 def test_fates() -> None:
-    """What warriors died on and by in each round, and what those of a tie executed last."""
+    """`fates` returns what warriors died on and by in each round, and what the survivors of a tie executed last."""
     first, *_, last = corewar.fates(fight("dwarf", "imp", rounds=3))
     assert first == corewar.Death(1, 0, "its line 5: MOV.I 0, 1", "Dwarf, by line 10: MOV bomb, @bomb")
     assert isinstance(last, corewar.Tie) and (last.warrior, last.round, last.executed) == (1, 2, "cells that it wrote")
@@ -110,7 +110,7 @@ def test_json(run: Run, words: str, tmp_path: Path) -> None:
 
 
 def test_explain_as_json(run: Run) -> None:
-    """An instruction, one with an error, messages of other programs, and no error."""
+    """`explain` has JSON for an instruction, one with an error, messages of other programs, and a valid source."""
     meaning = json.loads(run("explain", "--format", "json", "MOV }bomb, >ptr").stdout)
     assert meaning[0]["instruction"] == "MOV }bomb, >ptr" and meaning[0]["meaning"]
     wrong = run("explain", "--format", "json", "MVO 0, 1")
@@ -133,7 +133,7 @@ def test_a_history_is_pickled() -> None:
 
 
 def test_player() -> None:
-    """A frame for a notebook that has the page of `corewar page`, and may only run its scripts."""
+    """A player is a frame for a notebook that has the page of `corewar page`, and may only run its scripts."""
     history = History(fight("dwarf", "imp"))
     player = history.player(turn=5, height=300)
     html = player._repr_html_()
@@ -142,7 +142,7 @@ def test_player() -> None:
 
 
 def annotated(thing: Any) -> Iterator[str]:
-    """The annotations of a public call, of the fields of a class, and of its public methods and properties."""
+    """Yields the annotations of a public call, of the fields of a class, and of its public methods and properties."""
     if inspect.isclass(thing):
         yield from (str(one) for one in vars(thing).get("__annotations__", {}).values())
         members = [one for name, one in vars(thing).items() if name == "__init__" or not name.startswith("_")]
@@ -151,7 +151,7 @@ def annotated(thing: Any) -> Iterator[str]:
         functions = [thing]
     for one in functions:
         found = [*map(str, getattr(one, "__annotations__", {}).values())]
-        # Blocks are of the package itself.
+        # Calls with a Block are for the package itself.
         yield from found if "Block" not in "".join(found) else []
 
 

@@ -1,4 +1,4 @@
-"""Warriors as values."""
+"""Tests warriors as values, how they are assembled and named, and the errors of wrong warriors and cells."""
 from __future__ import annotations
 
 import os
@@ -56,7 +56,7 @@ def test_another_core_reads_numbers_by_value(fight: Match) -> None:
 
 
 def test_kinds_of_arguments(tmp_path: Path) -> None:
-    """Paths, and hills by name; also the short texts of values."""
+    """Calls accept paths, and hills by name; values have short texts."""
     dwarf, imp = corewar.read(EXAMPLES / "dwarf.red"), corewar.assemble(
         "MOV 0, 1", settings="nano", file=tmp_path / "imp.red"
     )
@@ -155,7 +155,7 @@ def test_names_with_control_characters(field: str, text: str) -> None:
 
 
 def test_an_assembler_is_as_the_call() -> None:
-    """It returns the warriors and raises the errors of `corewar.assemble`, and continues after an error."""
+    """An assembler returns the warriors and raises the errors of `corewar.assemble`, and continues after an error."""
     sources: list[Any] = ["DAT WARRIORS", b"DAT 0 ; \xff", os.fsdecode(b"DAT 0 ; \xff"), "FOO 1", "MOV 0, 1", 5]
     words: dict[str, Any] = {"settings": "nano", "rounds": 3, "warriors": 4, "file": Path("a.red")}
     with corewar.Assembler(corewar.Limit(5, 500)) as assembler:

@@ -22,6 +22,7 @@ from counting import skip
 from corewar.model.errors import CorewarError
 from corewar.pages.site import site_folder
 
+# Seconds to wait for an answer, or for the end of the server.
 WAIT = 20
 if not (TOP / "build" / "site").is_dir():
     skip("the site", "the site is not built; `make site` builds it", "esbuild")
@@ -52,6 +53,7 @@ class Site:
 
 
 def served(*words: object) -> Iterator[Site]:
+    """Yields the site of `corewar web` with these arguments, of which the last is its folder; then stops the server."""
     with begin("web", "--no-browser", *words, stderr=None) as process:
         assert process.stdout
         found = re.search(r"at (http://\S+)", process.stdout.readline())
@@ -222,6 +224,7 @@ def test_links_and_closed_files_are_respected(site: Site) -> None:
 
 
 def fight(*names: str, rounds: int = 5) -> dict[str, Any]:
+    """Returns the request that runs a league of examples."""
     sources = [{"name": f"{name}.red", "text": (EXAMPLES / f"{name}.red").read_text()} for name in names]
     settings = {"core": 800, "cycles": 8000, "processes": 800, "longest": 20, "distance": 20}
     terms = {"settings": {**settings, "readLimit": 0, "writeLimit": 0}, "seed": 1, "rounds": rounds, "position": 0}

@@ -45,14 +45,14 @@ def node() -> None:
 
 
 def test_it_is_the_native_machine() -> None:
-    """Random battles, edits, errors and failed allocations."""
+    """The tests of Node pass: battles as the native program plays them, errors, lessons, links and workers."""
     if not WASM.is_file():
         skip("mars.wasm", "dev/library could not build it", "binaryen")
     done = run("node", "--test", SITE / "tests", MARS_WASM=str(WASM), MARS=str(PROGRAM))
     assert done.returncode == 0, done.stdout
 
 
-def randomly(count: int) -> list[dict[str, Any]]:
+def random_fights(count: int) -> list[dict[str, Any]]:
     """Returns fights of random warriors with edits, and questions about them."""
     chance = random.Random(74)
     number, pick = chance.randrange, chance.choice
@@ -109,7 +109,7 @@ def turn_of(edit: dict[str, Any]) -> int:
 
 
 def history_of(fight: dict[str, Any]) -> History:
-    """Returns Python's history of a fight, with those of its edits that are possible."""
+    """Returns Python's history of a fight, without the edits that are impossible."""
     settings = settings_of(fight["settings"])
     rounds, texts = fight["round"] + 1, [one["text"] for one in fight["warriors"]]
     warriors = [assemble(text, settings=settings, rounds=rounds, warriors=len(texts)) for text in texts]
@@ -130,10 +130,10 @@ def joined_of(parts: dict[str, Any]) -> list[Condition]:
 
 
 def test_its_history_is_that_of_python() -> None:
-    """States, owners, source lines, births, deaths, conditions and the overview, also after edits."""
+    """States, owners, source lines, births, deaths, conditions and the overview agree, also after edits."""
     if not WASM.is_file():
         skip("mars.wasm", "dev/library could not build it", "binaryen")
-    fights = randomly(60)
+    fights = random_fights(60)
     done = subprocess.run(
         ["node", SITE / "tests" / "answers.mjs", WASM], input=json.dumps(fights), capture_output=True, text=True
     )
@@ -172,7 +172,7 @@ def test_its_history_is_that_of_python() -> None:
 
 
 def test_its_sentences_are_those_of_python(tmp_path: Path) -> None:
-    """The sentences of instructions with each opcode, modifier and mode."""
+    """Instructions with each opcode, modifier and mode have the same sentences."""
     if not shutil.which("esbuild"):
         skip("JavaScript's sentences", "there is no esbuild", "esbuild")
     script = tmp_path / "sentences.js"
@@ -209,7 +209,7 @@ def test_its_layout_is_that_of_the_header() -> None:
 
 
 def test_its_errors_have_the_texts_of_python() -> None:
-    """The texts of all results of calls and of their numbers, also of nested ones."""
+    """All results of calls, with all numbers of errors, also nested ones, have the same texts."""
     numbers = itertools.product([code for code in RESULTS.values() if code], range(11), (0, 3, 10), (0, 2), [4], [5])
     errors = [MarsError(*fields) for fields in numbers]
     fields = ("code", "number", "problem", "expression", "line", "warrior")
@@ -220,7 +220,7 @@ def test_its_errors_have_the_texts_of_python() -> None:
 
 
 def test_its_errors_are_those_of_explain() -> None:
-    """The lines and the sentences, also of several errors in a source. JavaScript has no names of characters."""
+    """Errors have the same lines and sentences, also several in a source; but JavaScript has no names of characters."""
     if not WASM.is_file():
         skip("mars.wasm", "dev/library could not build it", "binaryen")
     texts = [text for text, fault, _ in SOURCES if "NotAscii" not in fault]

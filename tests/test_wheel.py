@@ -1,5 +1,5 @@
-"""Tests the wheels: that of this system installs into a fresh virtual environment and runs there from any folder, and
-pip accepts each for its system. Also the source archive, which pip compiles.
+"""Tests the wheels and the source archive: this system's wheel installs into a fresh virtual environment and runs there
+from any folder, pip accepts each wheel for its system, and pip compiles the archive.
 """
 from __future__ import annotations
 
@@ -38,7 +38,7 @@ print(corewar.match([imp])[0].score)
 
 @pytest.fixture(scope="module")
 def environment(tmp_path_factory: pytest.TempPathFactory) -> Iterator[Path]:
-    """A virtual environment with the wheel, whose other packages are Debian's."""
+    """Yields a virtual environment with the wheel, whose other packages are Debian's."""
     for module, package in (("ensurepip", "venv"), ("pip", "pip"), ("setuptools", "setuptools"), ("wheel", "wheel")):
         code = f"import importlib.util, sys; sys.exit(importlib.util.find_spec('{module}') is None)"
         if subprocess.run(["/usr/bin/python3", "-c", code]).returncode:
@@ -55,7 +55,7 @@ def environment(tmp_path_factory: pytest.TempPathFactory) -> Iterator[Path]:
 
 
 def started(environment: Path, *words: object, input: str = "", folder: object = "/") -> str:
-    """Runs a program of the environment in a folder, and returns its output. The program has no error."""
+    """Runs a program of the environment in a folder, which has to succeed silently, and returns its output."""
     command = [str(environment / "bin" / str(words[0])), *map(str, words[1:])]
     variables = {"PATH": "/usr/bin:/bin", "HOME": str(environment), "NO_COLOR": "1"}
     done = subprocess.run(command, input=input, cwd=str(folder), env=variables, capture_output=True, text=True)
@@ -83,7 +83,7 @@ def test_it_calls_its_own_library(environment: Path) -> None:
 
 
 def test_it_names_the_processor_that_it_needs(environment: Path) -> None:
-    """No tag says x86-64-v2, so the library does, and is not loaded on an older processor."""
+    """No tag of wheels says x86-64-v2, so the library does, and is not loaded on an older processor."""
     (library,) = environment.glob("lib/python*/site-packages/corewar/engine/libmars.so.2")
     words = [
         "qemu-x86_64-static",
@@ -98,7 +98,7 @@ def test_it_names_the_processor_that_it_needs(environment: Path) -> None:
 
 
 def test_no_header_is_parsed(environment: Path) -> None:
-    """A start without the parser, which -OO would break, since it depends on docstrings."""
+    """The package starts without the parser, which -OO would break, since it depends on docstrings."""
     code = "import sys, corewar; corewar.assemble('MOV 0, 1'); print('pycparser' in sys.modules)"
     assert started(environment, "python", "-OO", "-c", code) == "False\n"
 
@@ -114,7 +114,7 @@ def test_commands_run_from_any_folder(environment: Path, tmp_path: Path) -> None
 
 
 def test_pip_compiles_the_source_archive(environment: Path, tmp_path: Path) -> None:
-    """Its library is not that of the wheel, and a league has the same results."""
+    """The library that is compiled is not that of the wheel, but a league has the same results."""
     make_well("dist")
     words = ["-q", "--no-index", "--no-deps", "--no-build-isolation", "--target", tmp_path]
     started(environment, "pip", "install", *words, TOP / "build" / f"corewar-{corewar.__version__}.tar.gz")
