@@ -59,7 +59,7 @@ function keysOf({ session, theatre, another, round, edit }) {
 }
 
 /**
- * Pins the cell beside the one that is looked at, if the key is an arrow. Returns whether it is.
+ * Pins a neighbour of the cell that is looked at, if the key is an arrow. Returns whether it is an arrow.
  * @param {Acts} acts
  * @param {string} key
  */

@@ -146,7 +146,7 @@ export class Page {
   }
 
   /**
-   * Stores terms that the user has changed and uses them; those of a link or a lesson are not stored.
+   * Stores terms that the user has changed and uses them; the terms of a link or a lesson are not stored.
    * @param {Partial<MatchTerms>} changes
    * @param {boolean} isShown whether the battle that is shown depends on them
    */

@@ -6,7 +6,7 @@ import { throttle } from "../view/dom.js";
 
 /** @typedef {import("../model/fight.js").Fight} Fight */
 /** @typedef {import("../view/session.js").Session} Session */
-/** @typedef {{view: string, number: number | null}} Place `number` is that of a lesson or a round */
+/** @typedef {{view: string, number: number | null}} Place `number` is the number of a lesson or a round */
 /**
  * A battle as the history has it.
  * @typedef {{fight?: Fight, turn?: number, pinned?: number | null, plays?: boolean} & Partial<Kept>} Battle
@@ -144,7 +144,7 @@ export class Places {
 }
 
 /**
- * Returns whether an address shows a battle: that of a round, of a lesson that is open, or of a link.
+ * Returns whether an address shows a battle: of a round, of a lesson that is open, or of a link.
  * @param {string} hash
  */
 function isBattle(hash) {

@@ -44,7 +44,7 @@ export class Sources {
     for (const [name, kept] of this.#kept) {
       // Of a folder only what was not saved there is kept.
       const isElsewhere = kept.kind === "lesson" || shelf.find(name) || (server && kept.text === kept.saved);
-      // An example may be that of another version, which the user has changed.
+      // The source may be an example of another version, which the user has changed.
       if (!isElsewhere) shelf.add({ name, ...kept, kind: "own", saved: server ? "" : kept.saved });
     }
     const other = FIRST.find((name) => name !== files[0]?.name) ?? "";

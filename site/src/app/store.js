@@ -269,7 +269,7 @@ export function deleteDamaged() {
 }
 
 /**
- * Calls a function when another window has stored or removed a source, with the source and the one before.
+ * Calls a function when another window has stored or removed a source, with what is stored now and was before.
  * @param {(name: string, now: KeptSource | null, before: KeptSource | null) => void} changed
  */
 export function listenToSources(changed) {

@@ -14,7 +14,7 @@ const { NUMBER_OWNER, NUMBER_WARRIOR, OPCODES, READS } = layout;
  * - `cells`: the first and the last address of the cell, around the end of the core if the last one is smaller
  * - `of`: the warrior that changed the cell last, or that was loaded there
  * - `origin`: where its instruction was loaded, the first and the last address
- * - `was`, `becomes`: its opcode before the turn, and the one that the turn gave it in place of another
+ * - `was`, `becomes`: its opcode before the turn, and the different opcode that the turn gave it
  * - `by`: the warrior of the turn
  * - `and`: a condition that the same turn meets, too, with the same cell if the word is the same
  *

@@ -6,7 +6,7 @@ import { CELL_WORDS } from "../model/cells.js";
 /** @typedef {{address: number, before: Uint32Array, after: Uint32Array}} Change a write of a cell, with its words */
 /**
  * What a turn did: `queued` has the addresses of the processes that it queued, `touched` the cells that it touched,
- * `changes` those that it wrote, also if they are as before.
+ * `changes` the cells that it wrote, even if they are as before.
  * @typedef {{warrior: number, address: number, died: boolean, queued: number[], touched: number[],
  *   changes: Change[]}} Deed
  */

@@ -37,7 +37,7 @@ function suggestionsFor(before, word, text) {
   return found.slice(0, MAX_SUGGESTIONS).map(([name, meaning]) => ({ word: cased(name), meaning }));
 }
 
-/** The words to which the one before the caret can be completed. Tab takes the selected one, at first the top one. */
+/** What the word before the caret can be completed to, as a list. Tab takes the selected line, at first the top one. */
 export class Completion {
   /** @type {Suggestion[]} */
   #found = [];

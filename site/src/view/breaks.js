@@ -36,7 +36,7 @@ export class Breaks {
   }
 
   /**
-   * Sets a breakpoint, or removes the one that is like it.
+   * Sets a breakpoint, or removes it if an equal one is set.
    * @param {Condition} condition
    */
   toggle(condition) {

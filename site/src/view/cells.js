@@ -1,4 +1,4 @@
-/** The cells around the one that is looked at: their texts, which can be edited, and who changed that one when. */
+/** The cell that is looked at, with its neighbours: their texts, which can be edited, and who changed the cell when. */
 import { cellText, readCell } from "../model/cells.js";
 import { number, writtenWords } from "../words/battle.js";
 import { instructionWords } from "../words/instruction.js";
@@ -10,7 +10,7 @@ import { standingNames, standingOn, timesWords } from "./standing.js";
 
 /** @typedef {import("../worker/desk.js").View} View */
 
-/** The number of cells before and after the one that is looked at. */
+/** The number of neighbours on each side. */
 const AROUND = 4;
 const DONE = { at: "executed", changes: "changed", reads: "read" };
 
@@ -70,7 +70,7 @@ export class Cells {
     }
   }
 
-  /** The address that is looked at: the pinned one, the next one, or at the end that of the last death. */
+  /** The address that is looked at: the pinned one, the one to execute next, or at the end that of the last death. */
   get focus() {
     const { pinned, view, known } = this.session;
     return pinned ?? view?.head ?? Math.max(0, known.deaths.at(-1)?.address ?? 0);

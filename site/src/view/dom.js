@@ -61,7 +61,7 @@ export function make(kind, properties = {}, ...parts) {
 }
 
 /**
- * Replaces the content of an element. The button that has the focus gives it to the one in its place.
+ * Replaces the content of an element. If a button there had the focus, the button in its place gets it.
  * @param {HTMLElement} place
  * @param {Part[]} parts
  */

@@ -38,7 +38,7 @@ export async function find(session, rest, tell) {
 }
 
 /**
- * Finds a condition in each round of the match, without edits. Names and labels mean those of each round.
+ * Finds a condition in each round of the match, without edits. Its names and labels are looked up in each round.
  * @param {Session} session
  * @param {string} rest
  * @param {(progress: string) => void} tell
@@ -86,7 +86,7 @@ function inRound({ fight, opened, known }, round, starts) {
 }
 
 /**
- * Returns a condition whose numbers of warriors are those of another round, in which another warrior begins.
+ * Returns a condition with the numbers that its warriors have in another round, in which another warrior begins.
  * @param {string} text
  * @param {number} shift
  * @param {number} count

@@ -16,11 +16,11 @@ import { allOf, errorWords, sumOf } from "./host.js";
  *   results: number[][]}} KeptLeague
  */
 /**
- * Runs the matches of a league elsewhere: yields results as they end, first those that were stored.
+ * Runs the matches of a league elsewhere: yields stored results first, and the others as matches end.
  * @typedef {(sources: Source[], terms: MatchTerms) => AsyncGenerator<Result[]>} Runner
  */
 
-/** The maximum number of warriors of a matrix of numbers; that of more warriors is a picture. */
+/** The maximum number of warriors of a matrix of numbers; with more warriors it is a picture. */
 const MAX_TABLE_SIZE = 40;
 const NOTHING = { points: 0, wins: 0, ties: 0, losses: 0 };
 const WON = [0, 150, 130];

@@ -21,8 +21,8 @@ const [CELLS, AROUND, LISTED] = [11, 7, 20];
 export const cellAt = ({ view, known }, address) => (view ? cellText(readCell(view.cells, address), known.core) : "");
 
 /**
- * Returns the line of source of the instruction at an address, or "". The name of its warrior comes before it unless
- * that is the one given or, without one, the one that was loaded at the address.
+ * Returns the line of source of the instruction at an address, or "". The name of its warrior comes before it if that
+ * is not `warrior`, by default the warrior that was loaded at the address.
  * @param {Session} session
  * @param {number} address
  * @param {number} [warrior]

@@ -21,7 +21,7 @@ export function lineOf(entry, isShown, { show, mark }) {
 }
 
 /**
- * Returns the name of a source in the list, and that of its warrior, as the rest of the page has it, if it is another.
+ * Returns the name of a source in the list, and its warrior's name, as the rest of the page has it, if it is another.
  * @param {OpenSource} entry
  */
 export function titleOf({ name, doc, saved }) {

@@ -50,7 +50,7 @@ function clear(colour) {
   return ((Math.round(most) << 24) | (pure & 0xffffff)) >>> 0;
 }
 
-/** The pixels between cells, and below those that do not glow. */
+/** The pixels between cells, and below cells that do not glow. */
 export const BETWEEN = clear(BACK);
 export const DARK = pixel([0, 0, 0]);
 

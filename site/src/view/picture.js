@@ -14,7 +14,7 @@ export class Picture {
   canvas = document.createElement("canvas");
   #owner = new Uint8Array(0);
   #light = new Uint8Array(0);
-  /** The number of columns that are painted, and of those that are drawn. */
+  /** How many columns are painted, and how many of them are drawn. */
   painted = 0;
   #drawn = 0;
   /** @type {Palette | null} */

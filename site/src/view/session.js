@@ -178,8 +178,8 @@ export class Session extends Turns {
   }
 
   /**
-   * Goes to the next place where one of the conditions holds, or to the one before. Returns it, or null if there is
-   * none.
+   * Goes to the nearest place, after or before this one, where one of the conditions holds. Returns the place, or null
+   * if there is none.
    * @param {import("../battle/conditions.js").Condition[]} conditions
    * @param {boolean} forward
    */

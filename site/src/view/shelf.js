@@ -1,4 +1,4 @@
-/** The sources: a list, of which one is in the editor, and those that are marked fight. */
+/** The list of sources: one is in the editor, and the marked ones fight. */
 import { MAX_SOURCE_SIZE } from "../model/settings.js";
 import { pluralize } from "../words/battle.js";
 import { Checker } from "./checker.js";

@@ -17,7 +17,7 @@ import { swatch } from "./palette.js";
 
 /** With more warriors than that, rows are small. */
 const MAX_LARGE_ROWS = 4;
-/** The least height of the story: that of a short one. */
+/** The least height of the list of events, in which a short story has room. */
 const STORY = "9em";
 const PAUSE = "Pause, or step with the arrow keys, to read each turn in words.";
 

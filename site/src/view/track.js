@@ -234,7 +234,7 @@ export class Track {
   }
 
   /**
-   * Draws the picture, or the part of the one before that is shown.
+   * Draws the picture, or, until it is painted, the old one with its turns in their places.
    * @param {CanvasRenderingContext2D} context
    * @param {Palette} palette
    * @param {number} width

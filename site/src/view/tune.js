@@ -68,7 +68,7 @@ export class Tune {
     new ResizeObserver(() => this.#draw()).observe(canvas);
   }
 
-  /** Returns the number at the caret, with its sign, or that of the EQU whose name is there; null if there is none. */
+  /** Returns the number at the caret, with its sign, or the number of the EQU that is named there, or null. */
   #numberAt() {
     const { mirror } = this.host.shelf.editor;
     const { line, ch } = mirror.getCursor();
@@ -202,7 +202,7 @@ export class Tune {
     return others.reduce((best, one) => (points(one) > points(best) ? one : best), first);
   }
 
-  /** The best result, and that of the value that the source has, if both are known and the best one is better. */
+  /** The best result, and that of the source's own value; null unless both are known and the best one is better. */
   get #lead() {
     const best = this.#bestResult;
     const own = [...this.results, this.#start].find((one) => one?.value === this.#current);

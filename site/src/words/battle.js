@@ -65,7 +65,7 @@ export function distinct(names) {
 }
 
 /**
- * Returns the addresses of labels: of `1.bomb` that of warrior 1, and of `bomb` if only one warrior has it.
+ * Returns the addresses of labels by name: `1.bomb` for a label of warrior 1, and `bomb` if only one warrior has it.
  * @param {Label[]} labels
  */
 export function addressesOf(labels) {
@@ -243,7 +243,7 @@ export const standingWords = (names, { processes, owned }) =>
   names.map((name, who) => `${name}: ${pluralize(processes[who], "process")}, ${pluralize(owned[who], "cell")}`);
 
 /**
- * Returns the sentence that a newcomer reads while the battle plays. `cells` and `processes` are those of each warrior.
+ * Returns the sentence that a newcomer reads while the battle plays. `cells` and `processes` are counts by warrior.
  * @param {number} turn
  * @param {Event[]} events
  * @param {Known} known

@@ -43,7 +43,7 @@ function headWords({ turn, warrior, address, executed, reads }, known) {
 }
 
 /**
- * Returns the writes of a turn; those that changed nothing come last.
+ * Returns the writes of a turn; writes that changed nothing come last.
  * @param {Move} move
  * @param {Known} known
  */

@@ -13,8 +13,8 @@ import { assembleAll, describe } from "../engine/warrior.js";
 /** @typedef {import("../model/fight.js").Fight} Fight */
 /**
  * A future as it is opened. Warriors are in the order of their turns; `order` says which source each is. `lines` has
- * the warrior and the line of each loaded cell, and its address; origins are indices of it. `events` are those that are
- * known before the story is read.
+ * the warrior and the line of each loaded cell, and its address; origins are indices of it. `events` has what is known
+ * before the story is read.
  * @typedef {object} Opened
  * @property {number} future
  * @property {import("./histories.js").Future[]} futures all of them
@@ -220,7 +220,7 @@ export class Desk {
    * Paints a piece of the picture of a future, from the left.
    * @param {number} future
    * @param {import("./picture.js").Frame} frame
-   * @param {number} from the first column, the one after those of the piece before
+   * @param {number} from the first column, which follows the piece before
    */
   paint(future, frame, from) {
     if (from === 0) this.#painter = new Painter(this.#history(future), frame);

@@ -1,4 +1,4 @@
-/** The histories of a battle's futures, of which those that were used last are kept, and of the match's rounds. */
+/** The histories of a battle's futures, of which the last used ones are kept, and of one round of the match. */
 import { History } from "../battle/history.js";
 
 /** @typedef {import("../model/fight.js").Made} Made */
@@ -35,7 +35,7 @@ export class Histories {
   }
 
   /**
-   * Returns the history of a future, which is played again if it is not one of those that are kept.
+   * Returns the history of a future, which is played again if it is no longer kept.
    * @param {number} future
    * @returns {History}
    */

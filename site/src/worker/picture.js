@@ -109,7 +109,7 @@ export class Painter {
   }
 
   /**
-   * Weighs the cells of each warrior in each row, those that were written recently more.
+   * Weighs the cells of each warrior in each row; cells that were written recently weigh more.
    * @param {Place} place
    * @param {number} fading the turns after which a third of the brightness is left
    */

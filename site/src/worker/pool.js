@@ -155,7 +155,7 @@ class RemoteDesk {
     }
   }
 
-  /** Stops opening a battle: the one before stays. */
+  /** Stops opening a battle: the battle before stays. */
   cancel() {
     return this.#restart(new Cancelled("Cancelled."));
   }

@@ -37,8 +37,8 @@ export function chainOf(history, warrior) {
 }
 
 /**
- * Returns the turn that copied to a cell the instruction that it has in turn `before`, and the one that last changed
- * the cell until then, each after the turn that aimed it; none if the cell was loaded or edited.
+ * Returns the turn that copied to a cell the instruction that it has in turn `before`, and the turn that last changed
+ * the cell before, each after the turn that aimed at it; none if the cell was loaded or edited.
  * @param {History} history
  * @param {number} address
  * @param {number} before
