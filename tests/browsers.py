@@ -135,6 +135,7 @@ class Browser:
 
 
 def chromium() -> Browser:
+    """Starts Chromium, by chromedriver."""
     try:
         from selenium import webdriver
         from selenium.webdriver.chrome.service import Service
@@ -201,6 +202,7 @@ class Marionette:
                 time.sleep(0.1)
 
     def read(self) -> Any:
+        """Returns the next message; its length and a colon come before it."""
         head = b""
         while not head.endswith(b":"):
             head += self.socket.recv(1)
@@ -232,6 +234,7 @@ class Marionette:
 
 
 def firefox() -> Browser:
+    """Starts Firefox, by Marionette."""
     fox = Marionette()
     commands: dict[str, Callable[..., Any]] = {
         "navigate": lambda url: fox.call("WebDriver:Navigate", {"url": url}),

@@ -378,7 +378,7 @@ def test_a_message_stays_until_the_turn_changes(page: Browser) -> None:
 
 
 def test_a_cell_in_view_while_it_plays(page: Browser) -> None:
-    """The text of the pinned cell is that of a turn that is shown."""
+    """The text of the pinned cell follows the turns that are shown."""
     page.run("corewar.session.jump(0); corewar.session.pin(3)")
     text = "document.querySelector('#listing .focus .text')?.textContent"
     page.until(f"{text} === 'DAT.F #0, #0'")
@@ -863,7 +863,7 @@ def test_a_source_that_takes_minutes(page: Browser) -> None:
 
 
 def test_sources_are_checked_in_turn(page: Browser) -> None:
-    """A check that takes longer than that of the next source is not shown."""
+    """The result of a check is not shown if the next source has been checked before it comes."""
     code = """const {pool, shelf} = corewar, ask = pool.ask.bind(pool);
       const wait = ms => new Promise(done => setTimeout(done, ms));
       pool.ask = async (...given) => {
@@ -961,7 +961,7 @@ def test_sources_of_earlier_versions_are_found(page: Browser, site: str) -> None
     page.until("window.corewar?.session.view")
     assert page.value("corewar.session.fight.warriors.map(({name}) => name)") == ["imp.red", "own.red"]
     assert page.value("corewar.shelf.find('imp.red').doc.getValue()") == "MOV 0, 1 ; mine"
-    # Copies of examples that were not changed do not hide those of this version.
+    # Copies of examples that were not changed do not hide the examples of this version.
     assert "Dwarf" in page.value("corewar.shelf.find('dwarf.red').doc.getValue()")
 
 
@@ -1150,7 +1150,7 @@ def test_what_is_scrolled_and_opened_keeps_its_keys(page: Browser) -> None:
 
 
 def test_a_new_source_fights(page: Browser) -> None:
-    """It is selected in place of the source that was shown, and so is one that is opened."""
+    """A new source is selected in place of the source that was shown, and so is an opened one."""
     page.run("document.getElementById('new').click(); document.getElementById('fight').click()")
     page.until("document.title === 'Imp against My first warrior · Core War'")
     page.run("await corewar.shelf.take([new File([';name Mine\\nMOV 0, 1'], 'mine.txt')])")
@@ -1298,7 +1298,7 @@ def test_a_number_is_tuned(page: Browser, tmp_path: Path) -> None:
         path = tmp_path / "dwarf.red"
         path.write_text(re.sub(r"EQU +4", f"EQU {value}", text))
         assert dict(found)[value] == sum(table("-r", 20, path, other)[0][0] for other in opponents), value
-    # No value is better than the one that the source has; then another one is taken, and the button compares with it.
+    # No value is better than the source's own. If another value is taken, the button compares the best one with it.
     line, points = text.split("\n")[5], dict(found)
     assert max(points.values(), key=lambda one: one or 0) == points[4]
     assert page.value("document.getElementById('tune-best').hidden")

@@ -141,7 +141,7 @@ def test_study(run: Run, tmp_path: Path) -> None:
     assert "It writes to 2 of 8000 cells:" in run("study", "dat.red").stdout
     none = run("study", "none.red")
     assert (none.returncode, none.stderr) == (1, "corewar: none.red: No such file or directory\n")
-    # The source is that of a match of two, and so are its lines.
+    # The source and its lines are assembled as for a match of two.
     (tmp_path / "two.red").write_text(";assert WARRIORS == 2\nloop MOV 0, 1\n")
     assert " 2: loop MOV 0, 1\n" in run("study", "two.red").stdout
     # No more turns are run than those in which lines are known.

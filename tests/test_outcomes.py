@@ -1,4 +1,4 @@
-"""Tests `outcomes`: that they are those of matches and battles, on any executor; and what is computed of them."""
+"""Tests that outcomes agree with matches and battles, on any executor, and what is computed of them."""
 from __future__ import annotations
 
 import random

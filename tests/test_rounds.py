@@ -35,7 +35,7 @@ def test_portions_are_the_match(fight: Match, rounds: int, size: int, fixed: int
 
 
 def test_a_fight_in_portions(monkeypatch: pytest.MonkeyPatch) -> None:
-    """The table is that of the library, and points that fit only in portions are the same error."""
+    """The table is that of the library, and so is the error if points have too large a sum, but fit in each portion."""
     fight = Match([read(EXAMPLES / f"{name}.red") for name in ("dwarf", "imp", "paper")], rounds=100)
     monkeypatch.setattr(module, "TURNS", 7 * 3 * fight.settings.cycles)
     assert module.rows_of(fight, FORMULA) == (match(fight.warriors, rounds=100), 100)
