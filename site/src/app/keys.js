@@ -9,6 +9,7 @@ import { atCell } from "../view/breaks.js";
  *   edit: () => void}} Acts
  */
 
+/** By how much a key changes the speed of play. */
 const SPEED_FACTOR = 1.6;
 /** What uses keys itself: fields, but not the slider of time, and what keys open or scroll. */
 const FIELDS = "input:not([type='range']), select, textarea, summary, :not(canvas)[tabindex='0'], .CodeMirror, dialog";
@@ -71,7 +72,10 @@ function moveInCore({ session, theatre: { core } }, key) {
   return true;
 }
 
-/** @param {Acts} acts */
+/**
+ * Acts on keys, unless what has the focus uses the key itself.
+ * @param {Acts} acts
+ */
 export function listenToKeys(acts) {
   const keys = keysOf(acts);
   addEventListener("keydown", (event) => {

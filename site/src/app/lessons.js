@@ -124,12 +124,18 @@ export class Lessons {
     row.append(make("button", { className: "main", onclick: () => this.begin(next) }, "Next lesson"));
   }
 
-  /** @param {Lesson} lesson */
+  /**
+   * Returns the sources against which a lesson is fought.
+   * @param {Lesson} lesson
+   */
   #opponents({ opponents, sources }) {
     return [...this.host.examples.filter(({ name }) => opponents.includes(name)), ...sources];
   }
 
-  /** @param {Lesson} lesson */
+  /**
+   * Returns the learner's source for a lesson, or undefined before it is begun.
+   * @param {Lesson} lesson
+   */
   #own({ id }) {
     const entry = this.host.shelf.find(`${id}.red`);
     return entry && { name: entry.name, text: entry.doc.getValue() };

@@ -11,6 +11,7 @@ import { DEFAULTS, FORMULA, HILLS, MAX_SOURCE_SIZE, RANGES, SETTINGS, hillOf } f
  * @typedef {{warriors?: number[], round?: number, turn?: number, seed?: number}} Selection
  */
 
+/** The version of the form of links. */
 const VERSION = 1;
 /** The maximum number of characters of a name, and of edits; and the last turn that is read. */
 const MAX_NAME_LENGTH = 100;
@@ -83,6 +84,7 @@ function whole(value, minimum, maximum, fallback) {
 }
 
 /**
+ * Reads settings: the name of a hill, or an object, in which a default may be missing.
  * @param {unknown} given
  * @returns {Settings}
  */
@@ -110,6 +112,7 @@ function readSources(given) {
 }
 
 /**
+ * Reads edits, each a turn and a text of `editText`.
  * @param {unknown} given
  * @param {number} core
  */

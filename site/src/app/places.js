@@ -76,7 +76,10 @@ export class Places {
     return history.state?.form === FORM ? history.state : {};
   }
 
-  /** @param {Fight} fight */
+  /**
+   * Returns what a battle is recognised by, whatever its edits and the names of its sources are.
+   * @param {Fight} fight
+   */
   #keyOf({ settings, seed, round, rounds, position, warriors }) {
     return JSON.stringify([this.lesson(), settings, seed, round, rounds, position, warriors.map(({ text }) => text)]);
   }

@@ -113,7 +113,10 @@ const KINDS = ["own", "example", "lesson"];
  */
 const damaged = new Set();
 
-/** @param {string} key */
+/**
+ * Returns the text that is stored under a key, or null.
+ * @param {string} key
+ */
 function itemOf(key) {
   try {
     return localStorage.getItem(key);
@@ -123,6 +126,7 @@ function itemOf(key) {
 }
 
 /**
+ * Returns the value of a stored text; undefined if there is none, or if it is damaged, which is noted.
  * @param {string} key
  * @param {string | null} text
  */

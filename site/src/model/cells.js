@@ -19,6 +19,7 @@ export const BY_HAND = 254;
 
 /** The first word of an empty cell, `DAT.F $0, $0`; its other words are 0. */
 const EMPTY = (MODIFIERS.indexOf("F") << 8) | (MODES.indexOf("$") << 16) | (MODES.indexOf("$") << 24);
+/** A cell as `cellText` writes it. */
 const TEXT = /^([A-Z]{3})\.([A-Z]{1,2}) ([#$*@{<}>])(-?\d{1,9}), ([#$*@{<}>])(-?\d{1,9})$/;
 
 /**

@@ -24,6 +24,7 @@ import { born, cellAt, changed, explain, here, list, queue, queueAround, show, w
 const NO_BREAK = "no breakpoint is set; use `break CONDITION` or add a condition to this command";
 
 /**
+ * Steps a number of turns, or to the next turn of a warrior, forwards or backwards.
  * @param {Session} session
  * @param {string} rest
  * @param {1 | -1} sign
@@ -41,6 +42,7 @@ async function step(session, rest, sign) {
 }
 
 /**
+ * Goes to where a condition holds, or without one, to a breakpoint.
  * @param {Session} session
  * @param {string} rest
  * @param {boolean} forward
@@ -178,6 +180,7 @@ async function retrace(session, act) {
 }
 
 /**
+ * Returns the edits of a future as text.
  * @param {Session} session
  * @param {number} future
  */

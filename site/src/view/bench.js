@@ -246,7 +246,10 @@ export class Bench {
     return pairs.length ? changeOf(old, now, !this.#terms?.position) : null;
   }
 
-  /** @param {Source} opponent */
+  /**
+   * Returns the row of the table for an opponent.
+   * @param {Source} opponent
+   */
   #line(opponent) {
     const row = this.rows.get(opponent.name);
     const title = this.#names.get(opponent.name) ?? opponent.name;

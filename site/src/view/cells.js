@@ -100,6 +100,7 @@ export class Cells {
   }
 
   /**
+   * Returns the line of the list for a cell.
    * @param {View} view
    * @param {number} address
    * @param {import("./standing.js").Standing} standing

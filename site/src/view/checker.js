@@ -25,7 +25,10 @@ export class Checker {
     this.editor = editor;
   }
 
-  /** @param {import("./shelf.js").OpenSource} shown the source in the editor */
+  /**
+   * Assembles a source and shows its errors, unless it changes or another one is checked meanwhile.
+   * @param {import("./shelf.js").OpenSource} shown the source in the editor
+   */
   async check(shown) {
     const { host, editor } = this;
     const text = shown.doc.getValue();
@@ -81,6 +84,7 @@ export class Checker {
   }
 
   /**
+   * Shows the load file of the source, and gives the editor the cells of each line.
    * @param {Assembled | null} made
    * @param {Settings} settings
    */

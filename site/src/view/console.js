@@ -96,8 +96,9 @@ export class Console {
   }
 
   /**
+   * Appends lines to the answers.
    * @param {string[]} texts
-   * @param {string} className
+   * @param {string} className "asked" for a command, "refused" for an error, or ""
    */
   #print(texts, className) {
     const answers = element("answers");

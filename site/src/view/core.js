@@ -258,7 +258,7 @@ export class Core {
   /**
    * @param {Palette} palette
    * @param {Marks} marks
-   * @param {{address: number, warrior: number}[]} few
+   * @param {{address: number, warrior: number}[]} few the processes that get rings
    */
   #drawMarks(palette, marks, few) {
     const { context } = this;

@@ -47,6 +47,7 @@ function roundStep(minimum) {
 }
 
 /**
+ * Draws both curves, and between them splits and ends of processes.
  * @param {Film} drawing
  * @param {{count: number}[]} peaks the most processes of each warrior: samples may miss that
  */

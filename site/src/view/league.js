@@ -171,6 +171,7 @@ export class League {
   }
 
   /**
+   * Runs the matches that are missing, in workers. A later run makes it stop.
    * @param {Warrior[]} warriors
    * @param {number} run
    */
@@ -186,6 +187,7 @@ export class League {
   }
 
   /**
+   * Takes the results of a runner. A later run makes it stop.
    * @param {Runner} runner
    * @param {number} run
    */

@@ -25,6 +25,7 @@ const EDITED = [235, 235, 235];
 const channels = (text) => [1, 3, 5].map((at) => parseInt(text.slice(at, at + 2), 16));
 
 /**
+ * Returns a colour between two others: the first if `part` is 0, the second if it is 1.
  * @param {Colour} one
  * @param {Colour} other
  * @param {number} part

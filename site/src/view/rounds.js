@@ -98,6 +98,7 @@ export class Rounds {
   }
 
   /**
+   * Returns the square of a round, which is empty until the round has been fought.
    * @param {Round | undefined} round
    * @param {number} index
    * @param {string[]} names

@@ -171,7 +171,10 @@ export class Session extends Turns {
     this.notify("look");
   }
 
-  /** @param {number} who */
+  /**
+   * Shows only one warrior in full colour, or all of them if it was the only one.
+   * @param {number} who
+   */
   choose(who) {
     this.chosen = this.chosen === who ? -1 : who;
     this.notify("look");

@@ -94,7 +94,10 @@ export class Shelf {
     return entry;
   }
 
-  /** @param {string} name */
+  /**
+   * Returns a name that no source has: the given one, ending in .red, or with a number.
+   * @param {string} name
+   */
   freeName(name) {
     const stem = name.replace(/\.(red|rc|txt)$/i, "");
     let made = `${stem}.red`;

@@ -170,7 +170,10 @@ export class Track {
     this.show(first, first + length);
   }
 
-  /** @param {MouseEvent} event */
+  /**
+   * Returns the turn at the place of an event.
+   * @param {MouseEvent} event
+   */
   turnAt(event) {
     const { left, width } = this.canvas.getBoundingClientRect();
     return Math.round(this.first + clamp((event.clientX - left) / width, 0, 1) * (this.last - this.first));

@@ -155,6 +155,7 @@ export class Tune {
   }
 
   /**
+   * Fights each value with each opponent that can be assembled, in jobs.
    * @param {{before: string, after: string}} source the text around the number
    * @param {import("./host.js").Source[]} opponents
    * @param {import("./host.js").MatchTerms} terms
@@ -195,7 +196,10 @@ export class Tune {
     this.#draw();
   }
 
-  /** @returns {Result | undefined} */
+  /**
+   * The result with the most points, of the values that have fought all opponents.
+   * @returns {Result | undefined}
+   */
   get #bestResult() {
     const points = (/** @type {Result} */ { row }) => row?.points ?? -Infinity;
     const [first, ...others] = this.results.filter(({ row, left }) => row && left === 0);
@@ -221,7 +225,10 @@ export class Tune {
     return `${taken}, ${number(own.value)} has ${meanOf(own).toFixed(2)}${chance}`;
   }
 
-  /** @param {number | undefined} value */
+  /**
+   * Writes a value in place of the number.
+   * @param {number | undefined} value
+   */
   #take(value) {
     const range = this.#mark?.find();
     const { shown, editor } = this.host.shelf;

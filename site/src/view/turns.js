@@ -258,7 +258,10 @@ export class Turns {
     this.go(this.wanted);
   }
 
-  /** @param {number} now */
+  /**
+   * Advances the turn by the time since the last tick, and stops at the limit.
+   * @param {number} now
+   */
   #tick(now) {
     if (this.way === 0) return;
     const limit = this.#limit;

@@ -30,6 +30,7 @@ function common(one, other) {
 }
 
 /**
+ * Returns how similar two words are, 0 to 1.
  * @param {string} one
  * @param {string} other
  */

@@ -172,6 +172,7 @@ export class Jobs {
   }
 
   /**
+   * Returns the deaths of a history, with the lines of source that were executed and that wrote the cells.
    * @param {ReturnType<typeof assembleAll>} warriors
    * @param {History} history
    * @returns {Death[]}

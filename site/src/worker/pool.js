@@ -160,7 +160,10 @@ class RemoteDesk {
     return this.#restart(new Cancelled("Cancelled."));
   }
 
-  /** @param {Error} why what the calls that wait fail with */
+  /**
+   * Ends the worker, and starts another one with the battle and its futures.
+   * @param {Error} why what the calls that wait fail with
+   */
   async #restart(why) {
     const { client } = this;
     this.client = new WorkerClient(this.parts);
@@ -263,6 +266,7 @@ export class Pool {
   }
 
   /**
+   * Runs a job in a worker, which then is idle, or is ended if the job failed with another error than a MarsError.
    * @param {WorkerClient} client
    * @param {Job} job
    */
