@@ -19,7 +19,7 @@ const PLAY = "M4 2v12l10-6z";
 const PAUSE = "M3 2h4v12H3zM9 2h4v12H9z";
 const BACKWARDS = "M12 2v12L2 8z";
 /** The speed at the right end of its slider, in turns a second; at the left end it is 1. */
-const FASTEST = 200_000;
+const SLIDER_RATE = 200_000;
 /** The maximum number of marks of breakpoints on the strip, and of turns of a battle that is searched for them. */
 const MAX_HITS = 4000;
 const MAX_SCANNED = 4_000_000;
@@ -89,7 +89,7 @@ export class Theatre {
     onClick("rewind", () => (session.way < 0 ? session.stop() : session.play(-1)));
     onClick("again", () => session.play(1));
     const speed = typed("speed", HTMLInputElement);
-    speed.oninput = () => session.setRate(FASTEST ** (Number(speed.value) / 100));
+    speed.oninput = () => session.setRate(SLIDER_RATE ** (Number(speed.value) / 100));
     for (const button of buttons("#leaps button")) {
       button.onclick = () => this.leap(/** @type {Word} */ (button.dataset.word), button.dataset.way === "on");
     }
@@ -199,7 +199,7 @@ export class Theatre {
       button.querySelector("path")?.setAttribute("d", isOn ? PAUSE : path);
       button.classList.toggle("on", isOn);
     }
-    typed("speed", HTMLInputElement).value = String((100 * Math.log(rate)) / Math.log(FASTEST));
+    typed("speed", HTMLInputElement).value = String((100 * Math.log(rate)) / Math.log(SLIDER_RATE));
     element("speed").setAttribute("aria-valuetext", `${number(Math.round(rate))} turns per second`);
     element("rate").textContent = `${number(Number(rate.toPrecision(2)))} turns/s`;
   }
