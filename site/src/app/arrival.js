@@ -96,7 +96,7 @@ export class Arrival {
     return fighters.length ? fighters.slice(0, MAX_WARRIORS) : [all[0]];
   }
 
-  /** @param {import("./places.js").Place} place */
+  /** @param {import("./places.js").ViewPlace} place */
   #roundOf({ view, number }) {
     return view === "battle" ? clamp(number ?? 0, 0, this.page.terms.value.rounds - 1) : 0;
   }

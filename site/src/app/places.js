@@ -6,16 +6,17 @@ import { throttle } from "../view/dom.js";
 
 /** @typedef {import("../model/fight.js").Fight} Fight */
 /** @typedef {import("../view/session.js").Session} Session */
-/** @typedef {{view: string, number: number | null}} Place `number` is the number of a lesson or a round */
+/** @typedef {{view: string, number: number | null}} ViewPlace `number` is the number of a lesson or a round */
 /**
  * A battle as the history has it.
- * @typedef {{fight?: Fight, turn?: number, pinned?: number | null, plays?: boolean} & Partial<Kept>} Battle
+ * @typedef {{fight?: Fight, turn?: number, pinned?: number | null, plays?: boolean} & Partial<KeptWithBattle>} Battle
  */
 /**
  * What else outlives the page: breakpoints, whether all rounds were fought, which gives the same results again, the
  * version with which the bench compares, and terms with which a hidden battle has not been fought yet.
  * @typedef {{breaks: import("../battle/conditions.js").Condition[], hasRounds: boolean,
- *   base: import("../model/fight.js").Source | null, terms: import("../view/host.js").MatchTerms | null}} Kept
+ *   base: import("../model/fight.js").Source | null,
+ *   terms: import("../view/host.js").MatchTerms | null}} KeptWithBattle
  */
 
 /** The form of what is in the history, which outlives the version of the page. */
@@ -24,7 +25,7 @@ const FORM = 1;
 /**
  * Returns the place that an address names after its `#`, or null if it names another thing.
  * @param {string} hash
- * @returns {Place | null}
+ * @returns {ViewPlace | null}
  */
 export function placeOf(hash) {
   const found = /^(?:#(battle|bench|league|learn)?(?:\/(\d{1,6}))?)?$/.exec(hash);
@@ -43,7 +44,7 @@ export class Places {
   /**
    * @param {Session} session
    * @param {() => number} lesson the number of the lesson that is open, from 1, or 0
-   * @param {() => Kept} kept
+   * @param {() => KeptWithBattle} kept
    */
   constructor(session, lesson, kept) {
     this.session = session;

@@ -8,7 +8,7 @@ import { resultOf } from "../view/league.js";
 /** @typedef {import("../view/host.js").MatchTerms} MatchTerms */
 /**
  * `seen` names the content that was read.
- * @typedef {{name: string, text: string, seen: string, isExample: boolean}} Kept
+ * @typedef {{name: string, text: string, seen: string, isExample: boolean}} KeptFile
  */
 /** @typedef {{name: string, fault: string}} LeftOut a file that was not read, and why */
 
@@ -24,7 +24,7 @@ export class Server {
 
   /**
    * @param {string} path
-   * @param {(Kept | LeftOut)[]} all
+   * @param {(KeptFile | LeftOut)[]} all
    */
   constructor(path, all) {
     const sources = all.flatMap((one) => ("fault" in one ? [] : one));
@@ -69,7 +69,7 @@ export class Server {
    */
   async load(name) {
     const answer = await fetch(`${this.path}/sources`);
-    const all = /** @type {Kept[]} */ (await answer.json());
+    const all = /** @type {KeptFile[]} */ (await answer.json());
     const found = all.find((one) => one.name === name && one.text !== undefined);
     if (found) this.#seen.set(name, found.seen);
     return found?.text ?? null;
@@ -77,12 +77,12 @@ export class Server {
 
   /**
    * Returns the files that have changed since they were read. Those that are gone have no `seen`.
-   * @returns {Promise<Kept[]>}
+   * @returns {Promise<KeptFile[]>}
    */
   async changed() {
     const answer = await fetch(`${this.path}/sources`).catch(() => null);
     if (!answer?.ok) return [];
-    const all = /** @type {(Kept | LeftOut)[]} */ (await answer.json());
+    const all = /** @type {(KeptFile | LeftOut)[]} */ (await answer.json());
     const files = all.flatMap((one) => ("fault" in one || one.isExample ? [] : one));
     const gone = [...this.#seen.keys()].filter((name) => !all.some((one) => one.name === name));
     const lost = gone.map((name) => ({ name, text: "", seen: "", isExample: false }));
@@ -91,7 +91,7 @@ export class Server {
 
   /**
    * Notes that the page has this content of a file.
-   * @param {Kept} file
+   * @param {KeptFile} file
    */
   take({ name, seen }) {
     if (seen) this.#seen.set(name, seen);

@@ -11,7 +11,7 @@ import { folderKey } from "./server.js";
 /** @typedef {import("../view/shelf.js").Kind} Kind */
 /** @typedef {{text: string, saved: string, kind: Kind, made: number}} KeptSource `made` orders the sources */
 /**
- * @typedef {object} Kept
+ * @typedef {object} KeptPage
  * @property {string} [shown] the source in the editor
  * @property {string[]} [marked] the sources that fight
  * @property {string[]} [removed] examples
@@ -140,7 +140,7 @@ function parsed(key, text) {
   }
 }
 
-/** @returns {Kept & {sources?: unknown}} */
+/** @returns {KeptPage & {sources?: unknown}} */
 function read() {
   const found = parsed(NAME, itemOf(NAME));
   const isRecord = typeof found === "object" && found !== null && !Array.isArray(found);
@@ -228,7 +228,7 @@ export const stored = read();
 
 /**
  * Keeps what has changed. Returns whether the browser lets the page do that: it may forbid it, or be full.
- * @param {Kept} changes
+ * @param {KeptPage} changes
  */
 export function keep(changes) {
   // Another window may have changed the rest.

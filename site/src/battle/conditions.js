@@ -38,11 +38,11 @@ const MAX = 0xffffffff;
  * Returns a condition as conditions of the library, all of which a turn has to meet.
  * @param {Condition} condition
  * @param {number} core
- * @returns {import("./records.js").Row[]}
+ * @returns {import("./records.js").ConditionRow[]}
  */
 function rowsOf({ word, cells, of, origin, was, becomes, by, and }, core) {
   const way = WAYS[word] ?? EXECUTES;
-  /** @type {import("./records.js").Row[]} */
+  /** @type {import("./records.js").ConditionRow[]} */
   const rows = [[way, NUMBER_ADDRESS, cells?.[0] ?? 0, cells?.[1] ?? MAX]];
   const add = (/** @type {number} */ number, /** @type {number} */ first, last = first) =>
     rows.push([way, number, first, last]);

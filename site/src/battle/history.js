@@ -173,7 +173,7 @@ export class History {
   /**
    * Yields the turns after `first`, up to `last`, that meet all conditions of the library. Each list is in order; the
    * earliest list comes first if `isForward`, otherwise the latest.
-   * @param {import("./records.js").Row[]} conditions
+   * @param {import("./records.js").ConditionRow[]} conditions
    * @param {number} first
    * @param {number} last
    * @param {boolean} isForward

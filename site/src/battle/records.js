@@ -2,7 +2,7 @@
 import * as layout from "../model/layout.js";
 import { CELL_WORDS } from "../model/cells.js";
 
-/** @typedef {import("../engine/machine.js").Condition} Row */
+/** @typedef {import("../engine/machine.js").Condition} ConditionRow */
 /** @typedef {{address: number, before: Uint32Array, after: Uint32Array}} Change a write of a cell, with its words */
 /**
  * What a turn did: `queued` has the addresses of the processes that it queued, `touched` the cells that it touched,
@@ -22,7 +22,7 @@ const FOUND_WORDS = MarsFound.size / 4;
 
 /**
  * Conditions of the library: a warrior gains a process, loses one, or dies.
- * @type {Record<string, Row>}
+ * @type {Record<string, ConditionRow>}
  */
 export const EVENTS = {
   splits: [EXECUTES, NUMBER_QUEUED, 2, 2],
@@ -34,7 +34,7 @@ export const EVENTS = {
  * Returns the condition that a turn is one of a warrior.
  * @param {number} warrior
  * @param {number} way how the turn uses the cell of the other conditions
- * @returns {Row}
+ * @returns {ConditionRow}
  */
 export const by = (warrior, way = EXECUTES) => [way, NUMBER_WARRIOR, warrior, warrior];
 

@@ -12,7 +12,8 @@ import { swatch } from "./palette.js";
 /** @typedef {(name: string, line: number) => void} ShowLine shows a line of a source */
 /**
  * The row of a warrior.
- * @typedef {{row: HTMLElement, processes: HTMLElement, cells: HTMLElement, bar: HTMLElement, fate: HTMLElement}} Row
+ * @typedef {{row: HTMLElement, processes: HTMLElement, cells: HTMLElement, bar: HTMLElement,
+ *   fate: HTMLElement}} WarriorRow
  */
 
 /** With more warriors than that, rows are small. */
@@ -22,7 +23,7 @@ const STORY = "9em";
 const PAUSE = "Pause, or step with the arrow keys, to read each turn in words.";
 
 export class Side {
-  /** @type {Row[]} */
+  /** @type {WarriorRow[]} */
   #rows = [];
 
   /**
@@ -74,7 +75,7 @@ export class Side {
 
   /**
    * @param {number} who
-   * @returns {Row}
+   * @returns {WarriorRow}
    */
   #row(who) {
     const { session } = this;
@@ -132,7 +133,7 @@ export class Side {
   }
 
   /**
-   * @param {Row} row
+   * @param {WarriorRow} row
    * @param {number} who
    * @param {View} view
    */

@@ -22,11 +22,11 @@ import {
  */
 /**
  * A word or sign: the number of its line, and its first column, from 0.
- * @typedef {{number: number, column: number, word: string}} Place
+ * @typedef {{number: number, column: number, word: string}} WordPlace
  */
 /**
  * Finds causes of an error in a line. `place` is the word at which the library reports it, or null.
- * @typedef {(source: Source, line: Line, place: Place | null) => Cause[]} Find
+ * @typedef {(source: Source, line: Line, place: WordPlace | null) => Cause[]} Find
  */
 
 const PREDEFINED = "CORESIZE MAXPROCESSES MAXCYCLES MAXLENGTH MINDISTANCE ROUNDS WARRIORS CURLINE VERSION".split(" ");

@@ -4,7 +4,7 @@ import { NAME, codeOf, labelsOf, readSource, wordOf } from "./source.js";
 
 /** @typedef {import("../model/errors.js").MarsError} MarsError */
 /** @typedef {import("./causes.js").Cause} Cause */
-/** @typedef {import("./causes.js").Place} Place */
+/** @typedef {import("./causes.js").WordPlace} WordPlace */
 /** @typedef {import("./source.js").Line} Line */
 /** @typedef {import("./source.js").Source} Source */
 /**
@@ -80,7 +80,7 @@ export function explain(error, text, meanings) {
  * library reports one byte; here it is the whole character.
  * @param {string} text
  * @param {MarsError} error
- * @returns {Place | null}
+ * @returns {WordPlace | null}
  */
 function placeOf(text, { begin, end }) {
   if (!end) return null;
@@ -97,7 +97,7 @@ function placeOf(text, { begin, end }) {
  * first one. Without a word, returns the columns of `place`, or else of the code of the line.
  * @param {string} text
  * @param {string | undefined} word
- * @param {Place | null} place
+ * @param {WordPlace | null} place
  */
 function columns(text, word, place) {
   const code = codeOf(text);

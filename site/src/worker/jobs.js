@@ -18,10 +18,10 @@ import { ASSEMBLY, FORMULA } from "../model/layout.js";
  * written. A line is 0 if it isn't known, and `killer` is -1 if no warrior owned the cell.
  * @typedef {{warrior: number, turn: number, line: number, killer: number, by: number}} Death
  */
-/** @typedef {"win" | "tie" | "loss"} Outcome */
+/** @typedef {"win" | "tie" | "loss"} RoundResult */
 /**
  * A round; warriors are in the order of the sources.
- * @typedef {{round: number, end: number, outcomes: Outcome[], deaths: Death[]}} Round
+ * @typedef {{round: number, end: number, outcomes: RoundResult[], deaths: Death[]}} Round
  */
 
 /** More turns than a battle can have. */

@@ -73,7 +73,7 @@ function changedIn(history, address, turn) {
 export function copiedIn(history, address, turn) {
   const origin = history.place(turn).origin(address);
   const edited = history.byHand(address, turn)?.turn ?? 0;
-  /** @type {import("../battle/records.js").Row[]} */
+  /** @type {import("../battle/records.js").ConditionRow[]} */
   const rows = [
     [CHANGES, NUMBER_ADDRESS, address, address],
     // A range whose end is below its start goes around.
