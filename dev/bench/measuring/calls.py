@@ -1,11 +1,11 @@
-"""The matches of one round per second of each way to run them, in the settings of nano, and the turns per second of
-long battles.
+"""Measures how many matches of one round in nano settings each way to run them plays per second, and the turns per
+second of long battles.
 
 100 candidates play against 10 opponents: by one call of a population, by a call for each match, by a league of each
-candidate with the ten, whose row has the same sums, and by a start of `mars`, or of pMARS, for each match. Of a league,
-only the wanted matches count. Then the machine instructions of a nano match from C; and the turns of a battle of
-1,000,000 turns, with the record of each, as a `History`, and of matches in `outcomes`, without and with counts. The
-library is the one that `corewar` finds.
+candidate with the ten, and by a start of `mars`, or of pMARS, for each match. Of a league, only the ten matches of the
+candidate count. Then the machine instructions of a nano match from C are counted, and the turns per second of a battle
+of 1,000,000 turns, with the record of each and as a `History`, and of matches in `outcomes`, without and with counts.
+The library is the one that `corewar` finds.
 """
 from __future__ import annotations
 
@@ -62,7 +62,9 @@ WORDS = ["-b", "-s", "80", "-p", "80", "-c", "800", "-l", "5", "-d", "5"]
 
 
 def rate(seconds: float, amount: int, work: Callable[[int], object]) -> float:
-    """Returns the matches or turns per second of a function that runs `amount` of them, given how often it ran."""
+    """Returns the matches or turns per second of a function that runs `amount` of them. It is called for `seconds`,
+    each time with the number of calls before.
+    """
     done, start = 0, time.perf_counter()
     while time.perf_counter() - start < seconds:
         work(done)
@@ -71,7 +73,7 @@ def rate(seconds: float, amount: int, work: Callable[[int], object]) -> float:
 
 
 def ways(program: str, folder: str) -> Iterator[tuple[str, int, Callable[[int], object]]]:
-    """Yields each way, the number of its matches at once, and its function of a seed."""
+    """Yields the name of each way, the number of matches that it plays at once, and its function of a seed."""
     warriors = [corewar.assemble(source, settings=NANO) for source in SOURCES]
     candidates, opponents = warriors * 20, warriors * 2
     paths = [os.path.join(folder, f"{index}.load") for index in range(11)]
@@ -109,7 +111,7 @@ def outcomes_of(warriors: list[corewar.Warrior], seed: int, counts: bool) -> Non
 
 
 def match_cost(cycles: int, folder: str) -> float:
-    """Returns the machine instructions of a match of two warriors in nano settings."""
+    """Returns the machine instructions of a match from C, of two warriors in nano settings with this cycle limit."""
     program = os.path.join(folder, "match")
     with open(f"{program}.c", "w") as file:
         file.write(MATCH)
@@ -120,6 +122,7 @@ def match_cost(cycles: int, folder: str) -> float:
 
 
 def measure_turns(seconds: float) -> None:
+    """Prints the turns per second of long battles, each measured for this many seconds."""
     papers = [corewar.read(warrior("", name), settings=LONG) for name in ("paper", "silk")]
     lasting = [corewar.read(warrior("", name)) for name in ("bomber", "silk")]
     recorded = rate(seconds, TURNS, lambda _: record_all(papers))

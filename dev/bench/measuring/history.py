@@ -1,8 +1,8 @@
-"""The costs of the debugger's history: bytes and machine instructions for each place, and the time of moves.
+"""Measures the costs of the debugger's history: bytes and machine instructions for each place, and the time of moves.
 
 The warriors are two imps, two papers, and two that split until each has 8,000 processes, in a core of 8000 cells; then
 processes are killed in the middle of a queue of 65,536. A figure is the difference between two runs that differ only in
-what is measured. That of memory is between two long runs, since a short one has less than its parent had.
+what is measured. For memory these are two long runs, since the peak of a short one is that of this script.
 """
 from __future__ import annotations
 
@@ -14,9 +14,8 @@ from program import find_program
 
 from .tools import instructions, run_well, warrior
 
-PLACES = 200_000
-MAX_HISTORY = 1_000_000
-FEWER = 400_000
+# The turns of most runs, of the longest run, which fills the history, and of the run whose memory is compared with it.
+PLACES, MAX_HISTORY, FEWER = 200_000, 1_000_000, 400_000
 KILLS = 20_000
 SOURCES = {
     "splitter": "SPL 0\nADD.F #1, #1\nJMP -2\n",
@@ -36,7 +35,7 @@ def best(command: list[str], lines: list[str]) -> float:
 
 
 def measure_places(program: str, kind: str, file: str) -> None:
-    """The costs of a place and of moves over many of them."""
+    """Prints the costs of a place and of moves over many of them."""
     command = [program, "-e", "-c", str(MAX_HISTORY), "-F", "4000", "--history", str(MAX_HISTORY), file, file]
     ready = [f"run {PLACES}"]
     fewer, most = (run_well(command, text_of([f"run {count}", "queue 0"])) for count in (FEWER, MAX_HISTORY))
@@ -62,7 +61,7 @@ def measure_places(program: str, kind: str, file: str) -> None:
 
 
 def measure_start(program: str, file: str) -> None:
-    """The costs of a history at the start: its places are allocated then, and touched only when they are used."""
+    """Prints the costs of a history at the start, when its places are allocated but not touched."""
     command = [program, "-e", file, "--history"]
     least = run_well([*command, "1"], "show\n").peak
     for history in PLACES, MAX_HISTORY:
@@ -72,7 +71,7 @@ def measure_start(program: str, file: str) -> None:
 
 
 def measure_forgetting(program: str, file: str) -> None:
-    """Places beyond the size of the history, and moves over a full one."""
+    """Prints the time of more turns than the history has places, and of moves over a full history."""
     command = [program, "-e", "-c", "4000000", "--history", str(MAX_HISTORY), file]
     full = [f"run {MAX_HISTORY}"] * 2
     base = best(command, full)
@@ -85,7 +84,9 @@ def measure_forgetting(program: str, file: str) -> None:
 
 
 def measure_kills(program: str, file: str) -> None:
-    """Kills in the middle of a queue of 65,536, each before a spawn or a turn, and a walk back over them."""
+    """Prints the time of kills in the middle of a queue of 65,536, each before a spawn or a turn, and of a walk back
+    over them.
+    """
     turns = MAX_HISTORY // 2
     command = [program, "-e", "-c", str(MAX_HISTORY), "-p", "65536", "--history", str(MAX_HISTORY), file]
     base = best(command, [f"run {turns}"])
@@ -97,7 +98,7 @@ def measure_kills(program: str, file: str) -> None:
 
 
 def measure_long(program: str, file: str) -> None:
-    """A session of ten million turns with the default history."""
+    """Prints the time and memory of a session of ten million turns with the default history."""
     done = run_well([program, "-e", "-c", "10000000", "-F", "4000", file, file], text_of([f"run {MAX_HISTORY}"] * 10))
     last = done.output.decode().splitlines()[-1]
     print(f"{last}, at the default history: {done.seconds:.2f} s, {done.peak / 1e6:.0f} MB")

@@ -1,7 +1,8 @@
-"""The time and the memory of `mars --load` on sources that are made to be expensive, and what these grow with.
+"""Measures the time and the memory of `mars --load` on sources that are made to be expensive.
 
-Each source has at most 1,048,576 bytes. There is a line for each: what repeats in it, its bytes, the CPU seconds, the
-peak of memory, and the result of the program, or that it exceeded the limit of seconds.
+Each source has at most 1,048,576 bytes, which is the maximum size of a file. A line for each source has what repeats in
+it, its bytes, the CPU seconds, the peak of memory, and the result of the program, or that it exceeded the limit of
+seconds.
 """
 from __future__ import annotations
 

@@ -1,5 +1,5 @@
-"""The CPU seconds of a league of sixteen sources, of 1 and of 10 rounds: by one start of `mars`, and by one for each
-pair.
+"""Measures the CPU seconds of a league of sixteen sources, of 1 and of 10 rounds: by one start of `mars`, and by a
+start of `mars` or pMARS for each pair.
 """
 from __future__ import annotations
 

@@ -1,7 +1,8 @@
-"""The time from a change of a source to the errors that the language server reports, and of each kind of answer.
+"""Measures the time from a change of a source to the errors that the language server reports, and of each kind of
+answer.
 
-A client changes a source of 100 and of 2,000 lines, with no error and with one, then with ten. There is a line for each
-with the median and the greatest time in milliseconds, which include the wait of the server for more changes.
+A client changes a source of 100 and of 2,000 lines, with no error, with one and with ten. A line for each has the
+median and the greatest time in milliseconds, in which the server's wait for more changes is included.
 """
 from __future__ import annotations
 
@@ -30,7 +31,7 @@ REQUESTS: dict[str, dict[str, object]] = {
 
 
 def source(lines: int, errors: int) -> str:
-    """A source of this many lines, of which some have an error."""
+    """Returns a source of this many lines, of which `errors` have an error."""
     opcodes = ["MVO"] * errors + ["MOV"] * (lines - 2 - errors)
     body = [
         f"l{at:<6} {opcode}.I  $l{at * 7 % (lines - 2)}, >step+{at} ; comment {at}" for at, opcode in enumerate(opcodes)
@@ -56,7 +57,7 @@ class Client:
         return message
 
     def change(self, text: str) -> list[Any]:
-        """Returns the errors of a changed text."""
+        """Changes the source, and returns the errors that the server reports."""
         params = {"textDocument": {"uri": URI}, "contentChanges": [{"text": text}]}
         self.wire.send({"method": "textDocument/didChange", "params": params})
         return list(self.receive()["params"]["diagnostics"])
@@ -68,7 +69,7 @@ class Client:
 
 
 def print_times(what: str, runs: int, prepare: Callable[[int], object], work: Callable[[int], object]) -> None:
-    """Prints the time of some work, each after its preparation."""
+    """Prints the median and the greatest time of `work`, without that of `prepare` before each run."""
     times = []
     for run in range(runs):
         prepare(run)
@@ -79,7 +80,7 @@ def print_times(what: str, runs: int, prepare: Callable[[int], object], work: Ca
 
 
 def measure_lines(client: Client, lines: int, runs: int) -> None:
-    """The times of a source of this many lines."""
+    """Prints the times for a source of this many lines."""
     print(f"{lines} lines:                 median    max")
 
     def change(text: str) -> Callable[[int], object]:

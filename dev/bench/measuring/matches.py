@@ -1,13 +1,13 @@
-"""The cost of a turn in ten matches, of `mars` and of pMARS: machine instructions, and nanoseconds of CPU time.
+"""Measures a turn in ten matches, of `mars` and of pMARS: machine instructions, and nanoseconds of CPU time.
 
 The ten matches are of two warriors of examples/, or of the paper and the stone of race.rattle (here in capitals), 4,000
 cells apart in a core of 8000, in which no warrior dies for 20,000 cycles: from imps, which keep one process, to papers,
-whose queues fill. A count is that of 20,001 cycles minus that of one, divided by the turns in between. A time is that
-of one long round minus that of one cycle, the minimum of some runs, in which the programs alternate so that other work
-on the machine disturbs both. The round is as long as no warrior dies, 400,000 cycles at most, and both programs must
-report its result: pMARS keeps `-F` in the first round only, so in several rounds the programs would fight different
-battles. The last lines are the geometric means, and the allocations of a match of PAPER and PAPER, which do not grow
-with the rounds.
+whose queues fill. The instructions are those of 20,001 cycles minus those of one cycle, divided by the turns in
+between. The time is that of one long round minus that of one cycle; each is the minimum of some runs, in which the
+programs alternate so that other work on the machine disturbs both. The round is as long as no warrior dies, 400,000
+cycles at most, and both programs must report its result: pMARS keeps `-F` in the first round only, so in several rounds
+the programs would fight different battles. The last lines are the geometric means, and the allocations of a match of
+PAPER and PAPER, which do not grow with the rounds.
 """
 from __future__ import annotations
 
@@ -43,7 +43,7 @@ def count(program: str, files: list[str]) -> float:
 
 
 def survived(program: str, files: list[str], cycles: int) -> bool:
-    """Whether both warriors live for this number of cycles."""
+    """Returns whether both warriors live for this number of cycles."""
     output = run_well([program, *words_of(files, cycles)]).output.decode()
     if found := re.search(r"Results: (\d+) (\d+) (\d+)", output):
         return found.groups() == ("0", "0", "1")

@@ -1,9 +1,9 @@
-"""The machine instructions of a turn of random warriors that live long, in the settings of nano, of `mars` and of
-pMARS.
+"""Measures the machine instructions of a turn, in `mars` and in pMARS, of random warriors that live long in nano
+settings.
 
 Random instructions are rarely among the most frequent ones of written warriors, for which the machine has shortcuts.
-The warriors have 1 to 5 cells, and a pair counts if both live 801 cycles; most pairs don't. A count is that of 801
-cycles minus that of one, divided by the turns in between. The warriors are the same in each run.
+The warriors have 1 to 5 cells, and a pair counts if both live 801 cycles; most pairs don't. The instructions are those
+of 801 cycles minus those of one cycle, divided by the turns in between. The warriors are the same in each run.
 """
 from __future__ import annotations
 
@@ -19,7 +19,7 @@ from program import find_program
 
 from .tools import find_pmars, instructions, run_well
 
-# In this order the warriors are always the same.
+# The order decides which warriors the seed gives, so it stays.
 MODES = "#$*@{}<>"
 CORE, CYCLES, MAX_LENGTH = 80, 800, 5
 
@@ -39,7 +39,7 @@ def match(program: str, cycles: int, position: int, files: list[str]) -> list[st
 
 
 def is_long(command: list[str]) -> bool:
-    """Whether a match is a tie, which takes all its cycles."""
+    """Returns whether a match is a tie, which takes all its cycles."""
     rows = run_well(command).output.decode().splitlines()[1:]
     return all(row.split()[1:4] == ["0", "1", "0"] for row in rows)
 

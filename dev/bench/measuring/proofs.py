@@ -1,5 +1,5 @@
-"""The seconds that each function of a crate cost to prove, the most expensive first, and which parts of its proof cost
-most.
+"""Prints the seconds that each function of a crate cost to prove, the most expensive first, and which parts of its
+proof cost most.
 
 This reads what a first `rt check --jobs 1` of the crate, from scratch, has left. A check stores each part of its work
 as a file of out/incremental as soon as it is done, so the time between one file and the next is the cost of the second,

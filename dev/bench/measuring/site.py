@@ -1,7 +1,8 @@
-"""The site in Chromium and Firefox: its size, how soon it shows a fight, turns, drawings and memory.
+"""Measures the site in Chromium and Firefox: its size, how soon it shows a fight and a turn, how often it draws, and
+its memory.
 
-Times are medians in milliseconds. The battles are `silk` against `paper` in 94nop (160,000 turns) and in 94x
-(1,000,000).
+Times are medians in milliseconds, except for the slowest turn. The battles are `silk` against `paper` in 94nop (160,000
+turns) and in 94x (1,000,000).
 """
 from __future__ import annotations
 

@@ -1,4 +1,4 @@
-"""The cost of runs that do little: starts, small sources and short matches, in milliseconds (the median) and machine
+"""Measures runs that do little: starts, small sources and short matches, in milliseconds (the median) and machine
 instructions.
 """
 from __future__ import annotations
@@ -32,6 +32,6 @@ def measure(words: argparse.Namespace) -> None:
     print(f"{'':<44}{'ms':>10}{'instructions':>14}")
     for name, arguments in RUNS:
         print_line(name, [program, *arguments], words.runs)
-        # The debugger and the load files of pMARS are others.
+        # pMARS has another debugger and other load files.
         if pmars and arguments[0] == "-b":
             print_line("  pMARS", [pmars, *arguments], words.runs)

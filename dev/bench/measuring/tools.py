@@ -75,7 +75,7 @@ def allocations(command: Sequence[str]) -> int:
 
 
 def find_pmars() -> str | None:
-    """The `pmars` on the path, if it runs matches without a display; that of Debian's package doesn't."""
+    """Returns the `pmars` on the path if it runs matches without a display, which that of Debian's package doesn't."""
     found = shutil.which("pmars")
     imp = os.path.join(EXAMPLES, "imp.red")
     return None if found is None or run([found, "-b", imp, imp]).status else found
