@@ -1,5 +1,5 @@
 #!/usr/bin/env python3
-"""Prints each public call with its contract.
+"""Prints the public calls with their contracts, in short or as a whole.
 
 usage: dev/checks/calls.py [CRATE..]
        dev/checks/calls.py --contracts
@@ -36,7 +36,13 @@ CITED = re.compile(r"ghost use Rattle\.(\w+)\.specs\.([\w.]+)\.\{(.*?)\};", re.S
 
 @dataclass
 class Call:
-    """A public call, and what its head says."""
+    """A public call.
+
+    - `place`: its file, below the crate, and its line
+    - `head`: its source up to the body, with the contract
+    - `ensures`: whether the contract promises anything
+    - `labels`, `definitions`: the labels of its clauses, and the definitions that they cite, as FILE.NAME
+    """
 
     name: str
     place: str
@@ -47,7 +53,7 @@ class Call:
 
 
 def cited(text: str) -> dict[str, str]:
-    """The definitions of our crates that a file brings in, each under the name that it has there."""
+    """Returns the definitions of our crates that a file imports, as FILE.NAME, by their names in that file."""
     found = {}
     for crate, file, names in CITED.findall(text):
         if crate in CRATES and not file.startswith("declared"):
@@ -60,7 +66,9 @@ def cited(text: str) -> dict[str, str]:
 def calls_of(
     path: str, text: str, block: str, start: int, owner: str, wanted: set[str] | None = None
 ) -> Iterator[Call]:
-    """Yields the calls of a block of a file, which begins at `start`: all for None, or the public wanted ones."""
+    """Yields the calls in a block, which begins at the index `start` of a file's text: all if `wanted` is None,
+    otherwise the public ones with these names.
+    """
     names = cited(text)
     for head in HEAD.finditer(block):
         public = "pub " in head[0].split("fn ")[0] or wanted is None
@@ -74,14 +82,14 @@ def calls_of(
 
 
 def sources(crate: str) -> Iterator[tuple[str, str]]:
-    """The source files of a crate, each with its text."""
+    """Yields the source files of a crate, each with its text."""
     folder = os.path.join(TOP, "crates", crate)
     for path in sorted(glob.glob(os.path.join(folder, "src", "**", "*.rt"), recursive=True)):
         yield os.path.relpath(path, folder), open(path).read()
 
 
 def exported(crate: str) -> dict[str, str]:
-    """Returns the names that a crate exports; those of a library for C are its exports to C."""
+    """Returns the names that the root of a crate exports, each with the module that it comes from."""
     lib = dict(sources(crate))["src/lib.rt"]
     named = {
         name: module.replace("::", "/")
@@ -92,24 +100,17 @@ def exported(crate: str) -> dict[str, str]:
 
 
 def public_calls(crate: str) -> Iterator[Call]:
-    """Each public call of a crate: its functions, and the methods of its types and traits."""
+    """Yields each public call of a crate: its functions, and the methods of its types and traits."""
     names = exported(crate)
     for path, text in sources(crate):
         module = path[len("src/") : -len(".rt")]
         if module == "laws" or module.split("/")[0] == "exports":
-            wanted, owner = {
-                name for _, name in re.findall(r"^(pub )(?:extern \"C\" )?fn (\w+)", text, re.M)
-            }, "laws::" if module == "laws" else ""
+            wanted = set(re.findall(r"^pub (?:extern \"C\" )?fn (\w+)", text, re.M))
         else:
-            wanted, owner = {name for name, home in names.items() if home == module}, ""
-        yield from calls_of(
-            path,
-            text,
-            re.sub(r"^    .*fn ", lambda found: found[0].replace("fn ", "__ "), text, flags=re.M),
-            0,
-            owner,
-            wanted,
-        )
+            wanted = {name for name, home in names.items() if home == module}
+        # Without the methods, which follow by their blocks. The length stays, so that the lines are found.
+        functions = re.sub(r"^    .*fn ", lambda found: found[0].replace("fn ", "__ "), text, flags=re.M)
+        yield from calls_of(path, text, functions, 0, "laws::" if module == "laws" else "", wanted)
         for block in BLOCK.finditer(text):
             if block[1] in names:
                 is_trait = block[0].startswith("pub trait")
@@ -119,17 +120,17 @@ def public_calls(crate: str) -> Iterator[Call]:
 
 
 def values(crate: str) -> Iterator[str]:
-    """The value that contracts see in each public type, and its invariant."""
+    """Yields for each public type the value that contracts see in it, and its invariant."""
     names = exported(crate)
     for path, text in sources(crate):
         for impl, name, body in IMPL.findall(text):
-            values = "".join(GHOST.findall(body))
-            if name in names and values:
-                yield f"-- {name} ({crate}/{path})\n{impl}\n{values}"
+            ghosts = "".join(GHOST.findall(body))
+            if name in names and ghosts:
+                yield f"-- {name} ({crate}/{path})\n{impl}\n{ghosts}"
 
 
 def contracts() -> str:
-    """The values of the public types and the whole contract of each public call, crate by crate."""
+    """Returns the values of the public types and the whole contract of each public call, crate by crate."""
     parts: list[str] = []
     for crate in CRATES:
         parts += values(crate)

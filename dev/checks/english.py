@@ -1,7 +1,8 @@
 """Counts the forms of the project's old idiom, which docs/dev/STYLE.md replaces by the field's terms.
 
 The text that is read is prose: documents without their code, comments, docstrings, the messages of assertions in tests,
-and the texts that a command prints. It has three parts: "documents", "messages" and "comments".
+and the texts that a command prints. It has three parts: "documents", "messages" and "comments". `dev/checks/rules`
+reports each form; as a script, this file prints their number in each part, and the forms in the given parts.
 """
 from __future__ import annotations
 
@@ -50,13 +51,13 @@ JAVASCRIPT_TEXT = re.compile(r"([\"'`])((?:\\.|(?!\1)[^\\\n])*)\1")
 
 
 def without_code(text: str) -> str:
-    """A document without its blocks, code spans and targets of links; lines stay where they are."""
+    """Returns a document without its blocks, code spans and targets of links; lines stay where they are."""
     text = re.sub(r"^```.*?^```", lambda found: "\n" * found[0].count("\n"), text, flags=re.M | re.S)
     return re.sub(r"`[^`\n]*`|\]\([^)\s]*\)", " ", text)
 
 
 def docstrings(text: str) -> Iterator[tuple[int, bool]]:
-    """The line of each docstring, and whether it is the help of a command."""
+    """Yields the line of each docstring, and whether it is the help of a command."""
     for node in ast.walk(ast.parse(text)):
         if (
             isinstance(node, (ast.Module, ast.ClassDef, ast.FunctionDef, ast.AsyncFunctionDef))
@@ -67,7 +68,7 @@ def docstrings(text: str) -> Iterator[tuple[int, bool]]:
 
 
 def assertion_messages(text: str) -> Iterator[tuple[int, str]]:
-    """The texts in the messages of assertions, each with its line."""
+    """Yields the texts in the messages of assertions, each with its line."""
     for node in ast.walk(ast.parse(text)):
         for part in ast.walk(node.msg) if isinstance(node, ast.Assert) and node.msg else ():
             if isinstance(part, ast.Constant) and isinstance(part.value, str):
@@ -75,15 +76,15 @@ def assertion_messages(text: str) -> Iterator[tuple[int, str]]:
 
 
 def without_expressions(text: str) -> str:
-    """A text without the code in braces, which may be nested."""
+    """Returns a text without the code in braces, which may be nested."""
     while text != (text := re.sub(r"\$?\{[^{}]*\}", " ", text)):
         pass
     return text
 
 
 def python_pieces(name: str, text: str) -> Iterator[Piece]:
-    """The comments, docstrings and texts of a Python source. The texts of scripts and tests are no messages of the
-    product, and the messages of assertions in tests are read as comments.
+    """Yields the comments, docstrings and texts of a Python source. The texts of scripts and tests are no messages of
+    the product, and the messages of assertions in tests are read as comments.
     """
     if name.startswith("tests/"):
         yield from (("comments", line, message) for line, message in assertion_messages(text))
@@ -97,7 +98,7 @@ def python_pieces(name: str, text: str) -> Iterator[Piece]:
 
 
 def marked_pieces(text: str, marks: str) -> Iterator[Piece]:
-    """What follows one of the marks of a comment, a line at a time."""
+    """Yields what follows one of the marks of a comment, line by line."""
     for number, line in enumerate(text.split("\n"), 1):
         # A star is a mark only at the start of a line; elsewhere it is a pointer or a product.
         found = re.search(rf"(?:(?:^|\s)(?:{marks})|^\s*\*(?=\s))(.*)", line)
@@ -106,7 +107,7 @@ def marked_pieces(text: str, marks: str) -> Iterator[Piece]:
 
 
 def pieces(name: str, text: str) -> Iterator[Piece]:
-    """The prose of a file: its part, its line, and the text."""
+    """Yields the pieces of prose in a file."""
     if name.endswith(".md") or re.match(r"docs/.*\.1$", name):
         yield "documents", 1, without_code(text)
     elif name.endswith(".py") or PYTHON.match(text):
@@ -133,7 +134,7 @@ def pieces(name: str, text: str) -> Iterator[Piece]:
 
 
 def found_forms(files: Iterable[tuple[str, str]]) -> dict[str, list[str]]:
-    """The forms of each part, as FILE:LINE: FORM (what to write)."""
+    """Returns the forms in each part, as FILE:LINE: FORM (what to write)."""
     found: dict[str, list[str]] = {"documents": [], "messages": [], "comments": []}
     for name, text in files:
         for part, first, piece in pieces(name, text):

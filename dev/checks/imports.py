@@ -1,4 +1,4 @@
-"""The imports between the modules of crates, of the package and of the site."""
+"""Checks the imports between the modules of crates, of the package and of the site, for `dev/checks/rules`."""
 from __future__ import annotations
 
 import glob
@@ -19,14 +19,14 @@ SITE = ["model", "engine", "battle", "words", "worker", "view", "app"]
 
 
 def used(text: str, start: str) -> Iterator[tuple[str, str]]:
-    """Each name in the `use` or `pub use` lines that begin with `start`, with the path before it."""
+    """Yields the path and the name of each item in the `use` or `pub use` lines that begin with `start`."""
     for path, names in re.findall(rf"^{start}((?:\w+::)*)(\w+|\{{[^}}]*\}});", text, re.M):
         for name in re.findall(r"\w+", names):
             yield path.removesuffix("::"), name
 
 
 def imports(crate: str) -> dict[str, set[str]]:
-    """For each module of a crate, the modules that define the names in its `use` lines.
+    """Returns for each module of a crate the modules that define the names in its `use` lines.
 
     A name that a module re-exports (`pub use`) is defined by the module from which it comes.
     """
@@ -41,6 +41,7 @@ def imports(crate: str) -> dict[str, set[str]]:
     }
 
     def home(path: str, name: str) -> str:
+        """Returns the module that defines a name, or "" if it is none of this crate."""
         if (path, name) in reexported:
             return home(reexported[path, name], name)
         return max((module for module in modules if f"{path}::{name}::".startswith(f"{module}::")), key=len, default="")
@@ -52,7 +53,7 @@ def imports(crate: str) -> dict[str, set[str]]:
 
 
 def is_inside(one: str, other: str) -> bool:
-    """Whether one of two modules is in the folder of the other."""
+    """Returns whether one of two modules is in the folder of the other."""
     return one.startswith(f"{other}::") or other.startswith(f"{one}::")
 
 

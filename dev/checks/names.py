@@ -1,4 +1,4 @@
-"""The names and numbers that mars.h should have, from the definitions of the crates."""
+"""Compares the names and numbers of mars.h with the definitions of the crates, for `dev/checks/rules`."""
 from __future__ import annotations
 
 import os
@@ -22,7 +22,7 @@ LIMITS = {
     "MAX_FORMULA": ("redcode_asm/Formula", r"formula_of text = if nat_lt"),
     "MARK": ("mars_core/Block", "block_mark ="),
 }
-# The definition of the numbers of each enumeration of errors.
+# For each enumeration of errors in the header, the definition of its numbers, without `_number`.
 ERRORS = {"PARAMETERS": "parameter", "WARRIOR": "entrant"} | {
     name: name.lower()
     for name in ("SETTINGS", "EXPRESSION", "ASSEMBLY", "TEXT", "LOAD", "PLACEMENT", "BATTLE", "BLOCK", "EDIT", "LINEUP")
@@ -32,26 +32,26 @@ ABSENT = {"OutOfMemory", "NoWarrior", "TooMany"}
 
 
 def definitions(file: str) -> str:
-    """The text of a file of definitions, named as CRATE/FILE."""
+    """Returns the text of a file of definitions, named as CRATE/FILE."""
     crate, name = file.split("/")
     with open(os.path.join(TOP, "crates", crate, "specs", f"{name}.antt")) as text:
         return text.read()
 
 
 def cases(file: str, name: str) -> dict[str, str]:
-    """The value of a definition for each constructor: a name, a number, or the code of an error."""
+    """Returns the value of a definition for each constructor: a name, a number, or the code of an error."""
     head = rf"^{name} (?:numbers )?\(?(?:\w+\.)?(\w+)[^=\n]*=\s+"
     value = r'(?:codes "|numbered |record \(numbered |\(numbers\.what ≡ )?([^\s";)]+)'
     return dict(re.findall(head + value, definitions(file), re.M))
 
 
 def spelled(name: str) -> str:
-    """The name of a constructor as the header spells it: NO_ROOM for NoRoom."""
+    """Returns the name of a constructor as the header spells it: NO_ROOM for NoRoom."""
     return re.sub(r"(?<!^)(?=[A-Z])", "_", name).upper()
 
 
 def defined() -> Iterator[tuple[str, str]]:
-    """Each name and its number."""
+    """Yields each name that the header should have, without MARS_, and its number."""
     for kind in ("op", "modifier"):
         words = cases("mars_cell/Words", f"{kind}_name")
         yield from ((words[name], number) for name, number in cases("mars_cell/Cells", f"{kind}_index").items())
@@ -75,7 +75,7 @@ def defined() -> Iterator[tuple[str, str]]:
 
 
 def differences() -> Iterator[str]:
-    """What the header and the definitions say differently."""
+    """Yields a line for each name with different numbers in the header and in the definitions."""
     wanted = {name: int(number) for name, number in defined()}
     found = READER["numbers"]()
     for name in sorted(wanted.keys() | found.keys()):

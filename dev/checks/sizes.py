@@ -1,4 +1,4 @@
-"""The sizes of functions, files and lines."""
+"""Checks the sizes of functions, files and lines, for `dev/checks/rules`."""
 from __future__ import annotations
 
 import ast
@@ -25,15 +25,15 @@ TOO_LONG = {
 
 
 def sources() -> Iterator[tuple[str, str]]:
-    """The sources of programs, each with its text."""
+    """Yields the sources of programs, each with its text."""
     for name, text in files():
         if name not in GENERATED and (name.endswith((".rt", ".py", ".js", ".mjs")) or PYTHON.match(text)):
             yield name, text
 
 
 def braced_bodies(text: str, head: str) -> Iterator[tuple[int, int, int]]:
-    """The line in which each function begins, the number of lines after it, and that of the lines between its braces.
-    The line that opens the body and the one that closes it have the indentation of the first one.
+    """Yields for each function the line in which it begins, the number of its lines after that line, and the number of
+    lines between its braces. The lines that open and close the body have the indentation of the first line.
     """
     begun: dict[str, tuple[int, int]] = {}
     for number, line in enumerate(text.split("\n"), 1):
@@ -48,8 +48,8 @@ def braced_bodies(text: str, head: str) -> Iterator[tuple[int, int, int]]:
 
 
 def python_bodies(text: str) -> Iterator[tuple[int, int, int]]:
-    """The line in which each function begins, the number of lines after it, and that of the lines after its head and
-    its docstring.
+    """Yields for each function the line in which it begins, the number of its lines after that line, and the number of
+    lines after its head and its docstring.
     """
     for node in ast.walk(ast.parse(text)):
         if isinstance(node, (ast.FunctionDef, ast.AsyncFunctionDef)):

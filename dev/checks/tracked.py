@@ -1,4 +1,4 @@
-"""The tracked files of the repository, for its checks."""
+"""Reads the tracked files of the repository, for its checks."""
 from __future__ import annotations
 
 import os
@@ -9,7 +9,7 @@ TOP = os.path.abspath(os.path.join(os.path.dirname(__file__), "..", ".."))
 
 
 def files(*endings: str) -> Iterator[tuple[str, str]]:
-    """The tracked files with one of these endings, or all of them, each with its text."""
+    """Yields the tracked files with one of these endings, or all of them, each with its text."""
     listed = subprocess.run(
         ["git", "-c", "safe.directory=*", "ls-files"], cwd=TOP, capture_output=True, text=True, check=True
     ).stdout.split("\n")

@@ -1,4 +1,6 @@
-"""Battles that are edited or followed: edits, the past of each cell, turns that meet conditions, and births."""
+"""Compares edits of battles, and battles that are followed: the past of each cell, turns that meet conditions, and
+births.
+"""
 from __future__ import annotations
 
 import random
@@ -11,6 +13,7 @@ from .comparison import Comparison
 from .library import array, call, new, room, rows_in
 from .machine import block_words, compare_record, random_cell, random_state
 
+# The number of edits of a battle; how often its turns are followed, and the limit of these turns each time.
 EDITS, STEPS, TURNS = 6, 3, 8
 WAYS = ("Executes", "Changes", "Reads")
 NUMBERS = ("Warrior", "Queued", "Died", "Address", "Owner", "Turn", "Origin", "Opcode", "NewOpcode")
@@ -19,7 +22,9 @@ BY_HAND = 16
 
 
 def random_edit(definitions: Evaluator, dice: random.Random, state: Value) -> tuple[Value | None, Value]:
-    """Returns an edit, which may be impossible, and its numbers. There is no edit for a few of the numbers."""
+    """Returns an edit, which may be impossible, and the numbers that a call gets for it. If these numbers are those of
+    no edit, as a few are, the edit is None.
+    """
     core = state["params"]["core_size"]
     address = dice.randrange(core) if dice.random() < 0.9 else core + dice.randrange(3)
     warrior = dice.randrange(len(state["queues"]) + (dice.random() < 0.1))
@@ -56,7 +61,7 @@ def made(definitions: Evaluator, state: Value, edits: Sequence[Value | None]) ->
 
 
 def compare_edits(definitions: Evaluator, dice: random.Random) -> Iterator[Comparison]:
-    """Edits of a battle, some of them impossible, together and one by one; and their records."""
+    """Compares edits of a battle, some of them impossible, together and one by one; and their records."""
     state = random_state(dice)
     drawn = [random_edit(definitions, dice, state) for _ in range(EDITS)]
     some = drawn[: dice.randint(0, 3)]
@@ -74,7 +79,7 @@ def compare_edits(definitions: Evaluator, dice: random.Random) -> Iterator[Compa
 
 
 def compare_call(definitions: Evaluator, name: str, state: Value, edits: Sequence[Value], *given: object) -> Comparison:
-    """The words of a battle after a call with edits, and its error."""
+    """Compares the words of a battle after a call with edits, each with its numbers, and the error of the call."""
     words = block_words(definitions, state)
     block = array("uint32_t", words)
     after, error = made(definitions, state, [edit for edit, _ in edits])
@@ -109,7 +114,7 @@ def random_conditions(definitions: Evaluator, dice: random.Random, core: int) ->
 
 
 def compare_follows(definitions: Evaluator, dice: random.Random) -> Iterator[Comparison]:
-    """Turns of a battle that are followed, with edits between: pasts, the turns that meet conditions, and moments."""
+    """Compares turns of a battle that are followed, with edits between: pasts, turns that meet conditions, moments."""
     state = random_state(dice)
     core = state["params"]["core_size"]
     pasts = tuple(random_pasts(dice, core))
@@ -126,8 +131,8 @@ def compare_follows(definitions: Evaluator, dice: random.Random) -> Iterator[Com
 
 
 class Followed:
-    """A battle whose turns are followed: the arguments of a call, some of them wrong, and what the definitions make of
-    them.
+    """A battle whose turns are followed: the arguments of a call, some of them wrong, as definitions and as the library
+    take them, and the refusal of the call or None.
     """
 
     def __init__(self, definitions: Evaluator, dice: random.Random, state: Value, pasts: tuple[Value, ...]) -> None:
@@ -164,7 +169,7 @@ class Followed:
 
 
 def compare_follow(definitions: Evaluator, given: Followed, turns: int) -> Comparison:
-    """A call that follows turns: the battle, the pasts, and the turns that are found, or its error."""
+    """Compares a call that follows turns: the battle, the pasts, and the turns that are found, or its error."""
     found, count = room("MarsFound", given.dice.randrange(TURNS)), new("uint32_t *", 0)
     rows = rows_in(*found)
     error = call("mars_follow", *given.block, turns, *given.rows, *given.conditions, *found, count)
@@ -176,7 +181,7 @@ def compare_follow(definitions: Evaluator, given: Followed, turns: int) -> Compa
 
 
 def compare_moments(definitions: Evaluator, given: Followed, step: int) -> Comparison:
-    """A call that follows steps of turns: the battle, the pasts, and the moments, or its error."""
+    """Compares a call that follows steps of turns: the battle, the pasts, and the moments, or its error."""
     count = given.dice.randrange(STEPS)
     moments = room("MarsMoment", count)
     rows = rows_in(*moments)
@@ -188,7 +193,7 @@ def compare_moments(definitions: Evaluator, given: Followed, step: int) -> Compa
 
 
 def compare_ancestors(definitions: Evaluator, dice: random.Random) -> Iterator[Comparison]:
-    """The turns in which a process and its ancestors were born; for some places there is no process."""
+    """Compares the turns in which a process and its ancestors were born; for some places there is no process."""
     state, turns, place = random_state(dice), dice.randrange(3 * TURNS), dice.randrange(5)
     warrior = dice.randrange(len(state["queues"]) + (dice.random() < 0.05))
     births, count, first = room("uint32_t", dice.randrange(4)), new("uint32_t *", 0), new("uint32_t *", 0)

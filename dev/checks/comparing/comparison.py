@@ -55,5 +55,5 @@ def where_different(one: Value, other: Value, place: str = "") -> str:
 
 
 def some(value: Any) -> Value:
-    """Returns an option: none for None."""
+    """Returns a value as an option of the definitions, which is none for None."""
     return ("None",) if value is None else ("Some", value)

@@ -1,4 +1,4 @@
-"""Score formulas, placement, matches, leagues, populations and outcomes."""
+"""Compares score formulas, placement, matches, leagues, populations and outcomes."""
 from __future__ import annotations
 
 import random
@@ -9,7 +9,7 @@ from evaluating.evaluator import Evaluator
 
 from .comparison import Comparison, some
 from .library import array, call, new, room, rows_in
-from .machine import random_cell
+from .machine import HEADER, random_cell
 from .programs import examples, parameters, refused
 from .texts import formula
 
@@ -21,7 +21,7 @@ LONGEST = 85
 
 
 def compare_formulas(definitions: Evaluator, dice: random.Random) -> Iterator[Comparison]:
-    """A score formula: what a survivor gets, or the error of the formula or of its value."""
+    """Compares what a survivor gets by a score formula, or the error of the formula or of its value."""
     text, warriors = formula(dice), dice.choice([1, 2, 3, 16, 1 << 31])
     survivors = dice.choice([0, 1, 1, 2, 5, (1 << 32) - 1])
     value = new("int64_t *", 0)
@@ -88,7 +88,7 @@ class Contest:
         return Comparison(kind, (self.settings, self.warriors), defined, error if error["code"] else computed)
 
     def rows(self, kind: str, count: int) -> Comparison:
-        """The rows of a match or a league, or the sums of a population with this many candidates."""
+        """Compares the `count` rows of a match or a league, or the sums of a population with `count` candidates."""
         if kind == "population":
             result = self.definitions("mars_c.Contests.population", self.setup, count, tuple(self.warriors))
         else:
@@ -99,7 +99,7 @@ class Contest:
         return self.comparison(f"{kind} rows", result, self.definitions.get(ROWS[kind]), error, rows_in(*rows))
 
     def outcomes(self, counting: bool) -> Comparison:
-        """How each warrior fares in each round, and what it does, if that is counted."""
+        """Compares how each warrior fares in each round, and what it does, if that is counted."""
         count = len(self.warriors)
         fates = self.definitions(
             "mars_match.Fates.fates_of", counting, self.bounds, tuple(self.warriors), *self.numbers
@@ -112,9 +112,9 @@ class Contest:
         )
 
     def start(self, number: int) -> Comparison:
-        """The battle with which a round starts."""
+        """Compares the battle with which a round starts."""
         state = self.definitions("mars_c.Battles.round_start_state", self.setup, tuple(self.warriors), number)
-        words = room("uint32_t", 64 + 3 * self.settings["core"] + len(self.warriors) * self.settings["processes"])
+        words = room("uint32_t", HEADER + 3 * self.settings["core"] + len(self.warriors) * self.settings["processes"])
         error = call("mars_start", *self.given, number, *words)
         result = ("Ok", self.definitions("mars_core.Block.block_of", state[1])) if state[0] == "Ok" else state
         computed = tuple(words[0][0 : len(result[1])]) if state[0] == "Ok" else ()
@@ -122,7 +122,7 @@ class Contest:
 
 
 def compare_starts(definitions: Evaluator, dice: random.Random) -> Iterator[Comparison]:
-    """The starting positions of up to 16 warriors in some rounds, if there is room for them."""
+    """Compares the starting positions of up to 16 warriors in some rounds, if there is room for them."""
     count, core = dice.randint(1, 16), dice.choice([16, 17, 100, 8000])
     settings = {**random_contest(dice, core, 1, 1), "distance": dice.randint(1, max(1, core // count))}
     if dice.random() < 0.1:
@@ -139,7 +139,7 @@ def compare_starts(definitions: Evaluator, dice: random.Random) -> Iterator[Comp
 
 
 def compare_contests(definitions: Evaluator, dice: random.Random) -> Iterator[Comparison]:
-    """A match, a league, a population and the outcomes of random warriors, and the start of a round."""
+    """Compares a match, a league, a population and the outcomes of random warriors, and the start of a round."""
     core, longest, cycles = dice.choice([8, 12, 20, 31]), dice.choice([1, 2, 4]), dice.choice([1, 5, 30])
     settings = random_contest(dice, core, longest, cycles)
     warriors = random_fighters(dice, core, longest, dice.choice([1, 2, 2, 3, 4]))
@@ -155,7 +155,7 @@ def compare_contests(definitions: Evaluator, dice: random.Random) -> Iterator[Co
 
 
 def compare_fights(definitions: Evaluator, dice: random.Random) -> Iterator[Comparison]:
-    """A match of two or three examples in a core that is large enough for them to live on."""
+    """Compares a match of two or three examples in a core that is large enough for them to live on."""
     core = dice.choice([200, 400, 800])
     settings = {**random_contest(dice, core, LONGEST, dice.choice([20, 100, 300])), "processes": dice.choice([8, 80])}
     settings |= {"rounds": dice.randint(1, 2), "distance": LONGEST}

@@ -1,4 +1,4 @@
-"""The debugger's replies to its commands."""
+"""Compares the debugger's replies to its commands."""
 from __future__ import annotations
 
 import random
@@ -26,7 +26,7 @@ def transcript(definitions: Evaluator, session: Value, data: tuple[int, ...]) ->
 
 
 def compare_transcripts(definitions: Evaluator, dice: random.Random) -> Iterator[Comparison]:
-    """The replies to some lines over a battle, with a short history or a long one."""
+    """Compares the replies to some lines over a battle, with a short history or a long one."""
     state = random_state(dice)
     data = debugger_lines(dice, state["params"]["core_size"], len(state["queues"]))
     history = dice.choice([1, 2, 5, 1000])

@@ -1,4 +1,4 @@
-"""The worked examples of the definitions, which the toolchain has computed: here they hold, too."""
+"""Checks that the worked examples of the definitions, which the toolchain computes, also hold by this evaluation."""
 from __future__ import annotations
 
 import os
@@ -16,7 +16,7 @@ CRATES = sorted(os.listdir(os.path.join(TOP, "dev", "bench", "mistakes")))
 
 
 def compare_examples(definitions: Evaluator, dice: random.Random) -> Iterator[Comparison]:
-    """All worked examples whose statements can be computed."""
+    """Checks all worked examples whose statements can be computed."""
     for module in (module for crate in CRATES for module in modules_of(crate) if ".specs.Examples" in module):
         file = definitions.file(module)
         for name in file.types:

@@ -1,4 +1,4 @@
-"""The library for C, natively and as mars.wasm, called with the records and lists of definitions."""
+"""Calls the library for C, natively and as mars.wasm, with the records and lists of definitions."""
 from __future__ import annotations
 
 import json
@@ -96,7 +96,7 @@ def play(words: Sequence[int], turns: int, counts: dict[str, int]) -> Value:
 
 
 def has_wasm() -> bool:
-    """Whether mars.wasm was built, and there is a Node to run it."""
+    """Returns whether mars.wasm was built, and there is a Node to run it."""
     return os.path.isfile(WASM) and bool(shutil.which("node"))
 
 

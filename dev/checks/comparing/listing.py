@@ -1,4 +1,4 @@
-"""Which definitions are computed, and why the others are not."""
+"""Lists how many definitions of a crate are computed, and why the others are not."""
 from __future__ import annotations
 
 import glob

@@ -1,4 +1,4 @@
-"""Battles: turns, their records and touched cells, and words that are or are not a battle."""
+"""Compares battles: turns, their records and touched cells, and words that are or are not a battle."""
 from __future__ import annotations
 
 import random
@@ -15,6 +15,7 @@ MODIFIERS = "A B Ab Ba F X I".split()
 MODES = "Immediate Direct AIndirect BIndirect APredecrement BPredecrement APostincrement BPostincrement".split()
 PARTS = {"op": OPCODES, "modifier": MODIFIERS, "a_mode": MODES, "b_mode": MODES}
 TURNS = 24
+# What fills words after a block.
 SEVEN = 7
 # The words of a block before the cells; where the lengths of the queues begin, and the deaths.
 HEADER, QUEUES, DEATHS = 64, 16, 32
@@ -120,7 +121,7 @@ def nothing(row: Value) -> Value:
 
 
 def compare_second_definition(definitions: Evaluator, state: Value) -> Comparison:
-    """The execution of a turn by EMI94's code, as ReferenceCode has it."""
+    """Compares the execution of a turn with that of EMI94's code, which ReferenceCode defines."""
     given = state["params"], state["core"], state["queues"][state["next"]][0]
     executed = definitions("mars_core.Turn.execution_of", *given)
     pair = {"core": executed["written"]["core"], "queued": executed["queued"]}
@@ -128,7 +129,7 @@ def compare_second_definition(definitions: Evaluator, state: Value) -> Compariso
 
 
 def compare_record(definitions: Evaluator, kind: str, record: Value, before: Value, after: Value) -> Comparison:
-    """The record of a turn or an edit leads back and forth."""
+    """Compares where the record of a turn or an edit leads, back and forth, with the states before and after it."""
     back = definitions("mars_core.Record.reverted", record, after)
     forth = definitions("mars_core.Record.applied", record, before)
     return Comparison(kind, before, (back, forth), (before, after))
@@ -161,7 +162,7 @@ def cell_in(tags: int, a: int, b: int) -> Value:
 
 
 def begins_with_battle(definitions: Evaluator, words: tuple[int, ...]) -> bool:
-    """Whether the words begin with the block of a valid state."""
+    """Returns whether the words begin with the block of a valid state."""
     if len(words) < HEADER or words[2] > 1000 or len(words) < HEADER + 3 * words[2] + sum(words[QUEUES:DEATHS]):
         return False
     try:
@@ -171,7 +172,7 @@ def begins_with_battle(definitions: Evaluator, words: tuple[int, ...]) -> bool:
 
 
 def compare_blocks(definitions: Evaluator, dice: random.Random) -> Iterator[Comparison]:
-    """Words of a battle with one or two of them changed: whether they are still those of a valid battle."""
+    """Compares whether the words of a battle, with one or two of them changed, are still those of a valid battle."""
     words = list(definitions("mars_core.Block.block_of", random_state(dice, dice.choice([0.85, 0.85, 0]))))
     if dice.random() < 0.2:
         # A number of turns about the greatest that these cycles allow.

@@ -1,4 +1,6 @@
-"""Battles of two warriors in pMARS, without limits: the core after some turns, the next address, and who survives."""
+"""Compares battles of two warriors in pMARS, without read and write limits: the core after some turns, the next
+address, and who survives.
+"""
 from __future__ import annotations
 
 import os
@@ -28,7 +30,7 @@ RESULTS = {(True, False): "1 0 0", (False, True): "0 1 0", (True, True): "0 0 1"
 
 
 def has_pmars() -> bool:
-    """Whether pMARS was built."""
+    """Returns whether pMARS was built."""
     return os.path.isfile(PMARS)
 
 
@@ -75,7 +77,7 @@ class Round:
             return done.stdout.decode("latin-1")
 
     def core_after(self, turns: int) -> tuple[Value, Value]:
-        """Returns the core that its debugger lists after some turns, at least one, and the next address."""
+        """Returns the core that the debugger of pMARS lists after some turns, at least one, and the next address."""
         # `skip 0` executes one turn. After PAGE lines, pMARS waits for a key.
         pages = [f"list {first},{min(first + PAGE, self.core) - 1}" for first in range(0, self.core, PAGE)]
         text = self.run("-b", "-e", lines="\n".join([f"skip {turns - 1}", *pages, "quit", ""]))
@@ -91,8 +93,8 @@ class Round:
 
 
 def reads_itself_changed(definitions: Evaluator, state: Value) -> bool:
-    """Whether the A-operand of the next instruction changes the instruction, whose B-mode is `#`. There pMARS takes the
-    instruction as it was fetched (docs/user/LANGUAGE.md has the differences).
+    """Returns whether the A-operand of the next instruction changes the instruction, whose B-mode is `#`. In this case
+    pMARS takes the instruction as it was fetched (docs/user/LANGUAGE.md has the differences).
     """
     place = state["queues"][state["next"]][0]
     cell = state["core"][place]
@@ -102,7 +104,9 @@ def reads_itself_changed(definitions: Evaluator, state: Value) -> bool:
 
 
 def compare_pmars(definitions: Evaluator, dice: random.Random) -> Iterator[Comparison]:
-    """The core after some turns of two random warriors, and who survives, unless pMARS executes a turn differently."""
+    """Compares the core after some turns of two random warriors, and who survives, up to the first turn that pMARS
+    executes differently.
+    """
     core, longest = dice.choice([8, 12, 20, 41]), dice.choice([1, 2, 4])
     bounds = {"core_size": core, "processes": dice.choice([1, 2, 8]), "cycles": dice.choice([5, 30])}
     bounds |= {"read_limit": core, "write_limit": core, "max_length": longest, "distance": longest}
@@ -114,12 +118,12 @@ def compare_pmars(definitions: Evaluator, dice: random.Random) -> Iterator[Compa
         states.append(definitions("mars_core.Turn.turn_of", states[-1]))
     settings = {"core": core, "cycles": bounds["cycles"], "processes": bounds["processes"]}
     texts = [bytes(definitions("mars_cell.Written.load_text", core, warrior)) for warrior in given[2]]
-    round = Round({**settings, "longest": longest, "distance": longest}, texts, given[1])
+    played = Round({**settings, "longest": longest, "distance": longest}, texts, given[1])
     if len(states) - is_over > 1:
         turns = dice.randrange(1, len(states) - is_over)
         state = states[turns]
         following = definitions("mars_core.Turn.front_of", state["queues"][state["next"]])
-        yield Comparison("cores", (given, turns), (state["core"], following), round.core_after(turns))
+        yield Comparison("cores", (given, turns), (state["core"], following), played.core_after(turns))
     if is_over:
         lives = definitions("mars_match.Battles.lives", states[-1])
-        yield Comparison("results", given, RESULTS.get(lives), round.result())
+        yield Comparison("results", given, RESULTS.get(lives), played.result())

@@ -1,4 +1,4 @@
-"""Runs of the program `mars`: what it writes and its exit status, for options whose values are known."""
+"""Compares runs of the program `mars`, what it writes and its exit status, for options whose values are known."""
 from __future__ import annotations
 
 import os
@@ -28,7 +28,7 @@ FLAGS = {"debugger": "-e", "brief": "-b", "sorted": "-o", "league": "--league", 
 
 
 def random_options(dice: random.Random, files: list[str]) -> Value:
-    """Returns options, most of them allowed. Options that may be left out are options of definitions, too."""
+    """Returns options, most of them allowed. The values of OPTIONAL are none or some number, as in the definitions."""
     core, longest = dice.choice([8, 20, 31]), dice.choice([1, 4])
     options = {
         "rounds": dice.randint(1, 3),
@@ -103,7 +103,7 @@ def expected(definitions: Evaluator, options: Value, contents: list[bytes], line
 
 
 def compare_runs(definitions: Evaluator, dice: random.Random) -> Iterator[Comparison]:
-    """A run of the program with random options over random warriors, as load files or sources."""
+    """Compares a run of the program with random options over random warriors, as load files or sources."""
     count = dice.choice([1, 2, 2, 3])
     options = random_options(dice, [f"{index}.{dice.choice(['load', 'load', 'red'])}" for index in range(count)])
     core = min(max(options["core"], 1), 100)

@@ -1,4 +1,4 @@
-"""Sources, load files and their errors."""
+"""Compares what is read from sources and load files, their errors, and written load files."""
 from __future__ import annotations
 
 import glob
@@ -59,7 +59,7 @@ def with_refusal(name: str, result: Value) -> Value:
 
 
 def read_program(name: str, *words: object) -> Value:
-    """Returns the program and the cells that the library reads, or its error. Its texts are not looked at."""
+    """Returns the program and the cells that the library reads, or its error, without the lines of a source."""
     cells, program = room("MarsCell", ROOM_FOR_CELLS), new("MarsProgram *", {"name": [0]})
     unread = [*room("MarsLine", 0), *room("uint8_t", 0), new("size_t *", 0)] if name == "mars_assemble" else []
     fault = call(name, *words, *cells, program, *unread)
@@ -80,7 +80,7 @@ def read_lines(*words: object) -> Value:
 def compare_program(
     definitions: Evaluator, kind: str, given: Value, defined: Value, name: str, *words: object
 ) -> Comparison:
-    """A program that the library reads, or its error. `defined` is a result, whose error is a refusal."""
+    """Compares a program that the library reads, or its error. `defined` is a result, whose error is a refusal."""
     computed = read_program(name, *words)
     if defined[0] == "Err":
         return Comparison(kind, given, refused(definitions, *defined[1]), computed)
@@ -97,7 +97,7 @@ def examples(most: int = 800) -> list[str]:
 
 
 def compare_sources(definitions: Evaluator, dice: random.Random) -> Iterator[Comparison]:
-    """A source, its warrior or its first error, and the lines of its cells."""
+    """Compares the warrior of a source, or its first error, and the lines of its cells."""
     settings, warriors = random_settings(dice), dice.choice([1, 2, 9])
     made = dice.choice(examples()) if dice.random() < 0.1 else text_of(dice, "source")
     text = tuple(mutated(dice, made).encode("latin-1"))
@@ -127,7 +127,7 @@ def random_warrior(dice: random.Random, core: int, longest: int) -> Value:
 
 
 def compare_written(definitions: Evaluator, dice: random.Random, settings: Value, warrior: Value) -> Comparison:
-    """The load file of a warrior, or the error of its names."""
+    """Compares the load file of a warrior, or the error of its names."""
     if dice.random() < 0.2:
         wrong = (dice.choice([31, 32, 65, 126, 127]),) * dice.choice([1, 59, 60, 61, 64])
         warrior = {**warrior, dice.choice(["name", "author"]): wrong}
@@ -155,7 +155,9 @@ def changed_load(dice: random.Random, text: str) -> str:
 
 
 def compare_loads(definitions: Evaluator, dice: random.Random) -> Iterator[Comparison]:
-    """The load file of a warrior, and what is read from it: as it is, in another core, without a header, or changed."""
+    """Compares the load file of a warrior, and what is read from it: unchanged, in another core, without a header, or
+    changed.
+    """
     settings = random_settings(dice)
     warrior = random_warrior(dice, max(settings["core"], 1), max(settings["longest"], 1))
     if parameters(definitions, settings)[0] == "Ok":

@@ -1,4 +1,4 @@
-"""Compares random inputs of the areas, also with a mistake in a definition."""
+"""Compares random inputs of the areas up to the first difference, also with a mistake in a definition."""
 from __future__ import annotations
 
 import random

@@ -1,4 +1,4 @@
-"""Random sources, formulas and lines of the debugger, from a grammar; most of them are almost right."""
+"""Makes random sources, formulas and lines for the debugger from a grammar; most of them are almost right."""
 from __future__ import annotations
 
 import random
@@ -102,7 +102,7 @@ TOKENS = re.compile(r"[A-Za-z_][A-Za-z_0-9]*|\d+|\s+|.", re.S)
 
 
 def text_of(dice: random.Random, part: str, **more: Sequence[str]) -> str:
-    """Returns a random text for a part of the grammar, which `more` may add to."""
+    """Returns a random text for a part of the grammar; `more` has the alternatives of further parts."""
     alternatives = more[part] if part in more else GRAMMAR[part]
     return re.sub("<([a-z][a-z ]*)>", lambda found: text_of(dice, found[1], **more), dice.choice(alternatives))
 

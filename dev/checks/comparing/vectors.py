@@ -1,4 +1,4 @@
-"""Battles, sources and matches with their answers by the definitions, as lines of text (docs/dev/VECTORS.md)."""
+"""Makes battles, sources and matches with their answers by the definitions, as lines of text (docs/dev/VECTORS.md)."""
 from __future__ import annotations
 
 import os
@@ -40,7 +40,7 @@ def settings_lines(settings: Value) -> Iterator[str]:
 
 
 def end_of(definitions: Evaluator, state: Value) -> tuple[list[Value], set[str]]:
-    """Returns the states of a battle up to its end, and the mark of a turn that pMARS executes in another way."""
+    """Returns the states of a battle up to its end, and the mark `immediate` if pMARS executes a turn differently."""
     states, marks = [state], set[str]()
     while not definitions("mars_core.State.is_over_of", states[-1]):
         if reads_itself_changed(definitions, states[-1]):
@@ -124,7 +124,7 @@ def differences(data: bytes, settings: Value) -> list[str]:
 
 
 def has_assert_after_equ(data: bytes) -> bool:
-    """Whether only comments and empty lines are between an EQU and an assert."""
+    """Returns whether only comments and empty lines are between an EQU and an assert."""
     follows = False
     for line in data.split(b"\n"):
         if follows and re.match(rb"\s*;assert\b", line, re.I):
@@ -166,4 +166,5 @@ def match(definitions: Evaluator, dice: random.Random) -> Iterator[str]:
         yield f"row {row['points']} {row['wins']} {row['ties']} {row['losses']}"
 
 
+# For each kind of vectors, how many there are, and what yields the lines of one.
 VECTORS: dict[str, tuple[int, Vector]] = {"battles": (1000, battle), "sources": (300, source), "matches": (100, match)}

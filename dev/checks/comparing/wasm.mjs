@@ -1,5 +1,5 @@
 // Executes turns in mars.wasm: each line of the input has the words of a battle, with its capacity, and the numbers of turns, of records
-// and of lists of touched cells. Each line of the output has the words after the turns, and those of the rows.
+// and of lists of touched cells. Each line of the output has the words after the turns, the records, and the lists of touched cells.
 //
 //     node dev/checks/comparing/wasm.mjs build/mars.wasm
 import fs from "node:fs";

@@ -15,10 +15,12 @@ from .translator import Meaning, Scope, Translator
 from .uses import always_uses
 from .words import NoStatement, NotReadable
 
+# The constructors of the toolchain's library.
 STANDARD = {*CONSTRUCTORS, *VALUES, "Some", "None", "Ok", "Err"}
 # Modules of the toolchain, whose items are operations.
 LIBRARY = re.compile(r"Rattle\.(std|clap)\.|Prim\.|lib\.|mathlib\.")
 TYPES = {"ℕ", "ℤ", "Bool", "List", "Option", "Result", "String", "Vec", "Global", "Type"}
+# The recursion limit of Python during evaluations.
 DEPTH = 1_000_000
 
 

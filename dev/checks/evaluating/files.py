@@ -1,4 +1,4 @@
-"""The files of definitions, and what the names in them mean."""
+"""Reads the files of definitions: what each declares, and where the names that it imports come from."""
 from __future__ import annotations
 
 import os
@@ -10,6 +10,7 @@ from .parser import OPERATORS, Parser
 from .terms import Pattern, Term
 from .words import NotReadable, Word, paragraphs_of
 
+# The words before the name in a declaration.
 MARKS = {"pattern", "unfoldable", "abbrev", "pub"}
 USE = re.compile(r"([\w.'◌×ℕ]+?)(?:\.\{(.*)\})?(?: as (\S+))?$", re.S)
 SPECS = re.compile(r"Rattle\.(\w+)\.specs\.(.+)")
@@ -104,7 +105,7 @@ def parse_clause(words: Sequence[Word]) -> Clause:
 
 
 def is_infix(words: Sequence[Word]) -> bool:
-    """Whether a clause defines an operator between its patterns."""
+    """Returns whether a clause defines an operator between its patterns."""
     return infix_name(words) is not None
 
 

@@ -89,8 +89,8 @@ class Scope:
 class Translator:
     """Writes the terms of a definition as Python.
 
-    - `waits`: for each of its arguments, whether it is given as a function
-    - `own`: its name, if its last call of itself is written as the next iteration of a loop
+    - `waits`: for each argument of the definition, whether it is given as a function
+    - `own`: the definition's name, if its last call of itself is written as the next iteration of a loop
     """
 
     def __init__(

@@ -1,4 +1,4 @@
-"""The words of a file of definitions."""
+"""Divides a file of definitions into words and paragraphs."""
 from __future__ import annotations
 
 import re
