@@ -1,10 +1,10 @@
-"""The calls of the header for the translated library, whose memory is that of a little-endian machine with addresses of
-64 bits.
+"""Writes the calls of mars.h in C, each around a call of the translated library, whose memory is that of a
+little-endian machine with addresses of 64 bits.
 
-On such a machine a call only passes its arguments on. On a machine with addresses of 32 bits, a length that is returned
-is narrowed. On a big-endian machine the bytes of each number that an argument points to are turned, which means put in
-the other order: those of a constant argument in a copy, all others in place, before the call and after it.
-packaging/portable/calls.c has the macros.
+On such a machine a call only passes its arguments on. On a machine with addresses of 32 bits, it narrows the lengths
+that it returns. On a big-endian machine it turns each number that an argument points to, that is, reverses its bytes:
+in a copy of a constant argument, otherwise in place, before the inner call and after it. packaging/portable/calls.c has
+the macros.
 """
 from __future__ import annotations
 
@@ -12,8 +12,9 @@ import re
 from collections.abc import Iterator
 from dataclasses import dataclass
 
+# The sizes of numbers in bytes.
 SIZES = {"uint8_t": 1, "uint16_t": 2, "uint32_t": 4, "int32_t": 4, "uint64_t": 8, "int64_t": 8}
-# The name of the parameters whose words are a battle: some of these words are four numbers of one byte.
+# The name of each parameter that points to a battle: some words of a battle are four numbers of one byte.
 BATTLE = "battle"
 
 
@@ -33,7 +34,7 @@ class Parameter:
 
     @property
     def is_length(self) -> bool:
-        """Whether the call returns a length here."""
+        """Whether the call returns a length through this parameter."""
         return self.is_pointer and self.type == "size_t"
 
     @property
@@ -93,7 +94,7 @@ def calls_of(header: str) -> list[Call]:
 
 
 def shapes_of(header: str) -> dict[str, list[int]]:
-    """Returns the sizes of the numbers of each type, in the order of their bytes. No struct has padding."""
+    """Returns for each type the sizes of its numbers in bytes, in their order in memory. No struct has padding."""
     shapes = {name: [size] for name, size in SIZES.items()}
     for body, name in re.findall(r"typedef struct \{(.*?)\} (\w+);", plain(header), re.S):
         fields = re.findall(r"(\w+) \w+(?:\[(\d+)\])?;", body)
@@ -102,7 +103,7 @@ def shapes_of(header: str) -> dict[str, list[int]]:
 
 
 def body(call: Call) -> Iterator[str]:
-    """Yields the lines of a call."""
+    """Yields the lines between the braces of a call."""
     lengths = [one for one in call.parameters if one.is_length]
     copies = [one for one in call.parameters if one.is_copied]
     in_place = [one for one in call.parameters if one.is_turned and not one.is_constant]
@@ -112,8 +113,8 @@ def body(call: Call) -> Iterator[str]:
     release = " ".join(f"RELEASE({one.name})" for one in copies)
     if copies:
         missing = " || ".join(f"MISSING({one.name})" for one in copies)
-        lost = "return no_memory(fault);" if call.result == "uint32_t" else "return 0;"
-        yield f"    if ({missing}) {{ {release} {lost} }}"
+        failure = "return no_memory(fault);" if call.result == "uint32_t" else "return 0;"
+        yield f"    if ({missing}) {{ {release} {failure} }}"
     yield from (f"    {one.turning(f'copy_{one.name}')}" for one in copies)
     yield from (f"    {one.turning(one.name)}" for one in in_place)
     yield f"    answer = x_{call.name}({', '.join(one.given for one in call.parameters)});"
@@ -127,7 +128,7 @@ def body(call: Call) -> Iterator[str]:
 
 
 def boundary(header: str, template: str) -> str:
-    """Returns the calls of the header, after the template with the shapes of its types."""
+    """Returns the source in C: the template with the shapes of the types, as in `shapes_of`, and the header's calls."""
     shapes, calls = shapes_of(header), calls_of(header)
     used = {one.type for call in calls for one in call.parameters if one.is_turned}
     tables = [

@@ -1,4 +1,6 @@
-"""The conditions of definitions: fields of records, and factors of products (`dev/bench/definitions --dropped`)."""
+"""Drops the conditions of definitions one by one, for `dev/bench/definitions --dropped`: a condition is a field of a
+record or a factor of a product.
+"""
 from __future__ import annotations
 
 import re
@@ -9,7 +11,7 @@ from typing import NamedTuple
 RECORD = re.compile(r"^pub record (\w+) \(.* : Type 0 where\n((?:  .*\n)+)", re.M)
 # A definition of a condition, with the lines of its cases.
 CONDITION = re.compile(r"^(?:abbrev|unfoldable) (?:pub )?(\w+) : .*Type 0\n((?:(?:\1\b|  ).*\n)+)", re.M)
-# A value that exists, such as `(s : State)`: what follows is about it.
+# The factor that names a value that exists, such as `(s : State)`: the factors after it are conditions on the value.
 VALUE = re.compile(r"\([\w\s]+ : .*\)$", re.S)
 
 
@@ -23,7 +25,7 @@ class Dropped(NamedTuple):
 
 
 def without_each(text: str) -> Iterator[Dropped]:
-    """Yields each condition of the definitions in a file."""
+    """Yields each condition of the definitions in the text of a file."""
     for record in RECORD.finditer(text):
         fields = re.split("^(?=  pub )", record[2], flags=re.M)
         for dropped in filter(str.strip, fields):
@@ -37,7 +39,9 @@ def without_each(text: str) -> Iterator[Dropped]:
 
 
 def factors_in(text: str, start: int, end: int) -> Iterator[tuple[int, int, str]]:
-    """Yields each factor of the products in a part of a text, and where it starts and ends with a `×` beside it."""
+    """Yields for each factor of the products in `text[start:end]` where it starts and ends, with one `×` beside it, and
+    its text.
+    """
     for first, last in split(text, start, end, r"[⊎→]|=(?= |\n)|\n(?=\w)| in |(?<=\w)\. "):
         parts = list(split(text, first, last, "×"))
         values = [bool(VALUE.match(text[a:b].strip())) for a, b in parts]

@@ -6,8 +6,8 @@ import re
 import shutil
 import subprocess
 
-# The files with the limit and the use of a control group, of either version; without a limit the first has no number,
-# or a huge one.
+# The files with the memory limit and the used memory of a control group, of version 2 and of version 1. Without a limit
+# the first file has no number, or a huge one.
 GROUPS = [("memory.max", "memory.current"), ("memory/memory.limit_in_bytes", "memory/memory.usage_in_bytes")]
 
 

@@ -1,4 +1,4 @@
-"""The mistakes in definitions that dev/bench/mistakes lists."""
+"""Reads the lists of mistakes in definitions, dev/bench/mistakes, and plants a mistake in the text of its file."""
 from __future__ import annotations
 
 import os
@@ -20,7 +20,7 @@ class Mistake:
     - `before`, `after`: the text that is replaced, and its replacement
     - `imports`: the imports that the replacement needs
     - `same`: why nothing can notice the mistake; "" if something should
-    - `found_by`: the kind of what noticed it, or "nothing", and its name
+    - `found_by`: what noticed it: the kind (an example, a law, a type), or "nothing", and the name or the error
     """
 
     crate: str

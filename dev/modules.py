@@ -1,12 +1,12 @@
-"""The module that the prover hands to clang: how it is kept when the library is built, and what reads it."""
+"""Keeps the module of LLVM that the prover hands to clang when the library is built, and reads it as text."""
 from __future__ import annotations
 
 import os
 import subprocess
 import tempfile
 
-# Keeps the largest module that it compiles, which is that of the library, and the code that it makes from it. If these
-# cannot be copied, the native library is built all the same.
+# A clang that also keeps the largest module that it compiles, which is that of the library, and the object file made
+# from this module. If these cannot be copied, the native library is built all the same.
 KEEPING_CLANG = """#!/bin/sh
 '{clang}' "$@" || exit
 size() {{ stat -c %s "$1" 2>/dev/null || echo 0; }}
@@ -15,7 +15,7 @@ case " $* " in *" module.bc -o module.o "*)
 esac
 exit 0
 """
-# Writes a module as text, as it is.
+# The options with which clang writes a module as text, unchanged.
 DISASSEMBLE = "-S -emit-llvm -Xclang -disable-llvm-passes --no-default-config -x ir".split()
 
 
@@ -24,15 +24,15 @@ class CannotBuild(Exception):
 
 
 def code_of(module: str) -> str:
-    """Returns the file of the code that was made from a module. It is not the module's name with `.o`, from which make
-    has a rule of its own for the module.
+    """Returns the path of the object file made from a module. Its name is not `module.bc.o`, from which a built-in rule
+    of make would make `module.bc`.
     """
     return f"{module.removesuffix('.bc')}.o"
 
 
 def keeping_toolchain(toolchain: str, folder: str, kept: str) -> str:
-    """Makes a folder like that of the toolchain, whose clang keeps its module in the file `kept`, and its code beside
-    that.
+    """Makes a folder like that of the toolchain, whose clang keeps its module in the file `kept`, and the object file
+    beside it. Returns the folder.
     """
     os.makedirs(os.path.join(folder, "bin"))
     for name in os.listdir(toolchain):
@@ -61,7 +61,7 @@ def run(*words: str) -> str:
 
 
 def check_module(module: str, archive: str) -> None:
-    """Checks that the archive has the code that was made from the module, and nothing else."""
+    """Raises CannotBuild unless the archive has just the code that was made from the module."""
     if not os.path.isfile(module):
         raise CannotBuild("the module of the library is missing, which only a build without --keep stores")
     with open(code_of(module), "rb") as made:

@@ -1,4 +1,4 @@
-"""The built program of this repository, or another one that was given."""
+"""Finds the program to run: a given one, the built one of this repository, or one on the path."""
 from __future__ import annotations
 
 import os
@@ -11,7 +11,7 @@ BUILT = os.path.join(TOP, "crates", CRATE, "out", CRATE)
 
 
 class NoProgram(Exception):
-    """There is no program to run; the text names it."""
+    """There is no program to run; the text names the missing file."""
 
 
 def find_program(given: str | None = None) -> str:

@@ -1,4 +1,4 @@
-"""Reports the progress of a build on standard error, with the remaining time."""
+"""Reports the progress of a build on standard error, with the remaining time by that of the last build."""
 from __future__ import annotations
 
 import json
@@ -19,7 +19,7 @@ class Estimate:
     """When each crate is expected to be proved, in seconds from the start of a build.
 
     - `path`: the file with the times of the last build
-    - `whole`: if there is no such file, the time of the last crate; then the other crates have none
+    - `whole`: the time of the last crate if there is no such file; the other crates have none in this case
     """
 
     def __init__(self, path: str, crates: list[str], whole: float) -> None:

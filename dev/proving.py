@@ -210,8 +210,8 @@ class WithStoredWork:
         return self.max_jobs
 
     def proved(self) -> set[str]:
-        """Returns what need not be built again: unchanged, with all its work. Changes in the crates below are found by
-        `rt`.
+        """Returns the results, program or archive, that need not be built again, since they are newer than all sources
+        and all work is stored. Of the other crates, `rt` itself finds those that have changed.
         """
         return {name for name in up_to_date(self.lines) if all(map(has_work, (name, *all_below(name, self.lines))))}
 

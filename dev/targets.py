@@ -20,11 +20,12 @@ from webassembly import AS_NATIVE, exports
 PARTS = os.path.join(TOP, "packaging", "portable")
 HEAP, STACK = os.path.join(PARTS, "native.c"), os.path.join(PARTS, "stack.s")
 OPTIONS = ["-O3", "--no-default-config", "-fPIC", *AS_NATIVE]
-# Writes the module of a source as text; of an empty one, the lines that name the target.
+# The options with which clang writes the module of a source in C as text. Of an empty source, this has the lines that
+# name the target.
 AS_MODULE = "--no-default-config -O1 -fno-builtin -fvisibility=hidden -S -emit-llvm -xc -o -".split()
 # A layout with little-endian order and addresses of 64 bits. The module has both in its code.
 FITTING = re.compile(r'target datalayout = "e-(?!.*\bp:32)')
-# What the library calls on two systems, in the system's library that has it.
+# The functions that the library may call on Windows and on macOS, each from one library of the system.
 WINDOWS = "malloc realloc free memcpy memmove memset".split()
 MACOS = [*WINDOWS, "bzero", "__bzero", "memset_pattern16", "dyld_stub_binder"]
 
@@ -72,14 +73,14 @@ class Compiler:
         return run(self.clang, f"--target={triple}", *AS_MODULE, source)
 
     def head_of(self, triple: str) -> str:
-        """Returns the lines that name a target in a module. Raises CannotBuild if no code of the module fits it."""
+        """Returns the lines that name a target in a module. Raises CannotBuild if the library's code cannot fit it."""
         head = "".join(re.findall(r"^target .*\n", self.module_of(os.devnull, triple), re.M))
         if not FITTING.match(head):
             raise CannotBuild(f"{triple}: not little-endian with addresses of 64 bits; compile the library as C for it")
         return head
 
     def compiled(self, name: str, text: str, triple: str) -> str:
-        """Compiles a module or, if the name ends with .s, a text of the assembler, and returns the object file."""
+        """Compiles a module or, if the name ends with .s, assembles a text. Returns the path of the object file."""
         words = [] if name.endswith(".s") else ["-x", "ir"]
         source, out = self.write(name, text), self.path(f"{name}.o")
         run(self.clang, f"--target={triple}", *OPTIONS, "-c", *words, source, "-o", out)
@@ -136,7 +137,7 @@ LINKS: dict[str, Callable[[Compiler, Target, list[str], str], None]] = {
 
 
 def build_native(compiler: Compiler, text: str, target: Target, folder: str) -> str:
-    """Builds the library for a target, in a folder that has the name of its tags; returns its file."""
+    """Builds the library for a target, below `folder` in a folder that has the name of its tags. Returns its path."""
     head, system = compiler.head_of(target.triple), next(name for name in LINKS if name in target.triple)
     heap = for_target(compiler.module_of(HEAP, "x86_64-unknown-linux-gnu"), head)
     objects = [

@@ -35,6 +35,7 @@ LINK = [
     f"--max-memory={MAX_MEMORY}",
 ]
 FEATURES = "memory64 bulk-memory sign-ext nontrapping-float-to-int multivalue mutable-globals".split()
+# The numbers of two kinds of sections in a module.
 TABLE, ELEMENTS = 4, 9
 
 
@@ -50,9 +51,11 @@ def for_webassembly(text: str) -> str:
 
 def with_narrow_table(code: bytes) -> bytes:
     """Returns the module with 32-bit limits of its table, which is empty: Debian's binaryen reads no others."""
+    # The first section is after 8 bytes: the magic number and the version.
     code, at = bytearray(code), 8
 
     def number(at: int) -> tuple[int, int]:
+        """Returns the number in LEB128 at an index, and the index after it."""
         value = shift = 0
         while True:
             byte, at = code[at], at + 1

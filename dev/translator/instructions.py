@@ -1,4 +1,4 @@
-"""The instructions of a module in C: each is a statement, or the type and the expression of its value."""
+"""Translates the instructions of a module to C: each to a statement, or to the type and the expression of its value."""
 from __future__ import annotations
 
 import re
@@ -6,6 +6,7 @@ import re
 from translator.reading import ATTRIBUTES, TYPE, VALUE, CannotTranslate
 from translator.values import BITS, Values
 
+# LLVM's comparisons in C: of unsigned and signed integers of up to 64 bits, and of integers of 128 bits.
 UNSIGNED = {"eq": "==", "ne": "!=", "ult": "<", "ule": "<=", "ugt": ">", "uge": ">="}
 SIGNED = {"slt": "<", "sle": "<=", "sgt": ">", "sge": ">="}
 WIDE = {
@@ -16,6 +17,7 @@ WIDE = {
     "slt": "slt128({0}, {1})",
     "sle": "!slt128({1}, {0})",
 }
+# LLVM's arithmetic in C: of unsigned integers, and of signed ones where the two differ.
 PLAIN = {
     "add": "+",
     "sub": "-",
@@ -34,14 +36,14 @@ MAX_BLOCK = 256
 
 
 class Instructions(Values):
-    """Translates instructions one by one. `blocks` are the numbers of bytes that are copied or cleared as a value."""
+    """Translates instructions one by one. `blocks` has the sizes, in bytes, of what is copied or cleared as a value."""
 
     def __init__(self, text: str, exports: list[str]) -> None:
         super().__init__(text, exports)
         self.blocks: set[int] = set()
 
     def label(self, text: str) -> str:
-        return f"L_{re.sub(chr(92) + 'W', '_', text)}"
+        return "L_" + re.sub(r"\W", "_", text)
 
     def switch(self, text: str) -> str:
         found = re.fullmatch(rf"switch (i\d+) ({VALUE}), label %([\w.]+) \[ (.*?) ?\]", text)
@@ -79,9 +81,11 @@ class Instructions(Values):
     def do_getelementptr(self, text: str) -> tuple[str, str]:
         found = self.match(rf"(inbounds )?(?:nuw )?i8, ptr ({VALUE}), i64 ({VALUE})", text)
         base, index = self.value("ptr", found[2]), self.value("i64", found[3])
-        if found[1] or not found[3].startswith("%"):
-            return "ptr", f"{base} + {found[3] if not found[3].startswith('%') else f'(size_t){index}'}"
-        # The sum may be outside of what the base points to, which only integers may be in C.
+        if not found[3].startswith("%"):
+            return "ptr", f"{base} + {found[3]}"
+        if found[1]:
+            return "ptr", f"{base} + (size_t){index}"
+        # The sum may be outside of what the base points to, which C allows only for integers.
         return "ptr", f"shifted({base}, {index})"
 
     def do_br(self, text: str) -> str:
@@ -191,7 +195,9 @@ class Instructions(Values):
         return found[1], f"insert_{kind}({self.value(found[1], found[2])}, {self.value('i8', found[3])}, {found[4]})"
 
     def do_shufflevector(self, text: str) -> tuple[str, str]:
-        """Translates two forms: a vector of copies of the first element of another, and 16 elements of one of 64."""
+        """Translates two forms: a vector of copies of the first element of another, and 16 adjacent elements of one of
+        64.
+        """
         found = self.match(rf"(<(\d+) x i8>) ({VALUE}), \1 zeroinitializer, <(\d+) x i32> (zeroinitializer|<.*>)", text)
         value, kind = self.value(found[1], found[3]), f"<{found[4]} x i8>"
         if found[5] == "zeroinitializer" and kind == found[1]:

@@ -10,6 +10,7 @@ TYPE = r"\{ [^}]*\}|<\d+ x \w+>|\w+"
 ATTRIBUTES = (
     r"(?:noundef|zeroext|signext|nonnull|immarg|writeonly|readonly|captures\(none\)|align \d+|dereferenceable\(\d+\))"
 )
+# The specifiers in C of LLVM's attributes for inlining.
 KINDS = {"alwaysinline": "ALWAYS_INLINE ", "noinline": "NEVER_INLINE ", "inlinehint": "inline "}
 
 
@@ -27,11 +28,11 @@ class Function:
     kind: str
     lines: list[str] = field(default_factory=list)
     places: dict[str, int] = field(default_factory=dict)  # the sizes of its local places
-    variables: dict[str, str] = field(default_factory=dict)  # the types of those that are variables
+    variables: dict[str, str] = field(default_factory=dict)  # the types of the places that become variables
 
 
 def unescaped(text: str) -> bytes:
-    """Returns the bytes of a constant, in which a byte is `\\` and two digits, and a backslash is two."""
+    """Returns the bytes of a constant, in which `\\` and two hexadecimal digits are a byte, and `\\\\` a backslash."""
     return re.sub(
         rb"\\(?:([0-9A-F]{2})|\\)", lambda it: bytes([int(it[1], 16)]) if it[1] else b"\\", text.encode("latin-1")
     )
@@ -45,7 +46,6 @@ class Module:
         self.functions: dict[str, Function] = {}
         self.constants: dict[str, list[bytes | tuple[str, int]]] = {}
         self.names: dict[str, str] = {}
-        self.here = Function("", "", [], "")
         self.read(text)
 
     def read(self, text: str) -> None:

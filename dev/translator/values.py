@@ -1,4 +1,4 @@
-"""Types and values of a module in C, and loads and stores."""
+"""Translates the types and values of a module to C, and its loads and stores."""
 from __future__ import annotations
 
 import re
@@ -6,6 +6,7 @@ from collections.abc import Iterator
 
 from translator.reading import CannotTranslate, Function, Module
 
+# The sizes of types in memory, in bytes.
 SIZES = {"i8": 1, "i16": 2, "i32": 4, "i64": 8, "ptr": 8, "i128": 16}
 C_TYPES = {
     "void": "void",
@@ -22,7 +23,9 @@ BITS = {"i1": 1, "i8": 8, "i16": 16, "i32": 32, "i64": 64}
 
 
 class Values(Module):
-    """What a function's values are in C. `here` is the function that is translated."""
+    """Translates values. `here` is the function that they belong to, and `records` has the names in C of structs and
+    vectors.
+    """
 
     def __init__(self, text: str, exports: list[str]) -> None:
         super().__init__(text, exports)

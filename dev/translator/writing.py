@@ -6,10 +6,11 @@ anything else, so that no instruction is ever translated by a guess.
 
 What each part of the module becomes:
 
-- a function: a static function of C with the same name, in which letters that C has not are underscores, and its number
+- a function: a static function of C whose name is the same, with underscores for what C does not allow in names, and a
+  number
 - a value: a variable that is assigned once; an integer is unsigned, and wraps as C's unsigned integers do
 - memory: bytes. All loads and stores copy bytes (`ld32`, `st32` and so on), so that alignment and aliasing do not
-  matter. Numbers have the bytes of a little-endian machine on every machine; an address has its own, and 8 of them
+  matter. Numbers are little-endian on every machine; an address has the byte order of the machine, and takes 8 bytes
 - a local place whose address is used for nothing but whole loads and stores of one type: a variable
 - what is undefined behaviour in LLVM (`unreachable`): a call of abort
 
@@ -60,7 +61,9 @@ class Translator(Instructions):
                 self.here.variables[name] = next(iter(kinds))
 
     def types_used(self, name: str, line: str) -> set[str]:
-        """Returns the type of which an instruction uses a place as a whole, none if it copies or clears it, or ""."""
+        """Returns the type as which an instruction loads or stores all of a place, no type if it copies or clears all
+        of it, or "" for any other use.
+        """
         size = self.here.places[name]
         found = re.search(rf"(?:load|store) ({TYPE})[, ]", line)
         # The last place of a line is what a load or a store is at; a stored value is before it.
@@ -121,7 +124,7 @@ class Translator(Instructions):
             yield self.table(name)
 
     def table(self, name: str) -> str:
-        """Returns a constant. One with addresses is a struct, in which each address takes 8 bytes."""
+        """Returns the definition of a constant: bytes or, if it has addresses, a struct with 8 bytes for each."""
         parts, place = self.constants[name], self.constant(f"@{name}")
         if len(parts) == 1 and isinstance(parts[0], bytes):
             return f"static const u8 {place}[{len(parts[0]) or 1}] = {{{numbers(parts[0]) or 0}}};"
@@ -136,6 +139,7 @@ class Translator(Instructions):
         return f"static const struct {place}_type {{ {' '.join(fields)} }} {place} = {{{', '.join(values)}}};"
 
     def text(self, before: str, between: str, after: str) -> str:
+        """Returns the source in C. The given parts come before the structs, before the tables, and at the end."""
         functions = self.reached()
         bodies = [self.function(function) for function in functions]
         declared = [self.declaration(function) + ";" for function in functions]
