@@ -23,6 +23,7 @@ try:
 except ImportError as fault:
     sys.exit(f"asktell: {fault}; install the dependencies of corewar with dev/setup")
 
+# The settings, the candidates of a generation, the warriors that are kept, and the rounds of a match.
 NANO, SIZE, KEPT, ROUNDS = corewar.HILLS["nano"], 40, 8, 20
 OPPONENTS = ["MOV 0, 1", "SPL 0, <-9\nMOV 3, <2\nJMP -1", "JMP 0, <-3"]
 

@@ -4,8 +4,9 @@
 usage: examples/elites.py [GENERATIONS]      [default: 100]
 
 A behaviour is how often a warrior starts another process, in powers of two, and how many cells it executes, reads or
-writes, in tens; both in one round against three opponents. Those who live in a cycle share its reward, 4 in a whole
-round. The table has the greatest mean reward of each behaviour. It requires the package `corewar` with its library.
+writes, in tens; both in one round against three opponents. The warriors that live in a cycle share its reward; the
+rewards of a whole round are 4. The table has the greatest mean reward of each behaviour. It requires the package
+`corewar` with its library.
 """
 from __future__ import annotations
 
@@ -20,6 +21,7 @@ try:
 except ImportError as fault:
     sys.exit(f"elites: {fault}; install the dependencies of corewar with dev/setup")
 
+# The settings, the warriors of a generation, and the rounds of a match.
 NANO, SIZE, ROUNDS = corewar.HILLS["nano"], 100, 20
 OPPONENTS = [
     corewar.assemble(text, settings=NANO) for text in ("MOV 0, 1", "SPL 0, <-9\nMOV 3, <2\nJMP -1", "JMP 0, <-3")
@@ -32,7 +34,7 @@ def cell(dice: random.Random) -> tuple[int, int, int, int, int, int]:
 
 
 def child(dice: random.Random, parent: corewar.Warrior) -> corewar.Warrior:
-    """A copy of a warrior with a random cell in place of one of its own."""
+    """Returns a copy of a warrior with a random cell in place of one of its own."""
     cells = parent.cells.copy()
     cells[dice.randrange(len(cells))] = cell(dice)
     return corewar.Warrior.from_cells(cells, settings=NANO)

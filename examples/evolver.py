@@ -34,11 +34,12 @@ OPPONENTS = [
 ]
 OPCODES = "DAT MOV MOV ADD SUB JMP JMZ JMN DJN SNE SEQ SPL SPL".split()
 MODIFIERS, MODES = "A B AB BA F X I I".split(), "#$$@*<>{}"
+# The candidates of a generation, those of them that stay, and the rounds of a match.
 SIZE, BEST, ROUNDS = 100, 15, 20
 
 
 def cell(dice: random.Random) -> Cell:
-    """A random cell."""
+    """Returns a random cell."""
 
     def operand() -> str:
         return f"{dice.choice(MODES)}{dice.randrange(-9, 10) if dice.randrange(3) else dice.randrange(80)}"
@@ -47,7 +48,7 @@ def cell(dice: random.Random) -> Cell:
 
 
 def child(dice: random.Random, one: list[Cell], other: list[Cell]) -> list[Cell]:
-    """Cells of two parents, some of them inserted, removed or replaced."""
+    """Returns cells of two parents, some of them inserted, removed or replaced."""
     cells = list(one)
     if dice.randrange(3) == 0:
         cells = one[: dice.randrange(len(one) + 1)] + other[dice.randrange(len(other)) :]

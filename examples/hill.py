@@ -38,8 +38,8 @@ KEYS = {"number", "title", "load", "age", "against"}
 
 
 def rates(one: Entry, rounds: int) -> tuple[float, float, float]:
-    """The score of a warrior, its points for 100 rounds with 3 for a win and 1 for a tie; and its percents of wins and
-    ties.
+    """Returns the score of a warrior, its points for 100 rounds with 3 for a win and 1 for a tie; and its percentages
+    of wins and ties.
     """
     matches = one["against"].values()
     wins, ties = (100 * sum(column) / (rounds * len(matches)) for column in zip(*matches)) if matches else (0, 0)
@@ -51,7 +51,7 @@ def warriors_of(hill: Hill) -> list[corewar.Warrior]:
 
 
 def fight(hill: Hill, newcomer: corewar.Warrior) -> Any:
-    """Returns the survivors of all rounds of a match of a newcomer against each warrior of the hill."""
+    """Returns which warriors survive each round of the newcomer's matches against each warrior of the hill."""
     others = warriors_of(hill)
     lineups = [[0, place] for place in range(1, len(others) + 1)]
     # Each match has a seed of its own. A hill that is made again has the same ones.
@@ -139,7 +139,7 @@ def main() -> None:
     hill = read(words.state, new)
     with corewar.Assembler(LIMIT) as assembler:
         for path in words.files:
-            # From reading the hill to replacing it, so that no challenge of another process is lost between.
+            # Locked from reading the hill to replacing it, so that no challenge of another process is lost.
             with locked(words.state):
                 hill = read(words.state, new)
                 newcomer = assembler.read(path, settings=hill["settings"], rounds=hill["rounds"])

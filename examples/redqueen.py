@@ -22,7 +22,7 @@ def child(parent: corewar.Warrior) -> corewar.Warrior:
 
 
 def measure(made: Any) -> Any:
-    """The mean reward of the first warrior of each lineup, its splits in powers of 2, and its cells in tens."""
+    """Returns the mean reward of the first warrior of each lineup, its splits in powers of 2, and its cells in tens."""
     own, rewards = made[:, :, 0], corewar.shares(made, NANO.cycles)[:, :, 0]
     return np.stack([rewards, np.log2(own["spawned"] + 1), own["touched"] // 10]).mean(axis=2).T
 

@@ -105,7 +105,7 @@ pub struct Fault {
     pub line: u64,
     /// The index of a wrong warrior, from 0.
     pub warrior: u64,
-    /// The bytes of a source from `begin` to before `end` are the word or sign at which an error of it arises; both are 0 if it has none.
+    /// The word or sign of a source at which its error arises has the bytes from `begin` to before `end`; without one both are 0.
     pub begin: u64,
     pub end: u64,
 }
@@ -195,7 +195,7 @@ pub fn assemble(source: &[u8], settings: &Settings, warriors: u32) -> Result<War
 
 /// Returns the warrior of a load file.
 pub fn read_load(load: &[u8], settings: &Settings) -> Result<Warrior, Fault> {
-    // As above.
+    // The pointers are valid for the given lengths, and the output overlaps nothing.
     warrior_of(|cells, program, fault| unsafe {
         mars_read_load(
             settings,
