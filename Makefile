@@ -166,7 +166,7 @@ portable: $(C) $(CHECKER)
 	sed 's|@VERSION@|$(VERSION)|' packaging/portable/CMakeLists.txt >$(folder)/CMakeLists.txt
 	sed 's|@VERSION@|$(VERSION)|' packaging/mars.pc >$(folder)/mars.pc
 	$(call licences,$(folder)/licences)
-# What the proved library leaves.
+# The expected results are those of the proved library.
 	gcc -O1 -Icrates/mars_c/include packaging/portable/check.c build/libmars.a -o build/archive/check
 	build/archive/check 2000 1 >$(folder)/check.expected
 	$(call pack,libmars)

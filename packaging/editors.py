@@ -25,7 +25,7 @@ PLACES = {
 
 
 def sublime(grammar: dict[str, Any]) -> str:
-    """The grammar of TextMate in the form that Sublime Text and bat read; JSON is YAML, too."""
+    """Returns the grammar of TextMate in the form that Sublime Text and bat read; JSON is YAML, too."""
     rules = [{"match": one["match"], "scope": one["name"]} for one in grammar["patterns"]]
     names = {"name": grammar["name"], "scope": grammar["scopeName"], "file_extensions": grammar["fileTypes"]}
     return "%YAML 1.2\n---\n" + json.dumps({**names, "contexts": {"main": rules}}, indent=2) + "\n"

@@ -21,12 +21,12 @@ except ImportError as error:
 
 
 def escaped(text: str) -> str:
-    """A text as roff prints it."""
+    """Returns a text so that roff prints it unchanged."""
     return re.sub(r"^([.'])", r"\\&\1", text.replace("\\", "\\e").replace("-", "\\-"), flags=re.M)
 
 
 def debugger() -> str:
-    """The sections of the debugger's commands and of its file."""
+    """Returns the sections of the debugger's commands and of its file."""
     entries = ""
     for one in debugger_commands.values():
         short = f" ({', '.join(one.short)})" if one.short else ""
@@ -37,7 +37,7 @@ def debugger() -> str:
 
 
 def sections(command: Command) -> str:
-    """The sections of examples and exit statuses, which click-man leaves out."""
+    """Returns the sections of examples and exit statuses, which click-man leaves out."""
     examples = "\n".join(command.examples).replace("\\", "\\e").replace("-", "\\-")
     return f".SH EXAMPLES\n.EX\n{examples}\n.EE\n.SH EXIT STATUS\n{command.statuses}.\n"
 

@@ -71,14 +71,14 @@ def escaped(text: str) -> str:
 
 
 def words(text: str) -> str:
-    """A text of Markdown: links as their texts, code bold, and emphasis in italics."""
+    """Returns a text of Markdown as roff: links as their texts, code bold, and emphasis in italics."""
     text = re.sub(r"\[([^\]]*)\]\([^)]*\)", r"\1", text).replace("\\|", "|")
     parts = [f"\\fB{escaped(part)}\\fR" if number % 2 else escaped(part) for number, part in enumerate(text.split("`"))]
     return re.sub(r"(?<!\*)\*(\w[^*]*)\*(?!\*)", r"\\fI\1\\fR", "".join(parts))
 
 
 def roff(markdown: str) -> str:
-    """Paragraphs, lists, tables of two columns, and blocks of Markdown."""
+    """Returns paragraphs, lists, tables of two columns, and blocks of Markdown as roff."""
     found = ""
     for number, part in enumerate(re.split(r"^```\w*\n", markdown, flags=re.M)):
         if number % 2:
@@ -101,7 +101,7 @@ def section(document: str, heading: str) -> str:
 
 
 def man(text: str) -> str:
-    """The page: the help with its groups of options, and sections of the documents."""
+    """Returns the page: the help with its groups of options, and sections of the documents."""
     about, _, rest = text.partition("\n\n")
     page = '.TH MARS 1 "" "The Core War kit" "User commands"\n'
     page += f".SH NAME\nmars \\- {escaped(about.partition(': ')[2])}\n"

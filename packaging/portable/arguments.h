@@ -11,8 +11,8 @@ static uint32_t rnd(void)
     return (uint32_t)(state >> 32);
 }
 static uint32_t below(uint32_t n) { return n ? rnd() % n : 0; }
+/* Returns 1 for one of `of` draws, otherwise 0. */
 static int chance(uint32_t of) { return below(of) == 0; }
-
 
 enum { MAXCELLS = 4096, MAXTEXT = 60000, MAXWORDS = 64 + 3 * 9000 + 8 * 9000 };
 static MarsSettings s;
@@ -23,6 +23,7 @@ static uint32_t battle[MAXWORDS];
 static size_t words;
 static uint8_t text[MAXTEXT];
 
+/* Returns any number, or more often one near the end of a range. */
 static uint32_t wild(void)
 {
     static const uint32_t w[] = {0, 1, 2, 15, 16, 17, 255, 65535, 65536, 65537, 100001, 1048575, 1048576, 1048577, 10000001, 2147483646, 2147483647, 2147483648u, 4294967295u};

@@ -80,7 +80,7 @@ static ALWAYS_INLINE void stp(u8 *p, u8 *v)
 /* An address that may be outside of what the base points to, as only integers may be in C. */
 static ALWAYS_INLINE u8 *shifted(u8 *p, u64 n) { return (u8 *)((uintptr_t)p + (uintptr_t)n); }
 
-/* Copies and clears memory of a fixed size. GCC keeps no variable in registers that memmove or memset gets, but one that is assigned. */
+/* Copies and clears memory of a fixed size. GCC can keep a variable in registers if it is assigned, but not if memmove or memset gets it. */
 #if defined(__GNUC__) && !defined(__TINYC__)
 #define BLOCK(N)                                                                                                                \
     typedef struct { u8 b[N]; } __attribute__((may_alias)) block_##N;                                                           \

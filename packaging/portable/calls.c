@@ -4,7 +4,7 @@
 #define MARS_CALL
 #endif
 
-/* The value of a length that the library wrote. */
+/* Returns the value of a length that the library wrote. */
 static u64 length_of(const u8 *p) { return ld64(p); }
 
 #ifdef MARS_LITTLE_ENDIAN
@@ -18,10 +18,10 @@ static u64 length_of(const u8 *p) { return ld64(p); }
 #define TURN_BATTLE_BACK(name, type, count)
 #define no_memory(fault) MARS_OUT_OF_MEMORY
 #else
-/* The sizes of the numbers of each struct. */
+/* The sizes of the numbers of each struct, and a 0 at the end. */
 @SHAPES@
 
-/* Turns the bytes of numbers if those of this machine are in another order than the library's: turning them again restores them. */
+/* Reverses the bytes of a number on a big-endian machine; a second call restores them. */
 static void turn_bytes(u8 *at, unsigned size)
 {
     u16 one = 1;
@@ -71,7 +71,7 @@ static u32 no_memory(MarsFault *fault)
 #define RELEASE(name) free(copy_##name);
 #define TURN(name, type, count) turn(name, shape_##type, count);
 #define TURN_BACK TURN
-/* Before a call the number of cells is that of the caller's words, after it that of the new ones. */
+/* The number of cells is in the caller's words before a call, and in the new words after it. */
 #define CORE_OF(name, words) ((words) > 2 ? ((const u32 *)name)[2] : 0)
 #define TURN_BATTLE(name, type, words) size_t core_##name = CORE_OF(name, words); turn_battle(name, words, core_##name);
 #define TURN_BATTLE_BACK(name, type, words) turn_battle_back((u32 *)name, words, core_##name, answer);
