@@ -59,7 +59,7 @@ def matches(draw: st.DrawFn) -> Match:
 
 @st.composite
 def edits(draw: st.DrawFn) -> str:
-    """A line of the debugger that may or may not be accepted."""
+    """Draws an edit as a line of the debugger, which may be refused."""
     address, warrior = draw(st.integers(0, 23)), draw(st.integers(0, 2))
     return draw(
         st.one_of(

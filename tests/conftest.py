@@ -63,7 +63,7 @@ def run(tmp_path: Path) -> Run:
 
 @pytest.fixture(scope="session")
 def pmars() -> Path:
-    """The program pMARS."""
+    """Returns the path of pMARS, which is built first if it is missing."""
     from peer import build_pmars
 
     return build_pmars()

@@ -1,4 +1,7 @@
-"""Functions of LLVM, each with a rule of the translator: two numbers of 64 bits give one."""
+"""Functions in the language of LLVM, each for a rule of the translator, from two numbers of 64 bits to one.
+
+Each generator yields names of rules, each with the body of its function: the arguments are %a0 and %a1, the result %r.
+"""
 from __future__ import annotations
 
 from collections.abc import Iterator
@@ -9,14 +12,14 @@ UNSIGNED, SIGNED = ("eq", "ne", "ult", "ule", "ugt", "uge"), ("slt", "sle", "sgt
 WIDE = ("eq", "ne", "ult", "ule", "slt", "sle")
 # Both numbers as type {0}.
 CUT = "%a = trunc i64 %a0 to {0}\n%b = trunc i64 %a1 to {0}\n"
-# Two numbers of 128 bits: the product of both, the first of which is signed, and their exclusive or with its sign.
+# %a and %b of 128 bits: the product of the arguments, of which the first is signed, and their signed exclusive or.
 BOTH = """%a2 = sext i64 %a0 to i128
 %a3 = zext i64 %a1 to i128
 %a = mul i128 %a2, %a3
 %b2 = xor i64 %a0, %a1
 %b = sext i64 %b2 to i128
 """
-# The result of 128 bits as one of 64.
+# The result %r of 64 bits, from %v of 128.
 FOLD = """%h = lshr i128 %v, 64
 %l = trunc i128 %v to i64
 %g = trunc i128 %h to i64
@@ -138,7 +141,7 @@ def numbers() -> Iterator[tuple[str, str]]:
 
 
 def variables() -> Iterator[tuple[str, str]]:
-    """Functions with places in memory that are used as a whole, and with others that only seem to be."""
+    """Yields functions with places in memory that are used as a whole, and with others that only seem to be."""
     one = "%p = alloca i64, align 8\nstore i64 %a0, ptr %p, align 8\n"
     two = one + "%s = alloca i64, align 8\nstore i64 %a1, ptr %s, align 8\n"
     ends = "%x = load i64, ptr %p, align 8\n%y = load i64, ptr %s, align 8\n%r = sub i64 %x, %y\n"
@@ -181,7 +184,7 @@ RULES = dict([*arithmetic(), *comparisons(), *bits(), *memory(), *numbers(), *va
 
 
 def module(rules: dict[str, str]) -> str:
-    """Returns a module with the functions f0, f1 and so on."""
+    """Returns a module in which the rules are the functions f0, f1 and so on."""
     functions = []
     for number, text in enumerate(rules.values()):
         lines = (

@@ -12,7 +12,7 @@ from corewar.model.cells import cell_text
 from corewar.model.settings import HILLS, Settings
 
 PMARS, DEBIAN = Path(TOP) / "build" / "pmars" / "pmars", Path("/usr/share/doc/pmars/examples")
-# A line of its listing.
+# A line of the cells that pMARS lists.
 CELL = re.compile(r"^(START)? +([A-Z]{3}\.[A-Z]{1,2}) +([#$@<>*{}]) *(-?\d+), ([#$@<>*{}]) *(-?\d+)", re.M)
 
 

@@ -1,7 +1,7 @@
 /* Calls each export with ample memory, and then with each allocation failing, only this one and with all after it. Each result is that
- * with ample memory, or MARS_OUT_OF_MEMORY, which leaves rows and buffers unchanged; and all memory is freed. Null pointers are accepted
- * if the length is 0, and of several errors the first is returned. It is linked with --wrap for malloc, realloc and free. Prints
- * `N passed, M failed`. */
+ * with ample memory, or MARS_OUT_OF_MEMORY, which leaves rows and buffers unchanged; and all memory is freed. Then tests what calls return:
+ * errors in their order, null pointers with the length 0, and results that agree with those of other calls. It is linked with --wrap for
+ * malloc, realloc and free. Prints `N passed, M failed`. */
 #include <mars.h>
 #include <stdio.h>
 #include <stdlib.h>
@@ -11,6 +11,7 @@ void *__real_malloc(size_t size);
 void *__real_realloc(void *old, size_t size);
 void __real_free(void *old);
 
+/* The allocation number `left` fails, none if it is 0; after that all fail if `rest` is 1. Counts the blocks that are not freed, and the failures. */
 static long left, rest, held, refusals;
 
 static int is_refused(void) {
@@ -109,11 +110,13 @@ static void call(int which, Left *got) {
     if (which == 17) got->answer = mars_ancestors(got->battle, WORDS, 50, 1, 0, got->births, 9, &got->count, &got->first, &got->fault);
 }
 
+/* Returns whether the buffers are unchanged, except for the program, the length and the error. */
 static int is_kept(const Left *got, const Left *blank) {
     const char *from = (const char *)got->rows, *upto = (const char *)&got->program;
     return memcmp(got->text, blank->text, sizeof got->text) == 0 && memcmp(from, blank->rows, upto - from) == 0;
 }
 
+/* Returns whether a call is right whichever allocation fails; all after it fail, too, if `each` is 1. */
 static int holds(int which, long each) {
     Left ample, got, blank;
     prepare(which, &blank);
@@ -173,7 +176,7 @@ static int are_nulls_taken(void) {
         && mars_check(NULL, 0, &got.fault) == MARS_BLOCK && got.fault.number == MARS_BLOCK_SHORT;
 }
 
-/* Whether the error of a source has the bytes from `begin` up to `end`. */
+/* Returns whether the error of a source has the bytes from `begin` up to `end`. */
 static int is_error_at(const char *source, uint64_t begin, uint64_t end) {
     Left got;
     uint32_t answer = mars_assemble(&SETTINGS, 2, (const uint8_t *)source, strlen(source), got.cells, 20, &got.program, NULL, 0, NULL, 0, &got.length,
@@ -344,7 +347,7 @@ static int are_edits_all_or_none(void) {
     return !memcmp(once.battle, several.battle, 4 * ((const MarsBattle *)once.battle)->words);
 }
 
-/* Whether a call with this room for lines and for labels writes all that it has room for, or nothing but the program and the length. */
+/* Returns whether a call with this room for lines and for labels writes all of them, or nothing but the program and the length. */
 static int are_lines_written(size_t line_count, size_t labels_length) {
     Left got, expected;
     int fits = (line_count == 0 || line_count >= CELLS) && (labels_length == 0 || labels_length >= sizeof LABELS);
@@ -368,7 +371,8 @@ static int are_lines_reported(void) {
     return 1;
 }
 
-/* Whether these calls report the error `number` of these settings, although the formula is wrong, too. */
+/* Returns whether mars_match, and mars_league for an error of rows or mars_start for others, report the error `number`, although other
+ * arguments are wrong, too. */
 static int is_refused_for(uint32_t number, const MarsSettings *settings, size_t count, size_t rows) {
     Left got;
     const uint8_t *wrong = (const uint8_t *)"W+";

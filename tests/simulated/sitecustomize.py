@@ -1,5 +1,5 @@
-"""Takes away what the system SIMULATED lacks, `windows` or `macos`, from each Python whose path has this folder.
-
+"""Removes what a system lacks, `windows` or `macos` in the variable SIMULATED, from each Python with this folder on its
+path.
 Python itself and its libraries are those of Linux: processes can still be forked on `windows`, whose own branches of
 `sys.platform` are not taken.
 """
