@@ -30,6 +30,7 @@ SOURCES = [
     "SPL 0, <-9\nMOV 3, <2\nJMP -1\nDAT 0, -4",
     "JMP 0, <-3",
 ]
+# The turns of a long battle of two warriors, and its settings.
 TURNS, LONG = 1_000_000, corewar.Settings(cycles=500_000)
 # A program that runs as many matches as its first argument says, of as many cycles as the second one.
 MATCH = """#include <mars.h>

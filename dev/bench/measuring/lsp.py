@@ -20,6 +20,7 @@ from program import TOP
 URI = "file:///source.red"
 PACKAGE = os.path.join(TOP, "python")
 COMMAND = ["/usr/bin/python3", "-P", os.path.join(PACKAGE, "corewar", "__main__.py"), "lsp", "-l", "4000", "-d", "4000"]
+# The position of a name in `source`.
 HOVER = {"position": {"line": 20, "character": 24}}
 REQUESTS: dict[str, dict[str, object]] = {
     "hover": {**HOVER},

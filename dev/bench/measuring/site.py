@@ -62,6 +62,7 @@ def print_sizes() -> None:
 
 
 def measure_browser(name: str, browser: Browser, address: str) -> None:
+    """Prints the median times of seven starts, and the figures of both battles."""
     starts = []
     for _ in range(7):
         browser.open("about:blank")
