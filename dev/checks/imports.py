@@ -1,4 +1,6 @@
-"""Checks the imports between the modules of crates, of the package and of the site, for `dev/checks/rules`."""
+"""Checks the imports between the modules of crates, of the package and of the site: generators for `dev/checks/rules`,
+which prints their docstrings as the rules.
+"""
 from __future__ import annotations
 
 import glob

@@ -1,4 +1,6 @@
-"""Checks the sizes of functions, files and lines, for `dev/checks/rules`."""
+"""Checks the sizes of functions, files and lines: generators for `dev/checks/rules`, which prints their docstrings as
+the rules.
+"""
 from __future__ import annotations
 
 import ast

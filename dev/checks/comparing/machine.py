@@ -14,10 +14,12 @@ OPCODES = "Dat Mov Add Sub Mul Div Mod Jmp Jmz Jmn Djn Seq Sne Slt Spl Nop".spli
 MODIFIERS = "A B Ab Ba F X I".split()
 MODES = "Immediate Direct AIndirect BIndirect APredecrement BPredecrement APostincrement BPostincrement".split()
 PARTS = {"op": OPCODES, "modifier": MODIFIERS, "a_mode": MODES, "b_mode": MODES}
+# The maximum number of turns of an input.
 TURNS = 24
 # What fills words after a block.
 SEVEN = 7
-# The words of a block before the cells; where the lengths of the queues begin, and the deaths.
+# The words of a block before the cells; where the lengths of the queues begin, and the deaths. The other words are the
+# numbers of MarsBattle in mars.h, in its order.
 HEADER, QUEUES, DEATHS = 64, 16, 32
 
 

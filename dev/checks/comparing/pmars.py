@@ -19,6 +19,7 @@ from .library import TOP
 
 # The pMARS that `dev/bench/pmars build/pmars` builds. The one in Debian's package opens a window, and has no debugger.
 PMARS = os.path.join(TOP, "build", "pmars", "pmars")
+# The number of lines after which the debugger of pMARS waits for a key.
 PAGE = 15
 # A run that takes longer hangs, as pMARS does for some values of expressions.
 SECONDS = 5
@@ -78,7 +79,7 @@ class Round:
 
     def core_after(self, turns: int) -> tuple[Value, Value]:
         """Returns the core that the debugger of pMARS lists after some turns, at least one, and the next address."""
-        # `skip 0` executes one turn. After PAGE lines, pMARS waits for a key.
+        # `skip 0` executes one turn.
         pages = [f"list {first},{min(first + PAGE, self.core) - 1}" for first in range(0, self.core, PAGE)]
         text = self.run("-b", "-e", lines="\n".join([f"skip {turns - 1}", *pages, "quit", ""]))
         # The first line is the instruction before the first turn, the second one that after the turns.

@@ -16,6 +16,7 @@ from .library import TOP, array, call, new, plain, read_text, room, rows_in
 from .machine import random_cell
 from .texts import mutated, text_of
 
+# More cells than the maximum length of `random_settings`.
 ROOM_FOR_CELLS = 400
 # Parts of load files, right or wrong.
 PARTS = [";load 3 80\n", ";", "-", "ORG 1", "END 0", "END", "x", ",", "99", "9" * 18, "9" * 19, "CMP", "nop"]

@@ -1,4 +1,4 @@
-"""The terms and the patterns of definitions."""
+"""The terms and the patterns of definitions, which `parser` makes and `translator` writes as Python."""
 from __future__ import annotations
 
 from dataclasses import dataclass
