@@ -1,4 +1,4 @@
-"""Two ways to prove crates: from scratch, given the statements of the crates below, or with stored work."""
+"""Proves crates in one of two ways: from scratch, given the statements of the crates below, or with stored work."""
 from __future__ import annotations
 
 import os

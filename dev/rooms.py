@@ -1,5 +1,6 @@
-"""Rooms: repositories with links to only some of the crates. `rt` locks a crate and those below it, so crates that are
-proved or tried in parallel need a room each."""
+"""Makes rooms: repositories with links to only some of the crates. `rt` locks a crate and those below it, so crates
+that are proved or tried in parallel need a room each.
+"""
 from __future__ import annotations
 
 import os

@@ -129,6 +129,7 @@ def link_macos(compiler: Compiler, target: Target, objects: list[str], out: str)
     compiler.link("ld64.lld", *words, "-o", out, *objects, called)
 
 
+# For each system, how objects are linked to a shared library that exports the calls of the header.
 LINKS: dict[str, Callable[[Compiler, Target, list[str], str], None]] = {
     "linux": link_linux,
     "windows": link_windows,

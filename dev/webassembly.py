@@ -24,6 +24,7 @@ FAST = "follow|moments|outcomes|play"
 # Functions with equal instances for battles with and without limits. They are not inlined, and wasm-opt merges them. No
 # function belongs here that returns a structure: each call of it would clear the result in every turn.
 MERGED = "mars_core::machine::rare::effect_of_number"
+# The stack and the maximum memory of the module, in bytes.
 STACK, MAX_MEMORY = 1 << 20, 1 << 30
 LINK = [
     "-mwasm64",

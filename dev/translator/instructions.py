@@ -36,7 +36,9 @@ MAX_BLOCK = 256
 
 
 class Instructions(Values):
-    """Translates instructions one by one. `blocks` has the sizes, in bytes, of what is copied or cleared as a value."""
+    """Translates instructions one by one: `do_load` gets what follows `load` in a line, and so on. `blocks` has the
+    sizes in bytes of what is copied or cleared as a value.
+    """
 
     def __init__(self, text: str, exports: list[str]) -> None:
         super().__init__(text, exports)
@@ -54,6 +56,7 @@ class Instructions(Values):
         return f"switch ({self.value(found[1], found[2])}) {{ {cases} default: goto {self.label(found[3])}; }}"
 
     def instruction(self, line: str) -> str:
+        """Returns the statement for a line. Raises CannotTranslate if there is none."""
         line = re.sub(r"(, ![a-z]+ !\d+)+$", "", line)
         found = re.fullmatch(r"(?:(%[\w.]+) = )?(?:tail )?(\w+)(.*)", line)
         translate = getattr(self, f"do_{found[2]}", None) if found else None
@@ -232,6 +235,7 @@ class Instructions(Values):
         return found[1], f"{self.names.get(name, name)}({words})"
 
     def intrinsic(self, name: str, given: list[tuple[str, str]], text: str) -> str | tuple[str, str]:
+        """Translates a call of a function that LLVM has itself; `given` has the type and the value of each argument."""
         names = [value for _, value in given]
         if name == "llvm.trap":
             return "NOT_REACHED;"

@@ -49,6 +49,7 @@ class Module:
         self.read(text)
 
     def read(self, text: str) -> None:
+        """Reads the text of a module. Raises CannotTranslate if a line outside functions has another form."""
         kinds = {}
         for number, words in re.findall(r"^attributes #(\d+) = \{ (.*) \}$", text, re.M):
             kinds[number] = next((KINDS[word] for word in words.split() if word in KINDS), "")
@@ -67,6 +68,7 @@ class Module:
                 raise CannotTranslate(line)
 
     def function_of(self, line: str, kinds: dict[str, str]) -> Function:
+        """Adds the function that begins in a line; `kinds` has the specifiers in C by the numbers of attributes."""
         found = re.fullmatch(
             rf'define (?:internal )?(?:{ATTRIBUTES} )*({TYPE}) @("[^"]*"|[\w.]+)\((.*)\) (?:unnamed_addr )?#(\d+) \{{',
             line,
@@ -87,6 +89,7 @@ class Module:
         return function
 
     def constant_of(self, line: str) -> None:
+        """Reads a constant of bytes, or one of addresses and bytes."""
         found = re.fullmatch(
             r'@([\w.]+) = private unnamed_addr constant \[(\d+) x i8\] (c"(.*)"|zeroinitializer), align \d+', line
         )

@@ -126,6 +126,7 @@ class Values(Module):
         raise CannotTranslate(f"a store of {kind}")
 
     def size_of(self, kind: str) -> int:
+        """Returns the size of a type in memory, in bytes."""
         if kind in SIZES:
             return SIZES[kind]
         if kind.startswith("<") and kind.endswith("x i8>"):

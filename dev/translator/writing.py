@@ -81,6 +81,7 @@ class Translator(Instructions):
         return f"static {function.kind}{self.type_of(function.result)} {self.names[function.name]}({given or 'void'})"
 
     def function(self, function: Function) -> str:
+        """Returns the definition of a function in C."""
         self.here = function
         self.find_places()
         self.find_variables()
