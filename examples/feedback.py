@@ -23,6 +23,7 @@ except ImportError as fault:
     sys.exit(f"feedback: {fault}; install the dependencies of corewar with dev/setup")
 
 OPPONENTS = ["MOV 0, 1", "ADD #4, 3\nMOV 2, @2\nJMP -2\nDAT #0, #0", "SPL 0, <-9\nMOV 3, <2\nJMP -1"]
+# The rounds of a match, and the number of deaths that are explained.
 ROUNDS, DEATHS = 100, 3
 
 

@@ -36,6 +36,7 @@ CELLS = st.builds(
 
 @st.composite
 def warriors(draw: st.DrawFn) -> Warrior:
+    """Draws a warrior of one to eight cells."""
     cells = draw(st.lists(CELLS, min_size=1, max_size=8))
     origin = draw(st.integers(0, len(cells) - 1))
     # The load file is read for the default core size; the smaller core of a match takes its numbers by value.
@@ -44,6 +45,7 @@ def warriors(draw: st.DrawFn) -> Warrior:
 
 @st.composite
 def matches(draw: st.DrawFn) -> Match:
+    """Draws a match of one to three warriors in a small core."""
     count = draw(st.integers(1, 3))
     settings = Settings(
         core=draw(st.sampled_from([24, 40, 61])),
