@@ -56,8 +56,7 @@ class Parameter:
         return f"(u8 *){self.name}" if self.is_pointer else self.name
 
     def turning(self, name: str, after: str = "") -> str:
-        """Returns the macro that turns the numbers at a pointer of this name; after the inner call, `after` is `_BACK`.
-        """
+        """Returns the macro that turns the numbers at a pointer of this name. After the inner call `after` is _BACK."""
         macro = "TURN_BATTLE" if self.name == BATTLE else "TURN"
         return f"{macro}{after}({name}, {self.type}, {self.count})"
 

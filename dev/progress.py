@@ -1,4 +1,4 @@
-"""Reports the progress of a build on standard error, with the remaining time by that of the last build."""
+"""Reports the progress of a build on standard error, with the remaining time, estimated from the last build."""
 from __future__ import annotations
 
 import json

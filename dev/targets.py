@@ -20,8 +20,8 @@ from webassembly import AS_NATIVE, exports
 PARTS = os.path.join(TOP, "packaging", "portable")
 HEAP, STACK = os.path.join(PARTS, "native.c"), os.path.join(PARTS, "stack.s")
 OPTIONS = ["-O3", "--no-default-config", "-fPIC", *AS_NATIVE]
-# The options with which clang writes the module of a source in C as text. Of an empty source, this has the lines that
-# name the target.
+# The options with which clang writes the module of a source in C as text. The module of an empty source has the lines
+# that name the target.
 AS_MODULE = "--no-default-config -O1 -fno-builtin -fvisibility=hidden -S -emit-llvm -xc -o -".split()
 # A layout with little-endian order and addresses of 64 bits. The module has both in its code.
 FITTING = re.compile(r'target datalayout = "e-(?!.*\bp:32)')
