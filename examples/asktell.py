@@ -5,7 +5,7 @@ usage: examples/asktell.py CHECKPOINT [GENERATIONS]      [default: 100 generatio
 
 Each generation replaces CHECKPOINT as a whole. The same command continues from it, with the same result as without a
 pause. `Search` knows nothing of matches: anything that proposes warriors, such as a language model, can take its place.
-Prints the best warrior. It requires the package `corewar` with its library.
+Prints the best warrior. Requires the package `corewar` with its library.
 """
 from __future__ import annotations
 
@@ -46,8 +46,8 @@ class Search:
         return [*kept, *children]
 
     def tell(self, warriors: list[corewar.Warrior], rewards: list[float]) -> None:
-        """Learns the rewards of candidates."""
-        # Of equal rewards the older warrior stays.
+        """Keeps the candidates with the greatest rewards."""
+        # `ask` lists older warriors first, so of equal rewards the older warrior stays.
         self.best = sorted(zip(rewards, warriors), key=lambda one: one[0], reverse=True)[:KEPT]
         self.generation += 1
 

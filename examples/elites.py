@@ -4,8 +4,8 @@
 usage: examples/elites.py [GENERATIONS]      [default: 100]
 
 A behaviour is how often a warrior starts another process, in powers of two, and how many cells it executes, reads or
-writes, in tens; both in one round against three opponents. The warriors that live in a cycle share its reward; the
-rewards of a whole round are 4. The table has the greatest mean reward of each behaviour. It requires the package
+writes, in tens, both in one round against three opponents. The warriors that live in a cycle share its reward; the
+rewards of a whole round are 4. Prints a table with the greatest mean reward of each behaviour. Requires the package
 `corewar` with its library.
 """
 from __future__ import annotations
@@ -41,7 +41,7 @@ def child(dice: random.Random, parent: corewar.Warrior) -> corewar.Warrior:
 
 
 def given() -> int:
-    """Returns the number of generations of the arguments."""
+    """Returns the number of generations from the arguments."""
     parser = argparse.ArgumentParser(
         description=__doc__, formatter_class=argparse.RawDescriptionHelpFormatter, usage=argparse.SUPPRESS
     )

@@ -3,10 +3,10 @@
 
 usage: examples/environment.py [EPISODES]      [default: 200]
 
-The agent writes a warrior for the nano settings. An action is the six numbers of the next cell, an observation all
-cells so far with zeros for the others, and a reward by how much the cell has improved the warrior's share against three
+The agent writes a warrior for the nano settings. An action is the six numbers of the next cell. An observation has all
+cells so far, and zeros for the others. A reward is by how much the cell has improved the warrior's share against three
 opponents; the rewards of an episode add up to the share. `VectorEnvironment` runs many episodes at a time, and all
-their matches in one call. Prints the mean reward of random agents. It requires the package `corewar` with its library.
+their matches in one call. Prints the mean reward of random agents. Requires the package `corewar` with its library.
 """
 from __future__ import annotations
 
@@ -82,19 +82,19 @@ class Environment:
     """One episode at a time, with the interface of `gymnasium.Env`."""
 
     def __init__(self, **given: Any) -> None:
-        self.all = VectorEnvironment(1, **given)
-        self.limits, self.length = self.all.limits, self.all.length
+        self.single = VectorEnvironment(1, **given)
+        self.limits, self.length = self.single.limits, self.single.length
 
     def reset(self, *, seed: int | None = None, options: Any = None) -> tuple[NDArray[np.int64], dict[str, Any]]:
-        return self.all.reset(seed=seed)[0][0], {}
+        return self.single.reset(seed=seed)[0][0], {}
 
     def step(self, action: Any) -> Step:
-        cells, rewards, over, _, info = self.all.step([action])
+        cells, rewards, over, _, info = self.single.step([action])
         return cells[0], float(rewards[0]), bool(over[0]), False, {"share": float(info["share"][0])}
 
     def render(self) -> str:
         """Returns the warrior as its load file."""
-        return str(self.all.warriors()[0])
+        return str(self.single.warriors()[0])
 
 
 def main() -> None:

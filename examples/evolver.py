@@ -3,8 +3,8 @@
 
 usage: examples/evolver.py [SECONDS [SEED]]      [default: 60 seconds, seed 1]
 
-It requires the package `corewar` with its library; build the kit first. In each generation the best warriors stay, and
-the others are replaced by children of the best with changed cells. One call runs all matches of a generation.
+In each generation the best warriors stay, and the others are replaced by children of the best with changed cells. One
+call runs all matches of a generation. Requires the package `corewar` with its library; build the kit first.
 """
 from __future__ import annotations
 
@@ -48,7 +48,7 @@ def cell(dice: random.Random) -> Cell:
 
 
 def child(dice: random.Random, one: list[Cell], other: list[Cell]) -> list[Cell]:
-    """Returns cells of two parents, some of them inserted, removed or replaced."""
+    """Returns the cells of one parent or the joined cells of both, with cells inserted, removed or replaced."""
     cells = list(one)
     if dice.randrange(3) == 0:
         cells = one[: dice.randrange(len(one) + 1)] + other[dice.randrange(len(other)) :]

@@ -3,9 +3,9 @@
 
 usage: examples/feedback.py      (standard input is the model: sources, each ended by a line with a full stop)
 
-A source with errors is answered with the errors, each with its line, its word and advice. Any other is answered with
-what the warrior does without an opponent, its score against each opponent, and how it lost to the one that beats it
-most. Put a call of your model in place of `ask`. It requires the package `corewar` with its library.
+A source with errors is answered with the errors, each with its line, its word and advice. Any other source is answered
+with what the warrior does without an opponent, its score against each opponent, and how it lost to the one that beats
+it most. Put a call of your model in place of `ask`. Requires the package `corewar` with its library.
 """
 from __future__ import annotations
 
@@ -28,7 +28,7 @@ ROUNDS, DEATHS = 100, 3
 
 
 def ask(prompt: str) -> str | None:
-    """Returns the source that the model writes for a prompt, or None at its end."""
+    """Returns the source that the model writes for a prompt, or None if it writes no more."""
     print(prompt, flush=True)
     lines = takewhile(lambda line: line != ".\n", sys.stdin)
     return "".join(lines) or None

@@ -7,9 +7,9 @@ Each FILE, a source or a load file, plays a match against every warrior on the h
 warriors, the last of the table is pushed off, which may be the newcomer; the age of the others is the number of
 challenges that they have survived. A newcomer with the cells of a warrior on the hill is left out. The first challenge
 makes STATE, a JSON file, with the options [default: 20 warriors, 100 rounds, settings of 94nop], and each one replaces
-it as a whole. Several processes may challenge at once: each waits for the one before it, by a lock on STATE.lock. A
-source has 5 seconds of CPU time and 500 MB.
-Without FILE the hill is only printed. It requires the package `corewar` with its library.
+it as a whole. Several processes may challenge at once: each waits for the one before it, by a lock on STATE.lock.
+Assembling a source may take 5 seconds of CPU time and 500 MB. Without FILE the hill is only printed. Requires the
+package `corewar` with its library.
 """
 from __future__ import annotations
 
@@ -38,8 +38,8 @@ KEYS = {"number", "title", "load", "age", "against"}
 
 
 def rates(one: Entry, rounds: int) -> tuple[float, float, float]:
-    """Returns the score of a warrior, its points for 100 rounds with 3 for a win and 1 for a tie; and its percentages
-    of wins and ties.
+    """Returns the score of a warrior, which is its points for 100 rounds with 3 for a win and 1 for a tie, and its
+    percentages of wins and ties.
     """
     matches = one["against"].values()
     wins, ties = (100 * sum(column) / (rounds * len(matches)) for column in zip(*matches)) if matches else (0, 0)
@@ -54,7 +54,7 @@ def fight(hill: Hill, newcomer: corewar.Warrior) -> Any:
     """Returns which warriors survive each round of the newcomer's matches against each warrior of the hill."""
     others = warriors_of(hill)
     lineups = [[0, place] for place in range(1, len(others) + 1)]
-    # Each match has a seed of its own. A hill that is made again has the same ones.
+    # Each match has a seed of its own. A hill that is made again has the same seeds.
     dice = random.Random(hill["challenges"])
     seeds = [dice.randrange(1, 1 << 30) for _ in lineups]
     given = {"settings": hill["settings"], "rounds": hill["rounds"], "seeds": seeds}
@@ -62,7 +62,7 @@ def fight(hill: Hill, newcomer: corewar.Warrior) -> Any:
 
 
 def ranked(warriors: list[Entry], rounds: int) -> list[Entry]:
-    """Returns warriors in the order of their scores. Of equal scores the one that was above stays above."""
+    """Returns warriors in the order of their scores. Of two with equal scores the one that was above stays above."""
     return sorted(warriors, key=lambda one: rates(one, rounds)[0], reverse=True)
 
 
@@ -82,7 +82,7 @@ def challenge(hill: Hill, newcomer: corewar.Warrior) -> list[Entry]:
     for one in hill["warriors"]:
         for left in pushed_off:
             del one["against"][left["number"]]
-    # Without the matches against those that left, the scores are others.
+    # Without the matches against the warriors that left, the scores differ.
     hill["warriors"] = ranked(hill["warriors"], hill["rounds"])
     return pushed_off
 
@@ -91,7 +91,7 @@ def challenge(hill: Hill, newcomer: corewar.Warrior) -> list[Entry]:
 def locked(path: str) -> Iterator[None]:
     """Waits until no other process challenges a hill. The hill itself is replaced, so another file is locked."""
     with open(f"{path}.lock", "a") as file:
-        # Not `flock`, whose lock the process of the assembler would inherit.
+        # The process of the assembler would inherit a lock by `flock`.
         fcntl.lockf(file, fcntl.LOCK_EX)
         yield
 
@@ -139,7 +139,7 @@ def main() -> None:
     hill = read(words.state, new)
     with corewar.Assembler(LIMIT) as assembler:
         for path in words.files:
-            # Locked from reading the hill to replacing it, so that no challenge of another process is lost.
+            # The hill is locked from reading to replacing it, so that no challenge of another process is lost.
             with locked(words.state):
                 hill = read(words.state, new)
                 newcomer = assembler.read(path, settings=hill["settings"], rounds=hill["rounds"])

@@ -1,6 +1,6 @@
 #!/usr/bin/python3
-"""Digital Red Queen: evolves champions (4, or the argument's number), each by MAP-Elites against all before it, and
-lets all fight. Dask's `client.get_executor(pure=False)` in place of the processes runs the matches on a cluster."""
+"""Digital Red Queen: evolves champions (4, or the number in the argument), each by MAP-Elites against all before it,
+and prints a league of all. With Dask's `client.get_executor(pure=False)` as `pool`, the matches run on a cluster."""
 import os
 import random
 import sys
