@@ -42,9 +42,9 @@ def write_types(header: str, path: Path) -> None:
     ffi.emit_python_code(str(path))
 
 
-def compile_library(target: Path, room: str) -> None:
-    """Compiles the portable source with this system's C compiler."""
-    # Python 3.12 no longer has them itself.
+def compile_library(target: Path, temp: str) -> None:
+    """Compiles the portable source with this system's C compiler; its object files go to the folder `temp`."""
+    # Python 3.12 no longer has distutils itself.
     from setuptools._distutils.ccompiler import new_compiler
     from setuptools._distutils.sysconfig import customize_compiler
 
@@ -55,7 +55,7 @@ def compile_library(target: Path, room: str) -> None:
     exported = "__declspec(dllexport)" if is_windows else '__attribute__((visibility("default")))'
     print(f"compiling {SOURCE}, which takes some minutes", flush=True)
     objects = compiler.compile(
-        [SOURCE], output_dir=room, macros=[("MARS_CALL", exported)], include_dirs=[INCLUDE], extra_postargs=options
+        [SOURCE], output_dir=temp, macros=[("MARS_CALL", exported)], include_dirs=[INCLUDE], extra_postargs=options
     )
     compiler.link_shared_object(objects, str(target))
 
