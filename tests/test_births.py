@@ -37,7 +37,9 @@ def session_of(*sources: str) -> Session:
 
 
 def queues_of(history: History, turn: int) -> list[list[tuple[list[int], int | None]]]:
-    """Follows each process by the records of turns: its births, and after which turn an edit added the first one."""
+    """Returns the births of each process after a turn, and after which turn an edit added its first ancestor, by
+    following the records of turns.
+    """
     queues: list[list[tuple[list[int], int | None]]] = [[([], None)] for _ in history.warriors]
     for at in range(turn + 1):
         if at:

@@ -22,6 +22,7 @@ from corewar.model.errors import MarsError
 from corewar.model.settings import Settings
 
 Words = NDArray[np.uint32]
+# Two results of calls, and the first word of each battle, as numbers of the header.
 BLOCK, EDIT, MARK = 11, 12, 22167885
 
 
