@@ -1,4 +1,6 @@
-"""Starts the command `corewar`. It is run by its path, so that nothing of the package is imported earlier."""
+"""Starts the command `corewar`. The scripts of a checkout and of Debian run it by its path, so that nothing of the
+package is imported earlier.
+"""
 import signal
 import sys
 

@@ -1,4 +1,4 @@
-"""Where a process comes from."""
+"""Describes where a process comes from: the turns in which it and its ancestors were born."""
 from __future__ import annotations
 
 from collections.abc import Iterator
@@ -7,7 +7,9 @@ from .formatting import MAX_LISTED, BattleFormatter, pluralize
 
 
 def describe_births(formatter: BattleFormatter, turn: int, warrior: int, index: int) -> Iterator[str]:
-    """Describes the turns in which a process after a turn and its ancestors were born, the last one first."""
+    """Describes the turns in which a process and its ancestors were born, the last one first. The process has `index`
+    in the queue of its warrior after `turn`.
+    """
     history = formatter.history
     births, added = history.born(turn, warrior, index)
     where = formatter.where(int(history.block(turn).queue(warrior, turn)[index]))

@@ -1,4 +1,4 @@
-"""Why a warrior died, and how a cell got its value."""
+"""Explains why a warrior died, or what it did last if it lives, and how a cell got its value."""
 from __future__ import annotations
 
 from collections.abc import Iterator, Sequence
@@ -60,7 +60,9 @@ def foreign_write(history: History, turn: int) -> int | None:
 
 
 def foreign_turns(history: History, warrior: int, turns: Sequence[int]) -> Iterator[int]:
-    """Yields those of some turns of a warrior, the latest first, that executed a cell that another warrior wrote."""
+    """Yields each of a warrior's `turns` that executed a cell that another warrior wrote. The latest is the first of
+    both.
+    """
     # A range whose end is below its start goes around.
     others = (EXECUTES, OWNER, warrior + 1, (warrior - 1) & MAX_UINT32)
     rows = [by_warrior(warrior), others, (EXECUTES, TURN, 1, MAX_UINT32)]
@@ -116,7 +118,7 @@ def describe_death(formatter: BattleFormatter, warrior: int, count: int) -> Iter
 
 
 def describe_hit(formatter: BattleFormatter, warrior: int) -> Iterator[str]:
-    """Describes the first turn in which another warrior changed a cell where one was loaded, if there is one."""
+    """Describes the first turn in which another warrior changed a cell where this one was loaded, if there is one."""
     found = first_hit(formatter.history, warrior)
     if found:
         yield "The first hit of another warrior on its loaded code was:"
@@ -124,7 +126,7 @@ def describe_hit(formatter: BattleFormatter, warrior: int) -> Iterator[str]:
 
 
 def first_hit(history: History, warrior: int) -> int | None:
-    """Returns the first turn in which another warrior changed a cell where one was loaded."""
+    """Returns the first turn in which another warrior changed a cell where this one was loaded, or None."""
     first, length = history.loaded(warrior)
     last = (first + length - 1) % history.core
     others = [number for number in range(len(history.warriors)) if number != warrior]
@@ -140,10 +142,10 @@ class Why:
     - `warrior`, `name`: its number and its name
     - `fate`: `died`, `killed` by an edit, or `alive`
     - `turn`: the turn in which it died, or after which an edit killed it, or the last one of the battle if it is alive
-    - `last`: the turn in which its last process died, or None unless it `died`; then the next two are empty
+    - `last`: the turn in which its last process died, or None unless it `died`
     - `causes`: the turn that last changed the cell that `last` executed and, if it is another turn, the one that copied
-      its instruction there
-    - `before`: its own turns before `last`, the latest one at the end
+      its instruction there; empty without `last`
+    - `before`: its own turns before `last`, the latest one at the end; empty without `last`
     - `hit`: the first turn in which another warrior changed its loaded code, or None
     - `executed`: if it is alive, the lines that it executed in its last turns, the most frequent first; else empty
     - `text`: the lines that `corewar why` prints

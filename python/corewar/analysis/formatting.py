@@ -44,8 +44,8 @@ def pluralize(count: int, noun: str) -> str:
 
 
 def fitted(rows: Sequence[Sequence[str]], width: int) -> Iterator[str]:
-    """Returns rows of cells as lines. If one would be longer than `width`, unless that is 0, the columns are as narrow
-    as possible, and the last one is cut.
+    """Yields rows of cells as lines. If `width` is not 0 and a line would be longer, the columns are as narrow as
+    possible, and the last one is cut.
     """
     # A painted name has more letters than it shows.
     lengths = [[len(COLOUR.sub("", text)) for text in row] for row in rows]
@@ -193,7 +193,7 @@ class BattleFormatter:
 
     def cells(self, turn: int, first: int, count: int, width: int = 0) -> Iterator[str]:
         """Describes cells from an address on: `>` before the next one to execute, labels, processes, and lines of
-        sources. If a row is longer than `width`, unless that is 0, columns are narrower, and sources are cut.
+        sources. If `width` is not 0 and a row is longer, columns are narrower, and sources are cut.
         """
         history, cells, head = self.history, self.history.block(turn).cells(turn), self.history.head(turn)
         queues = [history.block(turn).queue(number, turn) for number in range(len(self.names))]

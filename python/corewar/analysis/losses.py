@@ -137,7 +137,11 @@ def describe_ties(name: str, rounds: int, ties: Sequence[Tie]) -> Iterator[str]:
 
 
 def table_of(fate: str, heads: tuple[str, ...], fates: Iterable[tuple[tuple[str, ...], int]]) -> Iterator[str]:
-    """Counts fates with equal texts, each given with its round, the most frequent ones first."""
+    """Yields a table that counts fates with equal texts, the most frequent ones first, each with its first round.
+
+    - `fate`, `heads`: the heads of the columns with the counts and with the texts
+    - `fates`: the texts and the round of each
+    """
     ways: dict[tuple[str, ...], list[int]] = {}
     for texts, round in fates:
         ways.setdefault(texts, []).append(round)

@@ -26,7 +26,7 @@ COMPARING = [OPCODES.index(name) for name in ("SEQ", "SNE", "SLT", "JMZ", "JMN",
 MAX_TURNS = 1_000_000
 # The most lines of a table, the most strides of a line, and the least share of a stride that is shown.
 MAX_ROWS, MAX_STRIDES, MIN_SHARE = 8, 2, 0.2
-# No turn touches more cells.
+# The maximum number of cells that a turn touches.
 MAX_TOUCHED_CELLS = 8
 # Cells that turns accessed: the turn, the address of its instruction, the loaded cell from which that was copied, and
 # the address of the accessed cell.
@@ -36,8 +36,9 @@ Accesses = NDArray[Any]
 
 @dataclass(frozen=True)
 class Access:
-    """A line that writes or compares cells: how many `times`, how many `cells` it reaches, `by` which turn all of them,
-    the `strides` from one cell to the next, each with its share, and the line. A stride is None if none is frequent.
+    """A line that writes or compares cells: how many `times`, how many `cells` it reaches, the turn `by` which it has
+    reached them all, the `strides` from one cell to the next, each with its share, and the line. A stride is None if
+    none is frequent.
     """
 
     times: int
@@ -134,7 +135,7 @@ def study(warrior: Warrior, *, settings: Settings | str = "94nop") -> Study:
 
 
 class Observation:
-    """A battle of one warrior."""
+    """What a warrior does in a battle without an opponent: its writes, its scans and its first hit on itself."""
 
     def __init__(self, history: History) -> None:
         self.history, self.sources = history, Sources(history)

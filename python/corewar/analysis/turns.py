@@ -31,7 +31,8 @@ class Turn:
     - `turn`: its number, from 1
     - `warrior`, `name`: the number and the name of the warrior
     - `at`, `cell`: where it executed an instruction, and the instruction
-    - `line`, `source`: the number and the text of its line in the source of a warrior, also of a copy, or 0 and ""
+    - `line`, `source`: the number and the text of the line from which the instruction comes, also as a copy; 0 and ""
+      if it comes from no source
     - `reads`: the cells that it read, except its own and those where its process went
     - `writes`: its writes
     - `processes`: where its process went: one cell, two after a split, or none if it died

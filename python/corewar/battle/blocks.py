@@ -83,7 +83,7 @@ class Block:
 
     @cached_property
     def reads(self) -> Touches:
-        """The cells that turns touched without writing them, some more than once. They are read when needed."""
+        """The cells that turns touched without writing them, some more than once. They are computed when needed."""
         touched = self.touched()
         address, used = touched["address"], np.arange(touched["address"].shape[1]) < touched["count"][:, None]
         for place in range(self._writes.shape[1]):

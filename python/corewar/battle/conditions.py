@@ -34,7 +34,7 @@ class Condition:
       warrior gained a process, lost one or died; `moves`: any turn. The last four are about the cell that it executed
     - `cells`: the first and the last address of the cell, around the end of the core if the last one is smaller
     - `of`: the warrior that changed the cell last, or that was loaded there
-    - `origin`: likewise where its instruction was loaded, or the first and last address
+    - `origin`: the first and the last address of the cell where its instruction was loaded, in the same way
     - `was`, `becomes`: its opcode before the turn, such as `DAT`, and the one that the turn gave it in place of another
     - `by`: the warrior of the turn
 
@@ -74,7 +74,8 @@ class Condition:
             # A range whose end is below its start goes around.
             rows += [(way, NEW_OPCODE, opcode, opcode), (way, OPCODE, opcode + 1, (opcode - 1) & MAX_UINT32)]
         if self.origin:
-            # A range around the end of the core has no cells that an edit set.
+            # Cells that an edit set have origins above the core, which only the second row keeps out of a range around
+            # the end of the core.
             rows += [(way, ORIGIN, *self.origin), (way, ORIGIN, 0, core - 1)]
         return rows + ([(way, event[0], event[1], event[1])] if event else [])
 

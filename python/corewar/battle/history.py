@@ -54,7 +54,7 @@ class History:
         self.segments = [Segment.whole(Run(Battle(match, round)))]
         self.warriors = match.warriors[round % len(match.warriors) :] + match.warriors[: round % len(match.warriors)]
         self.names = make_distinct([warrior.called for warrior in self.warriors])
-        # Histories that edits make of this one share the cache. One of the module would keep the runs of all histories.
+        # Histories that edits make of this one share the cache. A cache of the module would keep the runs of all.
         self._blocks = lru_cache(maxsize=CACHED_BLOCKS)(read_block)
 
     def __repr__(self) -> str:
@@ -119,8 +119,8 @@ class History:
         return found["turn"].astype(np.int64)
 
     def born(self, turn: int, warrior: int | str, index: int = 0) -> tuple[list[int], int | None]:
-        """Returns the turns in which a process and its ancestors were born, that of its own birth first; and the turn
-        after which an edit added the earliest ancestor, or None if that was loaded.
+        """Returns the turns in which a process and its ancestors were born, its own birth first; and the turn after
+        which an edit added the earliest ancestor, or None if that was loaded.
 
         - `turn`: the turn after which it is in the queue, and after the edits made there
         - `warrior`: its warrior, by number, name or file
@@ -327,8 +327,8 @@ class History:
 
 
 def spans(history: History, first: int, last: int) -> list[tuple[int, int]]:
-    """Returns the turns after `first` up to `last` in parts of at most BLOCK_SIZE turns, between which there may be
-    edits: after which turn each begins, and its last turn.
+    """Returns the turns after `first` up to `last` in parts of at most BLOCK_SIZE turns, with edits only between two
+    parts: for each part the turn after which it begins, and its last turn.
     """
     found = list[tuple[int, int]]()
     for segment in history.segments:

@@ -26,7 +26,7 @@ class Line:
         return f"{self.number}: {self.text}"
 
     def owner(self, names: Sequence[str], known: int | None) -> str:
-        """Returns the name of its warrior, or "" for the one that is known."""
+        """Returns the name of its warrior, or "" if that is `known`."""
         return "" if self.warrior == known else names[self.warrior]
 
 
@@ -53,8 +53,8 @@ class Sources:
         return self.lines.get(int(history.pasts(turn)["origin"][address]))
 
     def describe_line(self, history: History, address: int, turn: int, warrior: int | None = None) -> str:
-        """Returns the number and the text of that line, or "" if there is none. The name of its warrior comes first,
-        unless it is the one given or, without one, the one that was loaded at the address.
+        """Returns the number and the text of the line that `line` returns, or "" if there is none. The name of its
+        warrior comes first, unless that is `warrior` or, if this is None, the warrior that was loaded at the address.
         """
         line, loaded = self.line(history, address, turn), self.lines.get(address)
         if line is None:

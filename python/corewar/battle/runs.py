@@ -1,4 +1,4 @@
-"""A run of a battle: states and pasts of its cells at regular distances, from which those after any turn follow."""
+"""A run of a battle: its states and the pasts of cells at regular distances. Those after other turns are played."""
 from __future__ import annotations
 
 from dataclasses import dataclass

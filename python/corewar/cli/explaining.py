@@ -40,7 +40,7 @@ EXAMPLES = [
 ]
 # The exit status if `--fix` leaves lines that both programs accept, and that pMARS reads in another way.
 LEFT = 3
-# What an operation without operands is explained by.
+# The explanations of operations without operands.
 MEANINGS = {**OPCODES, **DIRECTIVES}
 
 
@@ -174,7 +174,8 @@ def explain_file(options: BattleOptions, path: str, shown: Explanations) -> int:
 
 
 def hints_in(options: BattleOptions, path: str) -> list[str]:
-    """Returns what is probably meant otherwise in a file without errors. A pipe cannot be read again."""
+    """Returns what is probably meant otherwise in a file without errors. A pipe, which cannot be read again, has none.
+    """
     if path.endswith(".load") or not os.path.isfile(path):
         return []
     warrior = read_warriors([path], options.settings, options.rounds, options.limit, 2)[0]
@@ -210,7 +211,7 @@ def fix_file(options: BattleOptions, path: str) -> int:
 
 
 def loader(options: BattleOptions, path: str, assembler: Assembler) -> Callable[[bytes], Warrior]:
-    """Returns what assembles a source within the limits; an overrun of a limit is an error of the file."""
+    """Returns a function that assembles a source within the limits; an overrun of a limit is an error of the file."""
 
     def load(text: bytes) -> Warrior:
         try:
@@ -223,8 +224,8 @@ def loader(options: BattleOptions, path: str, assembler: Assembler) -> Callable[
 
 @contextmanager
 def limited(options: BattleOptions, path: str) -> Iterator[Assembler]:
-    """Yields an assembler for a file, and limits the time of all that it assembles and of all that is made of the file
-    besides. Raises FileError.
+    """Yields an assembler for a file. Limits the time of all that it assembles, and the time of the other work in the
+    `with` block. Raises FileError.
     """
     try:
         with Assembler(options.limit, is_total=True) as assembler, deadline(options.limit):

@@ -1,4 +1,6 @@
-"""The layout of help texts: options in groups, examples and exit statuses. Numbers are shown as N."""
+"""Commands of click with the layout of their help, which has options in groups, examples and exit statuses; and options
+that are numbers, shown as N.
+"""
 from __future__ import annotations
 
 import re

@@ -91,8 +91,8 @@ class MatchRunner:
 
 
 def contest_options(rounds: int) -> Decorator:
-    """Adds the options of a match of `rounds` by default, the files and the execution options, as the arguments
-    `options` and `runner`.
+    """Adds the options of a match, which has `rounds` rounds by default, the files and the execution options, as the
+    arguments `options` and `runner`.
     """
 
     def decorate(command: Callable[..., Any]) -> Callable[..., Any]:
@@ -236,7 +236,7 @@ def challenge(options: BattleOptions, runner: MatchRunner, old: str | None, is_e
 
 
 def print_change(options: BattleOptions, runner: MatchRunner, old: str, **shown: Any) -> int:
-    """Prints the scores of two versions of a warrior, and what the change shows."""
+    """Prints the scores of two versions of a warrior, and whether the change is more than chance."""
     if runner.results or runner.scheduler:
         raise click.UsageError("--old cannot be used with --results or --scheduler")
     both = [old, options.files[0]]

@@ -75,8 +75,8 @@ def why(options: BattleOptions, named: str | None, turns: int, form: str) -> int
 
 
 def print_losses(options: BattleOptions, named: str | None, form: str) -> int:
-    """Prints how warriors died and tied in all rounds until Ctrl-C: the one selected by its name, or all that did.
-    Returns the exit status.
+    """Prints how the named warrior, or each one without a name, died and tied in the rounds run before Ctrl-C. Returns
+    the exit status.
     """
     match = options.match()
     first = History(match)

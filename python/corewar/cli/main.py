@@ -104,7 +104,7 @@ def commands(color: str) -> None:
 
 
 def open_streams() -> None:
-    """Opens the null device for each closed stream; the others replace bytes that are not text by `?`."""
+    """Opens the null device for each closed stream; the others replace what they cannot encode or decode."""
     for name, mode in (("stdin", "r"), ("stdout", "w"), ("stderr", "w")):
         stream = getattr(sys, name)
         if stream is None:
@@ -114,8 +114,8 @@ def open_streams() -> None:
 
 
 def run() -> int | None:
-    """Runs the command, and returns its exit status. Click exits by itself if standard output has no reader any more,
-    such as `head`, which is no error.
+    """Runs the command, and returns its exit status: 0 also if click exits because the reader of standard output, such
+    as `head`, has ended.
     """
     try:
         status: int | None = commands.main(prog_name="corewar", standalone_mode=False)

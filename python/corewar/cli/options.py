@@ -1,4 +1,6 @@
-"""The options that all commands about battles share: those of `mars`, `--hill` and `--round`."""
+"""The options that commands about battles share: those of `mars`, `--hill`, `--round`, positions of pMARS and limits;
+and the types of arguments, some of which the shell completes.
+"""
 from __future__ import annotations
 
 import functools
@@ -30,7 +32,9 @@ HELP = {"help_option_names": ["-h", "--help"], "max_content_width": 120, "show_d
 
 @dataclass(frozen=True)
 class BattleOptions:
-    """The values of the options of a command about battles."""
+    """The values of the options of a command about battles. `pmars` is the option of pMARS that selects the starting
+    positions, or "".
+    """
 
     files: tuple[str, ...]
     settings: Settings
@@ -56,8 +60,8 @@ class BattleOptions:
         )
 
     def everywhere(self) -> BattleOptions:
-        """Returns the same options for matches from every position. Raises an error of click for options that draw
-        some.
+        """Returns the same options for matches from every position. Raises an error of click if an option is given that
+        excludes this.
         """
         drawing = ("rounds", "seed", "position", "results", "same_seed", "pmars_position", "pmars_fixed")
         if given := options_given(*drawing):
@@ -273,7 +277,7 @@ def is_given(parameter: str) -> bool:
 
 
 def options_given(*parameters: str) -> list[str]:
-    """Returns those options of some arguments that are on the command line."""
+    """Returns the options of these arguments that are on the command line."""
     return [f"--{name.replace('_', '-')}" for name in parameters if is_given(name)]
 
 
@@ -295,8 +299,8 @@ def core_options(command: Callable[..., Any]) -> Callable[..., Any]:
 
 
 def positions_of(settings: Settings, position: int | None, fixed: bool) -> dict[str, Any]:
-    """Returns the values of BattleOptions that select the positions of pMARS: its options as `pmars`, or "" without
-    them, and the seed or the position. Raises an error of click.
+    """Returns the values of BattleOptions that select the positions of pMARS: `pmars`, and the seed or the position
+    that `--pmars-position` stands for. Raises an error of click.
     """
     given = options_given("seed", "position", "pmars_position", "pmars_fixed")
     if len(given) > 1 and (fixed or position is not None):
@@ -307,14 +311,14 @@ def positions_of(settings: Settings, position: int | None, fixed: bool) -> dict[
         message = f"the minimum distance is {settings.distance}"
         raise click.BadParameter(message, param_hint="--pmars-position")
     seed = seed_of_position(position, settings)
-    # The series that begins at the minimum distance stays there.
+    # The series that begins at the minimum distance has the seed 0, and stays there.
     same = f"--seed {seed}" if seed else f"-F {position}"
     report(f"the starting positions of `pmars -F {position}` are those of `{same}`")
     return {"pmars": f"pmars -F {position}", **({"seed": seed} if seed else {"position": position})}
 
 
 def battle_options(*, one_round: bool = False, needs_files: bool = True, rounds: int = 1) -> Decorator:
-    """Adds the options of a match and the files, as the argument `options`; with `one_round` also that of a round.
+    """Adds the options of a match and the files, as the argument `options`; with `one_round` also `--round`.
 
     - `rounds`: the number of rounds if it is not given
     """

@@ -37,10 +37,10 @@ def report(text: str) -> None:
     click.echo(lines_for(sys.stderr, (f"corewar: {printable(line)}" for line in text.split("\n"))), err=True)
 
 
-def report_error(refused: CorewarError) -> None:
+def report_error(error: CorewarError) -> None:
     """Reports an error, and what it means if it is one of the library."""
-    report(str(refused))
-    fault, source = (refused.fault, refused.text) if isinstance(refused, FileError) else (refused, b"")
+    report(str(error))
+    fault, source = (error.fault, error.text) if isinstance(error, FileError) else (error, b"")
     if isinstance(fault, MarsError):
         report_sentences(explain_error(fault, source))
 

@@ -30,6 +30,7 @@ def rows_of(fought: Match, formula: str) -> tuple[list[Row], int]:
     Ctrl-C, or all. A terminal shows a bar.
     """
     count, numbers = len(fought.warriors), (fought.rounds, fought.seed, fought.position)
+    # With four parts for each processor, all processors end at about the same time.
     size = min(TURNS // (fought.settings.cycles * count), fought.rounds // (4 * PROCESSORS))
     parts = [replace(fought, rounds=rounds, seed=seed) for rounds, seed, _ in portions(numbers, count, size)]
     counts, done = np.zeros((count, 4), object), 0

@@ -1,1 +1,1 @@
-"""Matches of many warriors in pairs: fought here or on a cluster, kept in a file, and added up."""
+"""Contests of many warriors: matches that are run here or on a cluster, stored in a file, and added up."""

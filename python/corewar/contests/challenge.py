@@ -41,7 +41,7 @@ class Challenge(Standings):
 
     @property
     def order(self) -> Indices:
-        """The indices of the opponents, that of the match with the most points first."""
+        """The indices of the opponents, by the warrior's points against them, the most first."""
         return best_of(self.points)
 
     @property
@@ -50,7 +50,7 @@ class Challenge(Standings):
         return [sum(column) for column in np.column_stack([self.counts, self.theirs]).T.tolist()]
 
     def records(self) -> list[dict[str, Any]]:
-        """Returns a row for each match, that with the most points first: the names of the opponent, its points as
+        """Returns a row for each match, the most points first: the names of the opponent, its points as
         `theirs` and its index as `number`, the other columns of `Standings` for the warrior, and the `seed`.
         """
         return [self.record(one) for one in self.order.tolist()]

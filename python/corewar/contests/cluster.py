@@ -20,7 +20,7 @@ NO_PACKAGE = (
 
 
 def report_absence(client: Any, end: Event) -> None:
-    """Reports each time the scheduler loses its last worker, until the end."""
+    """Reports each time the scheduler is without workers, until `end` is set."""
     was_without = False
     while True:
         try:

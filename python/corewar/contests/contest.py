@@ -218,8 +218,8 @@ def run_all(matches: Kind, how: Execution) -> Kind:
 
 
 def run(matches: Schedule, how: Execution) -> Iterator[Indices]:
-    """Runs the matches that are not stored yet. Yields their rows: first those that are stored, then those of some
-    matches each time these have been run. Raises CorewarError.
+    """Runs the matches that are not stored yet. Yields rows of matches: first of all that are stored, then each time of
+    those that have just been run. Raises CorewarError.
     """
     how.check(matches.contest)
     if matches.contest.positions == "all":

@@ -29,7 +29,7 @@ def battles_of(pairs: NDArray[np.intp], settings: Settings) -> tuple[NDArray[np.
     room = len(distances(settings))
     # The draw modulo `room` selects the distance. A draw is never 0, so `room` stands for it.
     seeds = np.array([seed_after(step or room, -1) for step in range(room)], np.int64)
-    # If the second warrior begins, it is at address 0, and the first one where its distance leads to it.
+    # If the second warrior begins, it is at address 0, and the first one at the core size minus the distance.
     lineups = np.repeat(np.stack([pairs, pairs[:, ::-1]], axis=1), room, axis=1).reshape(-1, 2)
     return lineups, np.tile(np.concatenate([seeds, seeds[::-1]]), len(pairs))
 

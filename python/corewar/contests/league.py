@@ -7,9 +7,8 @@ from typing import Any
 
 import numpy as np
 
-from ..engine.calls import fits
+from ..engine.calls import check_points
 from ..model.types import Indices, Numbers, Rates
-from ..model.errors import SCORE, MarsError
 from .matches import Matches
 from .standings import HEAD, Standings, Sums, best_of, rounded
 
@@ -54,16 +53,16 @@ class League(Standings):
 
     @property
     def titles(self) -> list[str]:
-        """The name or file, and the author, of each warrior as they are shown."""
+        """The name or file, and the author, of each warrior in the order of `order`."""
         return [self.warriors[one].title for one in self.order.tolist()]
 
     @property
     def balances(self) -> Numbers:
-        """The wins, ties and losses of each warrior against each, as they are shown."""
+        """The wins, ties and losses of each warrior against each other one, in the order of `order`."""
         return np.asarray(self.matrix[np.ix_(self.order, self.order)][..., 1:])
 
     def record(self, number: int) -> dict[str, Any]:
-        """Returns the row of a warrior, without its rank, also with its `lead` and `lead_error`."""
+        """Returns the row of a warrior, without its rank but with its `lead` and `lead_error`."""
         lead = dict(zip(LEADS, map(rounded, (self.leads[number], self.lead_errors[number]))))
         return {**super().record(number), **lead}
 
@@ -83,7 +82,7 @@ class League(Standings):
         return "\n".join(lines)
 
     def matrix_text(self) -> str:
-        """Returns the wins of each against each; rows and columns have the ranks of the warriors."""
+        """Returns a table of the wins of each warrior against each other one; rows and columns begin with ranks."""
         ranks = [str(rank) for rank in self.shown_ranks[self.order]]
         lines = [["", *ranks]]
         for line, (rank, wins) in enumerate(zip(ranks, self.balances[..., 0].tolist())):
@@ -106,8 +105,7 @@ def league_of(matches: Matches) -> League:
     """Returns the league of the matches of all pairs. Raises `MarsError` if a sum of points does not fit in 64 bits."""
     contest, count = matches.contest, len(matches.warriors)
     matrix = matrix_of(count, matches.lineups, matches.counts)
-    if not all(fits(sum(line)) for line in matrix[..., 0].tolist()):
-        raise MarsError(SCORE, 4)
+    check_points(map(sum, matrix[..., 0].tolist()))
     counts, rows = matrix.sum(axis=1), np.arange(len(matches))
     best, scale = best_of(counts[:, 0]), 100 / (contest.rounds * max(1, count - 1))
     # The points of a match belong to the sum of each of its warriors ..

@@ -10,12 +10,12 @@ from typing import TYPE_CHECKING, Any
 import numpy as np
 from numpy.typing import NDArray
 
-from ..engine.calls import fits
+from ..engine.calls import check_points
 from ..engine.outcomes import BLOCK, play, run_lineups, table_of
 from ..engine.rewards import survivals, values_of
 from ..engine.warriors import Warrior
 from ..model.types import Indices, Numbers
-from ..model.errors import SCORE, CorewarError, MarsError
+from ..model.errors import CorewarError
 from .results import Table
 
 if TYPE_CHECKING:
@@ -29,8 +29,7 @@ def counts_of(rows: NDArray[Any], formula: str) -> Numbers:
     """
     losses, wins, ties = np.moveaxis(survivals(rows), -1, 0)
     points = points_of(formula, wins, ties[:, 0])
-    if not all(map(fits, points.ravel())):
-        raise MarsError(SCORE, 4)
+    check_points(points.ravel())
     return np.column_stack([points[:, 0], wins[:, 0], ties[:, 0], losses[:, 0], points[:, 1]]).astype(np.int64)
 
 
@@ -75,12 +74,12 @@ def digests_of(warrior: Warrior) -> tuple[bytes, bytes]:
 
 
 class Schedule:
-    """Matches that are run, or read from a file: those of lineups of warriors. Rows are indices of matches, and results
-    are only valid where `is_fought`.
+    """Matches of lineups of warriors, which are run or read from a file. Rows are indices of matches, and results are
+    only valid where `is_fought`.
     """
 
     TABLE: Table
-    # Returns the form in which results are sent here for the rows of the library.
+    # Makes of the rows of the library the results that a worker sends.
     finish: Callable[[NDArray[Any]], NDArray[Any]]
 
     def __init__(self, contest: Contest, warriors: Sequence[Warrior], lineups: Indices) -> None:
@@ -113,9 +112,9 @@ class Schedule:
         raise NotImplementedError
 
     def take_stored(self, stored: Iterator[tuple[Any, ...]]) -> int:
-        """Fills in what was stored. Returns how many of these matches are not stored themselves, but with the warriors
-        in the other order, and that as the result of none of these matches. Raises CorewarError if the results cannot
-        be those of a match.
+        """Fills in what was stored. Returns how many of these matches are stored only with the warriors in the other
+        order, by results that belong to none of these matches. Raises CorewarError if the results cannot be those of a
+        match.
         """
         raise NotImplementedError
 

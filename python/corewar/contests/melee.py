@@ -1,4 +1,4 @@
-"""Melees: matches of several warriors in random lineups, and how all fared."""
+"""Melees: matches of several warriors in random lineups, and the results of each warrior in them."""
 from __future__ import annotations
 
 import hashlib
@@ -12,12 +12,12 @@ from typing import TYPE_CHECKING, Any
 import numpy as np
 from numpy.typing import NDArray
 
-from ..engine.calls import fits
+from ..engine.calls import check_points
 from ..engine.outcomes import BLOCK
 from ..engine.rewards import survivals, values_of
 from ..engine.warriors import Warrior
 from ..model.types import Indices, Numbers, Rates
-from ..model.errors import SCORE, CorewarError, MarsError
+from ..model.errors import CorewarError
 from .matches import Schedule, digests_of
 from .results import Table
 from .standings import Standings, head_of
@@ -40,7 +40,7 @@ class Melee(Standings):
     seeds: Numbers
 
     def to_dict(self) -> dict[str, Any]:
-        """Returns the options, the seed, the numbers of matches and warriors in one, and the rows, as plain values."""
+        """Returns the options, the seed, the size and the number of lineups, and the rows, as plain values."""
         return {
             **head_of(self.contest),
             "size": self.lineups.shape[1],
@@ -73,7 +73,7 @@ def lineups_of(warriors: int, size: int, count: int, dice: random.Random) -> lis
 
 
 class Lineups(Schedule):
-    """Matches of random lineups. Of each, only the points of its warriors are kept, and the sums of all."""
+    """Matches of random lineups. Only the points of the warriors in each match are kept, and sums over all matches."""
 
     TABLE = Table("melees", ("lineup",), ("lives",), "BLOB")
     finish = staticmethod(survivals)
@@ -91,8 +91,9 @@ class Lineups(Schedule):
 
     def fill_in(self, rows: Indices, found: NDArray[Any]) -> None:
         rounds, survivors = self.contest.rounds, np.arange(found.shape[-1])
-        of_rounds = found.sum(axis=1) % np.maximum(survivors, 1) == 0
-        if (found < 0).any() or (found.sum(axis=2) != rounds).any() or not of_rounds.all():
+        # A round with three survivors is counted for three warriors, and so on.
+        is_divisible = found.sum(axis=1) % np.maximum(survivors, 1) == 0
+        if (found < 0).any() or (found.sum(axis=2) != rounds).any() or not is_divisible.all():
             raise CorewarError(f"a match of {rounds} rounds cannot have these survivors")
         values = values_of(self.contest.formula, *np.moveaxis(found, -1, 0)[1:])
         self.points[rows], self._lives = found[..., 1:] @ np.array(values, float), found
@@ -131,8 +132,7 @@ def melee_of(matches: Lineups) -> Melee:
     contest, sums, count = matches.contest, matches.sums, len(matches.warriors)
     values = values_of(contest.formula, *sums.T[1:])
     points = [sum(value * times for value, times in zip(values, own)) for own in sums[:, 1:].tolist()]
-    if not all(map(fits, points)):
-        raise MarsError(SCORE, 4)
+    check_points(points)
     errors = errors_of(matches.lineups.ravel(), matches.points.ravel(), count) / contest.rounds
     counts = np.column_stack([np.array(points, np.int64), sums[:, 1], sums[:, 2:].sum(axis=1), sums[:, 0]])
     return Melee(contest, matches.warriors, counts, errors, matches.lineups, matches.seeds)

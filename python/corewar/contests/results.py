@@ -95,7 +95,7 @@ class Results:
                 raise CorewarError(f"{self.path}: invalid result: {fault}") from None
 
     def keep(self, rows: Indices) -> None:
-        """Adds the results of some rows to those that wait; writes all if the last time was a second ago or more."""
+        """Adds the results of some rows to those that wait; writes all if the last write was a second ago or more."""
         self.new += ((self.contest, *one) for one in self.matches.stored(rows))
         if time.monotonic() - self.written >= WRITE_SECONDS:
             self.write()

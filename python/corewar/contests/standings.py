@@ -129,7 +129,7 @@ def best_of(points: Numbers | Rates) -> Indices:
 
 
 def rounded(number: float) -> float | None:
-    """Returns a rate as it is shown; None for NaN, one that is not known."""
+    """Returns a rate as it is shown, or None for NaN, which stands for an unknown rate."""
     return None if np.isnan(number) else round(float(number), DIGITS)
 
 
@@ -157,9 +157,9 @@ class Sums:
     def errors(self, matches: Matches) -> Rates:
         """Returns the standard error of each sum: how far the sums of other seeds lie from their mean.
 
-        It is NaN for matches of one round, in which nothing can be compared, for a given position, so that nothing is
-        drawn, for no match, and for different matches with the same seed: they depend on each other in a way that
-        counts do not show.
+        It is NaN if it cannot be known: for a sum of no match; for matches of one round, in which nothing can be
+        compared; for a given position, with which nothing is drawn; and for different matches with the same seed, which
+        depend on each other in a way that counts do not show.
         """
         sorts = np.unique(matches.same)
         if not matches.contest.is_drawn:

@@ -1,4 +1,4 @@
-"""What the commands do that move in time, search, set breakpoints, edit the battle or switch between futures."""
+"""The commands that move in time, search, set breakpoints, edit the battle or switch between futures."""
 from __future__ import annotations
 
 import re
@@ -130,7 +130,7 @@ def redo(session: Session, _: str) -> Iterator[str]:
 
 
 def undo_or_redo(session: Session, act: Callable[[], None]) -> Iterator[str]:
-    """Undoes or redoes, and says which future this leads to if it is another one: the turn may be the same."""
+    """Undoes or redoes, and says which future this leads to if it is another one, since the turn may be the same."""
     before = session.history
     act()
     if session.history is not before:
@@ -167,7 +167,7 @@ def fill(session: Session, rest: str) -> Iterator[str]:
 
 
 def warrior_and(session: Session, rest: str, count: int, expected: str) -> tuple[int, list[str]]:
-    """Returns the warrior that a text names, and some words after it. Raises CorewarError with what was expected."""
+    """Returns the warrior that a text names, and the `count` words after it. Raises CorewarError with `expected`."""
     # From the right, since the name of a warrior may have spaces.
     words = rest.rsplit(None, count)
     if len(words) <= count:

@@ -25,7 +25,7 @@ class Command:
     summary: str
     short: list[str]
     repeats: bool = False
-    # Its summary on the site, or None if the site lacks it.
+    # Its summary on the site, "" if that is the same, or None if the site lacks the command.
     site: str | None = ""
 
     @property

@@ -39,7 +39,7 @@ def read_conditions(session: Session, text: str) -> Joined:
 
 
 def has_argument(session: Session, word: str, rest: list[str]) -> bool:
-    """Returns whether an argument follows a condition's first word. The warrior of `dies of` is called `of`."""
+    """Returns whether an argument follows a condition's first word. In `dies of`, it is a warrior called `of`."""
     if not rest or rest[0] not in FOLLOWING:
         return bool(rest)
     is_name = word in WORDS["warriors"] and rest[0] in map(str.lower, session.names)
@@ -104,7 +104,9 @@ def describe_conditions(session: Session, joined: Joined) -> str:
 
 
 def renumbered(text: str, shift: int, count: int) -> str:
-    """Returns a condition whose numbers of warriors are those of another round, in which another warrior begins."""
+    """Returns a condition for another round, in which another warrior begins: each number of one of the `count`
+    warriors is moved by `shift`.
+    """
 
     def other(found: re.Match[str]) -> str:
         number = int(found[0])

@@ -25,8 +25,8 @@ def find_turns(session: Session, rest: str) -> Iterator[str]:
 
 
 def times(history: History, joined: Joined, most: int) -> tuple[int, str]:
-    """Returns how often conditions hold, and that as text, or "", with the first places, at most `most`. If they don't
-    say which warrior is meant, the text does.
+    """Returns how often conditions hold, and a text with that number and the first `most` places, or "" for none. If
+    the conditions name no warrior, the text names the warrior of each place.
     """
     found = places(history, joined)
     count, is_open = len(found), is_of_any_warrior(joined)

@@ -1,4 +1,4 @@
-"""What the commands that only show something show of a turn."""
+"""The commands that only show something of a battle."""
 from __future__ import annotations
 
 import re
@@ -11,7 +11,7 @@ from ..model.cells import MODES
 from .session import Session
 from .table import command
 
-# How many cells `list` shows, also around each warrior's next process, and how many turns before a death `why` shows.
+# How many cells `list` shows from an address on and around each next process, and how many turns `why` shows.
 CELLS, AROUND, TURNS = 11, 7, 4
 
 

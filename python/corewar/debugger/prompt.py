@@ -45,7 +45,7 @@ class LineHistory(FileHistory):
 
 
 class Runner:
-    """Executes lines: those of the debugger, and `source FILE` and `log FILE`, which read and write lines."""
+    """Executes lines: commands of the debugger, and `source FILE` and `log FILE`, which read and write lines."""
 
     def __init__(self, session: Session, show: Callable[[str], None]) -> None:
         self.session, self.show = session, show
@@ -69,7 +69,9 @@ class Runner:
             self.show("\n".join(map(printable, str(fault).split("\n"))))
 
     def start_log(self, file: str) -> None:
-        """Begins to log executed lines to a new file, which `source` can execute again."""
+        """Begins to log executed lines to a new file, which `source` can execute again; without a name, logging stops.
+        Raises CorewarError.
+        """
         log, self.log = self.log, None
         if log:
             log.close()
@@ -96,7 +98,7 @@ class Runner:
             raise CorewarError(f"{file}: `source` is nested more than {MAX_DEPTH} deep")
         self.depth += 1
         try:
-            # All of it is read first: it may be the log, which grows.
+            # The whole file is read first: it may be the log, which grows.
             for line in read_file(file).decode("utf-8", "replace").splitlines():
                 self.execute_line(line)
         finally:

@@ -89,8 +89,8 @@ class Session:
         return [f"after turn {turn}: {edit.text(history.core)}" for turn, edit in history.edits]
 
     def search(self, conditions: Sequence[Joined], forward: bool) -> Joined:
-        """Goes to the next place where one of the conditions holds, or to the last one before here, and returns the
-        condition. Raises CorewarError if there is no such place or no condition.
+        """Goes to the next place where one of the conditions holds or, if not `forward`, to the last such place before
+        here. Returns the condition. Raises CorewarError if there is no such place or no condition.
         """
         if not conditions:
             raise CorewarError("no breakpoint is set; use `break CONDITION` or add a condition to this command")

@@ -15,7 +15,7 @@ ACTS: dict[str, Act] = {}
 
 
 def command(name: str) -> Callable[[Act], Act]:
-    """Enters a function as what the command with this name does."""
+    """Enters a function into ACTS as what the command with this name does."""
 
     def register(act: Act) -> Act:
         ACTS[name] = act

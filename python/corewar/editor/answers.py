@@ -185,8 +185,8 @@ def name_to_rename(text: Text, params: Params) -> Token:
 
 
 def check_name(text: Text, new: str) -> None:
-    """Raises CorewarError if a name is invalid or already used. Under other settings a used one could mean another
-    thing.
+    """Raises CorewarError if a name is invalid or already used. Under other settings a used name could mean something
+    else, even if the warrior stays the same under these.
     """
     if not NAME.match(new) or "&" in new or new.upper() in [*OPERATIONS, *ELSEWHERE]:
         raise CorewarError(

@@ -22,7 +22,7 @@ class Token:
     - `whole`: all characters of the token
     - `kind`: comment, operation, modifier, number, sign; equate, counter, label, predefined; stem for a name that is
       joined to a counter; name for one that is not defined
-    - `key`: what it has in common with all tokens of the same name
+    - `key`: what it has in common with all tokens of the same name, or "" if it is no known name
     - `is_definition`: whether it defines this name
     """
 

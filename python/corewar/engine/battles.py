@@ -182,7 +182,7 @@ class Battle:
         - `index`: its index in the queue after the turns; the front has index 0
         - `turns`: the number of turns to look ahead, or None for all that are left
 
-        Returns the turns, that of its own birth first, then that of the process which split there, and so on; and the
+        Returns the turns, its own birth first, then the birth of the process that split there, and so on; and the
         index, in the queue of the battle as it is, of the process from which all of them descend. Raises `MarsError` if
         there is no such process after the turns, and if something that was written to the battle is invalid.
         """

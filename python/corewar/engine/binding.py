@@ -105,8 +105,8 @@ def slice_of(name: str, values: bytes | bytearray | NDArray[Any]) -> tuple[Any, 
 
 
 def clamp(value: int, maximum: int = MAX_UINT32) -> int:
-    """Returns a number as an argument of the library. In place of one that does not fit it is the greatest that does,
-    which the library rejects by the name of the argument.
+    """Returns a number as an argument of the library, or `maximum` in place of one that does not fit: the library
+    rejects that by the name of the argument.
     """
     return value if 0 <= value <= maximum else maximum
 

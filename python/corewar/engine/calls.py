@@ -1,14 +1,14 @@
-"""The calls of the library, with Python values and NumPy arrays."""
+"""Assembles sources and runs matches; and what other calls of the library need too: matches, rows, seeds and arrays."""
 from __future__ import annotations
 
 import os
-from collections.abc import Iterator, Sequence
+from collections.abc import Iterable, Iterator, Sequence
 from dataclasses import astuple, dataclass, replace
 from typing import Any
 
 import numpy as np
 
-from ..model.errors import CorewarError, MarsError
+from ..model.errors import RANGE, SCORE, CorewarError, MarsError
 from ..model.settings import FORMULA, MAX_WARRIORS, Settings, settings_of
 from .binding import array, call, check_size, clamp, settings_struct, slice_of
 from .parts import TURNS
@@ -168,6 +168,12 @@ def seed_after(seed: int, draws: int) -> int:
 def fits(points: int) -> bool:
     """Returns whether a sum of points fits in 64 bits."""
     return -(2**63) <= points < 2**63
+
+
+def check_points(points: Iterable[int]) -> None:
+    """Raises MarsError if a sum of points does not fit in 64 bits."""
+    if not all(map(fits, points)):
+        raise MarsError(SCORE, RANGE)
 
 
 def check_count(warriors: int) -> None:

@@ -148,9 +148,9 @@ def run_lineups(
     jobs: int = 1,
     executor: Executor | None = None,
 ) -> Iterator[tuple[slice, Array]]:
-    """Runs the matches of a table of lineups in parts. Yields what `finish` returns for the rows of the library of each
-    part, of the shape (lineups, rounds, warriors), with the part as it is in the table, as they end. Raises MarsError
-    and CorewarError.
+    """Runs the matches of a table of lineups in parts. Yields for each part, as it ends, its slice of the table, and
+    what `finish` returns for its rows of the library, which have the shape (lineups, rounds, warriors). Raises
+    MarsError and CorewarError.
     """
     is_here = executor is None or isinstance(executor, ThreadPoolExecutor)
     turns = max(1, run.rounds * turns_of(run, table))
@@ -208,7 +208,7 @@ def play(
         if seed:
             table = table.copy()
             table["seed"] = seed
-        # It rejects a seed that is out of its range, but takes 0 in a lineup for that of the settings.
+        # The library rejects a seed that is out of its range, but takes 0 in a lineup for the seed of the settings.
         settings = settings_struct(run.settings, count, int(table["seed"].min(initial=1)), position)
         rows = array("MarsOutcome", count * int(table["count"].sum()))
         call("mars_outcomes", settings, *fixed, *slice_of("MarsLineup", table), *slice_of("MarsOutcome", rows))

@@ -68,7 +68,7 @@ def result_of(future: Future[Any]) -> Any:
     except ModuleNotFoundError as fault:
         raise CorewarError(f"this package is not installed on a worker: {fault}") from None
     except Exception as fault:
-        # The call itself returns its errors: a worker could not load it, or a part has ended several workers.
+        # `call_there` returns errors of the call. So a worker could not load it, or a part has ended several workers.
         raise CorewarError(f"error on the workers: {' '.join(str(fault).split())}") from None
     if isinstance(result, CorewarError):
         raise result
@@ -104,8 +104,8 @@ def run_parts(
     is_here = isinstance(pool, ThreadPoolExecutor)
     head: list[Any] = [function] if is_here else [call_there, versions(), function]
     room = PARTS_PER_JOB * jobs if executor is None else SUBMITTED_PARTS
-    # `wait` takes the locks of all futures each time. Ctrl-C in there would leave some of them taken, and the executor
-    # would wait for these.
+    # `concurrent.futures.wait` would take the locks of all futures each time. Ctrl-C in there would leave some of them
+    # taken, and the executor would wait for these.
     left, out, done = enumerate(parts), dict[Future[Any], int](), SimpleQueue[Future[Any]]()
     try:
         while True:

@@ -51,8 +51,8 @@ def is_warrior(made: NDArray[Any]) -> NDArray[np.bool_]:
 
 
 def shares(made: NDArray[Any], cycles: int) -> NDArray[np.float64]:
-    """Returns the reward of each warrior of outcomes if those who live in a cycle share W/`cycles`, with W warriors: in
-    a round they get W together.
+    """Returns the reward of each warrior of outcomes. The warriors that live in a cycle share W/`cycles`, where W is
+    the number of warriors in the lineup: in a round they get W together.
 
     - `made`: what `outcomes` returned
     - `cycles`: the cycle limit of its settings

@@ -123,7 +123,7 @@ class Assembler:
 
 
 class Server:
-    """The process of an `Assembler`, if there is one, and the pipe to it. Its lock is taken by those who call."""
+    """The process of an `Assembler`, if there is one, and the pipe to it. Each caller takes the lock first."""
 
     def __init__(self, limit: Limit, is_total: bool) -> None:
         self.limit, self.is_total, self.lock = limit, is_total, threading.Lock()
@@ -197,7 +197,9 @@ def stop(process: Any, pipe: Connection) -> None:
 
 
 def serve(pipe: Connection, limit: Limit, is_total: bool, other: Connection | None) -> None:
-    """Assembles the sources from a pipe until its other end is closed."""
+    """Assembles the sources from a pipe until its other end is closed. `other` is that end if this process has it too,
+    by a fork.
+    """
     if other is not None:
         other.close()
     # Ctrl-C reaches all processes of a terminal; the one that asks decides, and closes the pipe.
@@ -229,7 +231,7 @@ def end_with_parent() -> None:
 
 
 def assemble_or_error(source: bytes, given: dict[str, Any]) -> Warrior | Exception:
-    """Returns the warrior of a source, without it, or its error."""
+    """Returns the warrior of a source, without the source, or its error."""
     try:
         return replace(assemble(source, **given), source=None)
     except (CorewarError, TypeError) as fault:

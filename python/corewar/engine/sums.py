@@ -7,9 +7,8 @@ from typing import Any
 import numpy as np
 from numpy.typing import ArrayLike, NDArray
 
-from ..model.errors import SCORE, MarsError
 from ..model.settings import FORMULA, Settings, settings_of
-from .calls import Row, check_numbers, fits, rows
+from .calls import Row, check_numbers, check_points, rows
 from .outcomes import BLOCK, Run, run_lineups, table_of
 from .parts import TURNS
 from .rewards import score_of, survivals, values_of
@@ -86,8 +85,7 @@ def sums(
             counts += np.stack(columns, axis=-1).astype(np.int64)
     win, tie = values_of(formula, *counts.T[1:])
     made = [Row(wins * win + ties * tie, wins, ties, losses) for losses, wins, ties in counts.tolist()]
-    if not all(fits(row.points) for row in made):
-        raise MarsError(SCORE, 4)
+    check_points(row.points for row in made)
     return made
 
 

@@ -1,4 +1,4 @@
-"""Warriors as values."""
+"""Warriors as values, and their load files."""
 from __future__ import annotations
 
 import struct
@@ -90,7 +90,8 @@ class Warrior:
     @cached_property
     def load(self) -> bytes:
         """The load file. Raises `MarsError` if a name, the start or a cell is invalid."""
-        # The library rejects a name of more than 60 bytes, or with a control character; but 0 would end it.
+        # The library rejects a name of more than 60 bytes, or with a control character. But a 0 would end the name, and
+        # the field has 64 bytes.
         given_names = [name.replace("\0", "\n") for name in (self.name, self.author)]
         names = [name.encode(errors="surrogatepass")[:64] for name in given_names]
         program = library()[0].new("MarsProgram *", [[len(self), clamp(self.start)], *names])
@@ -153,7 +154,9 @@ def read_load(load: bytes, settings: Settings | str = "94nop", file: str = "") -
 
 
 def program(call_name: str, settings: Settings | str, rounds: int, more: list[int], data: bytes) -> Warrior:
-    """Returns the warrior of a source or a load file, as the call of this name reads it."""
+    """Returns the warrior of a source or a load file, as the call of this name reads it. `more` are its arguments
+    between the settings and the data.
+    """
     given, (ffi, _), has_lines = settings_of(settings), library(), call_name == "mars_assemble"
     parts = [settings_struct(given, rounds), *more, *slice_of("uint8_t", data)]
     result, length = ffi.new("MarsProgram *"), ffi.new("size_t *")

@@ -126,12 +126,12 @@ def regrouped(tokens: Sequence[str]) -> str | None:
     if comparable(ours) == comparable(theirs):
         return ""
     short = written(theirs, is_short=True)
-    is_read = all(comparable(reader(TOKEN.findall(short)).read() or "") == comparable(theirs) for reader in READERS)
-    return short if is_read else written(theirs)
+    is_same = all(comparable(reader(TOKEN.findall(short)).read() or "") == comparable(theirs) for reader in READERS)
+    return short if is_same else written(theirs)
 
 
 def is_read(tokens: Sequence[str]) -> bool:
-    """Returns whether pMARS reads an expression; a longer one is not looked at."""
+    """Returns whether pMARS reads an expression; one of more than MAX_TOKENS is taken to be read."""
     return len(tokens) > MAX_TOKENS or PmarsReader(tokens).read() is not None
 
 

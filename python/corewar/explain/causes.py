@@ -48,7 +48,7 @@ def not_ascii(source: Source, line: Line, place: Place | None) -> Iterator[Advic
 
 
 def bad_token(source: Source, line: Line, place: Place | None) -> Iterator[Advice]:
-    """Says why a word or sign is no token, or is not allowed. It may be in the definition of an EQU."""
+    """Says why a word or sign is no token, or is not allowed. The word may be in the definition of an EQU."""
     if place is None:
         return
     if place.word == "\\" and line.is_continued and line.number < len(source.lines):
@@ -205,7 +205,7 @@ def syntax(source: Source, line: Line, _: Place | None) -> Iterator[Advice]:
 
 
 def unknown(source: Source, line: Line, place: Place | None) -> Iterator[Advice]:
-    """Says why a name has no value. It may be in the definition of an EQU, which has another line."""
+    """Says why a name has no value. The name may be in the definition of an EQU, which has another line."""
     if place is None or "&" in place.word:
         return
     name, user, labels = place.word, source.lines[place.number - 1], source.labels()

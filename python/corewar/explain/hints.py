@@ -15,11 +15,14 @@ COMPUTING = ("ADD", "SUB", "MUL", "DIV", "MOD", "SLT")
 
 
 def hints_of(warrior: Warrior, lines: Sequence[tuple[int, list[str]]]) -> list[str]:
-    """Returns a sentence for each instruction with a comparison in place of a second operand, or whose A-operand is the
-    EQU name of a number without `#`, if the cell at this distance is none of the warrior: it is empty, and computing
-    with it changes nothing; and for each label that is an opcode and a name without a space between them.
+    """Returns a sentence for each line that has one of these:
 
-    - `lines`: the number of the line, and the labels of each instruction
+    - a label that is an opcode and a name without a space between them
+    - `<` or `>` as a comparison in place of the mode of a second operand
+    - the EQU name of a number as the A-operand of an instruction that computes, without `#`, if the cell at this
+      distance is outside the warrior: it is empty, and computing with it changes nothing
+
+    `lines` has the number of the line, and the labels of each instruction.
     """
     source, found = read_source(warrior.source or b""), dict[int, str]()
     labels = [(one, name) for one in source.read_lines() if one.is_label for name in one.labels if GLUED.match(name)]
@@ -47,7 +50,7 @@ def hints_of(warrior: Warrior, lines: Sequence[tuple[int, list[str]]]) -> list[s
 
 
 def is_number(source: Source, name: str, depth: int = 8) -> bool:
-    """Returns whether a name stands for an expression of numbers."""
+    """Returns whether a name stands for an expression of numbers, by at most `depth` levels of EQU names."""
     line: Line | None = source.equates.get(name)
     names = [one for one in line.rest if NAME.match(one)] if line else []
     return (

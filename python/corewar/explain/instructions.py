@@ -55,14 +55,14 @@ class Operand:
         return STEPS[when].format(pointer=self.pointer) if when else ""
 
     def number(self, field: str) -> str:
-        """The number in a field of the cell to which the operand leads."""
+        """Returns what to call the number in a field of the cell to which the operand leads."""
         if self.mode == "#" and field == self.letter:
             return self.name or f"{self.value:,}"
         return NUMBERS["one"].format(field=field, cell=self.target)
 
 
 def describe_instruction(cell: str, names: tuple[str, str] = ("", "")) -> str:
-    """Returns what a cell does, which is written as `cell_text` returns it, or "" for any other text.
+    """Returns what a cell does that is written as `cell_text` returns it, or "" for any other text.
 
     - `names`: for each operand the name of the cell at its distance, or of its number if its mode is `#`; with "" the
       distance or the number is given

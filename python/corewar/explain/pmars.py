@@ -328,8 +328,8 @@ def lone_labels(source: Source) -> Found:
 
 
 def lone_labels_of(source: Source) -> Iterator[tuple[Line, Line]]:
-    """Yields each line that is only labels and that pMARS adds to the EQU, or the FOR without a counter, which follows,
-    with that line; with an empty line if nothing follows.
+    """Yields each line of only labels that pMARS adds to the line after it, which is an EQU or a FOR without a counter,
+    with that line; at the end of the source, with an empty line.
     """
     alone = list[Line]()
     for line in [*source.lines, Line(0, "")]:

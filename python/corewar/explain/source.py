@@ -35,7 +35,9 @@ FIRST_WORDS = 20
 
 @dataclass
 class Line:
-    """A line; `unread` is the reason if it is not read, and `skipped` whether it is in a loop whose count is 0."""
+    """A line; `rest` has the tokens after the labels and the operation, `unread` is the reason if the line is not read,
+    and `skipped` whether it is in a loop whose count is 0.
+    """
 
     number: int
     text: str
@@ -195,8 +197,8 @@ def read_source(data: bytes) -> Source:
 
 
 def most_similar(word: str, choices: Sequence[str]) -> str | None:
-    """Returns the choice that is most similar to a word; the same letters in another order come first, and of equally
-    similar ones that with the same first letter.
+    """Returns the choice that is most similar to a word. A choice with the same letters in another order comes first
+    and, of equally similar ones, the one with the same first letter.
     """
     upper = {choice.upper(): choice for choice in choices[:MAX_CHOICES]}
     same = [choice for choice in upper if sorted(choice) == sorted(word.upper())]

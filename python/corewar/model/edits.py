@@ -19,7 +19,7 @@ class Edit:
 
     - `what`: 1 sets cells, 2 moves a process, 3 kills a process, 4 adds a process
     - `warrior`: the number of a warrior, from 0
-    - `index`: that of a process in its queue; the next one has index 0
+    - `index`: the index of a process in the warrior's queue; the next one has index 0
     - `address`, `last`: the first and the last cell to set; or the new address of a process
     - `cell`: the new cell
 

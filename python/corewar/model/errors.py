@@ -9,6 +9,8 @@ RESULTS = enumeration("DONE")
 MEMORY, SETTINGS, PARAMETERS = RESULTS["OUT_OF_MEMORY"], RESULTS["SETTINGS"], RESULTS["PARAMETERS"]
 FORMULA, ASSEMBLY, LOAD, SCORE = (RESULTS[name] for name in ("FORMULA", "ASSEMBLY", "LOAD", "SCORE"))
 BLOCK, EDIT, WARRIOR, LINEUP = (RESULTS[name] for name in ("BLOCK", "EDIT", "WARRIOR", "LINEUP"))
+# The number of SCORE for a sum of points that does not fit in 64 bits.
+RANGE = enumeration("EXPRESSION_SYNTAX")["EXPRESSION_RANGE"]
 # Results whose kind is not their name, and those whose numbers are not of the enumeration with their name.
 WORDS = {MEMORY: "out of memory", EDIT: "refused"}
 ENUMERATIONS = {FORMULA: "EXPRESSION", SCORE: "EXPRESSION"}
@@ -17,8 +19,8 @@ KINDS = {code: (WORDS.get(code, name.lower()), ENUMERATIONS.get(code, name)) for
 
 
 class CorewarError(Exception):
-    """The base class of the errors of the library and of files, and the error for a number that is out of its range: a
-    `MarsError` if it is an argument of the library. Its text is one line.
+    """The base class of the errors of the package; itself it is raised for what the library does not check. Its text is
+    one line.
 
     `Refused` is its older name, which the next version removes.
     """

@@ -1,4 +1,4 @@
-"""Text that is safe to print."""
+"""Text to print: without control characters, with distinct names, and with lines that fit into the terminal."""
 from __future__ import annotations
 
 import re

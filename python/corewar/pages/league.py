@@ -70,6 +70,7 @@ def cell(
     wins, ties, losses = counts
     title = f"{pluralize(wins, 'win')}, {pluralize(ties, 'tie')}, {pluralize(losses, 'loss')} against "
     title += league.warriors[pair[1]].called
+    # Letters are black on a light ground, white on a dark one.
     ink = "#000" if sum(colour) > 3 * 130 else "#fff"
     link = f"{PAGE}#w={min(pair)},{max(pair)}&s={seeds[min(pair), max(pair)]}"
     return {"wins": wins, "title": title, "ground": f"#{bytes(colour).hex()}", "ink": ink, "link": link}

@@ -21,7 +21,7 @@ from ..engine.warriors import Warrior
 
 # Where the site is in an installation and in a wheel, and in a checkout.
 INSTALLED, BUILT = Path(__file__).with_name("site"), CHECKOUT / "build" / "site"
-# The element for a fight: a match with a round and edits, as addresses carry it.
+# The element for a fight: a match with a round and edits, as addresses carry it; and the version of that form.
 FIGHT = re.compile(r'(<script id="page-fight" type="text/plain">)[^<]*(?=</script>)')
 VERSION = 1
 # The maximum number of turns of a battle that the site shows.

@@ -1,4 +1,4 @@
-"""The colours of warriors, and those of results: that of a match is a mix of the colours of its rounds."""
+"""The colours of warriors and of results; a match has a mix of the colours of its rounds."""
 from __future__ import annotations
 
 import numpy as np

@@ -16,9 +16,10 @@ CELL, SIDE, LETTER = 0.25, 20.0, 4.0
 # `$` in a name does not begin a formula.
 @rc_context({"text.parse_math": False})  # type: ignore[misc]
 def figure_of(league: League) -> Figure:
-    """Returns the picture of the wins, ties and losses of each against each."""
+    """Returns the picture of the wins, ties and losses of each warrior against each other one."""
     titles, ranks = league.titles, league.shown_ranks[league.order].tolist()
     side = min(CELL * len(titles), SIDE)
+    # A letter takes up to 0.7 of a cell; an inch has 72 points.
     letter = min(9.0, 72 * side / max(1, len(titles)) * 0.7)
     figure = Figure(figsize=(side + 4, side + 1), layout="constrained")
     axes = figure.subplots()
