@@ -1,4 +1,4 @@
-"""challenge: its rows, compared with values that were calculated manually, and its errors."""
+"""challenge: its rows and those of --old, compared with values that were calculated manually; formats and errors."""
 from __future__ import annotations
 
 import csv
@@ -48,7 +48,7 @@ def test_rows(run: Run) -> None:
 
 
 def test_two_versions(run: Run) -> None:
-    """Scores for 100 rounds, and the change of both in the same rounds with its standard error."""
+    """The rows have the scores for 100 rounds, and their change in the same rounds with its standard error."""
     head = "     old      new   change   error  opponent\n"
     # In the second match the old version wins every second round, since the one that begins dies.
     assert run("challenge", "--old", "dead.red", "-r", 4, "stay.red", "stay.red", "dead.red").stdout == head + (
@@ -111,7 +111,7 @@ def test_versions_for_programs(run: Run) -> None:
 
 
 def test_the_same_change_in_every_round(run: Run) -> None:
-    """Its error is 0, also if the mean of the opponents is no whole number."""
+    """The error of such a change is 0, also if the mean of the opponents is no whole number."""
     files = ["stay.red", *["late.red"] * 4]
     output = run("challenge", "--old", "dead.red", "--sum", "-r", 7, "--score", "S-1", "stay.red", *files).stdout
     assert output.endswith("+20.0     0.0  mean of 5\nThe change is the same in every round.\n")

@@ -20,7 +20,7 @@ pytest.importorskip("distributed", reason="package python3-distributed")
 
 FILES = sorted(path.name for path in EXAMPLES.glob("*.red"))[:8]
 ABSENT = "corewar: the scheduler has no workers; waiting for one\n"
-# A league of some examples that takes a worker some seconds.
+# The number of rounds of a league of FILES that takes a worker some seconds.
 LONG = 400
 Start = Callable[..., "subprocess.Popen[bytes]"]
 
@@ -53,7 +53,7 @@ def start(tmp_path: Path) -> Iterator[Start]:
 
 @pytest.fixture
 def scheduler(start: Start, tmp_path: Path) -> tuple[str, subprocess.Popen[bytes]]:
-    """The address of a scheduler, and its process."""
+    """Starts a scheduler, and returns its address and its process."""
     file = tmp_path / "scheduler.json"
     process = start("scheduler", "--port", "0", "--scheduler-file", str(file))
     wait_for(lambda: file.exists() and file.stat().st_size)

@@ -124,7 +124,7 @@ def test_errors() -> None:
 
 
 class Broken(Executor):
-    """An executor whose workers lack something, or which is ended."""
+    """An executor whose calls raise an error or, without one, are cancelled."""
 
     def __init__(self, fault: Exception | None) -> None:
         self.fault = fault
@@ -172,7 +172,7 @@ def test_an_interrupt_anywhere_ends_the_parts() -> None:
 
 
 def test_waiting_takes_no_locks() -> None:
-    """Ctrl-C while those of many futures are taken would leave some taken, for which an executor waits at its end."""
+    """Ctrl-C while the locks of many futures are taken would leave some taken, and an executor would wait for them."""
     futures, taken = list[Future[int]](), list[object]()
 
     class Lock:

@@ -24,8 +24,7 @@ from corewar.debugger.session import Session
 from corewar.engine.calls import Match, assemble
 from corewar.engine.sources import read
 from corewar.model.errors import CorewarError
-from corewar.model.printing import make_distinct
-from corewar.model.printing import COLOUR
+from corewar.model.printing import COLOUR, make_distinct
 
 
 def session_of(*names: str) -> Session:
@@ -393,7 +392,7 @@ def test_files_of_lines(run: Run, tmp_path: Path) -> None:
 
 
 def test_at_a_terminal(tmp_path: object) -> None:
-    """A prompt in colours, and an empty line that repeats."""
+    """At a prompt, an empty line repeats the last command."""
     pexpect = pytest.importorskip("pexpect", reason="package python3-pexpect")
     top = EXAMPLES.parent
     words = ["debug", str(EXAMPLES / "dwarf.red"), str(EXAMPLES / "imp.red")]

@@ -94,7 +94,7 @@ both one two = do
   b ← two
   Some (a + b)
 
--- Without its last argument, unless there is none.
+-- The last argument is needed only for None.
 pub chosen : Option ℕ → ℕ → ℕ
 chosen (Some n) other = n
 chosen None other = other

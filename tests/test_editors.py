@@ -50,7 +50,7 @@ def needed(command: str, package: str) -> str:
 
 @pytest.fixture(scope="module")
 def share(tmp_path_factory: pytest.TempPathFactory) -> Path:
-    """The files that `make editors` writes, in a folder with the command and the sources."""
+    """Returns the folder of the files that `make editors` writes; beside it are the command and the source MORE."""
     folder = tmp_path_factory.mktemp("editors") / "share"
     words = [sys.executable, str(TOP / "packaging" / "editors.py"), str(folder)]
     subprocess.run(words, env=ENVIRONMENT, check=True)
@@ -74,7 +74,7 @@ def started(share: Path, *words: object, **more: str) -> str:
 
 
 def by_vim(share: Path, paths: list[Path]) -> list[Lines]:
-    """Vim's names of syntax groups."""
+    """Returns the classes by Vim's names of syntax groups."""
     files = ", ".join(f"'{path}'" for path in paths)
     script = f"""
 set runtimepath^={share}/vim/vimfiles
@@ -106,7 +106,7 @@ quitall!
 
 
 def by_emacs(share: Path, paths: list[Path]) -> list[Lines]:
-    """The faces of Emacs, which colours no sign."""
+    """Returns the classes by the faces of Emacs, which colours no sign."""
     script = f"""
 (add-to-list 'load-path "{share}/emacs/site-lisp")
 (require 'redcode-mode)
@@ -128,7 +128,7 @@ def by_emacs(share: Path, paths: list[Path]) -> list[Lines]:
 
 
 def by_kate(share: Path, paths: list[Path]) -> list[Lines]:
-    """The styles of Kate's program, in its light theme."""
+    """Returns the classes by the styles of Kate's program, in its light theme."""
     styles = {"color:#898887;": "comment", "color:#006e28;": "directive", "color:#b08000;": "number", "": ""}
     styles |= {"color:#aa5500;": "predefined", "color:#ca60ca;": "sign", "font-weight:bold;": "opcode"}
     styles |= {"color:#0057ae;": "modifier"}
@@ -145,7 +145,7 @@ def by_kate(share: Path, paths: list[Path]) -> list[Lines]:
 
 
 def by_bat(share: Path, paths: list[Path]) -> list[Lines]:
-    """The scopes that bat finds, each of which a theme gives a colour of its own."""
+    """Returns the classes by the scopes that bat finds, each of which a theme gives a colour of its own."""
     scopes = {"opcode": "keyword.mnemonic", "directive": "keyword.control", "modifier": "storage.modifier"}
     scopes |= {"number": "constant.numeric", "sign": "keyword.operator", "predefined": "support.constant"}
     scopes["comment"] = "comment"

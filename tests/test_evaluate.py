@@ -35,7 +35,7 @@ def test_differences_are_shown() -> None:
 
 @pytest.mark.parametrize("area", [name for name in AREAS if name != "examples"])
 def test_definitions_are_what_is_computed(area: str) -> None:
-    """Other inputs than those of dev/checks/evaluate."""
+    """The inputs are others than those of dev/checks/evaluate."""
     require(area)
     count = 3 + AREAS[area].usual // 60
     result = compare(area, 2, 0, count)

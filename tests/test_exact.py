@@ -60,7 +60,7 @@ def test_strips() -> None:
 
 
 def shown(columns: int, *words: object) -> list[str]:
-    """The lines that a command prints on a terminal of this width."""
+    """Returns the lines that a command prints on a terminal of this width."""
     ours, theirs = os.openpty()
     with begin(*words, cwd=EXAMPLES, env={**ENVIRONMENT, "COLUMNS": str(columns)}, stdout=theirs):
         os.close(theirs)

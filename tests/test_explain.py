@@ -1,4 +1,4 @@
-"""explain: the causes of errors, what pMARS reads differently, and sources that are fixed."""
+"""explain: the causes of errors, what pMARS reads differently, fixed sources, instructions in words, and hints."""
 from __future__ import annotations
 
 import os
@@ -143,7 +143,7 @@ MUTATIONS: list[Callable[[str, re.Match[str]], str]] = [
 
 
 def mutated(count: int) -> Iterator[tuple[str, set[int]]]:
-    """Examples in which one to four lines have an error each, with the numbers of these lines."""
+    """Yields examples in which one to four lines have an error each, with the numbers of these lines."""
     dice = Random(5)
     for _ in range(count):
         original = dice.choice(EXAMPLES).split("\n")
@@ -442,7 +442,7 @@ def test_fix(run: Run, tmp_path: Path) -> None:
 
 
 def test_expensive_sources_are_explained_soon() -> None:
-    """Expensive sources: thousands of causes, words after END, labels after loops, deep EQU names."""
+    """Explaining, comparing and fixing a source takes less than 20 s, also with thousands of causes or deep names."""
     names, many = [f"q{number}" for number in range(15000)], [f"q{number}" for number in range(9000)]
     deep = "z0 EQU 1\n" + "".join(f"z{number} EQU z{number - 1}\n" for number in range(1, 34))
     sources = {
@@ -747,7 +747,7 @@ def test_the_limit_is_for_explanations_too(run: Run, tmp_path: Path, words: list
 
 
 def test_the_limit_is_for_all_sources_together() -> None:
-    """A count of a loop takes half the time of the limit, and there are twenty."""
+    """Each source takes less than the limit, but all together take more; then no source is assembled any more."""
     costly = slow().replace("FOR 6\nFOR 10000", "FOR 1\nFOR 4000")
     with corewar.Assembler(corewar.Limit(2, 500), is_total=True) as assembler:
         with pytest.raises(corewar.Overrun, match="takes more than 2 s of CPU time"):

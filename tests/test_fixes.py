@@ -1,4 +1,4 @@
-"""`explain --fix` makes the warrior of pMARS of old sources and of changed ones, or says what it leaves."""
+"""`explain --fix` makes of old and of changed sources what pMARS reads in them, or says what it leaves."""
 from __future__ import annotations
 
 import random
@@ -183,6 +183,7 @@ mov 0, one*one-one+1|ldp 0, 1|nop 0, \\|first|last|i|n equ 3|mov <0, #2|jmp firs
 ; name x|start mov 0, i|i equ i*3|k for i|x&k spl x&k, i|z equ z&k+1|;assert 1-2*3+4 < 0|n for 1-2*3+9
 """
 POOL = [line for line in re.split(r"[|\n]", LINES) if line]
+# The number of changed sources.
 NUMBER = 500
 
 

@@ -87,7 +87,7 @@ def test_longest_queue() -> None:
 
 
 def sorted_as_written(row: np.void, before: Cells, after: Cells) -> list[int]:
-    """The cells that a turn changed, in the order of their last writes."""
+    """Returns the cells that a turn changed, in the order of their last writes."""
     written = row["change"]["address"][: row["changes"]].tolist()
     last = [at for place, at in enumerate(written) if at not in written[place + 1 :]]
     return [at for at in last if before[at] != after[at]]
@@ -122,7 +122,7 @@ def test_a_state_is_what_the_debugger_lists(fight: Match, round: int, lines: lis
 
 
 def steps(history: History) -> Iterator[tuple[int, Battle, Battle]]:
-    """Each turn, with the states before and after it."""
+    """Yields each turn, with the states before and after it."""
     for turn in range(1, history.end + 1):
         yield turn, history.state(turn - 1), history.state(turn)
 

@@ -1,6 +1,5 @@
-"""Tests what `make` installs and packs: that it is complete, runs, and can be removed again.
-
-Also the man pages, and the lists of packages.
+"""Tests what `make` installs and packs: that it is complete, runs, and can be removed again; and that man pages and
+lists of packages are complete.
 """
 from __future__ import annotations
 
@@ -147,7 +146,7 @@ def test_a_missing_build_is_reported(tmp_path: Path) -> None:
 
 
 def test_completion(prefix: Path) -> None:
-    """What bash offers for the beginning of a word of `corewar`."""
+    """For the first letters of a command of `corewar`, bash offers the commands that begin with them."""
     script = prefix / "share/bash-completion/completions/corewar"
     code = (
         f"source {script}; COMP_WORDS=(corewar ch); COMP_CWORD=1; _corewar_completion corewar; echo ${{COMPREPLY[@]}}"

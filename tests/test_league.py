@@ -82,7 +82,7 @@ def rows(output: str) -> list[str]:
     ],
 )
 def test_it_is_the_programs_league(run: Run, words: str) -> None:
-    """The same counts as the program's own: ties, negative points, formulas, limits, and warriors of the same text."""
+    """Its counts are the program's own, also for ties, negative points, formulas, limits and warriors of equal text."""
     files = [*NAMES, *NAMES[:3]]
     output = run("league", "--same-seed", "--jobs", 3, *words.split(), *files, cwd=EXAMPLES).stdout
     assert rows(output) == own_rows(EXAMPLES, f"-o {words} {' '.join(files)}")
@@ -96,7 +96,7 @@ def test_a_hill_is_its_words(run: Run) -> None:
 
 
 def test_files(run: Run, folder: Path) -> None:
-    """Load files, WARRIORS and ROUNDS, standard input, a name with a dash, and the file for a missing name."""
+    """It reads load files, WARRIORS and ROUNDS, standard input and a name with a dash; a file stands for no name."""
     own = own_rows(folder, "-o -r 4 old.load made.red unnamed.load late.red dead.red")
     output = run("league", "-r", 4, "old.load", "made.red", "unnamed.load", "late.red", "dead.red").stdout
     shown = [line.replace(" Unknown by", " old.load by").replace("   by ", "  unnamed.load by ") for line in own]
@@ -193,7 +193,7 @@ def examples() -> list[corewar.Warrior]:
 
 
 def variants() -> list[corewar.Warrior]:
-    """Two examples, each with other numbers in its first cell."""
+    """Returns five variants of each of two examples, with other numbers in the first cell."""
     made = []
     for warrior in examples()[:3:2]:
         for change in range(5):
@@ -204,7 +204,7 @@ def variants() -> list[corewar.Warrior]:
 
 
 def clones() -> list[corewar.Warrior]:
-    """Warriors of which some are equal, as evolvers breed them."""
+    """Returns warriors of which each three are equal, as evolvers breed them."""
     return [warrior for warrior in examples() for _ in range(3)]
 
 
@@ -224,7 +224,7 @@ def test_the_errors_are_how_seeds_differ(warriors: list[corewar.Warrior]) -> Non
 
 
 def test_a_lead_has_an_error() -> None:
-    """That of two warriors is of the difference of their points, and that of equal ones is 0."""
+    """In a league of two it is the error of the difference of their points; between equal warriors it is 0."""
     dwarf, imp = examples()[:2]
 
     def league(*warriors: corewar.Warrior, **given: Any) -> list[dict[str, Any]]:
@@ -349,7 +349,7 @@ def test_refused_threads_are_reported(run: Run, folder: Path) -> None:
 
 
 def test_what_is_missing_is_reported_before_matches(run: Run, folder: Path) -> None:
-    """The site, a module, and the folder for a file; the settings are those of a match that takes hours."""
+    """A folder that cannot be made, and a module; the settings are those of a match that takes hours."""
     long = ["-c", 8_000_000, "-r", 100_000, "stay.red", "same.red"]
     (folder / "file").write_text("")
     done = run("league", "--pages", "file/pages", *long, timeout=20)

@@ -1,4 +1,6 @@
-"""why, trace and changed: their reports on a battle."""
+"""why, trace and changed: their reports on a battle; and what all commands share: help, wrong arguments, streams, names
+of files, and Ctrl-C.
+"""
 from __future__ import annotations
 
 import os
@@ -139,6 +141,7 @@ def test_the_help_has_a_whole_sentence_for_each_command() -> None:
     """At 80 columns, each fits a line; at fewer, none is cut."""
     assert isinstance(commands, Commands)
     context = click.Context(commands)
+    # As click computes it: its help leaves 2 columns of a terminal free, and uses 6 around the names of commands.
     width = 80 - 2 - 6 - max(map(len, COMMANDS))
     for name in COMMANDS:
         command = commands.get_command(context, name)

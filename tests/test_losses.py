@@ -63,7 +63,9 @@ def test_lines_at_the_end_are_those_of_the_turns(names: tuple[str, ...]) -> None
 
 
 def test_the_ways_to_die(run: Run, tmp_path: Path) -> None:
-    """A warrior dies on a cell that it hit itself, on one that has not changed, in empty core, or by a load file."""
+    """A warrior dies on its own cell that it hit itself, on a cell that has not changed, in empty core, or by a line of
+    a load file, which is unknown.
+    """
     sources = {
         "suicide": ";name Suicide\nMOV 2, 1\nNOP\nDAT 0\n",
         "dat": ";name Dat\nDAT 0\n",
@@ -144,7 +146,7 @@ def test_study(run: Run, tmp_path: Path) -> None:
     # The source and its lines are assembled as for a match of two.
     (tmp_path / "two.red").write_text(";assert WARRIORS == 2\nloop MOV 0, 1\n")
     assert " 2: loop MOV 0, 1\n" in run("study", "two.red").stdout
-    # No more turns are run than those in which lines are known.
+    # At most a million turns are run.
     assert "survives 1000000 turns." in run("study", "-c", 5_000_000, "@gate").stdout
     assert all(len(run("study", file).stdout.splitlines()) < 24 for file in sorted(EXAMPLES.glob("*.red")))
 
