@@ -174,8 +174,7 @@ def explain_file(options: BattleOptions, path: str, shown: Explanations) -> int:
 
 
 def hints_in(options: BattleOptions, path: str) -> list[str]:
-    """Returns what is probably meant otherwise in a file without errors. A pipe, which cannot be read again, has none.
-    """
+    """Returns what is probably meant otherwise in a file without errors. A pipe is not read a second time."""
     if path.endswith(".load") or not os.path.isfile(path):
         return []
     warrior = read_warriors([path], options.settings, options.rounds, options.limit, 2)[0]
