@@ -81,14 +81,14 @@ def main() -> None:
     )
     parser.add_argument("checkpoint", help=argparse.SUPPRESS)
     parser.add_argument("generations", nargs="?", type=int, default=100, help=argparse.SUPPRESS)
-    words = parser.parse_args()
-    search = Search.load(words.checkpoint) if os.path.exists(words.checkpoint) else Search()
-    while search.generation < words.generations:
+    args = parser.parse_args()
+    search = Search.load(args.checkpoint) if os.path.exists(args.checkpoint) else Search()
+    while search.generation < args.generations:
         # What is drawn depends only on the generation, so a checkpoint needs no state of the dice.
         dice = random.Random(search.generation)
         warriors = search.ask(dice)
         search.tell(warriors, rewards_of(warriors, dice.randint(1, corewar.MAX_SEED)))
-        search.save(words.checkpoint)
+        search.save(args.checkpoint)
     reward, warrior = search.best[0]
     print(f"{warrior}{reward:.2f} of 4 after {search.generation} generations")
 

@@ -100,8 +100,8 @@ def given() -> argparse.Namespace:
 
 
 def main() -> None:
-    words = given()
-    dice, end = random.Random(words.seed), time.monotonic() + words.seconds
+    args = given()
+    dice, end = random.Random(args.seed), time.monotonic() + args.seconds
     opponents = [corewar.assemble(text, settings=NANO) for text in OPPONENTS]
     candidates, count = [Candidate([cell(dice) for _ in range(5)], []) for _ in range(SIZE)], 0
     while time.monotonic() < end:

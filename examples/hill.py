@@ -127,27 +127,27 @@ def given() -> argparse.Namespace:
     parser.add_argument("--settings", default="94nop", choices=corewar.HILLS, help=argparse.SUPPRESS)
     parser.add_argument("state", help=argparse.SUPPRESS)
     parser.add_argument("files", nargs="*", help=argparse.SUPPRESS)
-    words = parser.parse_args()
-    if words.size < 1 or not 1 <= words.rounds <= 100_000:
+    args = parser.parse_args()
+    if args.size < 1 or not 1 <= args.rounds <= 100_000:
         parser.error("expected a size of 1 or more, and 1 to 100000 rounds")
-    return words
+    return args
 
 
 def main() -> None:
-    words = given()
-    new = {"settings": words.settings, "rounds": words.rounds, "size": words.size, "challenges": 0, "warriors": []}
-    hill = read(words.state, new)
+    args = given()
+    new = {"settings": args.settings, "rounds": args.rounds, "size": args.size, "challenges": 0, "warriors": []}
+    hill = read(args.state, new)
     with corewar.Assembler(LIMIT) as assembler:
-        for path in words.files:
+        for path in args.files:
             # The hill is locked from reading to replacing it, so that no challenge of another process is lost.
-            with locked(words.state):
-                hill = read(words.state, new)
+            with locked(args.state):
+                hill = read(args.state, new)
                 newcomer = assembler.read(path, settings=hill["settings"], rounds=hill["rounds"])
                 if any((one.data, one.start) == (newcomer.data, newcomer.start) for one in warriors_of(hill)):
                     print(f"{newcomer.title} is on the hill already")
                     continue
                 pushed_off = challenge(hill, newcomer)
-                replace(words.state, hill)
+                replace(args.state, hill)
             for one in pushed_off:
                 print(f"{one['title']} is pushed off at age {one['age']}")
     print("  rank   score   won  tied  lost    age  warrior")
