@@ -11,8 +11,8 @@ def births_of(segments: Sequence[Segment], turn: int, warrior: int, index: int) 
     """Returns the turns in which a process and its ancestors were born, its own birth first; and the turn after which
     an edit added the earliest ancestor, or None if that was loaded.
 
-    The process has `index` in the queue of its warrior after `turn` and after the edits made there. Raises `MarsError`
-    if there is no such process.
+    The process has `index` in the queue of its warrior after `turn`, with the edits made after that turn. Raises
+    `MarsError` if there is no such process.
     """
     births = list[int]()
     for segment in reversed([one for one in segments if one.first <= turn]):

@@ -100,8 +100,8 @@ class Block:
 
     @property
     def last_writes(self) -> Touches:
-        """The cell that each turn wrote last, also if that changed nothing: the one that its instruction writes, after
-        those that the modes of its operands change.
+        """The cell that each turn wrote last, also if that changed nothing. The modes of operands write first, then the
+        instruction itself.
         """
         rows = np.flatnonzero(self.records["changes"])
         addresses = self._writes[rows, self.records["changes"][rows] - 1]

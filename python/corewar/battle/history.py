@@ -107,8 +107,8 @@ class History:
         return [self._formatter.turn_of(turn) for turn in range(first, last + 1)]
 
     def find(self, *conditions: Condition) -> NDArray[np.int64]:
-        """Returns the numbers of the turns that meet all conditions, in order. If one of them is `at`, each number is
-        one less: that of the turn after which the cell is about to be executed, which may be 0.
+        """Returns the numbers of the turns that meet all conditions, in order. If one of the conditions is `at`, each
+        number is one less, and may be 0: after the turn with this number, the cell is about to be executed.
 
         Conditions with the same word are about the same cell. Raises `CorewarError` without a condition, or if the core
         has no such cell.
@@ -122,7 +122,7 @@ class History:
         """Returns the turns in which a process and its ancestors were born, its own birth first; and the turn after
         which an edit added the earliest ancestor, or None if that was loaded.
 
-        - `turn`: the turn after which it is in the queue, and after the edits made there
+        - `turn`: the turn after which, with the edits made after that turn, the process is in the queue
         - `warrior`: its warrior, by number, name or file
         - `index`: its index in the queue; the next one has index 0
 
@@ -177,13 +177,13 @@ class History:
         return tuple((one.first, one.run.edit) for one in self.segments if one.run.edit)
 
     def _segment(self, turn: int) -> Segment:
-        """Returns the segment of the state after a turn and after the edits made there. Raises CorewarError."""
+        """Returns the segment of the state after a turn, with the edits made after that turn. Raises CorewarError."""
         if not 0 <= turn <= self.end:
             raise CorewarError(f"the battle has turns 0 to {self.end}")
         return next(segment for segment in reversed(self.segments) if segment.first <= turn)
 
     def block(self, turn: int) -> Block:
-        """Returns the block of the state after a turn and after the edits made there. Raises CorewarError."""
+        """Returns the block of the state after a turn, with the edits made after that turn. Raises CorewarError."""
         segment = self._segment(turn)
         first = turn - (turn - segment.first) % BLOCK_SIZE
         return self._blocks(segment.run, first, min(BLOCK_SIZE, segment.last - first))
@@ -269,13 +269,13 @@ class History:
         return pasts["owner"].astype(np.uint8), pasts["turn"].astype(np.int64)
 
     def pasts(self, turn: int) -> Pasts:
-        """Returns the past of each cell after a turn and after the edits made there, with the fields of `MarsPast`. An
-        `origin` is the address of a loaded cell or, from the core size on, a cell that an edit set.
+        """Returns the past of each cell after a turn, with the edits made after that turn: an array with the fields of
+        `MarsPast`. An `origin` is the address of a loaded cell or, from the core size on, a cell that an edit set.
         """
         return self.followed(turn)[1]
 
     def followed(self, turn: int) -> tuple[Battle, Pasts]:
-        """Returns the battle after a turn and after the edits made there, and the past of each cell."""
+        """Returns the battle after a turn, with the edits made after that turn, and the past of each cell."""
         last = self._segment(turn)
         for before, segment in zip([None, *self.segments], self.segments):
             if not segment.run.is_followed:

@@ -64,7 +64,7 @@ class Sources:
 
     @cached_property
     def addresses(self) -> dict[str, int]:
-        """The addresses of labels: `0.bomb` for that of warrior 0, also `bomb` if only one warrior has it."""
+        """The addresses of labels: `0.bomb` for the label of warrior 0, also `bomb` if only one warrior has it."""
         owners = Counter(label for _, label in {(number, label) for number, label, _ in self._labels})
         alone = {label: address for _, label, address in self._labels if owners[label] == 1}
         return {**alone, **{f"{number}.{label}": address for number, label, address in self._labels}}

@@ -177,7 +177,7 @@ def hints_in(options: BattleOptions, path: str) -> list[str]:
     """Returns what is probably meant otherwise in a file without errors. A pipe is not read a second time."""
     if path.endswith(".load") or not os.path.isfile(path):
         return []
-    warrior = read_warriors([path], options.settings, options.rounds, options.limit, 2)[0]
+    warrior = read_warriors([path], options.settings, options.rounds, options.limit, warriors=2)[0]
     return hints_of(warrior, warrior.lines)
 
 

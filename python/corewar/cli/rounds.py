@@ -44,7 +44,7 @@ def rows_of(fought: Match, formula: str) -> tuple[list[Row], int]:
     except KeyboardInterrupt:
         if not done:
             raise
-    # The library rejects points that do not fit, also if those of each part do.
+    # The library rejects points that do not fit, also if the points of each part fit.
     is_exact = all(map(fits, counts[:, 0]))
     return [Row(*row) for row in counts.tolist()] if is_exact else match(formula=formula, **vars(fought)), done
 

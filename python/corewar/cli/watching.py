@@ -98,7 +98,7 @@ class Show:
             lines += [(f"fg:{styles[number + 1]} bold", f"{name} "), ("", f"{fate}   ")]
         ending = [self.formatter.ending()] if self.turn == history.end else []
         words = [self.formatter.turn(self.turn)] if self.turn and not self.way else []
-        # The last turn takes the lines that the core leaves.
+        # The last turn takes the lines that the core, the title, the warriors and the keys leave.
         room = max(1, size.rows - rows - 2 - len(keys))
         said = wrapped("; ".join(ending + words).split(), " ", size.columns)[:room] or [""]
         return [*lines, *(("", f"\n{line}") for line in said), *(("italic", f"\n{line}") for line in keys)]

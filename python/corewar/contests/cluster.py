@@ -11,8 +11,8 @@ from typing import Any
 
 from ..model.errors import CorewarError
 
-# The number of seconds between two checks whether the cluster has workers.
-CHECK_SECONDS = 5
+# In seconds: how long the scheduler may take to answer, and the time between two checks whether it has workers.
+CONNECT_SECONDS, CHECK_SECONDS = 10, 5
 NO_PACKAGE = (
     f"--scheduler: {sys.executable} cannot import distributed; install Debian's python3-distributed, or with pip "
     "corewar[cluster]"
@@ -47,7 +47,7 @@ def cluster(address: str) -> Iterator[Executor]:
     logging.disable()
     try:
         begin: Any = distributed.Client
-        client = begin(address, timeout=10, set_as_default=False)
+        client = begin(address, timeout=CONNECT_SECONDS, set_as_default=False)
     except (OSError, ValueError) as fault:
         raise CorewarError(f"--scheduler {address}: {fault}") from None
     end = Event()

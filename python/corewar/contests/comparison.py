@@ -98,7 +98,7 @@ class Comparison:
 
     @property
     def verdict(self) -> str:
-        """Whether the change is more than chance, in a sentence."""
+        """The sentence that says whether the change is more than chance."""
         _, _, change, error = self.change()
         better = f"The new version is {'better' if change > 0 else 'worse'}"
         if self.contest.positions == "all":

@@ -81,8 +81,8 @@ class Lineups(Schedule):
     def __init__(self, contest: Contest, warriors: Sequence[Warrior], size: int, count: int) -> None:
         lineups = np.array(lineups_of(len(warriors), size, count, random.Random(contest.seed)))
         super().__init__(contest, warriors, lineups)
-        # The seed of a match depends only on that of the contest and on its index: with more lineups the first ones
-        # stay.
+        # The seed of a match depends only on the contest's seed and on the match's index, so the first matches stay the
+        # same with more lineups.
         self.seeds = contest.seeds_of(*np.arange(2 * count, dtype=np.uint64).reshape(-1, 2).T)
         self.points = np.zeros(lineups.shape)
         # In how many rounds each warrior died, and was one of 1, 2 .. survivors.

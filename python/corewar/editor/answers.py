@@ -72,8 +72,8 @@ def actions(text: Text, params: Params) -> Any:
             title = f"Replace `{error.advice.old}` with `{error.advice.new}`"
             edit = workspace_edit(params, [{"range": word, "newText": error.advice.new}])
             found.append({"title": title, "kind": QUICK_FIX, "edit": edit, "diagnostics": [diagnostic(text, error)]})
-    is_old = in_range and not found and fix(text.data, text.load, is_rejected=True) != text.data
-    if is_old:
+    is_fixable = in_range and not found and fix(text.data, text.load, is_rejected=True) != text.data
+    if is_fixable:
         fixed = fix(text.data, text.load)
         whole = {"start": {"line": 0, "character": 0}, "end": {"line": len(text.source.lines), "character": 0}}
         edit = workspace_edit(params, [{"range": whole, "newText": fixed.decode("utf-8", "replace")}])

@@ -1,4 +1,4 @@
-"""The library for C as its header declares it: its types as those of NumPy, and its calls.
+"""The library for C as its header declares it: its calls, and its types as types of NumPy.
 
 The library is the file that MARS_LIBRARY names; otherwise the first of these that exists: the library beside this file
 (in a wheel), in `build` of the checkout that contains this file, or in `lib` of the prefix in which the package is

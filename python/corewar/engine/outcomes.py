@@ -57,8 +57,8 @@ def outcomes(
     - `seeds`: the seed of all matches, or one for each, 1 to 2,147,483,646
     - `counts`: whether to count what each warrior does, which takes several times as long
     - `jobs`: the number of threads, 1 or more
-    - `executor`: an executor of `concurrent.futures` that runs the matches instead: threads, processes, that of a Dask
-      client, MPI. Its workers need the same version of the package; results are the same, however they are split
+    - `executor`: an executor of `concurrent.futures` that runs the matches instead, such as one of threads, processes,
+      Dask or MPI. Its workers need the same version of the package; results are the same, however they are split
     - `reduce`: a function of the outcomes of some lineups that returns an array with a row for each, such as
       `partial(corewar.shares, cycles=800)`; the rows of all lineups are returned instead. It runs where the matches
       run, so that the outcomes of only a few lineups are in memory; for other processes it is a function that can be

@@ -83,7 +83,7 @@ def registers(source: Source, number: int) -> set[str]:
 
 
 def starts(source: Source, load: Load) -> Found:
-    """Looks for ORG and END that both have an operand: pMARS ignores that of END, unless that of ORG is 0."""
+    """Looks for ORG and END that both have an operand: pMARS ignores the operand of END, unless ORG is 0."""
     found = {line.word: line for line in source.lines if line.word in ("ORG", "END") and line.rest and not line.unread}
     start = start_by_org(source, load) if len(found) == 2 else 1
     if not start:

@@ -39,5 +39,5 @@ cause_sentence = Advice.of
 
 
 def earlier(number: int, inner: Advice) -> Advice:
-    """Returns advice on another line than that of the error."""
+    """Returns advice on another line than the line of the error."""
     return type(inner)(cause_sentence("earlier", line=number, inner=inner), inner.old, inner.new, number)

@@ -15,7 +15,7 @@ from pathlib import Path
 PACKAGE = Path(__file__).resolve().parents[1]
 ENGINE = PACKAGE / "engine"
 CHECKOUT = PACKAGE.parents[1]
-# The name of the library on this system: that of its major version.
+# The name of the library on this system, which has its major version.
 LIBRARY = {"win32": "mars-2.dll", "cygwin": "mars-2.dll", "darwin": "libmars.2.dylib"}.get(sys.platform, "libmars.so.2")
 # The possible prefixes of `make install`, first the one in which this package is installed.
 INSTALLED = [*PACKAGE.parents[3:4], Path("/usr/local"), Path("/usr")]
