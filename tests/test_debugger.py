@@ -455,7 +455,7 @@ def test_an_edit_knows_the_settings_of_the_match() -> None:
 
 
 def test_instructions_in_words() -> None:
-    """The next instruction, or that of a cell, with labels as names."""
+    """The next instruction or the one of a cell is described, with labels as names."""
     session = session_of("dwarf", "imp")
     assert execute(session, "explain") == ["0 (loop): ADD.AB #4, $3", "Add 4 to the B-number of bomb."]
     copy = "Copy bomb to the cell pointed to by the B-number of bomb."
