@@ -1,4 +1,4 @@
-"""Describes a battle: warriors by name, addresses with labels, a turn in one line."""
+"""Describes turns, cells, queues and warriors in lines of text, with the names of warriors and labels of addresses."""
 from __future__ import annotations
 
 from collections import Counter

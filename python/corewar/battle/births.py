@@ -1,4 +1,4 @@
-"""The turns in which a process of a history and its ancestors were born, also if there are edits between them."""
+"""Finds the turns in which a process of a history and its ancestors were born, also if there are edits between them."""
 from __future__ import annotations
 
 from collections.abc import Sequence

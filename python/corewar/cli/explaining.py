@@ -1,4 +1,4 @@
-"""`explain`: what an error means, and what to do."""
+"""`explain`: what an error means and what to do, what an instruction does, and what pMARS reads differently."""
 from __future__ import annotations
 
 import json

@@ -1,4 +1,4 @@
-"""`league` and `challenge`: matches of many warriors in pairs."""
+"""`league` and `challenge`, matches of many warriors in pairs; and the options, runs and outputs of all contests."""
 from __future__ import annotations
 
 import json

@@ -1,4 +1,4 @@
-"""The command `corewar` and its subcommands."""
+"""The command `corewar`: its subcommands by groups, and how errors become messages and exit statuses."""
 from __future__ import annotations
 
 import os

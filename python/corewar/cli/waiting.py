@@ -1,4 +1,4 @@
-"""Waits for what takes long, and shows its progress."""
+"""The progress of what takes long, as a bar; and the processes that share its work."""
 from __future__ import annotations
 
 import signal
@@ -18,8 +18,8 @@ OTHER_ORDER = "{} of {} matches are stored only with the warriors in the other o
 
 @contextmanager
 def progress(total: int, what: str, done: int = 0) -> Iterator[Callable[[int], None]]:
-    """Yields what reports a number of steps as done: with a bar on standard error if that is a terminal, which is
-    removed at the end, and otherwise not at all.
+    """Yields a function that reports a number of steps as done: by a bar if standard error is a terminal, until the
+    bar is removed at the end; otherwise not at all.
     """
     if not sys.stderr.isatty():
         yield lambda count: None
@@ -56,8 +56,8 @@ class Waiting(ExitStack):
 
 @contextmanager
 def processes(count: int) -> Iterator[Executor | None]:
-    """Yields processes for a number of calls, or None for few. Where that is safe, they are forked, so that the
-    library is not loaded again; Ctrl-C is only raised here.
+    """Yields processes for a number of calls, or None for few. If it is safe, the processes are forked, so that the
+    library is not loaded again. Ctrl-C is raised only in this process.
     """
     if PROCESSORS == 1 or count < 2 * PROCESSORS:
         yield None

@@ -1,4 +1,6 @@
-"""Splits sources by their look into lines with labels, operation and operands, EQU names and loops."""
+"""Splits sources without assembling them: into lines with labels, operation and operands, EQU names and loops. Also
+finds misspelt operations, and the place of an error.
+"""
 from __future__ import annotations
 
 import re

@@ -1,4 +1,4 @@
-"""Errors of the package."""
+"""The errors of the package, with the numbers and names of errors in the library's header."""
 from __future__ import annotations
 
 from typing import Any

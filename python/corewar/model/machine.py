@@ -1,4 +1,4 @@
-"""What differs between systems."""
+"""How this system starts processes, and how many processors it offers."""
 from __future__ import annotations
 
 import os

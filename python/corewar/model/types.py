@@ -1,4 +1,4 @@
-"""The types that signatures name."""
+"""Types for signatures: a cell, arrays of cells and records, and arrays of numbers by what they mean."""
 from __future__ import annotations
 
 from typing import Any, Literal
