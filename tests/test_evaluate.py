@@ -1,4 +1,4 @@
-"""dev/checks/evaluate: the values of definitions beside what the library computes."""
+"""dev/checks/evaluate: the values of definitions beside what the library computes; and dev/checks/vectors."""
 from __future__ import annotations
 
 import random

@@ -1,4 +1,4 @@
-"""Matches from every starting position: they are those of each position by itself."""
+"""Matches from every starting position have the results of matches from each position by itself."""
 from __future__ import annotations
 
 import json

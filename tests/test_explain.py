@@ -1,4 +1,4 @@
-"""explain: the causes of errors, what pMARS reads differently, fixed sources, instructions in words, and hints."""
+"""explain: causes of errors, what pMARS reads differently, fixed sources, instructions in words, hints and limits."""
 from __future__ import annotations
 
 import os

@@ -1,4 +1,4 @@
-"""Labels and lines of sources beside the core, as the assembler returns them."""
+"""Labels and lines of sources, as the assembler returns them, and the line of each cell of a battle."""
 from __future__ import annotations
 
 import numpy as np

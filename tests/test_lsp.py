@@ -1,4 +1,4 @@
-"""Tests the language server: errors and corrections, hover, values, names, renames and completion, over any text."""
+"""Tests the language server: errors and corrections, hover, values, names, renames, completion and costly sources."""
 from __future__ import annotations
 
 import ast
