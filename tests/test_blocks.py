@@ -189,7 +189,7 @@ def test_errors_of_blocks(changes: dict[int, int], error: tuple[int, ...]) -> No
 
 
 def test_few_words() -> None:
-    """Words that are too few for the battle, or for its turns."""
+    """Too few words for the battle are an error; too few for its turns are the result ROOM."""
     words = three()
     assert header(words)["words"] == 91 and len(words) == 64 + 3 * 8 + 3 * 3
     for length in (0, 63, 90):
@@ -219,7 +219,7 @@ REFUSED = [
 
 @pytest.mark.parametrize("arguments, number", REFUSED, ids=str)
 def test_errors_of_edits(arguments: Any, number: int) -> None:
-    """Each refusal of an edit, for a battle whose warrior 1 has all its processes and whose warrior 2 is dead."""
+    """Each impossible edit has its number, in a battle whose warrior 1 has all its processes and warrior 2 is dead."""
     words = three()
     for one in ((4, 1, 0, 5), (4, 1, 0, 6), (3, 2, 0)):
         edit(words, *one)
@@ -230,7 +230,7 @@ def test_errors_of_edits(arguments: Any, number: int) -> None:
 
 
 def test_a_battle_of_a_caller() -> None:
-    """A battle that a caller makes up: every cell an imp, two processes."""
+    """A caller can make up a battle: here every cell is an imp, and there are two processes."""
     words = np.zeros(64 + 3 * 8 + 3, np.uint32)
     words[:16] = [MARK, 64 + 24 + 2, 8, 3, 10, 8, 8, 1, 1, 1, 0, 0, 0, 0, 0, 0]
     words[16], words[64:88] = 2, [1 + 256 * 6 + 65536 + 16777216, 0, 1] * 8

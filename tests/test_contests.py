@@ -151,7 +151,7 @@ def test_errors_of_executors() -> None:
 
 
 def test_an_interrupt_anywhere_ends_the_parts() -> None:
-    """Also between two results: none is awaited while the interrupt is handled."""
+    """An interrupt between two results ends the parts, too: none is awaited while it is handled."""
 
     class Interrupting(int):
         def __hash__(self) -> int:

@@ -243,7 +243,7 @@ def test_find_counts_places() -> None:
 
 
 def test_conditions_are_joined() -> None:
-    """They are about one turn, and those with the same word about one cell; a history finds the same by values."""
+    """Joined conditions are about one turn, and about one cell if their words are equal; a history finds the same."""
     session = session_of("dwarf", "imp")
     history = session.history
     (line,) = execute(session, "find changes of 1 by dwarf and becomes dat")
@@ -294,7 +294,7 @@ def test_names_may_have_words_of_conditions() -> None:
 
 
 def test_find_looks_at_all_rounds() -> None:
-    """Names, numbers and labels are of the same warriors in each round, in which another one begins."""
+    """Names, numbers and labels mean the same warriors in each round, though another one begins it."""
     fight = Match(tuple(read(str(EXAMPLES / f"{name}.red"), rounds=30) for name in ("dwarf", "imp")), rounds=30)
     found = [History(fight, number) for number in range(30)]
     for place, words in ((0, "of imp by dwarf"), (1, "of 0 by 1")):
@@ -382,7 +382,7 @@ def test_numbers_of_thousands_of_digits_are_refused() -> None:
 
 
 def test_files_of_lines(run: Run, tmp_path: Path) -> None:
-    """The commands `log` and `source` have short names; a file that names itself, or that is the log, ends."""
+    """The commands `log` and `source` can be abbreviated; a file that names itself, or that is the log, ends."""
     (tmp_path / "self").write_text("source self\nstep\n")
     assert run("debug", "@imp", input="source self\n").stdout.splitlines()[-2].startswith("turn 8: ")
     lines = run("debug", "@imp", input="lo kept\nstep\nso kept\nlog\nlog a\0b\nsource a\0b\n").stdout.splitlines()
@@ -426,7 +426,7 @@ def test_a_terminal_with_bytes_that_are_not_utf_8(tmp_path: Path) -> None:
 
 
 def test_control_characters_of_sources_are_not_shown(run: Run, tmp_path: Path) -> None:
-    """They are whitespace of the language, so that a valid warrior can have them."""
+    """Control characters are whitespace of the language, so that a valid warrior can have them."""
     (tmp_path / "esc.red").write_bytes(b"c DAT 0, \x1bc\x07\x00 ; \x1b[2J\n")
     shown = run("debug", "esc.red", "@imp", input="list\nedit 0 dat \x1bc\n\x1b[2J\n")
     assert shown.returncode == 1 and "; 1: c DAT 0, c" in shown.stdout and "\x1b" not in shown.stdout + shown.stderr

@@ -233,7 +233,7 @@ def test_all_errors_of_a_file(run: Run, tmp_path: Path) -> None:
 
 
 def test_each_error_has_a_meaning() -> None:
-    """Each error of the documents has one, with the same words, and is found in a line after any text."""
+    """Each error of the documents is explained with the same words, and is found in a line after any text."""
     document = (TOP / "docs" / "user" / "LANGUAGE.md").read_text()
     table = document[document.index("## Errors") : document.index("## Differences")]
     rows = dict(re.findall(r"^\| `(.*?)` \| (.*) \|$", table, re.M))

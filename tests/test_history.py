@@ -77,7 +77,7 @@ def block_state(history: History, turn: int) -> State:
 
 
 def test_longest_queue() -> None:
-    """A warrior that splits in each turn, until it has the most processes."""
+    """A warrior splits in each turn until it has the maximum number of processes."""
     settings = Settings(core=2, processes=65_536, cycles=70_000, longest=2, distance=2)
     splitter = Warrior.from_cells([cell_of("SPL.B $0, $0", 2)] * 2, settings=settings)
     history = History(Match((splitter,), settings=settings))

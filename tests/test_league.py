@@ -264,7 +264,7 @@ def test_picture(run: Run, folder: Path) -> None:
 
 
 def test_pages(run: Run, folder: Path) -> None:
-    """A page with table, matrix and settings, and one with all battles, to which each number leads."""
+    """One page has the table, the matrix and the settings, and another one all battles, to which each number leads."""
     run("league", "--pages", "web", *LAST_FIRST[:2], "dead.red", "./late.red", "same.red")
     page = (folder / "web" / "index.html").read_text()
     assert "rounds 4 · seed 1" in page and "Late, later by Me &amp; you" in page
@@ -349,7 +349,7 @@ def test_refused_threads_are_reported(run: Run, folder: Path) -> None:
 
 
 def test_what_is_missing_is_reported_before_matches(run: Run, folder: Path) -> None:
-    """A folder that cannot be made, and a module; the settings are those of a match that takes hours."""
+    """A folder that cannot be made and a missing module are reported; the match itself would take hours."""
     long = ["-c", 8_000_000, "-r", 100_000, "stay.red", "same.red"]
     (folder / "file").write_text("")
     done = run("league", "--pages", "file/pages", *long, timeout=20)
