@@ -84,8 +84,8 @@ def fight(candidates: list[Candidate], opponents: list[corewar.Warrior], seed: i
 
 
 def measure(cells: list[Cell], opponents: list[corewar.Warrior]) -> float:
-    """Returns the points per round, in many rounds that no generation has played."""
-    row = corewar.population([warrior(cells)], opponents, rounds=2000, seed=1_000_000_007, settings=NANO)[0]
+    """Returns the points per round, in many rounds by a seed that no generation draws."""
+    row = corewar.population([warrior(cells)], opponents, rounds=2000, seed=2_000_000_011, settings=NANO)[0]
     return row.points / (2000 * len(opponents))
 
 

@@ -169,6 +169,8 @@ def test_an_interrupt_anywhere_ends_the_parts() -> None:
         next(in_order(parts()))
     except KeyboardInterrupt:
         assert ended
+    else:
+        pytest.fail("no interrupt")
 
 
 def test_waiting_takes_no_locks() -> None:

@@ -59,6 +59,7 @@ def defined() -> Iterator[tuple[str, str]]:
         yield spelled(name), number
     yield "DONE", "0"
     for name, number in {**cases("mars_c/Codes", "block_fault_of"), **cases("mars_c/Codes", "fault_of")}.items():
+        # The first has the number of Edit, and the others that of the settings.
         if name not in ("NoSuchEdit", "History", "Pasts"):
             yield {"Capacity": "ROOM"}.get(name, spelled(name)), number
     for kind, definition in ERRORS.items():

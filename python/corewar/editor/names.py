@@ -8,7 +8,7 @@ from dataclasses import dataclass
 from ..explain.source import NAME, OPERATIONS, PREDEFINED, TOKEN, Line, Source
 
 ASSERT = re.compile(r"\s*;assert\b", re.I)
-# The most digits that the counters around a line have together.
+# The most digits that the counters around a line have together: 32 loops of five digits.
 MAX_DIGITS = 160
 
 

@@ -4,6 +4,8 @@
 export const READABLE = 46;
 /** By how much one side of a cell may be longer than the other, so that they fill the canvas. */
 const OBLONG = 1.16;
+/** How much better a number of columns is if it fills the last row. */
+const FULL = 1.08;
 
 /**
  * Returns the number of columns that makes the cells largest, preferably a divisor of the core size, and their sides.
@@ -21,7 +23,7 @@ export function bestColumns(size, width, height) {
     const isText = room >= READABLE * devicePixelRatio;
     const most = isText ? Math.floor(room) : room < 1 ? room : room * OBLONG;
     const [x, y] = [Math.min(across, most), Math.min(down, most)];
-    const worth = x * y * Math.sqrt(Math.min(x / y, y / x)) * (size % columns === 0 ? 1.08 : 1);
+    const worth = x * y * Math.sqrt(Math.min(x / y, y / x)) * (size % columns === 0 ? FULL : 1);
     if (worth > best.worth) best = { columns, x, y, worth };
   }
   return best;

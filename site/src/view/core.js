@@ -252,6 +252,7 @@ export class Core {
     const { x, y } = this.#middle(address);
     const at = Math.floor(y) * this.#image.width + Math.floor(x);
     const [red, green, blue] = [0, 8, 16].map((place) => (this.#pixels[at] >> place) & 255);
+    // The weights of the eye: 2550 is white.
     return 3 * red + 6 * green + blue < 1200;
   }
 

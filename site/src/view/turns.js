@@ -117,6 +117,7 @@ export class Turns {
 
   /** How many turns a shade of the core lasts: about a second of play for all shades, at most 1/400 of the battle. */
   get grain() {
+    // At slow rates a turn takes about three shades.
     return clamp(this.rate / 26, 0.34, Math.max(1, this.end / 400));
   }
 
