@@ -1,4 +1,4 @@
-"""The progress of what takes long, as a bar; and the processes that share its work."""
+"""Shows the progress of matches and contests as a bar, and starts the processes that share their work."""
 from __future__ import annotations
 
 import signal
@@ -18,8 +18,8 @@ OTHER_ORDER = "{} of {} matches are stored only with the warriors in the other o
 
 @contextmanager
 def progress(total: int, what: str, done: int = 0) -> Iterator[Callable[[int], None]]:
-    """Yields a function that reports a number of steps as done: by a bar if standard error is a terminal, until the
-    bar is removed at the end; otherwise not at all.
+    """Yields a function that reports a number of steps as done. If standard error is a terminal, a bar shows them and
+    is removed at the end; otherwise nothing is shown.
     """
     if not sys.stderr.isatty():
         yield lambda count: None
@@ -56,8 +56,10 @@ class Waiting(ExitStack):
 
 @contextmanager
 def processes(count: int) -> Iterator[Executor | None]:
-    """Yields processes for a number of calls, or None for few. If it is safe, the processes are forked, so that the
-    library is not loaded again. Ctrl-C is raised only in this process.
+    """Yields an executor for `count` calls, with a process for each processor; or None if the calls are few.
+
+    If it is safe, the processes are forked, so that the library is not loaded again. Ctrl-C is raised only in this
+    process.
     """
     if PROCESSORS == 1 or count < 2 * PROCESSORS:
         yield None

@@ -11,16 +11,18 @@ FORMULA, ASSEMBLY, LOAD, SCORE = (RESULTS[name] for name in ("FORMULA", "ASSEMBL
 BLOCK, EDIT, WARRIOR, LINEUP = (RESULTS[name] for name in ("BLOCK", "EDIT", "WARRIOR", "LINEUP"))
 # The number of SCORE for a sum of points that does not fit in 64 bits.
 RANGE = enumeration("EXPRESSION_SYNTAX")["EXPRESSION_RANGE"]
-# Results whose kind is not their name, and those whose numbers are not of the enumeration with their name.
+# Results whose kind is not their name.
 WORDS = {MEMORY: "out of memory", EDIT: "refused"}
+# Results whose numbers are in an enumeration of another name.
 ENUMERATIONS = {FORMULA: "EXPRESSION", SCORE: "EXPRESSION"}
 # The kind of each result, and the enumeration of the header that names its numbers.
 KINDS = {code: (WORDS.get(code, name.lower()), ENUMERATIONS.get(code, name)) for name, code in RESULTS.items()}
 
 
 class CorewarError(Exception):
-    """The base class of the errors of the package; itself it is raised for what the library does not check. Its text is
-    one line.
+    """The base class of the errors of the package. Its text is one line.
+
+    The package raises it directly for errors that the library does not check.
 
     `Refused` is its older name, which the next version removes.
     """
@@ -34,8 +36,8 @@ class MarsError(CorewarError):
     - `problem`, `expression`: the numbers of nested errors, or 0
     - `line`: the line of a source or a load file, from 1; or the address or index of a wrong cell; otherwise 0
     - `warrior`: the index of a wrong warrior or lineup, from 0
-    - `begin`, `end`: the bytes of a source, from 0, of the word or sign at which it has its error, up to but excluding
-      `end`; those in the text of an EQU are in its definition; both 0 if the error has no such place
+    - `begin`, `end`: the bytes of the token at which a source has its error, counted from 0 and without `end`; for a
+      token from an EQU those in its definition; both 0 if the error has no token
 
     `Fault` is its older name, which the next version removes.
     """
