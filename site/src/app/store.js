@@ -14,13 +14,13 @@ import { folderKey } from "./server.js";
  * @typedef {object} KeptPage
  * @property {string} [shown] the source in the editor
  * @property {string[]} [marked] the sources that fight
- * @property {string[]} [removed] examples
+ * @property {string[]} [removed] the examples that the user removed
  * @property {Partial<MatchTerms>} [terms]
  * @property {string} [theme] "light" or "dark"
  * @property {boolean} [desk] whether the editor is shown
  * @property {number} [width] of the editor
  * @property {boolean} [curves] whether the strip of time has curves
- * @property {string[]} [done] lessons
+ * @property {string[]} [done] the lessons that the user has done
  */
 
 const NAME = `corewar ${folderKey}`.trim();
