@@ -1,4 +1,4 @@
--- The sum of a candidate; the sums of the candidates before one, and those that follow.
+-- The sum of a candidate after one more match, and the sums of all candidates.
 use Rattle.std.proofs.Common.{◌≡◌, ℕ, ◌+◌, ◌^◌, ℤ, pos, negsuc, neg_ℤ, ◌≤ℤ◌, List, [], ◌++◌, Err, Ok, Result, refl, sym, subst, true, arith}
 use Rattle.std.proofs.lemmas.Bool.{ltb-true}
 use Rattle.std.proofs.lemmas.Int.{ints}

@@ -157,7 +157,7 @@ map_replicate : (kind : Mark → Bool) (m : ℕ) (mark : Mark) → map kind (rep
 map_replicate kind zero mark = refl
 map_replicate kind (suc m) mark = ap (λ l. kind mark ∷ l) (map_replicate kind m mark)
 
--- The deeds of a warrior without turns, with these marks.
+-- The deeds of a warrior with the given marks and without turns.
 abbrev pub deeds_with : List Mark → DeedsValue
 deeds_with marks = record { turns = 0; spawned = 0; marks = marks_of marks }
 
@@ -186,7 +186,7 @@ below_same (suc m) f g same =
     let here = same m (omega arith) in
     rw (rest, here) refl
 
--- The marks of a list of which none was set at first.
+-- If no mark was set at first, as many marks are set as addresses pass `test`.
 fresh_marks : (m : ℕ) (marks : List Bool) (test : ℕ → Bool) → length marks ≡ m → ((a : ℕ) → a < m → get_or marks a false ≡ (get_or (replicate m false) a false || test a)) →
     how_many_below (length marks) (λ a. get_or marks a false) ≡ how_many_below m test
 fresh_marks m marks test long same = rw long (below_same m (λ a. get_or marks a false) test (λ a h. same a h ∙ ap (λ t. t || test a) (get_or-replicate m a false false h)))
@@ -247,7 +247,7 @@ one_more : (test : Bool) (n bound : ℕ) → n ≤ bound → n + (if test then 1
 one_more true n bound h = omega (arith, h)
 one_more false n bound h = omega (arith, h)
 
--- After one more turn of a warrior, no number of turns is greater by more than one.
+-- After one more turn of a warrior, no number of turns of a warrior is above `bound + 1`.
 pub few_more : (bound : ℕ) (t : State) (all : List DeedsValue) → All (λ (d : DeedsValue). (d.turns ≤ bound) × (d.spawned ≤ bound)) all →
     All (λ (d : DeedsValue). (d.turns ≤ bound + 1) × (d.spawned ≤ bound + 1)) (set all t.next (with_turn t (get_or all t.next (no_deeds 0))))
 few_more bound t all few =
@@ -277,7 +277,7 @@ module _ (s : State) (place : ℕ) (inside : place < length s.queues) where
       ∙ ap (λ e. counts_in (with_turns (turns_at place (turns_to_end s)) e)) (get_or-replicate (length s.queues) place (no_deeds m) (no_deeds m) inside)
       ∙ counts_fresh m (turns_at place (turns_to_end s))
 
--- There is a mark for each cell in all deeds.
+-- After the turns of a list, the deeds of each warrior have a mark for each cell.
 pub marks_noted : (m count : ℕ) (turns : List State) → All (HasMarks m) (noted turns (replicate count (no_deeds m)))
 marks_noted m count turns =
     let long = length-noted turns (replicate count (no_deeds m)) in

@@ -67,7 +67,7 @@ ended_from_started p warriors starts k s e =
     let both = unless_ok (round_fault p warriors starts k) (round_start p warriors starts k) s e in
     rw (both.0, both.1) refl
 
--- The battle of a round has its parameters, and a queue for each warrior.
+-- The first state of a round has the parameters `p`, and a queue for each warrior.
 pub room_started : (p : Parameters) (warriors : List WarriorValue) (starts : List ℕ) (k : ℕ) (s : State) → length starts ≡ length warriors → 1 ≤ length warriors → started p warriors starts k ≡ Ok s → HasRoom p (length warriors) (end_of s)
 room_started p warriors starts k s same some e =
     let both = unless_ok (round_fault p warriors starts k) (round_start p warriors starts k) s e in

@@ -1,7 +1,7 @@
 -- The tallies of all matches are the sums over each warrior's rows. The definition lists all pairs, plays the match of
--- each, and sums up each warrior's rows. Only the proof uses the tallies along that list. The invariant of both loops has
--- `after_matches` of the pairs that are left, over `drop i` and `drop j`. The bounds are linear in both counters, so that
--- `omega` is enough.
+-- each, and sums up each warrior's rows. Only the proof uses the tallies after some matches of the list. The invariant
+-- of both loops has `after_matches` of the remaining pairs, from `drop i` and `drop j`. The bounds are linear in both
+-- counters, so `omega` proves them.
 use Rattle.std.proofs.Common.{◌≡◌, refl, sym, ◌∙◌, ap, ℕ, zero, suc, ◌+◌, ◌<◌, ◌+ℤ◌, List, [], ◌∷◌, ◌++◌, length, replicate, Option, true, false, nat_eq, Result, Ok, Err, arith}
 use Rattle.std.specs.Prelude.{sum_by}
 use Rattle.std.proofs.lemmas.Int.{ints}

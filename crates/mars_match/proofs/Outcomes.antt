@@ -70,7 +70,7 @@ row_at (x ∷ warriors) [] i w t r e h = absurd (omega (arith, e))
 row_at (x ∷ warriors) (y ∷ tallies) zero w t r e h = refl
 row_at (x ∷ warriors) (y ∷ tallies) (suc i) w t r e h = row_at warriors tallies i w t r (omega (arith, e)) (omega (arith, h))
 
--- The points of a warrior don't fit 64 bits.
+-- If the points of a row do not fit 64 bits, checking the rows gives the error `Range`.
 pub unfit : (rows : List RowValue) (i : ℕ) (r : RowValue) → i < length rows → fits_in_64 (get_or rows i r).points ≡ false → checked_rows rows ≡ Err (Score Range)
 unfit rows i r h e = rw (list_all_at (λ row. fits_in_64 row.points) rows i r h e) refl
 

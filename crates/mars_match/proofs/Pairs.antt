@@ -80,11 +80,11 @@ no_warrior = record { name = []; author = []; cells = []; start = 0 }
 pub from_first : (ws : List WarriorValue) (i : ℕ) → i < length ws → pairs_left i (i + 1) (drop i ws) (drop (i + 1) ws) ≡ pairs_of_first i (drop i ws)
 from_first ws i h = rw (drop_more ws i no_warrior h) refl
 
--- The list from warrior `i` on starts with that warrior.
+-- The list `ws` from warrior `i` on starts with warrior `i`, which is `a`.
 pub from_one : (ws : List WarriorValue) (i : ℕ) (a : WarriorValue) → i < length ws → a ≡ get_or ws i a → drop i ws ≡ a ∷ drop (i + 1) ws
 from_one ws i a h e = drop_more ws i a h ∙ ap (λ x. x ∷ drop (i + 1) ws) (sym e)
 
--- After replacing the second warrior, the lineup has warrior `i` and the other one.
+-- After the second warrior of the lineup is replaced by `b`, the lineup has warrior `i` and `b`.
 pub lined_up : (ws before after : List WarriorValue) (i : ℕ) (a b : WarriorValue) → i < length ws → a ≡ get_or ws i a → take 1 before ≡ take 1 (drop i ws) → after ≡ take 1 before ++ b ∷ []
     → after ≡ a ∷ b ∷ []
 lined_up ws before after i a b h e first replaced = replaced ∙ rw (first, from_one ws i a h e) refl

@@ -20,23 +20,23 @@ turns_to_end s = turns_from (s.params.cycles * length s.queues) s
 abbrev pub turns_at : ℕ → List State → List State
 turns_at place turns = filter (λ t. t.next == place) turns
 
--- The turn queues two processes.
+-- Whether the turn from the state `t` queues two processes.
 abbrev pub splits : State → Bool
 splits t = length (turn_record t).queued.items == 2
 
--- The turn executes the cell at address `a`.
+-- Whether the turn from the state `t` executes the cell at address `a`.
 abbrev pub executes : ℕ → State → Bool
 executes a t = front_of (queue_of t.queues t.next) == a
 
--- The turn writes the cell at address `a`.
+-- Whether the turn from the state `t` writes the cell at address `a`.
 abbrev pub writes : ℕ → State → Bool
 writes a t = list_any (λ (change : CellChange). change.address == a) (turn_record t).cells.items
 
--- The turn executes, reads or writes the cell at address `a`.
+-- Whether the turn from the state `t` executes, reads or writes the cell at address `a`.
 abbrev pub touches : ℕ → State → Bool
 touches a t = list_any (λ b. b == a) (touched_in_turn t)
 
--- The number of addresses below `m` that pass the test.
+-- The number of addresses below `m` that pass `test`.
 abbrev pub how_many_below : ℕ → (ℕ → Bool) → ℕ
 how_many_below zero test = 0
 how_many_below (suc m) test = how_many_below m test + (if test m then 1 else 0)

@@ -12,7 +12,8 @@ use Rattle.mars_match.specs.declared.counts.Counts.{Counts}
 use Rattle.mars_match.specs.declared.fates.Fate.{Fate}
 use Rattle.mars_match.specs.declared.fault.MatchFault.{MatchFault}
 
--- The number of turns of all warriors when the warrior at `place` in the order of turns died, or `all` if it is alive.
+-- The number of turns of all warriors when the warrior at `place` in the order of turns died, or `all` if no death in
+-- the list is that of this warrior.
 abbrev pub turns_until : List Death → ℕ → ℕ → ℕ
 turns_until [] place all = all
 turns_until (death ∷ deaths) place all = if death.warrior == place then death.turns else turns_until deaths place all
@@ -21,7 +22,7 @@ turns_until (death ∷ deaths) place all = if death.warrior == place then death.
 abbrev pub place_of : ℕ → ℕ → ℕ → ℕ
 place_of w first i = if nat_le first i then i - first else w - (first - i)
 
--- The counts of a warrior whose deeds are not counted: zeros.
+-- Zeros, for a warrior of which nothing is counted.
 abbrev pub no_counts : Counts
 no_counts = record { turns = 0; spawned = 0; executed = 0; written = 0; touched = 0 }
 

@@ -83,7 +83,7 @@ abbrev pub LeaguesAddUp : Type 0
 LeaguesAddUp = (p : Parameters) (formula : Scanned) (fixed : Option ℕ) (n seed : ℕ) (is_in : Pair → Bool) (pairs : List Pair) (rows : List PlacedRow) →
     rows_of_pairs p formula fixed n seed pairs ≡ Ok rows → AddsUp p formula fixed n seed is_in pairs rows
 
--- Warrior `k` is the second of the pair.
+-- Whether warrior `k` is the second warrior of `pair`.
 abbrev pub is_of : ℕ → Pair → Bool
 is_of k pair = pair.second == k
 

@@ -19,7 +19,7 @@ pub record Pair : Type 0 where
   pub one : WarriorValue
   pub other : WarriorValue
 
--- The pairs of `one`, which is warrior `i`, with each of the others, which are the warriors from `j` on.
+-- The pairs of `one`, which is warrior `i`, with each warrior of the list, which has the warriors from `j` on.
 abbrev pub pairs_with : ℕ → WarriorValue → ℕ → List WarriorValue → List Pair
 pairs_with i one j [] = []
 pairs_with i one j (other ∷ others) = record { first = i; second = j; one = one; other = other } ∷ pairs_with i one (j + 1) others
@@ -34,7 +34,7 @@ pub record PlacedRow : Type 0 where
   pub place : ℕ
   pub row : RowValue
 
--- The rows of a match, each with the place of its warrior.
+-- The rows of a match, each with the place of its warrior from the list of places.
 abbrev pub placed_rows : List ℕ → List RowValue → List PlacedRow
 placed_rows [] rows = []
 placed_rows (place ∷ places) [] = []
@@ -53,7 +53,7 @@ abbrev pub own_rows : ℕ → List PlacedRow → List RowValue
 own_rows i [] = []
 own_rows i (placed ∷ rows) = if placed.place == i then placed.row ∷ own_rows i rows else own_rows i rows
 
--- The exact sum of the points of rows.
+-- The exact sum of the points of all rows.
 abbrev pub all_points : List RowValue → ℤ
 all_points [] = pos 0
 all_points (row ∷ rows) = row.points +ℤ all_points rows

@@ -185,7 +185,7 @@ fn all_counts(alloc: Global, deeds: &[Deeds]) -> Result<Vec<Counts>, AllocError>
 ///
 /// # Errors
 ///
-/// Returns an error if an allocation fails; the battle is unchanged or over then.
+/// Returns an error if an allocation fails. The battle is then unchanged or over.
 pub fn count_to_end(alloc: Global, battle: &mut Battle) -> Result<Vec<Counts>, AllocError>
     ensures many { IfOk result (λ counts. length counts.items ≡ length battle.old.queues) }
     ensures counts { IfOk result (λ counts. (place : ℕ) (d : CountsValue) → place < length battle.old.queues → slice_index_or counts.items place d ≡ counts_of battle.old place) }

@@ -21,14 +21,14 @@ use std::alloc::Global;
 /// The fate of a warrior in a round.
 #[derive(Clone, Copy, Debug, PartialEq, Eq)]
 pub struct Fate {
-    /// Whether it is alive at the end.
+    /// Whether the warrior is alive at the end of the round.
     pub survived: bool,
-    /// The number of turns that all warriors had executed when it died, including its last one. If it survived, the
-    /// number of turns of the round.
+    /// The number of turns that all warriors had executed when the warrior died, including its last turn. If the
+    /// warrior survived, the number of turns of the round.
     pub turns: u32,
-    /// The address of its first cell.
+    /// The address of the warrior's first cell at the start.
     pub start: u32,
-    /// What it did, or zeros if that was not counted.
+    /// What the warrior did, or zeros if that was not counted.
     pub counts: Counts,
 }
 
@@ -56,7 +56,8 @@ fn place_of(count: usize, first: usize, warrior: usize) -> usize
     count - (first - warrior)
 }
 
-/// A battle that is over, and what its warriors did, in the order of turns; no counts if that was not counted.
+/// A battle that is over, and the counts of each warrior in the order of turns. There are no counts unless the match
+/// counts what the warriors do.
 #[derive(Drop)]
 struct Played {
     battle: Box<Battle>,
@@ -190,7 +191,7 @@ fn has_room(battle: &Battle, params: &Params, count: usize) -> bool
         && own.distance() == params.distance()
 }
 
-/// Returns the battle if another one with these parameters and this number of warriors can start in its memory.
+/// Returns the battle `last` if another one with these parameters and this number of warriors can start in its memory.
 fn with_room(last: Option<Box<Battle>>, params: &Params, count: usize) -> Option<Box<Battle>>
     ensures { IfSome result (λ battle. HasRoom params.now count battle.value) }
 {

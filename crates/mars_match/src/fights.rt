@@ -16,8 +16,8 @@ use mars_core::{Battle, BattleFault, MAX_WARRIORS};
 use std::alloc::{AllocError, Global};
 use std::marker::Model;
 
-/// The warriors of a match, stored so that every rotation of them is a contiguous slice: all of them, followed by all but
-/// the last again.
+/// The warriors of a match, followed by copies of all but the last one, so that every rotation of the warriors is a
+/// contiguous slice.
 #[derive(Drop)]
 pub struct Lineup {
     copies: Vec<Warrior>,
@@ -48,7 +48,7 @@ fn copies_of(alloc: Global, warriors: &[Warrior]) -> Result<Vec<Warrior>, AllocE
 }
 
 impl Lineup {
-    /// Copies the warriors, in load order.
+    /// Returns a lineup of copies of the warriors, which are in load order.
     pub fn new(alloc: Global, warriors: &[Warrior]) -> Result<Lineup, AllocError>
         requires { 1 ≤ length warriors.now }
         ensures { IfOk result (λ lineup. lineup ≡ warriors.now) }
@@ -56,7 +56,7 @@ impl Lineup {
         Lineup::of(copies_of(alloc, warriors)?)
     }
 
-    /// Takes the warriors, in load order, and copies all but the last.
+    /// Returns a lineup of the warriors, which are in load order. Copies all but the last one.
     pub fn of(warriors: Vec<Warrior>) -> Result<Lineup, AllocError>
         requires { 1 ≤ length warriors.items }
         ensures { IfOk result (λ lineup. lineup ≡ warriors.items) }
@@ -70,7 +70,7 @@ impl Lineup {
         Ok(Lineup { copies, count })
     }
 
-    /// Copies a warrior twice; `replace_second` then replaces the second copy.
+    /// Returns a lineup of two copies of a warrior. `replace_second` then replaces the second copy.
     pub fn twice(alloc: Global, warrior: &Warrior) -> Result<Lineup, AllocError>
         ensures { IfOk result (λ lineup. lineup ≡ warrior.now ∷ warrior.now ∷ []) }
     {
@@ -125,7 +125,7 @@ fn end(battle: &mut Battle)
     battle.run_to_end();
 }
 
-/// Checks that there is a warrior, and that there are not too many.
+/// Checks that there are 1 to 16 warriors.
 pub fn check_count(count: usize) -> Result<(), MatchFault>
     ensures { MatchOption (count_fault count) (IsOk result) (λ fault. result ≡ Err (MatchFault.Battle fault)) }
 {
@@ -221,7 +221,7 @@ pub fn fight_round(
     ensures state { let r = round.entry in IsResult (λ (battle : Box State Global). battle.value) (ended params.now r.lineup.now r.starts.now r.number) result }
     ensures room { IfOk result (λ battle. HasRoom params.now (length round.entry.lineup.now) battle.value) }
 
-    // With the memory of a last battle, nothing is allocated.
+    // With the memory of the battle `last`, nothing is allocated.
     ensures no_memory { IfSome last (λ _. IfErr result (λ fault. fault ≢ MatchFault.OutOfMemory)) }
 {
     let mut battle = start_round(alloc, params, round, last)?;

@@ -80,7 +80,7 @@ pub fn rows_of(
     Ok(rows)
 }
 
-/// Adds the tally of a match of a league to the tally of the matches before it.
+/// Returns the sum of a warrior's tally of earlier matches of a league and its tally of one more match.
 fn joined(tally: Tally, more: Tally) -> Tally
     requires before { IsOf max_rounds_before tally }
     requires one { IsOf max_rounds more }
@@ -127,8 +127,8 @@ impl Matches {
         }
     }
 
-    /// Executes the battle of a round, and returns it with the points of each survivor. Doesn't allocate if there is a
-    /// last battle.
+    /// Executes the battle of a round until it is over, and returns it with the points of each survivor. Doesn't
+    /// allocate if an earlier round left its battle in `last`.
     fn play_round(
         &mut self,
         setup: &Setup,

@@ -19,8 +19,8 @@ use redcode_text::ExprFault;
 use std::alloc::Global;
 use std::marker::Model;
 
-/// The results of a candidate in the matches so far. The numbers have 128 bits, so that they stay exact however many
-/// opponents a slice has.
+/// The results of a candidate in the matches so far. The numbers have 128 bits, so that they are exact for any number
+/// of opponents that a slice can have.
 #[derive(Drop)]
 struct Total {
     points: i128,
@@ -50,7 +50,7 @@ fn no_matches() -> Total
     }
 }
 
-/// Adds the tally of a match to the total of the `matches` matches before it.
+/// Returns the sum of the total of `matches` matches and the tally of one more match.
 fn added(total: Total, matches: usize, tally: Tally) -> Total
     requires before { IsSumOf matches total }
     requires few { matches + 1 < 2 ^ 64 }

@@ -36,7 +36,7 @@ counts i (o ∷ os) = omega (
   sum_by-cons (λ o. cond (has_lost i o) 1 0) o os,
 )
 
--- If two steps succeed together, each of them succeeds.
+-- If a step and the step that uses its value succeed, the first step has a value with which the second one succeeds.
 given_by : {A B : Type 0} (r : Result A MatchFault) (f : A → Result B MatchFault) (b : B) → (r >>= f) ≡ Ok b → (a : A) × (r ≡ Ok a) × (f a ≡ Ok b)
 given_by (Ok a) f b e = (a, refl, e)
 given_by (Err x) f b e = absurd (cc)
@@ -162,7 +162,7 @@ before_none i k w j (x ∷ xs) h g =
     let first : nat_eq k i ≡ false = grind (arith, g) in
     rw (first, second) (omega (arith, before_none i k w (j + 1) xs (omega (arith, h)) g))
 
--- The first warrior plays each of the others.
+-- Warrior `i` plays one match with each of the warriors `ws` after it.
 own_matches : (i : ℕ) (w : WarriorValue) (j : ℕ) (ws : List WarriorValue) → i < j → matches i (pairs_with i w j ws) ≡ length ws
 unfolding matches
 own_matches i w j [] h = refl
@@ -179,7 +179,7 @@ behind_none i k w j (x ∷ xs) h g l =
     let first : nat_eq k i ≡ false = grind (arith, l) in
     rw (first, second) (omega (arith, behind_none i k w (j + 1) xs (omega (arith, h)) (omega (arith, g)) l))
 
--- Each of the others plays the first warrior once.
+-- Warrior `i`, one of the warriors `ws`, plays one match with warrior `k` before them.
 met_once : (i k : ℕ) (w : WarriorValue) (j : ℕ) (ws : List WarriorValue) → k < j → j ≤ i → i < j + length ws → matches i (pairs_with k w j ws) ≡ 1
 unfolding matches
 met_once i k w j [] h g l = absurd (omega (arith, g, l))

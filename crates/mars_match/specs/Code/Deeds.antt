@@ -21,13 +21,13 @@ no_deeds m = record {
   marks = record { executed = replicate m false; written = replicate m false; touched = replicate m false };
 }
 
--- There is a mark of each kind for each of `m` cells.
+-- The deeds `d` have a mark of each kind for each of `m` cells.
 pub record HasMarks (m : ℕ) (d : DeedsValue) : Type 0 where
   pub executed : length d.marks.executed ≡ m
   pub written : length d.marks.written ≡ m
   pub touched : length d.marks.touched ≡ m
 
--- The deeds of a warrior after its turn `t`.
+-- The deeds of a warrior that has the deeds `d`, after its turn `t`.
 abbrev pub with_turn : State → DeedsValue → DeedsValue
 with_turn t d = record {
   turns = d.turns + 1;
@@ -35,12 +35,12 @@ with_turn t d = record {
   marks = marks_after t d.marks;
 }
 
--- The deeds of a warrior after its turns.
+-- The deeds of a warrior that has the deeds `d`, after its turns of the list.
 abbrev pub with_turns : List State → DeedsValue → DeedsValue
 with_turns [] d = d
 with_turns (t ∷ turns) d = with_turns turns (with_turn t d)
 
--- The deeds `all` of all warriors, in the order of turns, after the turns of the list.
+-- The deeds of all warriors, in the order of turns, after the turns of the list. Before these turns they are `all`.
 abbrev pub noted : List State → List DeedsValue → List DeedsValue
 noted [] all = all
 noted (t ∷ turns) all = noted turns (slice_set all t.next (with_turn t (slice_index_or all t.next (no_deeds 0))))
@@ -51,12 +51,12 @@ counts_in d =
     let marks = λ (marks : List Bool). how_many_below (length marks) (λ a. slice_index_or marks a false) in
     record { turns = d.turns; spawned = d.spawned; executed = marks d.marks.executed; written = marks d.marks.written; touched = marks d.marks.touched }
 
--- `counts` are what each warrior did from the state `s` on, in the order of turns, if that is counted; otherwise the list is
--- empty.
+-- The list `counts` has what each warrior did from the state `s` on, in the order of turns. It is empty if that is not
+-- counted.
 abbrev pub AreCounts : Bool → State → List Counts → Type 0
 AreCounts false s counts = counts ≡ []
 AreCounts true s counts = (length counts ≡ length s.queues) × ((place : ℕ) (d : Counts) → place < length s.queues → slice_index_or counts place d ≡ counts_of s place)
 
--- What the warrior at `place` in the order of turns did, according to a list that is empty if that was not counted.
+-- What the warrior at `place` in the order of turns did, by the list `counts`; zeros if the list is empty.
 abbrev pub listed_at : List Counts → ℕ → Counts
 listed_at counts place = slice_index_or counts place no_counts

@@ -16,11 +16,12 @@ use Rattle.mars_match.specs.declared.table.Tally.{Tally}
 abbrev pub no_rounds : Tally
 no_rounds = record { points = pos 0; wins = 0; ties = 0; losses = 0 }
 
--- The outcome of a round, from its battle, which is over and in which warrior `first` had the first turn.
+-- The outcome of a round, from its last state. Warrior `first` had the first turn, and each survivor gets `score`.
 abbrev pub outcome_by : ℕ → State → ℤ → Outcome
 outcome_by first s score = record { lived = in_load_order first s; score = score }
 
--- The tally after one more round. `lived` is true if its warrior survived, `alone` if it was the only survivor.
+-- The tally `t` of a warrior after one more round. `lived` is true if the warrior survived, `alone` if it was the only
+-- survivor.
 abbrev pub added_if : Bool → Bool → ℤ → Tally → Tally
 added_if lived alone score t = record {
   points = t.points +ℤ (if lived then score else pos 0);
@@ -38,7 +39,7 @@ abbrev pub all_added : Outcome → ℕ → List Tally → List Tally
 all_added outcome i [] = []
 all_added outcome i (t ∷ tallies) = added outcome i t ∷ all_added outcome (i + 1) tallies
 
--- The tallies after `n` more rounds, from round `k` on.
+-- The tallies after `n` more rounds, from round `k` and `seed` on, or the error of the first round that has one.
 abbrev pub tallied : Parameters → List WarriorValue → Scanned → Option ℕ → ℕ → ℕ → ℕ → List Tally → Result (List Tally) MatchFault
 tallied p warriors formula fixed zero k seed tallies = Ok tallies
 tallied p warriors formula fixed (suc n) k seed tallies =
@@ -50,16 +51,17 @@ tallied p warriors formula fixed (suc n) k seed tallies =
 abbrev pub max_rounds : ℕ
 max_rounds = 4294967295
 
--- The number of rounds of 65,536 matches. No warrior of a league has more rounds against the warriors after it.
+-- The number of rounds of 65,536 matches of `max_rounds` each. No warrior of a league has more rounds against the
+-- warriors after it.
 abbrev pub max_row_rounds : ℕ
 max_row_rounds = 281474976645120
 
--- The number of rounds of 4,294,967,294 matches. It bounds the rounds that a league of 65,536 warriors has before any of
--- its matches.
+-- The number of rounds of 4,294,967,294 matches of `max_rounds` each. Before any match of a league of 65,536 warriors,
+-- no more rounds have been played.
 abbrev pub max_rounds_before : ℕ
 max_rounds_before = 18446744060824649730
 
--- The tally is one of at most `k` rounds.
+-- The tally `t` may be that of at most `k` rounds, whose points fit 64 bits.
 pub record IsOf (k : ℕ) (t : Tally) : Type 0 where
   pub low : neg_ℤ (pos (k * 2 ^ 63)) ≤ℤ t.points
   pub high : t.points ≤ℤ pos (k * 2 ^ 63)
@@ -67,21 +69,21 @@ pub record IsOf (k : ℕ) (t : Tally) : Type 0 where
   pub ties : t.ties ≤ k
   pub losses : t.losses ≤ k
 
--- The row of a warrior with the given tally.
+-- The row of the warrior with the tally `t`.
 abbrev pub row_with : WarriorValue → Tally → RowValue
 row_with warrior t = record { name = warrior.name; author = warrior.author; points = t.points; wins = t.wins; ties = t.ties; losses = t.losses }
 
--- The rows of the warriors with the given tallies.
+-- The rows of the warriors, each with its tally.
 abbrev pub rows_with : List WarriorValue → List Tally → List RowValue
 rows_with [] tallies = []
 rows_with (w ∷ warriors) [] = []
 rows_with (w ∷ warriors) (t ∷ tallies) = row_with w t ∷ rows_with warriors tallies
 
--- The sum of a candidate, with the tally of one more match added.
+-- The sum of a candidate, with the tally `t` of one more match added.
 abbrev pub summed : Sum → Tally → Sum
 summed sum t = record { points = sum.points +ℤ t.points; wins = sum.wins + t.wins; ties = sum.ties + t.ties; losses = sum.losses + t.losses }
 
--- The sum is one of at most `k` matches, the points of each of which fit 64 bits.
+-- The sum may be that of at most `k` matches of at most `max_rounds` rounds, if the points of each match fit 64 bits.
 pub record IsSumOf (k : ℕ) (sum : Sum) : Type 0 where
   pub low : neg_ℤ (pos (k * 2 ^ 63)) ≤ℤ sum.points
   pub high : sum.points ≤ℤ pos (k * 2 ^ 63)

@@ -4,7 +4,8 @@ use Rattle.mars_match.specs.Counts.{turns_from}
 use Rattle.mars_match.specs.Code.Deeds.{DeedsValue, HasMarks, noted}
 use Rattle.mars_match.proofs.counts.note_turns.Given as goal
 
--- The turns so far are noted, no warrior has more turns than were made, and each has a mark for each cell.
+-- Noting the remaining turns gives the deeds of all turns. No warrior has more turns than were made, and each has a
+-- mark for each cell.
 abbrev pub invariant-loop-made : goal.invariant-loop-made
 invariant-loop-made l = record {
   deeds : noted (turns_from (l.last - l.made) l.battle) l.deeds ≡ noted (turns_from l.last l.initial.battle) l.initial.deeds;

@@ -8,7 +8,7 @@ use Rattle.mars_match.proofs.Draws.{draws_below, seed_after-add}
 use Rattle.mars_match.proofs.Spacing.{spaced_starts}
 use Rattle.mars_match.proofs.placement.place_all.Goals as goal
 
--- The starts are sorted after the draw; 0 is among them.
+-- The sorted list of a start at 0 and the draws is 0, followed by the draws in ascending order.
 sorted_is : (room n seed : ℕ) (xs ys : List ℕ) → xs ≡ 0 ∷ draws room n seed → IsPermutation xs ys → IsNonDecreasing ys → ys ≡ 0 ∷ ascending (draws room n seed)
 sorted_is room n seed xs ys e p up = ascending_is (0 ∷ draws room n seed) ys (rw e at p) up ∙ ascending_zero (ascending (draws room n seed))
 
