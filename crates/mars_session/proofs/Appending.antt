@@ -1,4 +1,4 @@
--- Appending places one by one and evicting after each gives the same as appending all of them and evicting once.
+-- Appending places one by one and evicting after each gives the same as appending all places and evicting once.
 use Rattle.std.proofs.Common.{◌≡◌, ℕ, zero, suc, ◌<◌, ◌≤◌, Bool, true, false, List, [], ◌∷◌, length, take, Option, None, Some, Ok, refl, ap, ◌∙◌, arith, nat_lt}
 use Rattle.std.specs.Prelude.{◌||◌}
 use Rattle.std.proofs.lemmas.Bool.{ltb-true, ltb-false, lt-ltb}

@@ -101,7 +101,7 @@ none_unless : (P : Type 0) (x : Option History) → (IsSome x → P) → (P → 
 none_unless P None some never = refl
 none_unless P (Some k) some never = absurd (never (some refl))
 
--- No place has more turns than the last one.
+-- Goto finds no place with more turns than the last one.
 pub met_past : (t last : ℕ) (h : History) → TurnsRise h → last ≡ last_turns h → nat_le t last ≡ false → nat_le t last ≡ is_some (goto t h)
 met_past t last h rise e past =
     past ∙ sym (none_unless (t ≤ last_turns h) (goto t h) (λ some. ((turns_between h t rise).0 some).1) (λ l. absurd (omega (arith, leb-false t last past, e, l))))

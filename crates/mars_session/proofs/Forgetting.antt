@@ -1,4 +1,4 @@
--- A tape of one battle and the records between the last places, as a history.
+-- What marks, cuts and appends do to the history and the invariant of a tape that evicts.
 use Rattle.std.proofs.Common.{◌≡◌, ℕ, ◌+◌, ◌-◌, ◌<◌, ◌≤◌, Bool, true, false, List, [], ◌∷◌, ◌++◌, length, set, take, Some, refl, ap, sym, ◌∙◌, arith, add-one, nat_lt, if◌then◌else◌}
 use Rattle.std.specs.Prelude.{◌||◌}
 use Rattle.std.proofs.lemmas.List.{length_push, length-take-le}

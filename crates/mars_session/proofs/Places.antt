@@ -1,4 +1,4 @@
--- The moves in terms of the list of all places.
+-- Moves and accepted commands in terms of the list of all places.
 use Rattle.std.proofs.Common.{◌≡◌, ℕ, zero, suc, ◌+◌, ◌<◌, ◌≤◌, Bool, true, false, List, [], ◌∷◌, ◌++◌, length, take, Option, None, Some, refl, ap, sym, ◌∙◌, subst, arith, add-one, nat_eq, inl, inr, if◌then◌else◌}
 use Rattle.std.specs.Prelude.{reverse, option_map, ◌==◌}
 use Rattle.std.proofs.lemmas.Bool.{eqb-true, eqb-false}
@@ -26,7 +26,7 @@ found : (P : Option History → Type 0) (b : Bool) (x y : Option History) → (b
 found P true x y h k = h refl
 found P false x y h k = k refl
 
--- A history that was found has the same first place as the given one.
+-- A history that was found has the same places as `r`, which is a rewound history.
 abbrev pub SameStart : History → Option History → Type 0
 SameStart r None = Unit {0}
 SameStart r (Some to) = rewound to ≡ r

@@ -1,4 +1,4 @@
--- A tape of one battle and the records between its places, as a history.
+-- What moves, marks, cuts and appends do to a list of records, its history and its invariant.
 use Rattle.std.proofs.Common.{◌≡◌, ℕ, zero, suc, ◌+◌, ◌-◌, ◌<◌, ◌≤◌, ◌≢◌, Bool, true, false, List, [], ◌∷◌, ◌++◌, length, get_or, set, take, refl, ap, sym, subst, ◌∙◌, arith, add-one, nat_eq}
 use Rattle.std.proofs.lemmas.List.{get_or-set_same, get_or-set_other, get_or-take, get_or_append_left, get_or_push, get_or_read, length_push, length-take-le}
 use Rattle.std.proofs.Math.ListN.{length-set}
@@ -30,7 +30,7 @@ journal_following first es at s = after_length es at (length es - at) s
 pub journal_last : (first : Bool) (es : List (Atom × Bool)) (at : ℕ) (s : State) → at ≤ length es → last_of (journal_history first es at s) ≡ length es
 journal_last first es at s l = omega (arith, before_length first es at s, after_length es at (length es - at) s)
 
--- Reverting the last record is one step back in the history.
+-- Reverting the record that led to the present place is one step back in the history.
 pub journal_back : (first : Bool) (es : List (Atom × Bool)) (at : ℕ) (s : State) → 0 < at → IsJournal es at s
     → journal_history first es (at - 1) (reverted (entry_at es (at - 1)).0 s) ≡ back (journal_history first es at s)
 journal_back first es zero s l d = absurd (omega arith)
@@ -104,7 +104,7 @@ pub history_is : (s : State) (before before' : List Place) (mark mark' : Bool) (
     → ◌≡◌ {A = History} (record { before = before; present = record { state = s; mark = mark }; after = after }) (record { before = before'; present = record { state = s; mark = mark' }; after = after' })
 history_is s before before' mark mark' after after' b m a = rw (b, m, a) refl
 
--- Setting the mark beside the last record marks the present place.
+-- Setting the mark beside the record that led to the present place marks this place.
 pub journal_marked : (first : Bool) (es : List (Atom × Bool)) (at : ℕ) (s : State) → 0 < at → at ≤ length es
     → journal_history first (set es (at - 1) ((entry_at es (at - 1)).0, true)) at s ≡ marked (journal_history first es at s)
 journal_marked first es zero s l p = absurd (omega arith)
@@ -189,7 +189,7 @@ append_kept es at s t a e leads d =
       on = rw none tt;
     }
 
--- The last record leads to the present place.
+-- The record at index `at - 1` leads to the present place.
 pub leads_here : (es : List (Atom × Bool)) (at : ℕ) (s : State) → 0 < at → LeadHere es at s → Leads (reverted (entry_at es (at - 1)).0 s) (entry_at es (at - 1)).0 s
 leads_here es zero s l d = absurd (omega arith)
 leads_here es (suc n) s l d = let e : suc n - 1 ≡ n = omega arith in rw e d.0
@@ -198,7 +198,7 @@ leads_here es (suc n) s l d = let e : suc n - 1 ≡ n = omega arith in rw e d.0
 pub leads_on : (es : List (Atom × Bool)) (at : ℕ) (s : State) → at < length es → LeadOn es at (length es - at) s → Leads s (entry_at es at).0 (applied (entry_at es at).0 s)
 leads_on es at s l d = let more : length es - at ≡ suc (length es - (at + 1)) = omega arith in (rw more at d).0
 
--- Reverting the last record gives the state before it.
+-- Reverting the record that led to the present place gives the state before it.
 pub gone_back : (es : List (Atom × Bool)) (at : ℕ) (s t : State) (a : Atom) → 0 < at → LeadHere es at s → a ≡ (entry_at es (at - 1)).0
     → ((before : State) → Leads before a s → t ≡ before) → t ≡ reverted (entry_at es (at - 1)).0 s
 gone_back es at s t a l d read is = is (reverted (entry_at es (at - 1)).0 s) (rw read (leads_here es at s l d))

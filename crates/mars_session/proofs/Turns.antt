@@ -1,4 +1,4 @@
--- Executing one more turn, or none.
+-- The first of the turns or cells that a command has left, and whether a cell can be set.
 use Rattle.std.proofs.Common.{◌≡◌, ℕ, zero, suc, ◌+◌, ◌-◌, ◌<◌, ◌≤◌, Bool, true, false, [], ◌∷◌, refl, arith, sub-one}
 use Rattle.std.specs.Prelude.{Option, None, Some, nat_lt, if◌then◌else◌}
 use Rattle.std.specs.Option.{option_or}
@@ -27,7 +27,7 @@ pub turns_until_done : (done : State → Bool) (n : ℕ) (s : State) → done s 
 turns_until_done done zero s h = refl
 turns_until_done done (suc n) s h = rw h refl
 
--- The places after the turns from a tape, with the first turn executed.
+-- After the first turn is executed, the turns that are left lead to the same end.
 pub one_turned : (done : State → Bool) (n : ℕ) (t new end : Kept) → 0 < n → done t.history.present.state ≡ false
     → go_on_all t (turns_until done n t.history.present.state) ≡ end → new ≡ go_on t (turn_of t.history.present.state)
     → go_on_all new (turns_until done (n - 1) new.history.present.state) ≡ end
@@ -39,7 +39,7 @@ pub fills_more : (n address : ℕ) (cell : Cell) (s : State) → 0 < n
 fills_more zero address cell s h = absurd (omega arith)
 fills_more (suc n) address cell s h = rw sub-one refl
 
--- The places after the cells from a tape, with the first cell set.
+-- After the first cell is set, the cells that are left lead to the same end.
 pub one_filled : (to address : ℕ) (cell : Cell) (t new end : Kept) → address < to
     → go_on_all t (fills (to - address) (address + 1) cell t.history.present.state) ≡ end → new ≡ go_on t (edited t.history.present.state (edits.SetCell (address + 1) cell))
     → go_on_all new (fills (to - (address + 1)) (address + 1 + 1) cell new.history.present.state) ≡ end
@@ -47,7 +47,7 @@ one_filled to address cell t new end left so_far is =
     let less : (to - address) - 1 ≡ to - (address + 1) = omega arith in
     rw is (rw (fills_more (to - address) (address + 1) cell t.history.present.state (omega arith), less) at so_far)
 
--- Setting other cells does not change whether a cell can be set.
+-- An edit does not change whether a cell can be set.
 pub fault_kept : (s : State) (e : Edit) (address : ℕ) (cell : Cell) → edit_fault (edited s e) (edits.SetCell address cell) ≡ edit_fault s (edits.SetCell address cell)
 unfolding edit_fault
 fault_kept s e address cell = rw (shape-edited s e).params refl

@@ -10,7 +10,7 @@ use Rattle.mars_session.specs.Retention.{Retention, never, retained, retention_a
 use Rattle.mars_session.specs.Script.{CallKind, Command, Move, kind_of, outcome_of, outcome, command_outcome, appended, move_outcome, room_refusal, first, rest, script}
 use Rattle.mars_session.specs.Laws.{command_places, times, is_command, count_of, appended_by, AllAccepted, UndosGiveBack, RedosGiveAgain, RedoAfterUndo}
 
--- The history `h` with its present place marked, and followed by these places.
+-- The history `h` with its present place marked, and followed by the places `after`.
 abbrev pub base : History → List Place → History
 base h after = record { before = h.before; present = record { state = h.present.state; mark = true }; after = after }
 
@@ -79,7 +79,7 @@ redo_undo_from (b ∷ before) p after h back u r =
 pub redo_undo : RedoAfterUndo
 redo_undo h back m u = redo_undo_from h.before h.present h.after h back u (rw m refl)
 
--- An accepted command reaches `n` states.
+-- An accepted command that reaches `n` states leads from `h` to `new`.
 pub record Accepted (m : Retention) (n : ℕ) (h new : History) : Type 0 where
   pub first : State
   pub others : List State

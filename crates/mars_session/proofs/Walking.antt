@@ -1,8 +1,8 @@
--- What a step back or forward preserves.
+-- What steps back and forward preserve, the history from its first place, and moves without a target.
 use Rattle.std.proofs.Common.{◌≡◌, ℕ, zero, suc, ◌+◌, ◌<◌, ◌≤◌, List, [], ◌∷◌, length, Some, None, refl, ap, sym, ◌∙◌, arith, eq-eqb}
 use Rattle.mars_session.specs.History.{Place, History, position_of, following, last_of, step_back, back, step_forward, forward, marked_before, undo, marked_after, redo, rewound_from, rewound, first_at_turn_from, first_at_turn, last_place, last_turns}
 
--- A step back has the same first place and order of places.
+-- A step back keeps the places and their order.
 rewound_step_back : (before : List Place) (p : Place) (after : List Place) → rewound (step_back before p after) ≡ rewound_from before p after
 rewound_step_back [] p after = refl
 rewound_step_back (b ∷ before) p after = refl
@@ -32,7 +32,7 @@ last_rewound_from (b ∷ before) p after = last_rewound_from before b (p ∷ aft
 pub last_rewound : (h : History) → following (rewound h) ≡ last_of h
 last_rewound h = last_rewound_from h.before h.present h.after
 
--- Histories of the same places have the same last place.
+-- Histories of the same places have the same number of the last place.
 pub same_last : (h k : History) → rewound h ≡ rewound k → last_of h ≡ last_of k
 same_last h k e = sym (last_rewound h) ∙ ap following e ∙ last_rewound k
 

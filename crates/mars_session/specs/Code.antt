@@ -1,4 +1,4 @@
--- How each tape stores its places, as a history. Only internal functions and proofs use these definitions.
+-- The storage of each tape as a history, and appends. Only internal functions and proofs use these definitions.
 pub mod Whole
 pub mod Journals
 pub mod Appending

@@ -1,4 +1,4 @@
--- What a command does to a state: the states that it reaches, one after another, or the reason for which it is refused.
+-- The states that a command reaches from a state, one after another, or the reason for which the command is refused.
 use Rattle.std.specs.Prelude.{ℕ, zero, suc, Bool, ◌+◌, ◌-◌, ◌*◌, ◌==◌, ◌||◌, nat_lt, nat_le, List, [], ◌∷◌, length, Option, Some, None, Result, Ok, Err, if◌then◌else◌}
 use Rattle.mars_cell.specs.declared.instruction.Cell.{Cell}
 use Rattle.mars_core.specs.State.{State, is_over_of}
@@ -15,16 +15,16 @@ use Rattle.mars_session.specs.declared.calls.Refusal.TheVariants.{Count, Address
 abbrev pub command_limit : ℕ
 command_limit = 1000000
 
--- The states that a command reaches, in order: the first one, and the others. So a command reaches at least one state.
+-- The states that an accepted command reaches, at least one: the first, and then the others in order.
 abbrev pub States : Type 0
 States = State × List State
 
--- The states after each turn from `s` on: at most `n` turns, up to the first state that is `done`.
+-- The states after at most `n` turns from `s` on, up to the first state that is `done`; none if `s` is `done`.
 abbrev pub turns_until : (State → Bool) → ℕ → State → List State
 turns_until done zero s = []
 turns_until done (suc n) s = if done s then [] else (turn_of s ∷ turns_until done n (turn_of s))
 
--- The battle is over, or is in cycle `c`.
+-- The battle `s` is over, or is in cycle `c`.
 abbrev pub in_cycle : ℕ → State → Bool
 in_cycle c s = is_over_of s || s.cycle == c
 
@@ -33,22 +33,23 @@ abbrev pub stops_at : Option ℕ → State → Bool
 stops_at None s = is_over_of s
 stops_at (Some c) s = in_cycle c s
 
--- The state that `step` reaches: one turn.
+-- The state that `step` reaches from `s`, after one turn, or `Over` if the battle is over.
 abbrev pub step_states : State → Result States Refusal
 step_states s = if is_over_of s then Err Over else Ok (turn_of s, [])
 
--- The states that `run n` reaches: `n` turns, or fewer if the battle ends before.
+-- The states that `run n` reaches from `s`: `n` turns, or fewer if the battle ends before. `n` is checked first.
 abbrev pub run_states : ℕ → State → Result States Refusal
 run_states n s =
     if n == 0 || nat_lt command_limit n then Err Count
     else if is_over_of s then Err Over
     else Ok (turn_of s, turns_until (stops_at None) (n - 1) (turn_of s))
 
--- The maximum number of turns up to cycle `c`: each cycle has at most one turn for each warrior, dead ones included.
+-- The maximum number of turns from `s` up to cycle `c`: one for each warrior, dead or alive, in each cycle.
 abbrev pub until_bound : ℕ → State → ℕ
 until_bound c s = (c - s.cycle) * length s.queues
 
--- The states that `until c` reaches: the turns up to cycle `c`, or up to the end of the battle if it comes before.
+-- The states that `until c` reaches from `s`: the turns up to cycle `c`, or up to the end of the battle if it comes
+-- before. The bound is checked first, then whether the battle is over, and then whether `c` is after the present cycle.
 abbrev pub until_states : ℕ → State → Result States Refusal
 until_states c s =
     if nat_lt command_limit (until_bound c s) then Err Count
@@ -70,22 +71,22 @@ abbrev pub unless_fault : Option EditFault → States → Result States Refusal
 unless_fault None states = Ok states
 unless_fault (Some fault) states = Err (refusal_of fault)
 
--- The state that the edit `e` of the state `s` reaches.
+-- The state after the edit `e` of the state `s`, or the refusal if the edit has an error.
 abbrev pub edit_states : Edit → State → Result States Refusal
 edit_states e s = unless_fault (edit_fault s e) (edited s e, [])
 
--- The states after each of `n` cells from `address` on is set to `cell`.
+-- The states after each of `n` cells of `s` from `address` on is set to `cell`, in order.
 abbrev pub fills : ℕ → ℕ → Cell → State → List State
 fills zero address cell s = []
 fills (suc n) address cell s =
     let next = edited s (edits.SetCell address cell) in next ∷ fills n (address + 1) cell next
 
--- The number of cells from the address `from` to the address `to`, both included.
+-- The number of cells from the address `from` to the address `to`, both included; 0 if `to` is less than `from`.
 abbrev pub cells_between : ℕ → ℕ → ℕ
 cells_between from to = (to + 1) - from
 
--- The states that `fill` reaches: the cells from `from` to `to`, both included, are set one after another. If the last one can
--- be set, each other one can, so only the last one is checked.
+-- The states that `fill` reaches from `s`: the cells from `from` to `to`, both included, are set to `cell` one after
+-- another. If the last of these cells can be set, so can the others; so only the last one is checked.
 abbrev pub fill_states : ℕ → ℕ → Cell → State → Result States Refusal
 fill_states from to cell s =
     let first = edited s (edits.SetCell from cell) in

@@ -21,14 +21,14 @@ use Rattle.mars_session.specs.Script.{script}
 abbrev pub imp : State
 imp = lone of_eight (eight (cell_of Mov I Direct 0 Direct 1 ∷ [])) (0 ∷ [])
 
--- The imp has executed `turns` turns, and the session is at place `position` of a history whose last place is `last`.
+-- The reply after `turns` turns of the imp, at place `position` of a history whose last place is `last`.
 abbrev pub stands : ℕ → ℕ → ℕ → Result Standing Refusal
 stands turns position last = Ok (record { turns = turns; cycle = turns; next = 0; alive = 1; position = position; last = last })
 
--- These are the replies to calls over the imp if all places are kept, at most `limit` of them after the first.
+-- `replies` are the replies to `calls` over the imp if all places are kept and the limit is `limit`.
 abbrev pub RepliesWithin : ℕ → List Call → List (Result Standing Refusal) → Type 0
 RepliesWithin limit calls replies = (script never limit calls [] (beginning imp)).replies ≡ replies
 
--- These are the replies to calls over the imp if `k` places are kept beside the last one.
+-- `replies` are the replies to `calls` over the imp if `k` places are kept beside the last one.
 abbrev pub RepliesKeeping : ℕ → List Call → List (Result Standing Refusal) → Type 0
 RepliesKeeping k calls replies = (script (record { most = Some k; forgotten = false }) 0 calls [] (beginning imp)).replies ≡ replies

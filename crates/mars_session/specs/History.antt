@@ -8,20 +8,20 @@ pub record Place : Type 0 where
   pub state : State
   pub mark : Bool
 
--- Places in order, one of which is the present one. `before` has the places before it, the nearest first; `after` has those
--- after it, in order. So a move back or forward takes a place from the front of one list to the front of the other, as the definitions
--- below do one by one. The laws state what they do in terms of `places`, the whole list: commands_append, undo_finds_nearest,
--- redo_finds_nearest, goto_finds_first, moves_keep_places.
+-- Places in order, one of which is the present one. `before` has the places before the present one, the nearest first;
+-- `after` has the places after it, in order. So going one place back or forward changes only the fronts of the two
+-- lists. The laws state what commands and moves do in terms of `places`, the whole list: `CommandsAppend`,
+-- `UndoFindsNearest`, `RedoFindsNearest`, `GotoFindsFirst`, `MovesKeepPlaces`.
 pub record History : Type 0 where
   pub before : List Place
   pub present : Place
   pub after : List Place
 
--- The history of one place, which is marked.
+-- The history whose only place has the state `s` and is marked.
 abbrev pub beginning : State → History
 beginning s = record { before = []; present = record { state = s; mark = true }; after = [] }
 
--- All places in order.
+-- All places of `h` in order.
 abbrev pub places : History → List Place
 places h = reverse h.before ++ h.present ∷ h.after
 
@@ -45,39 +45,39 @@ marked h = record h { present = record { state = h.present.state; mark = true } 
 abbrev pub cut : History → History
 cut h = record h { after = [] }
 
--- Appends an unmarked place, which becomes the present one.
+-- Replaces the places after the present one by an unmarked place with the state `s`, which becomes the present one.
 abbrev pub append : History → State → History
 append h s = record { before = h.present ∷ h.before; present = record { state = s; mark = false }; after = [] }
 
--- Appends unmarked places one by one; the last one becomes the present one.
+-- Appends an unmarked place for each state of a list in order, as `append` does.
 abbrev pub append_all : History → List State → History
 append_all h [] = h
 append_all h (s ∷ ss) = append_all (append h s) ss
 
--- The history after an accepted command: the present place is marked, the places after it are dropped, the states are appended,
--- and the last one is marked.
+-- The history after an accepted command that reaches `s` and then `ss`: the present place is marked, the places after
+-- it are dropped, these states are appended, and the last place is marked.
 abbrev pub after_command : History → State → List State → History
 after_command h s ss = marked (append_all (append (cut (marked h)) s) ss)
 
--- One place back, if there is one.
+-- The history of the three parts, one place back if there is a place before `p`.
 abbrev pub step_back : List Place → Place → List Place → History
 step_back [] p after = record { before = []; present = p; after = after }
 step_back (b ∷ before) p after = record { before = before; present = b; after = p ∷ after }
 
--- One place back, if there is one.
+-- The history `h`, one place back if there is a place before the present one.
 abbrev pub back : History → History
 back h = step_back h.before h.present h.after
 
--- One place forward, if there is one.
+-- The history of the three parts, one place forward if there is a place after `p`.
 abbrev pub step_forward : List Place → Place → List Place → History
 step_forward before p [] = record { before = before; present = p; after = [] }
 step_forward before p (a ∷ after) = record { before = p ∷ before; present = a; after = after }
 
--- One place forward, if there is one.
+-- The history `h`, one place forward if there is a place after the present one.
 abbrev pub forward : History → History
 forward h = step_forward h.before h.present h.after
 
--- Back from `p` to the nearest marked place, or None if there is none.
+-- Back from `p` to the nearest marked place before it, or None if there is none.
 abbrev pub marked_before : List Place → Place → List Place → Option History
 marked_before [] p after = None
 marked_before (b ∷ before) p after =
@@ -88,7 +88,7 @@ marked_before (b ∷ before) p after =
 abbrev pub undo : History → Option History
 undo h = marked_before h.before h.present h.after
 
--- Forward from `p` to the nearest marked place, or None if there is none.
+-- Forward from `p` to the nearest marked place after it, or None if there is none.
 abbrev pub marked_after : List Place → Place → List Place → Option History
 marked_after before p [] = None
 marked_after before p (a ∷ after) =
@@ -99,12 +99,12 @@ marked_after before p (a ∷ after) =
 abbrev pub redo : History → Option History
 redo h = marked_after h.before h.present h.after
 
--- Back to the first place.
+-- The history of the three parts, with its first place as the present one.
 abbrev pub rewound_from : List Place → Place → List Place → History
 rewound_from [] p after = record { before = []; present = p; after = after }
 rewound_from (b ∷ before) p after = rewound_from before b (p ∷ after)
 
--- The same places, with the first one as the present one.
+-- The history `h`, with its first place as the present one.
 abbrev pub rewound : History → History
 rewound h = rewound_from h.before h.present h.after
 
@@ -116,7 +116,7 @@ first_at_turn_from t before p (a ∷ after) =
     if p.state.turns == t then Some (record { before = before; present = p; after = a ∷ after })
     else first_at_turn_from t (p ∷ before) a after
 
--- Forward from the present place to the first place with `t` turns, or None; the present place is included.
+-- From the present place, which is included, forward to the first place with `t` turns, or None if there is none.
 abbrev pub first_at_turn : ℕ → History → Option History
 first_at_turn t h = first_at_turn_from t h.before h.present h.after
 
@@ -124,7 +124,7 @@ first_at_turn t h = first_at_turn_from t h.before h.present h.after
 abbrev pub goto : ℕ → History → Option History
 goto t h = first_at_turn t (rewound h)
 
--- The last place, from `p` on.
+-- The last place of `p` and the places after it.
 abbrev pub last_place : Place → List Place → Place
 last_place p [] = p
 last_place p (a ∷ after) = last_place a after

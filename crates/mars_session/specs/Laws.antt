@@ -1,4 +1,5 @@
--- The laws: theorems about the definitions. They say what undo and redo restore, and what holds along a tape.
+-- The laws: theorems about the definitions. They say what undo and redo restore, what refusals leave, which places
+-- commands and moves lead to, and what holds along a tape.
 use Rattle.std.specs.Prelude.{All, ◌≡◌, ◌≢◌, ◌≤◌, ◌<◌, ◌+◌, ◌↔◌, ◌⊎◌, ◌==◌, ◌++◌, ℕ, zero, suc, Bool, true, false, List, [], ◌∷◌, length, map, take, replicate, Option, None, Some, Result, Ok, Err, is_ok, IsTrue, IsOk, IsErr, IsSome, IsSomeAnd, option_and_then, option_map}
 use Rattle.std.specs.List.{filter, list_all}
 use Rattle.mars_core.specs.State.{State}
@@ -14,15 +15,15 @@ use Rattle.mars_session.specs.Commands.{States, in_cycle, until_states}
 use Rattle.mars_session.specs.Tapes.{Steps, IsTape, IsTapeOf, RisesFrom}
 use Rattle.mars_session.specs.Script.{SessionValue, CallKind, Command, Move, kind_of, outcome, is_poor, CallsMeetSpec, script, first, rest}
 
--- If calls are executed one after another, the replies and the final history are those of `script`, with an allocation failing
--- in exactly the calls whose reply says so.
+-- If calls are executed one after another, the replies, the final history and the retention are those of `script`, in
+-- which an allocation fails exactly for the calls with the reply `OutOfMemory`. The limit stays.
 abbrev pub CallsAreScripts : Type 0
 CallsAreScripts = (old new : SessionValue) (calls : List Call) (replies : List (Result Standing Refusal)) → CallsMeetSpec old calls replies new
     → (script old.state.retention old.state.limit calls (map is_poor replies) old.state.history
     ≡ record { history = new.state.history; retention = new.state.retention; replies = replies })
     × (new.state.limit ≡ old.state.limit)
 
--- A move, executed `n` times; None if one of the moves has no target.
+-- The history after the move `move` is executed `n` times, or None if one of these moves has no target.
 abbrev pub times : ℕ → (History → Option History) → History → Option History
 times zero move h = Some h
 times (suc n) move h = option_and_then (times n move) (move h)
@@ -85,7 +86,7 @@ CommandsAreUndone = (limit : ℕ) (calls : List Call) (poor undo_poor redo_poor 
     let back = (script never limit (replicate count Undo) undo_poor end).history in
     UndoRedoRoundTrip never limit count undo_poor redo_poor h back end × (position_of back ≡ position_of h)
 
--- The number of states that a command reaches.
+-- The number of states that a command reaches; 0 if it is refused.
 abbrev pub count_of : Result States Refusal → ℕ
 count_of (Err r) = 0
 count_of (Ok states) = suc (length states.1)
@@ -95,7 +96,7 @@ abbrev pub appended_by : CallKind → State → ℕ
 appended_by (Command bound states) s = count_of (states s)
 appended_by (Move refusal move) s = 0
 
--- The number of places that calls append together.
+-- The number of places, evicted places included, that calls append together if none is refused for lack of room.
 abbrev pub total_appended : Retention → ℕ → List Call → List Bool → History → ℕ
 total_appended m limit [] poor h = 0
 total_appended m limit (call ∷ calls) poor h =
@@ -118,7 +119,7 @@ FewCommandsAreUndone = (k : ℕ) (forgotten : Bool) (limit : ℕ) (calls : List 
 abbrev pub RedoAfterUndo : Type 0
 RedoAfterUndo = (h back : History) → h.present.mark ≡ true → undo h ≡ Some back → redo back ≡ Some h
 
--- The history whose only place is marked and has the valid state `s` is a tape, both if all places are kept and if `k` are kept.
+-- A history with only one place, marked and with the valid state `s`, is a tape, however many places are kept.
 abbrev pub BeginningIsTape : Type 0
 BeginningIsTape = (s : State) → IsValid s → IsTape (beginning s) × ((k : ℕ) → IsTapeOf k (beginning s))
 
@@ -130,7 +131,7 @@ CallsKeepTapes = (limit : ℕ) (call : Call) (poor : Bool) (h : History) → IsT
 abbrev pub ScriptsKeepTapes : Type 0
 ScriptsKeepTapes = (limit : ℕ) (calls : List Call) (poor : List Bool) (h : History) → IsTape h → IsTape (script never limit calls poor h).history
 
--- If all places are kept, every call keeps the number of places of a tape within the limit.
+-- If all places are kept, every call keeps the number of places after the first one of a tape within `limit`.
 abbrev pub CallsKeepLimit : Type 0
 CallsKeepLimit = (limit : ℕ) (call : Call) (poor : Bool) (h : History) → IsTape h → last_of h ≤ limit → last_of (outcome never limit call poor h).history ≤ limit
 
@@ -139,7 +140,7 @@ abbrev pub ScriptsForgetTapes : Type 0
 ScriptsForgetTapes = (k : ℕ) (forgotten : Bool) (limit : ℕ) (calls : List Call) (poor : List Bool) (h : History)
     → IsTapeOf k h → IsTapeOf k (script (record { most = Some k; forgotten = forgotten }) limit calls poor h).history
 
--- Each place of a tape is a valid state.
+-- Each place of a tape has a valid state.
 abbrev pub PlacesAreValid : Type 0
 PlacesAreValid = (h : History) → Steps h → All (λ (p : Place). IsValid p.state) (places h)
 
@@ -152,22 +153,22 @@ GrowsByAtMostOne number (p ∷ ps) = RisesFrom number p.state ps
 abbrev pub TurnsAndCyclesRise : Type 0
 TurnsAndCyclesRise = (h : History) → Steps h → GrowsByAtMostOne (λ (s : State). s.turns) (places h) × GrowsByAtMostOne (λ (s : State). s.cycle) (places h)
 
--- A tape has a place with `t` turns exactly if `t` is between the turns of its first and of its last place.
+-- A tape has a place with `t` turns exactly if its first place has at most and its last place at least `t` turns.
 abbrev pub GotoBetween : Type 0
 GotoBetween = (h : History) (t : ℕ) → Steps h → IsSome (goto t h) ↔ ((first_turns h ≤ t) × (t ≤ last_turns h))
 
--- There is a place with number `i`, and it passes the test.
+-- The list has a place with number `i`, counted from 0, and this place passes `test`.
 abbrev pub holds_at : (Place → Bool) → List Place → ℕ → Bool
 holds_at test [] i = false
 holds_at test (p ∷ ps) zero = test p
 holds_at test (p ∷ ps) (suc i) = holds_at test ps i
 
--- The result is the greatest number below `n` that passes, or None if none does.
+-- The option is the greatest number below `n` for which `passes` is true, or None if there is none.
 abbrev pub IsGreatestBelow : (ℕ → Bool) → ℕ → Option ℕ → Type 0
 IsGreatestBelow passes n None = (k : ℕ) → k < n → passes k ≡ false
 IsGreatestBelow passes n (Some i) = (i < n) × (passes i ≡ true) × ((k : ℕ) → i < k → k < n → passes k ≡ false)
 
--- The result is the least number from `n` to below `m` that passes, or None if none does.
+-- The option is the least number from `n` on and below `m` for which `passes` is true, or None if there is none.
 abbrev pub IsLeastBetween : (ℕ → Bool) → ℕ → ℕ → Option ℕ → Type 0
 IsLeastBetween passes n m None = (k : ℕ) → n ≤ k → k < m → passes k ≡ false
 IsLeastBetween passes n m (Some i) = (n ≤ i) × (i < m) × (passes i ≡ true) × ((k : ℕ) → n ≤ k → k < i → passes k ≡ false)

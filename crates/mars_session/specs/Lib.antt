@@ -1,5 +1,5 @@
--- The definitions that a reader of the contracts must trust, in this order. `Laws` follows from them, and `Examples` has
--- examples.
+-- The definitions of the crate, in reading order. Contracts cite those before `Examples`, which has examples of them.
+-- `Laws` follows from them, and only internal functions and proofs use `Code`.
 pub mod Limits
 pub mod History
 pub mod Retention

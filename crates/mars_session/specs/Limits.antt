@@ -1,4 +1,4 @@
--- The limits of a history.
+-- The limit of a history that evicts places.
 use Rattle.std.specs.Prelude.{ℕ}
 
 -- The maximum number of places that a tape that evicts may keep beside the last one.

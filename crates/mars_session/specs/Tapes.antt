@@ -1,4 +1,4 @@
--- What tapes stand for, and which histories can occur: each place except the first is one turn or edit after the one before it.
+-- The values of tapes, the histories that can occur on tapes, and the records that lead from place to place.
 use Rattle.std.specs.Prelude.{◌≡◌, ◌≤◌, ◌+◌, ℕ, zero, suc, Bool, true, false, List, [], ◌∷◌, None, ◌⊎◌}
 use Rattle.mars_core.specs.State.{State, is_over_of}
 use Rattle.mars_core.specs.Turn.{turn_of}
@@ -9,14 +9,14 @@ use Rattle.mars_core.specs.declared.record.Atom.{Atom}
 use Rattle.mars_core.specs.Leads.{Leads}
 use Rattle.mars_session.specs.History.{Place, History, last_of, rewound, last_place}
 
--- A tape that keeps all places: its history, and the number of places that it can append without allocating, once the following
--- ones are dropped.
+-- A tape that keeps all places: its history, and the number of places that it can append without allocating, once the
+-- places after the present one are dropped.
 pub record TapeValue : Type 0 where
   pub history : History
   pub room : ℕ
 
--- A tape that evicts places: its history, the number of places that it keeps beside the last one, and whether one was ever
--- evicted.
+-- A tape that evicts places: its history, the maximum number of places that it keeps beside the last one, and whether a
+-- place was ever evicted.
 pub record RingTapeValue : Type 0 where
   pub history : History
   pub most : ℕ
@@ -26,12 +26,12 @@ pub record RingTapeValue : Type 0 where
 abbrev pub Follows : State → State → Type 0
 Follows s t = ((is_over_of s ≡ false) × (t ≡ turn_of s)) ⊎ ((e : Edit) × (edit_fault s e ≡ None) × (t ≡ edited s e))
 
--- The states from the first of `before` up to `s` follow one another, and the first one is valid.
+-- The states of `before`, the nearest first, lead up to `s` one after another, and the earliest state is valid.
 abbrev pub FollowsAll : List Place → State → Type 0
 FollowsAll [] s = IsValid s
 FollowsAll (b ∷ before) s = Follows b.state s × FollowsAll before b.state
 
--- The places follow `s` and one another.
+-- The first place follows `s`, and each other place follows the one before it.
 abbrev pub AllFollow : State → List Place → Type 0
 AllFollow s [] = Unit {0}
 AllFollow s (a ∷ after) = Follows s a.state × AllFollow a.state after
@@ -47,7 +47,7 @@ pub record IsTape (h : History) : Type 0 where
   pub first : (rewound h).present.mark ≡ true
   pub last : (last_place h.present h.after).mark ≡ true
 
--- A tape of which at most `n` places before the last one are kept. Its first place need not be marked.
+-- A tape `h` with at most `n` places before the last one. The first place of `h` need not be marked.
 pub record IsTapeOf (n : ℕ) (h : History) : Type 0 where
   pub steps : Steps h
   pub last : (last_place h.present h.after).mark ≡ true
@@ -62,13 +62,13 @@ RisesFrom number s (p ∷ ps) = (number s ≤ number p.state) × (number p.state
 abbrev pub TurnsRise : History → Type 0
 TurnsRise h = RisesFrom (λ (s : State). s.turns) (rewound h).present.state (rewound h).after
 
--- The record leads from place `i` to the next one, where `p` is place 0 and the others follow it.
+-- The record `atom` leads from place `i` to the next one; `p` is place 0, and the places of the list follow it.
 abbrev pub LeadsFrom : Place → List Place → ℕ → Atom → Type 0
 LeadsFrom p [] i atom = ⊥
 LeadsFrom p (q ∷ ps) zero atom = Leads p.state atom q.state
 LeadsFrom p (q ∷ ps) (suc i) atom = LeadsFrom q ps i atom
 
--- The record leads from place `i` of the list to place `i + 1`.
+-- The record `atom` leads from place `i` of the list to place `i + 1`.
 abbrev pub LeadsAt : List Place → ℕ → Atom → Type 0
 LeadsAt [] i atom = ⊥
 LeadsAt (p ∷ ps) i atom = LeadsFrom p ps i atom

@@ -35,7 +35,7 @@ pub fn standing<T: Tape>(tape: &T) -> Standing
 ///
 /// # Errors
 ///
-/// - `JournalFull` if the limit leaves less room than `bound`
+/// - `JournalFull` if the limit leaves less room than `bound` and the tape evicts no places
 /// - `OutOfMemory` if the tape has less room than `bound` and an allocation fails
 fn prepare<T: Tape>(tape: &mut T, limit: u64, bound: u64) -> Result<(), Refusal>
     requires { 1 ≤ bound }
@@ -77,7 +77,7 @@ fn stops(battle: &Battle, cycle: Option<u64>) -> bool
     }
 }
 
-/// Appends at most `n` turns, up to the first place at which they stop.
+/// Appends at most `n` turns, up to the first place at which `stops` is true.
 fn turn_until<T: Tape>(tape: &mut T, n: u64, cycle: Option<u64>)
     requires last { (T.history tape.old).after ≡ [] }
     requires room { n ≤ T.room tape.old }
@@ -92,7 +92,7 @@ fn turn_until<T: Tape>(tape: &mut T, n: u64, cycle: Option<u64>)
     }
 }
 
-/// Executes at least one turn and at most `count`, up to the first place at which they stop.
+/// Executes at least one turn and at most `count`, up to the first place after it at which `stops` is true.
 fn make_turns<T: Tape>(
     tape: &mut T,
     limit: u64,
@@ -195,7 +195,7 @@ pub fn edit<T: Tape>(tape: &mut T, limit: u64, edit: Edit) -> Result<Standing, R
     Ok(standing(tape))
 }
 
-/// Sets the cells after `first` up to `last`, one place each.
+/// Sets the cells after `first` up to and including `last`, one place each.
 #[tactic(auto, using(crate::proofs::Turns::fault_below))]
 fn fill_cells<T: Tape>(tape: &mut T, first: u64, last: u64, cell: Cell)
     requires last { (T.history tape.old).after ≡ [] }

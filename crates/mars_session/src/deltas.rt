@@ -55,7 +55,7 @@ impl DeltaTape {
         })
     }
 
-    /// Returns the record that leads from place `i` to place `i + 1`, or `None` if there is no such place.
+    /// Returns the record that leads from place `i` to place `i + 1`, or `None` if there is no place `i + 1`.
     pub fn atom(&self, i: u64) -> Option<&Atom>
         ensures { MatchOption result (last_of self.now.history ≤ i)
             (λ atom. (i < last_of self.now.history) × LeadsAt (places self.now.history) i atom.now) }

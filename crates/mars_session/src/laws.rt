@@ -70,7 +70,7 @@ pub fn commands_append()
     ensures { CommandsAppend }
 {}
 
-/// The history whose only place is marked and has a valid battle is a tape, however many places are kept.
+/// The history whose only place is marked and has a valid state is a tape, however many places are kept.
 pub fn beginning_is_tape()
     ensures { BeginningIsTape }
 {}
@@ -98,7 +98,7 @@ pub fn turns_and_cycles_rise()
     ensures { TurnsAndCyclesRise }
 {}
 
-/// Goto finds a place exactly if the number of turns is between those of the first and of the last place.
+/// Goto finds a place exactly if the first place has at most and the last place at least the given number of turns.
 pub fn goto_between()
     ensures { GotoBetween }
 {}
@@ -114,7 +114,7 @@ pub fn calls_keep_limit()
     ensures { CallsKeepLimit }
 {}
 
-/// Each place of a tape is valid.
+/// Each place of a tape has a valid state.
 pub fn places_are_valid()
     ensures { PlacesAreValid }
 {}

@@ -19,9 +19,9 @@
 //!   whatever the tape is. `apply_all` is a list of these steps.
 //! - The laws in [`laws`] hold for that definition.
 //! - Each tape meets the contracts of [`Tape`], which describe it as a history.
-//! - Only commands run out of memory. They do so before any change, and only if they may need more places than the tape
-//!   has room for. There is always room for as many places as follow the present one. A command on a tape that evicts
-//!   never runs out of memory.
+//! - Of all calls, only commands run out of memory. They do so before any change, and only if they may need more places
+//!   than the tape has room for. There is always room for as many places as follow the present one. A command on a tape
+//!   that evicts never runs out of memory.
 #![tactic(auto)]
 
 mod calls;

@@ -87,8 +87,8 @@ fn turns_now<T: Tape>(tape: &T) -> u64
 
 /// Returns whether the target of `goto` may be before the present place.
 ///
-/// No target precedes the present place if that is the first one or has fewer turns than the target, because the number
-/// of turns never decreases along a history.
+/// No target precedes the present place if the present place is the first one or has fewer turns than the target,
+/// because the number of turns never decreases along a history.
 fn target_may_precede<T: Tape>(tape: &T, turns: u64) -> bool
     ensures back { result ≡ true → 0 < position_of (T.history tape.now) }
     ensures here { result ≡ false → goto turns (T.history tape.now) ≡ first_at_turn turns (T.history tape.now) }
@@ -107,7 +107,7 @@ fn go_before<T: Tape>(tape: &mut T, turns: u64)
     }
 }
 
-/// Goes forward to the first place with this number of turns, which may be the present one. There must be one.
+/// Goes forward to the first place with this number of turns, which may be the present one. There must be such a place.
 fn forward_to<T: Tape>(tape: &mut T, turns: u64)
     requires { IsSome (first_at_turn turns (T.history tape.old)) }
     ensures found { first_at_turn turns (T.history tape.old) ≡ Some (T.history tape.new) }

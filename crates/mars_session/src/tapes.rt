@@ -122,6 +122,6 @@ pub trait Tape {
     // A tape evicts exactly if its number of places is limited.
     ghost forgets: { (t : Self) → FORGETS ≡ is_some (retention t).most };
 
-    // A tape that evicts has room for any number of places.
+    // A tape that evicts has room for each number of places that a `u64` can have.
     ghost takes_all: { (t : Self) → FORGETS ≡ true → 2 ^ 64 ≤ room t };
 }

@@ -37,7 +37,7 @@ live_shifted queues i (Some j) k f e =
 live_at : (queues : List (List ℕ)) (i k : ℕ) → live_from queues i ≡ Some k → (i ≤ k) × (k < length queues)
 live_at queues i k e = live_shifted queues i (first_live (drop i queues)) k (λ j f. first_live_below (drop i queues) j f) e
 
--- If no queue has a live index, no warrior is alive.
+-- If no queue is live, no warrior is alive.
 none_under : (f : ℕ → ℕ) (o : Option ℕ) → option_map f o ≡ None → o ≡ None
 none_under f None e = refl
 none_under f (Some k) e = absurd (cc)
@@ -97,7 +97,7 @@ turn_moves w s q l =
       further = over_or _ _ _ (λ none. over_when_none_lives s.params.cycles _ e.queues (omega (arith, size, l)) none) moved.1;
     }
 
--- A clock that is far enough has reached the cycle.
+-- A clock that is far enough has reached cycle `c`.
 reached_by : (w c k next : ℕ) (b : Bool) → nat_lt k c ≡ b → next < w → c * w ≤ k * w + next → c ≤ k
 reached_by w c k next true e l far =
     let below : k < c = ltb-true k c e in
@@ -114,7 +114,7 @@ or_right : (a b : Bool) → b ≡ true → (a || b) ≡ true
 or_right true b e = refl
 or_right false b e = e
 
--- The turns stop here, or continue.
+-- Whether the turns stop at `s` or continue, the last state is in cycle `c` or the battle is over.
 stop_or_go : (c : ℕ) (s t : State) (ts : List State) (b : Bool) → in_cycle c s ≡ b → (b ≡ false → in_cycle c (last_state t ts) ≡ true)
     → in_cycle c (last_state s (if b then [] else (t ∷ ts))) ≡ true
 stop_or_go c s t ts true e h = e

@@ -1,5 +1,5 @@
--- Undo and redo if the oldest places are evicted: they find the same places as if all were kept, as long as they do not need an
--- evicted one.
+-- If the oldest places are evicted, undo and redo find the same places as if all places were kept, unless they need an
+-- evicted place.
 use Rattle.std.proofs.Common.{◌≡◌, ℕ, zero, suc, ◌+◌, ◌-◌, ◌≤◌, Bool, true, false, List, [], ◌∷◌, length, map, take, replicate, Option, Some, None, Result, Ok, Err, refl, ap, sym, ◌∙◌, arith, ◌⊎◌, inl, inr, if◌then◌else◌}
 use Rattle.std.specs.Prelude.{option_and_then, IsOk, IsErr, IsTrue}
 use Rattle.std.specs.List.{list_all}
@@ -112,7 +112,7 @@ many_redone (suc n) j h to e = by_first (redo h) refl e (λ i k f. many_redone n
         let sum : j + (position_of k - position_of h) + (position_of to - position_of k) ≡ j + (position_of to - position_of h) = omega (arith, next.more, one.more) in
         record { more = omega (arith, next.more, one.more); found = ap (option_and_then (times n redo)) one.found ∙ (rw sum at next.found) }
 
--- The histories differ only in evicted places.
+-- Both histories have the same present state and the same `k` nearest places before it.
 record Same (k : ℕ) (h whole : History) : Type 0 where
   state : h.present.state ≡ whole.present.state
   before : take k h.before ≡ take k whole.before

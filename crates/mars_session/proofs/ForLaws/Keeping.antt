@@ -1,4 +1,4 @@
--- Every call keeps a tape.
+-- A tape is still a tape after every call, whether all places are kept or the oldest places are evicted.
 use Rattle.std.proofs.Common.{◌≡◌, ℕ, zero, suc, ◌+◌, ◌-◌, ◌≤◌, Bool, true, false, List, [], ◌∷◌, length, take, Option, None, Some, refl, ap, sym, ◌∙◌, arith, nat_eq, nat_lt, inl, inr, if◌then◌else◌}
 use Rattle.std.specs.Prelude.{Result, Ok, Err, nat_le, ◌||◌}
 use Rattle.std.proofs.lemmas.Bool.{or_parts}
@@ -185,7 +185,7 @@ accepted_few k h s ss t f c =
       within = rw none (omega (arith, few_kept k end.before));
     }
 
--- What accepted commands and moves preserve.
+-- Accepted commands, and steps back and forward, preserve the property `P`.
 record Keeps (m : Retention) (P : History → Type 0) : Type 0 where
   accepts : (h : History) (s : State) (ss : List State) → P h → Follows h.present.state s → Chain s ss → P (retained m.most (after_command h s ss))
   back : (b : Place) (before : List Place) (p : Place) (after : List Place) → P (record { before = b ∷ before; present = p; after = after }) → P (record { before = before; present = b; after = p ∷ after })

@@ -54,7 +54,7 @@ refusals_change_nothing m limit call poor h e = kind_stays m limit (kind_of call
 abbrev Reached : ℕ → History → History → Type 0
 Reached count h end = ((count ≡ 0) × (end ≡ h)) ⊎ Undone count h end
 
--- If no call after an accepted command was accepted, the end is the history after that command.
+-- If no call after an accepted command was accepted, the end is the history after this command, and no undo is needed.
 pub none_after : (n : ℕ) (h end : History) (s : State) (ss : List State) → n ≡ 0 → end ≡ after_command h s ss → Undone n (after_command h s ss) end
 none_after n h end s ss z e =
     let here : Option History = Some (after_command h s ss) in

@@ -65,18 +65,18 @@ LeadOn es from zero s = Unit {0}
 LeadOn es from (suc n) s =
     Leads s (entry_at es from).0 (applied (entry_at es from).0 s) × LeadOn es (from + 1) n (applied (entry_at es from).0 s)
 
--- Each record leads from its place to the next one, and place `at` has the state `s`.
+-- The records in `es` lead from each place to the next one; place `at` is one of these places and has the state `s`.
 pub record IsJournal (es : List (Atom × Bool)) (at : ℕ) (s : State) : Type 0 where
   pub inside : at ≤ length es
   pub here : LeadHere es at s
   pub on : LeadOn es at (length es - at) s
 
--- `from` and `to` are the numbers of turns of the first and the last place.
+-- `from` and `to` are the numbers of turns of the first and the last place of `h`.
 pub record HasEnds (h : History) (from to : ℕ) : Type 0 where
   pub first : from ≡ first_turns h
   pub last : to ≡ last_turns h
 
--- A journal of at most `most` records.
+-- A journal of at most `most` records, as `IsJournal` defines it; `most` is 1 to `max_history`.
 pub record IsRing (es : List (Atom × Bool)) (most at : ℕ) (s : State) : Type 0 where
   pub journal : IsJournal es at s
   pub some : 1 ≤ most

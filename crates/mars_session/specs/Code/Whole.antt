@@ -5,7 +5,7 @@ use Rattle.mars_core.specs.Shape.{SameShape}
 use Rattle.mars_session.specs.declared.snapshots.Snapshot.{Snapshot}
 use Rattle.mars_session.specs.History.{Place, History}
 
--- A copy as a place.
+-- The copy `k` as a place.
 abbrev pub place_of : Snapshot → Place
 place_of k = record { state = k.battle; mark = k.mark }
 
@@ -29,7 +29,7 @@ nowhere = record { battle = no_state; mark = false }
 abbrev pub snapshot_at : List Snapshot → ℕ → Snapshot
 snapshot_at ks i = slice_index_or ks i nowhere
 
--- The first `n` copies as places, the last of them first.
+-- The first `n` copies as places, in reverse order.
 abbrev pub before_of : List Snapshot → ℕ → List Place
 before_of ks zero = []
 before_of ks (suc n) = place_of (snapshot_at ks n) ∷ before_of ks n
@@ -39,7 +39,7 @@ abbrev pub after_of : List Snapshot → ℕ → ℕ → List Place
 after_of ks from zero = []
 after_of ks from (suc n) = place_of (snapshot_at ks from) ∷ after_of ks (from + 1) n
 
--- The history of a tape whose first `len` copies are its places, with the present one at `at`.
+-- The history of a tape whose first `len` copies are its places, and whose present place is the copy at index `at`.
 abbrev pub whole_history : List Snapshot → ℕ → ℕ → History
 whole_history ks at len = record { before = before_of ks at; present = place_of (snapshot_at ks at); after = after_of ks (at + 1) (len - (at + 1)) }
 
@@ -47,15 +47,15 @@ whole_history ks at len = record { before = before_of ks at; present = place_of 
 abbrev pub turns_at : List Snapshot → ℕ → ℕ
 turns_at ks i = (snapshot_at ks i).battle.turns
 
--- The present place is one of the `len` places, turns rise by at most one from place to place, and all copies have the same
--- shape, so that any copy can overwrite any other.
+-- The first `len` copies are places, and `at` is the index of the present one. Turns never fall and rise by at most one
+-- from place to place. All copies have the same shape, so that any copy can overwrite any other.
 pub record IsWhole (ks : List Snapshot) (at len : ℕ) : Type 0 where
   pub present : at < len
   pub copies : len ≤ length ks
   pub rises : (i : ℕ) → i + 1 < len → (turns_at ks i ≤ turns_at ks (i + 1)) × (turns_at ks (i + 1) ≤ turns_at ks i + 1)
   pub shapes : (i j : ℕ) → i < length ks → j < length ks → SameShape (snapshot_at ks i).battle (snapshot_at ks j).battle
 
--- Copies of the battle at index `at` were added at the end of the list.
+-- `new` is `old`, followed by any number of copies of the battle at index `at` of `old`.
 pub record IsGrown (old new : List Snapshot) (at : ℕ) : Type 0 where
   pub longer : length old ≤ length new
   pub kept : (k : ℕ) → k < length old → snapshot_at new k ≡ snapshot_at old k

@@ -12,7 +12,7 @@ pub nothing_is_forgotten : RepliesKeeping 2
 unfolding the_machine
 nothing_is_forgotten = refl
 
--- The first place that is kept is not marked.
+-- The run evicts its start, so the first place that is kept is not marked and the run cannot be undone.
 pub a_run_of_more_places : RepliesKeeping 2
     (Run 3 ∷ Undo ∷ Goto 0 ∷ Goto 1 ∷ Step ∷ Undo ∷ Undo ∷ Redo ∷ [])
     (stands 3 2 2 ∷ Err Forgotten ∷ Err (NotInHistory 1 3) ∷ stands 1 0 2 ∷ stands 2 1 1 ∷ stands 1 0 1 ∷ Err Forgotten ∷ stands 2 1 1 ∷ [])

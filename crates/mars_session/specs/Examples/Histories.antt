@@ -38,8 +38,8 @@ pub refused_calls : RepliesWithin 100
 unfolding the_machine
 refused_calls = refl
 
--- If an allocation fails, a run that needs more places than follow is refused, and nothing is lost. A run that needs no more
--- than follow is executed.
+-- If an allocation fails, a run that needs more places than follow the present one is refused, and nothing is lost. A
+-- run that needs no more places is executed.
 pub memory_runs_out : (script never 100 (Step ∷ Step ∷ Undo ∷ Undo ∷ Run 3 ∷ Redo ∷ Redo ∷ Goto 0 ∷ Run 2 ∷ []) (false ∷ false ∷ false ∷ false ∷ true ∷ false ∷ false ∷ false ∷ true ∷ []) (beginning imp)).replies
     ≡ stands 1 1 1 ∷ stands 2 2 2 ∷ stands 1 1 2 ∷ stands 0 0 2 ∷ Err OutOfMemory ∷ stands 1 1 2 ∷ stands 2 2 2 ∷ stands 0 0 2 ∷ stands 2 2 2 ∷ []
 unfolding the_machine

@@ -13,7 +13,7 @@ use Rattle.mars_session.specs.Examples.{imp}
 abbrev calls : List Call
 calls = Step ∷ Run 2 ∷ []
 
--- The result of these commands with the retention `m`, and below it the history after two undos.
+-- The result of `calls` on the imp with the retention `m`; `back` is the history after two undos of these commands.
 abbrev done : Retention → ScriptResult
 done m = script m 100 calls [] (beginning imp)
 

@@ -1,4 +1,5 @@
--- Calls one after another, each executed on the session that the previous one left, and the room of a tape.
+-- Examples of calls one after another, each executed on the session that the previous one left, and of the room of a
+-- tape.
 use Rattle.std.specs.Prelude.{◌≡◌, ℕ, [], ◌∷◌, Err, refl}
 use Rattle.std.proofs.Common.{arith}
 use Rattle.mars_core.specs.Examples.{the_machine}
@@ -9,7 +10,7 @@ use Rattle.mars_session.specs.Retention.{never}
 use Rattle.mars_session.specs.Script.{CallsMeetSpec, SessionValue, script}
 use Rattle.mars_session.specs.Examples.{imp, stands}
 
--- A session of the imp with the history `h`, over a tape with room for `room` places.
+-- A session of the imp with the history `h`, over a tape that keeps all places and has room for `room` places.
 abbrev session : History → ℕ → SessionValue
 session h room = record { state = record { history = h; limit = 100; retention = never }; room = room }
 
