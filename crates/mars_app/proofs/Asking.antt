@@ -1,4 +1,4 @@
--- Combining what the arguments request.
+-- How a run succeeds or fails, for all arguments that request its options.
 use Rattle.std.proofs.Common.{◌≡◌, ◌∙◌, ℕ, List, [], ◌∷◌, map, Option, Result, String, Err, IfErr, OnOk, inl, inr, false, subst, sym}
 use Rattle.std.proofs.KnownBytes.{Keeps-refl}
 use Rattle.std.proofs.lemmas.List.{append-nil}
@@ -41,7 +41,7 @@ asked_for words known o setup ws files count said held files_are count_is loaded
 pub texts_alone : {X : Type 0} (P : List ℕ → Type 0) (f : X → List ℕ) (x : X) (text : List ℕ) → P text → text ≡ f x → P (flat_map f (x ∷ []))
 texts_alone P f x text p is = subst P (is ∙ sym (append-nil (f x))) p
 
--- If the formula is rejected, it has this error, unless an allocation failed.
+-- If checking a formula gave the error `f`, which is the error `e` of an expression, `defined` has the error `e` too.
 pub formula_fails : (f : FormulaFault) (e : ExprFault) (defined : Result Scanned ExprFault) → Checks (Err f) defined → f ≡ Expression e → defined ≡ Err e
 formula_fails f e defined checks is = subst (λ (g : FormulaFault). Checks (Err g) defined) is checks
 

@@ -1,7 +1,7 @@
 -- What several writes did, one after another, if one of them failed.
 --
--- A failed allocation and a failed write have one statement (`WriteCutShort`) and three lemmas: writing failed in the first of two
--- texts, in the second, or in a list.
+-- A failed allocation and a failed write have one statement (`WriteCutShort`): writing failed in the first of several
+-- texts, in the last one, in one between these, or after the whole text.
 use Rattle.std.proofs.Common.{◌≡◌, ℕ, ◌+◌, List, ◌++◌, length, take, Option, Result, Ok, Err, IfErr, inl, inr, arith, length-append}
 use Rattle.std.proofs.Math.Seq.{take-append-add}
 use Rattle.std.proofs.lemmas.List.{take-append-le, take_all}

@@ -9,11 +9,11 @@ use Rattle.clap.specs.Walk.{Rule}
 use Rattle.clap.specs.declared.builder.action.ArgAction.TheVariants.{Help, SetTrue}
 use Rattle.clap.specs.declared.builder.value_parser.ValueParser.TheVariants as parser
 
--- An option with a number from 1 to `greatest`.
+-- The option `id`, with a number from 1 to `greatest`.
 abbrev pub number_rule : List ℕ → ℕ → Rule
 number_rule id greatest = record (new_rule id) { value_names = 1; parser = Some (parser.Signed (pos 1) (pos greatest)) }
 
--- An option without a value.
+-- The option `id`, without a value.
 abbrev pub flag_rule : List ℕ → Rule
 flag_rule id = record (new_rule id) { action = Some SetTrue }
 
@@ -25,15 +25,15 @@ score_rule = record (new_rule (codes "score")) { value_names = 1 }
 abbrev pub help_rule : Rule
 help_rule = record (new_rule (codes "help")) { action = Some Help }
 
--- The option, given by its letter after `-`.
+-- The option `rule`, given by the character `letter` after `-`.
 abbrev pub short : ℕ → Rule → Rule
 short letter rule = record rule { short = Some letter }
 
--- The option, given by its name after `--`.
+-- The option `rule`, given by its name after `--`.
 abbrev pub long : Rule → Rule
 long rule = record rule { long = Some rule.id }
 
--- The option with the value `text` if it is not given.
+-- The option `rule`, with the value `text` if the option is not given.
 abbrev pub or_else : List ℕ → Rule → Rule
 or_else text rule = record rule { defaults = text ∷ [] }
 
@@ -75,7 +75,7 @@ debugger_rules =
     ∷ long (or_else (codes "200000") (number_rule (codes "history") max_history))
     ∷ []
 
--- The names of the warriors' files.
+-- The names of the warriors' files, at least one.
 abbrev pub file_rule : Rule
 file_rule = record (new_rule (codes "FILE")) { required = true; range = Some (record { start_inclusive = 1; end_inclusive = usize_max }) }
 

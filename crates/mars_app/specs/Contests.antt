@@ -1,4 +1,4 @@
--- What a match or a league writes.
+-- The setup and the rows of a match or a league, what it writes, and its errors.
 use Rattle.std.specs.Prelude.{◌≡◌, ◌≤◌, ◌⊎◌, ℕ, ◌+◌, Bool, if◌then◌else◌, List, [], ◌∷◌, ◌++◌, length, decimal, codes, Option, Result, Ok, Err, take}
 use Rattle.std.specs.Io.KnownBytes.{Appends}
 use Rattle.mars_cell.specs.ParameterFaults.{checked_parameters}
@@ -19,7 +19,7 @@ use Rattle.mars_app.specs.Options.{OptionsValue, parameters_of}
 use Rattle.mars_app.specs.declared.fault.RunFault.{RunFault}
 use Rattle.mars_app.specs.declared.fault.RunFault.TheVariants.{Placement, Battle, Score, OutOfMemory, Output}
 
--- The line of a warrior, such as `warrior 0: Imp by Dewdney, 1 instructions`.
+-- The line of the warrior `w` with the number `number`, such as `warrior 0: Imp by Dewdney, 1 instructions`.
 unfoldable pub listing_head : ℕ → WarriorValue → List ℕ
 listing_head number w =
     codes "warrior " ++ decimal number ++ codes ": " ++ w.name ++ codes " by " ++ w.author ++ codes ", " ++ decimal (length w.cells) ++ codes " instructions\n"
@@ -49,7 +49,7 @@ pub record IsSetupOf (o : OptionsValue) (setup : Setup) : Type 0 where
   pub seed : setup.plan.seed ≡ o.seed
   pub fixed : setup.plan.fixed ≡ o.fixed
 
--- The rows of the match, or of the league.
+-- The rows of the league if `league` is true, otherwise of the match; or the error that ended it.
 abbrev pub contest : Bool → Setup → List WarriorValue → Result (List RowValue) MatchFault
 contest league setup warriors =
     if league then league_of setup.params warriors setup.formula setup.plan.fixed setup.plan.rounds setup.plan.seed

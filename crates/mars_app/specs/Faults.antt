@@ -32,7 +32,8 @@ abbrev pub line_of : LoadFault → ℕ
 line_of (load_fault.Syntax line) = line
 line_of _ = 0
 
--- The error is one of the content `bytes` of the file `name`, a load file or a source, and shows this name.
+-- The error is one of the content `bytes` of the file `name`, a load file or a source, and shows this name; or it is
+-- `OutOfMemory`, which is always possible.
 abbrev pub IsFaultOfFile : Parameters → ℕ → ℕ → List ℕ → List ℕ → RunFault → Type 0
 IsFaultOfFile p rounds count name bytes (fault.Load shown line f) =
     (string_bytes shown ≡ shown_name name) × (is_load_file name ≡ true) × (load p.core_size p.max_length bytes ≡ Err f) × (line ≡ line_of f)
@@ -41,19 +42,19 @@ IsFaultOfFile p rounds count name bytes (fault.Assembly shown line f) =
 IsFaultOfFile p rounds count name bytes fault.OutOfMemory = ⊤
 IsFaultOfFile p rounds count name bytes _ = ⊥
 
--- The error is the reason for which the file `name` is not read, and shows this name.
+-- The error is the reason for which the file `name` is not read, and shows this name; or it is `OutOfMemory`.
 abbrev pub IsReadFaultOfFile : (List ℕ → Option (List ℕ)) → List ℕ → RunFault → Type 0
 IsReadFaultOfFile known name (fault.CannotRead shown) = (string_bytes shown ≡ shown_name name) × IsReadFault (known name) max_file_len file.CannotRead
 IsReadFaultOfFile known name (fault.TooLarge shown) = (string_bytes shown ≡ shown_name name) × IsReadFault (known name) max_file_len file.TooLarge
 IsReadFaultOfFile known name fault.OutOfMemory = ⊤
 IsReadFaultOfFile known name _ = ⊥
 
--- The file `name` is not read, or has no warrior.
+-- The file `name` is not read, or has no warrior; `f` is the error.
 abbrev pub FailsToLoad : (List ℕ → Option (List ℕ)) → Parameters → ℕ → ℕ → List ℕ → RunFault → Type 0
 FailsToLoad known p rounds count name f = IsReadFaultOfFile known name f
     ⊎ ((bytes : List ℕ) × IsRead known name bytes × IsFaultOfFile p rounds count name bytes f)
 
--- The first file that fails has the error `f`; those before it have warriors.
+-- The first file that fails has the error `f`; the files before it have warriors.
 pub record FirstFails (known : List ℕ → Option (List ℕ)) (p : Parameters) (rounds count : ℕ) (names : List (List ℕ)) (f : RunFault) : Type 0 where
   pub before : List (List ℕ)
   pub name : List ℕ

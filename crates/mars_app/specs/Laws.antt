@@ -35,8 +35,8 @@ pub record IsBeginning (one other : Option (List ℕ)) : Type 0 where
   pub begun : one ≡ Some text
   pub whole : other ≡ Some (text ++ rest)
 
--- If a run ends with an error, it has written a beginning of what a run without an error writes that was given the same
--- arguments, files and input.
+-- A run that ended with an error has written a beginning of what a run without an error writes, if both were given the
+-- same arguments, files and input.
 abbrev pub FailedRunsWriteABeginning : Type 0
 FailedRunsWriteABeginning = (words : List (List ℕ)) (known : List ℕ → Option (List ℕ)) (input : List ℕ) (one other : StreamsValue) (f : RunFault)
     → AreGiven words known
@@ -63,15 +63,15 @@ OnlyTheDebuggerReads = (words : List (List ℕ)) (known : List ℕ → Option (L
     → (RunSucceeds words known old new → Keeps old.unread new.unread)
     × ((f : RunFault) → RunFails words known old new f → Keeps old.unread new.unread)
 
--- A failed read is only a pause: if its session continues with the unfinished line and the input after it, it writes the rest of the
--- replies to the whole input.
+-- A failed read is only a pause: if the session then continues with the unfinished line and the bytes `more` after it,
+-- the rest of the replies to the whole input is written.
 abbrev pub FailedReadsArePauses : Type 0
 FailedReadsArePauses = (core : ℕ) (input left v w : Option (List ℕ)) (s t u : SessionState) (failed : ReadFails core input left s v t w) (more text : List ℕ)
     → Transcript core t (until_quit core (lines_of (failed.rest ++ more))) u text
     → Transcript core s (until_quit core (lines_of (failed.bytes ++ more))) u (failed.text ++ text)
 
--- A failed write is only a pause, except that the end of one reply is lost: if its session continues with the lines after the last
--- executed one, it writes the rest of the replies to all lines.
+-- A failed write is only a pause, except that the end of one reply is lost: if the session then continues with the
+-- lines after the last executed one, the rest of the replies to all lines is written.
 abbrev pub FailedWritesArePauses : Type 0
 FailedWritesArePauses = (core : ℕ) (input left v w : Option (List ℕ)) (s t u : SessionState) (failed : WriteFails core input left s v t w)
     (lines : List (List ℕ)) (text : List ℕ) → Transcript core t lines u text →

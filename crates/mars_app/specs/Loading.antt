@@ -39,12 +39,12 @@ warrior_of_file p rounds warriors name bytes = if is_load_file name then result_
 abbrev pub max_file_len : ℕ
 max_file_len = 1048576
 
--- The bytes are the content of the file `name`, if its content is known, and are at most the maximum size.
+-- `bytes` are at most `max_file_len` bytes, and the content of the file `name` if this content is known.
 abbrev pub IsRead : (List ℕ → Option (List ℕ)) → List ℕ → List ℕ → Type 0
 IsRead known name bytes = IfSome (known name) (λ whole. bytes ≡ whole) × (length bytes ≤ max_file_len)
 
--- The error is a reason for which a file is not read if it may have at most `limit` bytes. A file whose content is known can be read, so
--- its error is that it has more bytes.
+-- The error is a reason for which a file with the content `known` is not read if it may have at most `limit` bytes. A
+-- file whose content is known can be read, so it is too large. `OutOfMemory` is always possible.
 abbrev pub IsReadFault : Option (List ℕ) → ℕ → FileFault → Type 0
 IsReadFault known limit CannotRead = IsNone known
 IsReadFault known limit TooLarge = IfSome known (λ bytes. limit < length bytes)

@@ -1,4 +1,4 @@
--- The options that the arguments say.
+-- The options that the arguments say, when they are allowed, and the parameters that they make.
 use Rattle.std.specs.Prelude.{◌≡◌, ⊤, ◌⊎◌, ℕ, ◌+◌, ◌==◌, ◌^◌, Bool, false, true, not, ◌&&◌, ◌||◌, nat_le, nat_lt, List, [], length, map, Option, None, Some, option_and_then, Result, Ok, Err, if◌then◌else◌, codes, string_bytes}
 use Rattle.std.specs.Option.{option_map_or, unwrap_or}
 use Rattle.std.specs.Str.{bytes_eq}
@@ -64,21 +64,21 @@ value_of o = record {
   history = o.history;
 }
 
--- The number that a text is, if it fits in 32 bits. A plus may precede it.
+-- The number that `text` is, if it has only digits and fits in 32 bits. A plus may precede the digits.
 abbrev pub number_of : Text → Option ℕ
 number_of text =
     let digits = without_leading_plus text in
     if is_numeral digits && nat_lt (digits_value 10 digits) (2 ^ 32) then Some (digits_value 10 digits) else None
 
--- The number of an option, if it is given or has a default.
+-- The number of the option `word`, if it is given or has a default.
 abbrev pub given_number : Text → List Row → Option ℕ
 given_number word rows = option_and_then number_of (one_of word rows)
 
--- The number of an option, or 0 if it has none.
+-- The number of the option `word`, or 0 if it has none.
 abbrev pub number : Text → List Row → ℕ
 number word rows = unwrap_or (given_number word rows) 0
 
--- Whether an option without a value is given.
+-- Whether the option `word`, which has no value, is given.
 abbrev pub is_given : Text → List Row → Bool
 is_given word rows = option_map_or (λ text. bytes_eq text (codes "true")) (one_of word rows) false
 
@@ -127,8 +127,8 @@ has_files o = is_between 1 max_warriors (length o.files) && (not o.load || lengt
 abbrev pub has_one_mode : OptionsValue → Bool
 has_one_mode o = not (o.debugger && o.league) && not (o.debugger && o.load) && not (o.league && o.load)
 
--- A position is given for exactly two warriors, and is at least the minimum distance from the first one in both directions
--- around the core.
+-- `position` is for the second of two warriors of a match, and is at least the minimum distance from the first one in
+-- both directions around the core.
 abbrev pub is_fitting : OptionsValue → ℕ → Bool
 is_fitting o position = length o.files == 2 && not o.league && nat_le o.distance position && nat_le (position + o.distance) o.core
 
@@ -140,7 +140,7 @@ has_fitting_position o = option_map_or (is_fitting o) o.fixed true
 abbrev pub are_allowed : OptionsValue → Bool
 are_allowed o = has_numbers o && has_files o && has_one_mode o && has_fitting_position o
 
--- The options that the arguments say.
+-- The options that the arguments `words` say.
 abbrev pub said_by : List Text → OptionsValue
 said_by words = options_of (matches_of mars words)
 

@@ -55,7 +55,7 @@ fn number_parser<'a>(greatest: u32) -> ValueParser<'a>
 struct Word {
     /// Heading above the option in the help.
     heading: &'static str,
-    /// Name after `--`, used if the option has no letter.
+    /// Name in `clap`, and after `--` if the option has no letter.
     name: &'static str,
     /// Letter after `-`.
     letter: Option<char>,
@@ -250,7 +250,7 @@ fn words() -> &'static [Word]
     &WORDS
 }
 
-/// Returns the command without its options. It has no built-in help option, because `--help` is one of the options.
+/// Returns the command without its arguments. It has no built-in help option, because `--help` is one of the options.
 fn plain_command<'a>(alloc: Global) -> Command<'a>
     ensures { app_of result ≡ plain_mars }
 {
@@ -263,7 +263,7 @@ fn plain_command<'a>(alloc: Global) -> Command<'a>
         .disable_help_flag(true)
 }
 
-/// Returns the command with all its options.
+/// Returns the command with the names of files and all options as arguments.
 pub fn command<'a>(alloc: Global) -> Result<Command<'a>, AllocError>
     ensures { IfOk result (λ command. app_of command ≡ mars) }
 {

@@ -171,7 +171,7 @@ pub fn debug_within<R: Read, W: Write, T: Tape>(
     ensures read { result ≡ Err DebugFault.Read → ReadFails (core_size_of session.old.state) (R.remaining reader.old) (R.remaining reader.new)
         session.old.state (W.contents writer.old) session.new.state (W.contents writer.new) }
 
-    // A failed write: the lines up to one were executed, and the reply to this one was not written completely.
+    // A failed write: lines were executed in order, and the reply to the last of these was not written completely.
     ensures write { result ≡ Err DebugFault.Write → WriteFails (core_size_of session.old.state) (R.remaining reader.old) (R.remaining reader.new)
         session.old.state (W.contents writer.old) session.new.state (W.contents writer.new) }
 

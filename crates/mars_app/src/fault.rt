@@ -40,7 +40,7 @@ pub enum RunFault {
     Commands,
 }
 
-// Prints the same line as `Display`. `Error` requires `Debug`, and a derived one is expensive to prove.
+// Prints the same line as `Display`. `Error` requires `Debug`, and a derived `Debug` is expensive to prove.
 impl Debug for RunFault {
     ghost debug_output = { λ _. None };
 

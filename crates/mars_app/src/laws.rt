@@ -1,8 +1,7 @@
 //! Laws of the program. The functions do nothing; their contracts are the laws.
 //!
-//! They are about runs whose files and streams have known contents, such as files and streams in memory: no contract
-//! says what the files and streams of the system contain. Runs that request the help are left out, since no definition
-//! has its text.
+//! The first three are about runs whose files have known contents, such as files in memory: no contract says what the
+//! files of the system contain. Runs that request the help are left out, since no definition has the text of the help.
 ghost use Rattle.mars_app.specs.Laws.{EqualRunsWriteTheSame, ErrorsRecur, FailedReadsArePauses, FailedRunsWriteABeginning, FailedWritesArePauses, OnlyTheDebuggerReads};
 
 /// Two runs without an error have written the same bytes, if they were given the same arguments, files and input.
@@ -10,7 +9,7 @@ pub fn equal_runs_write_the_same()
     ensures { EqualRunsWriteTheSame }
 {}
 
-/// A run that ends with an error has written a beginning of what it writes without one.
+/// A run that ends with an error has written a beginning of what it writes without an error.
 pub fn failed_runs_write_a_beginning()
     ensures { FailedRunsWriteABeginning }
 {}
@@ -26,8 +25,8 @@ pub fn only_the_debugger_reads()
     ensures { OnlyTheDebuggerReads }
 {}
 
-/// A failed read of the debugger is only a pause: if its session continues with the unfinished line and the input after
-/// it, it writes the rest of the replies.
+/// A failed read of the debugger is only a pause: if the session then continues with the unfinished line and the rest
+/// of the input, the rest of the replies is written.
 pub fn failed_reads_are_pauses()
     ensures { FailedReadsArePauses }
 {}

@@ -5,12 +5,12 @@
 //!   ended it (`specs/Faults`) and prints this error as one line. `start` does this for the arguments with which the program
 //!   was started.
 //! - Files are `SystemFiles` or `MemoryFiles`; input and output are `Streams` (`specs/Streams`).
-//! - `debug` is the debugger on its own (`specs/Debugger/Transcript`), over any reader, writer and tape: it reads lines up to
-//!   `quit` or the end of its input, and writes the reply to each before it executes the next. `debug_within` does this in a
-//!   limited number of reads.
+//! - `debug` is the debugger on its own (`specs/Debugger/Transcript`), over any reader, writer and tape: it reads lines
+//!   up to `quit` or the end of its input, and writes the reply to each line before it executes the next one.
+//!   `debug_within` does this in a limited number of reads.
 //! - The laws in [`laws`] hold for these definitions: what a run writes depends only on its arguments, files and input.
 //!
-//! All of this is proved, except for the line that is printed for an error.
+//! All of this is proved, except for the line that is printed for an error and for the arguments that `start` finds.
 #![tactic(auto)]
 
 mod command_line;

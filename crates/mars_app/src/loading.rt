@@ -187,7 +187,7 @@ fn assemble_file(
     }
 }
 
-/// Converts the error of a load file. Its line is 0 if the error has none.
+/// Converts the error of a load file. The line is 0 if the error has none.
 fn load_fault(alloc: Global, name: &str, fault: LoadFault) -> RunFault
     ensures { IsLoadFault name.now fault result }
 {

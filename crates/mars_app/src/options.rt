@@ -52,7 +52,7 @@ pub struct Options {
     pub processes: u32,
     /// Maximum length of a warrior in cells.
     pub longest: u32,
-    /// Minimum distance between first cells.
+    /// Minimum distance between the first cells of warriors.
     pub distance: u32,
     /// Address of the second of two warriors in every round.
     pub fixed: Option<u32>,
@@ -144,8 +144,8 @@ fn are_allowed(options: &Options) -> bool
         && has_fitting_position(options)
 }
 
-/// Returns whether each number is in its range. `clap` has checked this already, but its contracts are about the command that
-/// it builds from ours, so the proofs use this check.
+/// Returns whether each number is in its range. `clap` has checked this already, but its contracts are about the
+/// command that it builds from the given one, so the proofs use this check.
 fn has_numbers(options: &Options) -> bool
     ensures value { result ≡ has_numbers (value_of options.now) }
     ensures used { IsTrue result → HaveNumbers options.now }
@@ -201,8 +201,8 @@ fn has_one_mode(options: &Options) -> bool
         && !(options.league && options.load)
 }
 
-/// Returns whether a position, if it is given, is for two warriors and is at least the minimum distance from the first one in
-/// both directions around the core.
+/// Returns whether a position, if it is given, is for two warriors of a match and is at least the minimum distance from
+/// the first one in both directions around the core.
 fn has_fitting_position(options: &Options) -> bool
     ensures value { result ≡ has_fitting_position (value_of options.now) }
     ensures used { IsTrue result → HaveFittingPosition options.now }

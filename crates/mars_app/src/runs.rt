@@ -101,7 +101,7 @@ fn run_options<F: WarriorFiles, R: Read, W: Write>(
 {
     let setup = setup_of(alloc, options)?;
     let done = carry_out(alloc, options, &setup, files, streams);
-    // An explicit call of `drop`, because otherwise each exit of this body would prove the drop again.
+    // An explicit call of `drop`, because otherwise the drop would be proved again at each exit of this body.
     drop(setup);
     done
 }
@@ -179,7 +179,7 @@ fn play<R: Read, W: Write>(
     requires position { FitsTwo setup.now.params (length warriors.now) options.now.fixed }
     requires history { IsBetween 1 max_history options.now.history }
 
-    // If it succeeds, what the options request was written; on an error, a beginning of it.
+    // On success, all that the options request was written; on an error, only a beginning.
     ensures ok { OnOk result (PlaySucceeds (value_of options.now) setup.now warriors.now streams.old streams.new) }
     ensures err { IfErr result (PlaysInPart (value_of options.now) setup.now warriors.now streams.old streams.new) }
 {

@@ -19,7 +19,7 @@ use Rattle.mars_app.proofs.ForLaws.Replies.{replies, transcript_is}
 use Rattle.mars_app.proofs.Transcripts.LinesOf.{every_split, lines_of-line, lines_of-lines, lines_of-open, until_quit-lines}
 use Rattle.mars_app.proofs.Transcripts.Reading.{Transcript-append, Transcript-one}
 
--- What is replied to lines begins with the replies to the first of them.
+-- The replies to lines begin with the replies to the first part of these lines.
 replies-append : (core : ℕ) (t : SessionState) (front more : List (List ℕ)) → (rest : List ℕ) × (replies core t (front ++ more) ≡ replies core t front ++ rest)
 replies-append core t [] more = (replies core t more, refl)
 replies-append core t (l ∷ front) more =
@@ -49,7 +49,7 @@ module _ (input : List ℕ) (s : SessionState) (evicts : is_some s.retention.mos
   abbrev core : ℕ
   core = core_size_of s
 
-  -- What is left of the input.
+  -- The bytes of the input that are left.
   left_of : (left : Option (List ℕ)) (bytes : List ℕ) → Consumes (Some input) left bytes → (more : List ℕ) × (input ≡ bytes ++ more) × (left ≡ Some more)
   left_of None bytes consumed = absurd consumed
   left_of (Some more) bytes consumed = (more, consumed, refl)
@@ -74,7 +74,7 @@ module _ (input : List ℕ) (s : SessionState) (evicts : is_some s.retention.mos
       let whole = begins h.lines _ t h.text (executed h.lines (h.rest ++ unread.0) is h.splits.each h.goes_on) h.answers in
       record { text = h.text; rest = whole.0; begun = appended one h.text h.written; whole = wrote ∙ ap Some whole.1 }
 
-  -- The lines of the input that are executed begin with these and the line whose reply was cut off.
+  -- The lines of the input that are executed begin with `front` and the line `last`, whose reply was cut off.
   last_line : (left : Option (List ℕ)) (bytes more : List ℕ) (front : List (List ℕ)) (last : List ℕ) (poor : Bool) (t : SessionState) (n : ℕ)
       → input ≡ bytes ++ more → left ≡ Some more → AllByRecursion IsLine (front ++ last ∷ []) → AllByRecursion (GoesOn core) front
       → n < length (answer poor t (line_request core last)).1 → EndsIn bytes front last left

@@ -92,15 +92,15 @@ module _ (words : List (List ℕ)) (known : List ℕ → Option (List ℕ)) (all
   pub same_debugger : a.options.debugger ≡ b.options.debugger
   same_debugger = ap (λ (o : OptionsValue). o.debugger) options
 
-  -- The load files.
+  -- The load files are the same.
   pub load_files : flat_map (load_text a.setup.params.core_size) a.warriors ≡ flat_map (load_text b.setup.params.core_size) b.warriors
   load_files = rw (params, warriors) refl
 
-  -- The battle of the first round.
+  -- The battle of the first round is the same.
   pub first_rounds : first_round a.setup a.warriors ≡ first_round b.setup b.warriors
   first_rounds = rw (params, warriors, fixed, seed) refl
 
-  -- The session of the debugger.
+  -- The session of the debugger is the same.
   pub sessions : (s t : State) → first_round a.setup a.warriors ≡ Ok s → first_round b.setup b.warriors ≡ Ok t
       → session_at a.options.history s ≡ session_at b.options.history t
   sessions s t first second =
@@ -108,19 +108,19 @@ module _ (words : List (List ℕ)) (known : List ℕ → Option (List ℕ)) (all
       let most : a.options.history ≡ b.options.history = ap (λ (o : OptionsValue). o.history) options in
       rw (state, most) refl
 
-  -- The listing.
+  -- The listing is the same.
   pub listings : listing a.setup.params.core_size a.options.brief a.warriors ≡ listing b.setup.params.core_size b.options.brief b.warriors
   listings =
       let brief : a.options.brief ≡ b.options.brief = ap (λ (o : OptionsValue). o.brief) options in
       rw (params, brief, warriors) refl
 
-  -- The match or league.
+  -- The result of the match or league is the same.
   pub fought : contest a.options.league a.setup a.warriors ≡ contest b.options.league b.setup b.warriors
   fought =
       let league : a.options.league ≡ b.options.league = ap (λ (o : OptionsValue). o.league) options in
       rw (league, params, warriors, formula, fixed, rounds, seed) refl
 
-  -- The listing and the results.
+  -- The listing and the results are the same.
   pub results : (xs ys : List RowValue) → contest a.options.league a.setup a.warriors ≡ Ok xs → contest b.options.league b.setup b.warriors ≡ Ok ys
       → listing a.setup.params.core_size a.options.brief a.warriors ++ results_text xs a.options.sorted
       ≡ listing b.setup.params.core_size b.options.brief b.warriors ++ results_text ys b.options.sorted

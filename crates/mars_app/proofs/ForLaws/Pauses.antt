@@ -1,4 +1,4 @@
--- The debugger continues after a failed read or write.
+-- Failed reads and writes of the debugger are only pauses: its session may continue.
 use Rattle.std.proofs.Common.{◌≡◌, refl, ap, subst, sym, ◌∙◌, ◌∷◌, ◌++◌, drop, append_assoc}
 use Rattle.std.specs.List.{flat_map}
 use Rattle.mars_cell.specs.Load.{lines_of}

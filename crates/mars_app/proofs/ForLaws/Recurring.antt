@@ -74,7 +74,7 @@ module _ (known : List ℕ → Option (List ℕ)) (p : Parameters) (rounds count
     no_source : (bytes : List ℕ) (g : AsmFault) → bytes ≡ loaded.0 → is_load_file name ≡ false → assembly p rounds count bytes ≡ Err g → ⊥
     no_source bytes g same is_load fails = let none : None ≡ Some w = rw (← same, is_load, fails) at loaded.2 in cc
 
-    -- Its content is a warrior.
+    -- The content of the file is a warrior.
     is_warrior : (f : RunFault) (bytes : List ℕ) → is_of_system f ≡ false → bytes ≡ loaded.0 → IsFaultOfFile p rounds count name bytes f → ⊥
     is_warrior fault.Words bytes own same h = h
     is_warrior (fault.Parameters e) bytes own same h = h

@@ -35,7 +35,7 @@ pub every_split : {X : Type 0} (P : X → Type 0) (xs : List X) (x : X) → AllB
 every_split P [] x h = (tt, h.0)
 every_split P (y ∷ xs) x h = let r = every_split P xs x h.1 in ((h.0, r.0), r.1)
 
--- Bytes after a line.
+-- A complete line of `bytes` is still complete if `others` follow.
 pub more_bytes : (bytes front last more others : List ℕ) → bytes ≡ front ++ (last ++ 10 ∷ more) → bytes ++ others ≡ front ++ (last ++ 10 ∷ (more ++ others))
 more_bytes bytes front last more others e = ap (λ l. l ++ others) e ∙ append_assoc front (last ++ 10 ∷ more) others ∙ ap (λ l. front ++ l) (append_assoc last (10 ∷ more) others)
 

@@ -38,7 +38,7 @@ every_push P (y ∷ xs) x h p = (h.0, every_push P xs x h.1 p)
 module _ (core : ℕ) where
   -- ---- Lines and their replies
 
-  -- Executing lines, and then others, is executing all of them.
+  -- Executing the lines `a`, and then the lines `b`, is executing one list of lines.
   pub Transcript-append : {s t u : SessionState} {x y : List ℕ} {a b : List (List ℕ)} → Transcript core s a t x → Transcript core t b u y → Transcript core s (a ++ b) u (x ++ y)
   Transcript-append none q = q
   Transcript-append (line poor l p e) q = line poor l (Transcript-append p q) (rw (e, append_assoc) refl)

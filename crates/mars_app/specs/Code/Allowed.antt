@@ -10,13 +10,14 @@ use Rattle.mars_app.specs.declared.options.Options.{Options}
 abbrev pub IsBetween : ℕ → ℕ → ℕ → Type 0
 IsBetween least greatest n = (least ≤ n) × (n ≤ greatest)
 
--- The options have a number of files that is allowed.
+-- The options `o` have an allowed number of files.
 pub record HaveFiles (o : Options) : Type 0 where
   pub count : IsBetween 1 max_warriors (vec_len o.files)
   pub load : o.load ≡ true → vec_len o.files ≡ 1
   pub league : o.league ≡ true → 2 ≤ vec_len o.files
 
--- The position is for two warriors, and at least the minimum distance from the first one in both directions around the core.
+-- `position` is for the second of two warriors of a match, at least the minimum distance from the first one in both
+-- directions around the core.
 pub record IsFittingPosition (o : Options) (position : ℕ) : Type 0 where
   pub two_files : vec_len o.files ≡ 2
   pub no_league : o.league ≡ false

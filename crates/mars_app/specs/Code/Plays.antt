@@ -1,4 +1,4 @@
--- Why options are rejected, and the battle, match or league of the warriors of their files.
+-- Why options are rejected, and how debugging, a match or a league ends.
 use Rattle.std.specs.Prelude.{◌≡◌, ◌⊎◌, false, true, List, ◌++◌, Ok, Err}
 use Rattle.std.specs.Io.KnownBytes.{Keeps}
 use Rattle.mars_cell.specs.ParameterFaults.{checked_parameters}

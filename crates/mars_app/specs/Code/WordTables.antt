@@ -12,7 +12,7 @@ use Rattle.mars_app.specs.declared.command_line.Value.{Value}
 use Rattle.mars_app.specs.declared.command_line.Value.TheVariants as value
 use Rattle.mars_app.specs.declared.command_line.Word.{Word}
 
--- The rule for the value that follows the option.
+-- The rule `rule` with what follows the option: nothing, a number or a formula.
 abbrev pub valued : Value → Rule → Rule
 valued (value.Flag action) rule = record rule { action = Some action }
 valued (value.Number greatest) rule = record rule { value_names = 1; parser = Some (parser.Signed (pos 1) (pos greatest)) }

@@ -6,7 +6,7 @@ use Rattle.mars_app.specs.Options.{is_help}
 use Rattle.mars_app.specs.declared.options.WordsFault.{WordsFault}
 use Rattle.mars_app.specs.declared.options.WordsFault.TheVariants as fault
 
--- The error of the program for an error of `clap` of the kind `k`.
+-- The error of the program for an error of `clap` of the kind `k`. `OutOfMemory` is possible for every kind.
 abbrev pub IsFaultOf : ErrorKind → WordsFault → Type 0
 IsFaultOf k (fault.Help text) = k ≡ kind.DisplayHelp
 IsFaultOf k fault.BadWords = (is_help k ≡ false) × (k ≡ kind.OutOfMemory → ⊥)

@@ -10,11 +10,11 @@ use Rattle.mars_app.specs.declared.debugger.request.Request.TheVariants.{Unknown
 abbrev pub max_line_len : ℕ
 max_line_len = 256
 
--- The request of a line in a core of size `core_size`. A line of more than 256 bytes is unknown as a whole.
+-- The request of the line `l` in a core of size `core_size`. A line of more than 256 bytes is unknown as a whole.
 abbrev pub line_request : ℕ → List ℕ → Request
 line_request core_size l = if nat_lt max_line_len (length l) then Unknown else request_of core_size l
 
--- A line contains no LF.
+-- The line `l` contains no LF.
 abbrev pub IsLine : List ℕ → Type 0
 IsLine l = AllByRecursion (λ b. b ≢ 10) l
 

@@ -29,7 +29,7 @@ line_at s address i =
 abbrev pub max_listed : ℕ
 max_listed = 1000000
 
--- The reply to `list`: the lines of `n` cells from `address` on, or a refusal.
+-- The reply to `list`: the lines of `n` cells from `address` on, or a refusal; `n` is checked first.
 unfoldable pub list_text : State → ℕ → ℕ → List ℕ
 list_text s address n =
     if n == 0 || nat_lt max_listed n then refusal_text Count
@@ -54,12 +54,12 @@ queue_text s warrior =
 
 -- ---- The command show
 
--- The number of a warrior's processes, or the turn of its death.
+-- The number of processes in a warrior's `queue`, or the turn of its death.
 abbrev pub life_text : List ℕ → Option Death → List ℕ
 life_text queue None = codes " processes " ++ decimal (length queue)
 life_text queue (Some death) = codes " dead " ++ decimal death.turns
 
--- The death of a warrior, if it died.
+-- The death of the warrior with the number `warrior`, if it died.
 abbrev pub death_of : List Death → ℕ → Option Death
 death_of deaths warrior = find (λ (death : Death). death.warrior == warrior) deaths
 

@@ -36,7 +36,7 @@ commands = command.Step ∷ command.Run ∷ command.Until ∷ command.Edit ∷ c
 abbrev pub command_of : List ℕ → Option Command
 command_of w = find (λ c. bytes_eq (word_of c) w) commands
 
--- `x` if no word follows, None otherwise.
+-- `x` if no word is in `l`, None otherwise.
 unfoldable pub alone : {X : Type 0} → X → List ℕ → Option X
 alone x l = if length (first_word l) == 0 then Some x else None
 
@@ -60,7 +60,7 @@ three_numbers l = do
   b ← two_numbers a.1
   Some (a.0, b.0, b.1)
 
--- The request of a command with the arguments that follow it on its line.
+-- The request of a command with the arguments `l` that follow it on its line, if they are right.
 unfoldable pub with_arguments : ℕ → Command → List ℕ → Option Request
 with_arguments core_size command.Step l = alone (request.Call call.Step) l
 with_arguments core_size command.Run l = option_map (λ n. request.Call (call.Run n)) (one_number l)

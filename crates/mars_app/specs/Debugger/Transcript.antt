@@ -52,7 +52,7 @@ unfoldable pub until_quit : ℕ → List (List ℕ) → List (List ℕ)
 until_quit core_size [] = []
 until_quit core_size (l ∷ ls) = if is_quit (line_request core_size l) then [] else l ∷ until_quit core_size ls
 
--- The line does not end the debugger.
+-- The line `l` is not `quit`.
 abbrev pub GoesOn : ℕ → List ℕ → Type 0
 GoesOn core_size l = line_request core_size l ≢ request.Quit
 
@@ -112,7 +112,8 @@ pub record BrokenAt (core_size : ℕ) (s : SessionState) (lines : List (List ℕ
   pub short : count < length (answer poor between (line_request core_size last)).1
   pub text_is : text ≡ before ++ take count (answer poor between (line_request core_size last)).1
 
--- The bytes are the complete lines and then the line `last`, which ends in an LF or at the end of the input.
+-- `bytes` are the complete lines `lines` and then the line `last`. This line ends in an LF, and more bytes may follow,
+-- or it ends with the input, of which `rest` is left.
 pub data EndsIn (bytes : List ℕ) (lines : List (List ℕ)) (last : List ℕ) (rest : Option (List ℕ)) : Type 0 where
   at_newline : (more : List ℕ) → bytes ≡ flat_map with_newline lines ++ (last ++ 10 ∷ more) → EndsIn bytes lines last rest
   at_end : bytes ≡ flat_map with_newline lines ++ last → IsAtEnd rest → EndsIn bytes lines last rest

@@ -20,6 +20,6 @@ first_word l = take (index_of is_blank (from_word l)) (from_word l)
 unfoldable pub after_word : List ℕ → List ℕ
 after_word l = drop (index_of is_blank (from_word l)) (from_word l)
 
--- The number that is the first word of a line, and what follows it. The number has 1 to 18 digits.
+-- The number that is the first word of a line, and what follows this word; None unless the word is 1 to 18 digits.
 unfoldable pub number_at : List ℕ → Option (ℕ × List ℕ)
 number_at l = option_map (λ n. (n, after_word l)) (parse_digits (first_word l))

@@ -53,7 +53,7 @@ pub others :
 unfolding clap_on_literals
 others = (refl, refl, refl, refl)
 
--- Each letter and each name has its own number.
+-- Each option that has a number is given with a different number.
 abbrev numbered : List (List ℕ)
 numbered = codes "-r" ∷ codes "2" ∷ codes "-s" ∷ codes "800" ∷ codes "-c" ∷ codes "4" ∷ codes "-p" ∷ codes "5" ∷ codes "-l" ∷ codes "6" ∷ codes "-d" ∷ codes "7" ∷ codes "-F" ∷ codes "8" ∷ codes "--seed" ∷ codes "9"
     ∷ codes "--read-limit" ∷ codes "10" ∷ codes "--write-limit" ∷ codes "11" ∷ codes "a.red" ∷ codes "b.red" ∷ []
@@ -89,8 +89,8 @@ pub contests_are_checked :
 unfolding clap_on_literals
 contests_are_checked = (refl, refl, refl, refl, refl)
 
--- A position is for the second of two warriors, at least the minimum distance from the first in both directions around the
--- core.
+-- A position is for the second of two warriors of a match, at least the minimum distance from the first in both
+-- directions around the core.
 pub positions_are_checked :
     Allowed (codes "-F" ∷ codes "100" ∷ two_files)
     × Allowed (codes "-F" ∷ codes "7900" ∷ two_files)

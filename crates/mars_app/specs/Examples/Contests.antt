@@ -1,4 +1,4 @@
--- Examples of the listing of the warriors, the defaults of options, and the exit statuses of errors.
+-- Examples of the listing, of limits that are not given, of leagues and matches, and of the exit statuses of errors.
 use Rattle.std.specs.Prelude.{◌≡◌, List, [], ◌∷◌, ◌++◌, None, true, false, codes, refl}
 use Rattle.std.specs.Fmt.{digits}
 use Rattle.mars_cell.specs.declared.instruction.Op.TheVariants.{Mov}
@@ -40,7 +40,7 @@ brief_contests_list_nothing = refl
 pub limits_are_the_core : (o : OptionsValue) → let p = parameters_of (record o { core = 8; longest = 3; read_limit = None; write_limit = None }) in (p.read_limit ≡ 8) × (p.write_limit ≡ 8) × (p.max_length ≡ 3)
 limits_are_the_core o = (refl, refl, refl)
 
--- With `league` each two warriors run a match, otherwise all warriors run one match.
+-- With `league` each pair of warriors plays a match, otherwise all warriors play one match.
 pub a_league_or_a_match : (o : OptionsValue) (setup : Setup) (warriors : List WarriorValue) →
     let p = setup.params in
     let plan = setup.plan in

@@ -1,4 +1,5 @@
--- Statements that do not hold, one condition at a time: files and matches that fail, lines that are split, and debuggers that stop.
+-- What the definitions of failures imply: of files, matches and rounds that fail, and of debuggers that stop or do
+-- nothing.
 use Rattle.std.specs.Prelude.{◌≡◌, ◌≢◌, ℕ, false, List, [], ◌∷◌, ◌++◌, Option, None, Some, Result, Ok, Err, String, codes, refl, string_bytes}
 use Rattle.std.proofs.Common.{ap, inl, inr, subst, sym, ◌∙◌}
 use Rattle.std.specs.Global.{Global}
@@ -52,12 +53,12 @@ a_match_without_a_result e f new output memory (inr (inl (other, same, is, liste
 a_match_without_a_result e f new output memory (inr (inr (rows, same, held, cut))) =
     let both : ◌≡◌ {A = Result (List RowValue) MatchFault} (Err e) (Ok rows) = same in absurd cc
 
--- A round that cannot start has its own error, too.
+-- A round that cannot start has its own error, too, unless memory ran out.
 pub a_round_that_cannot_start : (e : MatchFault) (f : RunFault) (old new : StreamsValue) → f ≢ fault.OutOfMemory → StartsNothing f (Err e) old new → f ≡ fault_of e
 a_round_that_cannot_start e f old new memory (inl starved, untouched) = absurd (memory starved)
 a_round_that_cannot_start e f old new memory (inr (other, same, is), untouched) = is ∙ ap fault_of (one_error same)
 
--- The error of a file shows its name and the line.
+-- The error of a file shows the name of the file, and the line if the error has one.
 module _ (p : Parameters) (rounds count line : ℕ) (name bytes : List ℕ) (shown : String Global) where
   pub the_line_of_a_load_file : (e : LoadFault) → IsFaultOfFile p rounds count name bytes (fault.Load shown line e)
       → (string_bytes shown ≡ shown_name name) × (line ≡ line_of e)

@@ -73,7 +73,7 @@ pub lines_without_a_command : IsTranscript 100 imp
 unfolding the_machine answer request_of command_request with_arguments alone first_word after_word refusal_text digits
 lines_without_a_command = refl
 
--- If two places are kept beside the last one, two turns evict none.
+-- If two places are kept beside the last one, a run of two turns evicts no place, and a run of three turns evicts one.
 pub two_places_are_kept : IsTranscript 2 imp
     (codes "run 2" ∷ codes "undo" ∷ codes "run 3" ∷ codes "undo" ∷ [])
     (codes "turn 2 cycle 2 next 0 alive 1 at 2/2\n"

@@ -36,7 +36,7 @@ impl PendingText {
         }
     }
 
-    /// Returns a text that is a first line.
+    /// Returns a text that consists of `line`.
     pub fn of(line: &Line) -> Self
         ensures { result ≡ line.now.bytes }
     {
@@ -45,7 +45,7 @@ impl PendingText {
         PendingText { text }
     }
 
-    /// Writes the whole text.
+    /// Writes the whole text, and clears it unless the write fails.
     pub fn write<W: Write>(&mut self, writer: &mut W) -> Result<(), WriteFault>
         ensures ok { OnOk result ((old : Option (List ℕ)) (text : List ℕ) → Waits old (W.contents writer.old) self.old text
             → Appends old (W.contents writer.new) text) }

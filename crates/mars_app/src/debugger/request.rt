@@ -95,7 +95,7 @@ fn read_command(word: &[u8]) -> Option<Command>
         .find(|command| command.word().as_bytes() == word)
 }
 
-/// Returns the request if no word follows.
+/// Returns `request` if `rest` contains no word.
 #[tactic(auto, unfolding(crate::specs::Debugger::Requests::alone))]
 fn alone(request: Request, rest: &[u8]) -> Option<Request>
     ensures { result ≡ alone request rest.now }

@@ -35,7 +35,7 @@ fn word_start(line: &[u8]) -> usize
     find_word(line).unwrap_or(line.len())
 }
 
-/// Returns the end of the word at the start of a line.
+/// Returns the index after the word at the start of a line.
 fn word_end(line: &[u8]) -> usize
     ensures value { result ≡ index_of is_blank line.now }
     ensures inside { result ≤ length line.now }
@@ -53,7 +53,7 @@ pub fn split_word(line: &[u8]) -> (&[u8], &[u8])
     line.split_at(word_end(line))
 }
 
-/// Returns the number that is the first word of a line, and what follows it.
+/// Returns the number that is the first word of a line, and what follows this word.
 #[tactic(auto, unfolding(crate::specs::Debugger::Words::number_at))]
 pub fn split_number(line: &[u8]) -> Option<(u64, &[u8])>
     ensures { option_map (λ r. (r.0, r.1.now)) result ≡ number_at line.now }
