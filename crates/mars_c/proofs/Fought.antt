@@ -1,4 +1,4 @@
--- The fates of one more lineup.
+-- The fates of lineups, one after another, and the warriors that a lineup chooses.
 use Rattle.std.proofs.Common.{◌≡◌, ◌∙◌, ◌⊎◌, ap, ℕ, ◌+◌, ◌<◌, ◌≤◌, All, List, [], ◌∷◌, ◌++◌, Err, Ok, Some, append_assoc, get_or, inl, inr, length, map, refl, subst, sym, take, arith}
 use Rattle.std.specs.Prelude.{slice_get}
 use Rattle.std.proofs.lemmas.Option.{slice_get-get_or}

@@ -1,4 +1,4 @@
--- Turns that are executed one after another.
+-- Turns that are executed one after another, and the rows that record turns.
 use Rattle.std.proofs.Common.{◌≡◌, ℕ, zero, suc, ◌+◌, ◌-◌, ◌<◌, Bool, true, false, List, [], ◌∷◌, ◌++◌, length, take, drop, set, get_or, refl, arith, append_assoc}
 use Rattle.std.proofs.lemmas.List.{take_more_set, drop-set-lt, drop_more}
 use Rattle.mars_core.specs.State.{State, is_over_of}

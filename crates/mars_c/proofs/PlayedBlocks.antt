@@ -45,12 +45,12 @@ none_played row_of zero s [] none = refl
 none_played row_of (suc turns) s [] none = refl
 none_played row_of turns s (row ∷ rows) none = absurd (omega (arith, none))
 
--- Several edits keep the capacity, too.
+-- Several edits keep the capacity that a battle needs, too.
 pub capacity_makes : (s t : State) (edits : List Edit) → FoldsTo Makes s edits t → capacity_of t ≡ capacity_of s
 capacity_makes s t [] is = ap capacity_of (sym is)
 capacity_makes s t (e ∷ edits) (j, made, on) = capacity_makes j t edits on ∙ ap capacity_of made.1 ∙ capacity_edited s e
 
--- An edit of a list was made, or has an error.
+-- If edit `i` of a list has no error and is made, the first `i + 1` edits were made.
 pub makes_next : (s t new : State) (edits : List Edit) (i : ℕ) (e d : Edit) → FoldsTo Makes s (take i edits) t → i < length edits → get_or edits i d ≡ e
     → edit_fault t e ≡ None → new ≡ edited t e → FoldsTo Makes s (take (i + 1) edits) new
 makes_next s t new edits i e d before inside is none made =

@@ -1,4 +1,4 @@
--- The error of a source that is not assembled, or memory ran out.
+-- A source that is not assembled has its own error, unless memory ran out.
 use Rattle.std.proofs.Common.{◌≡◌, ℕ, List, Ok}
 use Rattle.mars_cell.specs.Parameters.{Parameters}
 use Rattle.mars_cell.specs.ParameterFaults.{checked_parameters}

@@ -1,4 +1,4 @@
--- Where a process of a battle in a block comes from, and why that is not found.
+-- The ancestors of a process of a battle in a block, and why they are not found.
 use Rattle.std.specs.Prelude.{◌≡◌, ℕ, ⊤, List, length}
 use Rattle.mars_core.specs.Ancestors.{HasProcess, lineage}
 use Rattle.mars_core.specs.Block.{Spells}
@@ -8,9 +8,10 @@ use Rattle.mars_c.specs.Blocks.{RefusesWords}
 use Rattle.mars_c.specs.declared.faults.BlockRefusal.{BlockRefusal}
 use Rattle.mars_c.specs.declared.faults.BlockRefusal.TheVariants.{OutOfMemory, Block, Capacity, NoSuchEdit, Edit, History, Condition, Pasts, Process}
 
--- After at most `turns` turns of the battle in the words, the warrior has a process with the index `place`. `rows` begins with the turns in
--- which this process and its ancestors were born, as far as there are rows; `count` is the number of these turns. `first` is the index, in
--- the battle in the words, of the process from which all of them descend.
+-- After at most `turns` turns of the battle in `words`, the warrior `warrior` has a process with the index `place`.
+-- `rows` begins with the turns in which this process and its ancestors were born, as far as there are rows; the other
+-- rows stay. `count` is the number of these turns. `first` is the index of the first of these processes in the battle
+-- in `words`.
 pub record HasAncestors (turns warrior place : ℕ) (words rows_before rows : List ℕ) (count first : ℕ) : Type 0 where
   pub state : State
   pub spelled : Spells state words

@@ -31,7 +31,7 @@ use Rattle.mars_c.specs.declared.settings.MarsSettings.{MarsSettings}
 abbrev pub capacity_of : State → ℕ
 capacity_of s = head_words + 3 * s.params.core_size + length s.queues * s.params.processes
 
--- The words begin with the block of the battle `s`, and there are as many as its capacity needs.
+-- `words` begins with the block of the battle `s`, and has at least the capacity that `s` needs.
 pub record IsPlayable (s : State) (words : List ℕ) : Type 0 where
   pub spells : Spells s words
   pub capacity : capacity_of s ≤ length words
@@ -45,7 +45,7 @@ IsWritten s before after = after ≡ block_of s ++ drop (length (block_of s)) be
 abbrev pub played_rows : {Row : Type 0} → (State → Row) → ℕ → State → List Row → List Row
 played_rows row_of turns s rows = recorded row_of s (take turns rows) ++ drop turns rows
 
--- The numbers of a MarsEdit mean the edit. An edit reads only the fields that it needs.
+-- The numbers of a MarsEdit mean the edit. Only the fields that the edit needs count.
 abbrev pub Means : MarsEdit → Edit → Type 0
 Means numbers (edit.SetCell address cell) = (numbers.what ≡ 1) × (address ≡ numbers.address) × (plain_cell cell ≡ numbers.cell)
 Means numbers (edit.MoveProcess warrior place address) =
@@ -67,7 +67,7 @@ abbrev pub HoldsEdited : MarsEdit → List ℕ → List ℕ → Type 0
 HoldsEdited numbers before after = (s : State) × (e : Edit) × IsPlayable s before × Means numbers e
     × (edit_fault s e ≡ None) × IsWritten (edited s e) before after
 
--- The edit is possible in the battle `s`, and makes it `t`.
+-- The edit `e` is possible in the battle `s`, and leads to the battle `t`.
 abbrev pub Makes : State → Edit → State → Type 0
 Makes s e t = (edit_fault s e ≡ None) × (t ≡ edited s e)
 
@@ -120,7 +120,7 @@ RefusesEdit words numbers (Condition index) = ⊥
 RefusesEdit words numbers Pasts = ⊥
 RefusesEdit words numbers Process = ⊥
 
--- The numbers mean edits.
+-- Each item of `numbers` means an edit.
 abbrev pub AreEdits : List MarsEdit → Type 0
 AreEdits numbers = (edits : List Edit) × AllZip Means numbers edits
 

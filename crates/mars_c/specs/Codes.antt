@@ -183,7 +183,7 @@ problem_numbers (assembly.Text problem) = (text_number problem, text_expression 
 problem_numbers (assembly.Expression fault) = (0, expression_number fault)
 problem_numbers problem = (0, 0)
 
--- The first byte of a token and the byte after its last one; 0 and 0 if there is no token.
+-- The index of the first byte of a token and the index after its last byte; 0 and 0 if there is no token.
 abbrev pub token_bytes : Option Span → ℕ × ℕ
 token_bytes (Some token) = (token.from, token.to)
 token_bytes None = (0, 0)

@@ -20,11 +20,12 @@ use Rattle.mars_c.specs.declared.warriors.MarsWarrior.{MarsWarrior}
 use Rattle.mars_c.specs.declared.rows.MarsRow.{MarsRow}
 use Rattle.mars_c.specs.declared.settings.MarsSettings.{MarsSettings}
 
--- The points of each survivor of a round of `warriors` warriors with `survivors` survivors. Without survivors the formula is not evaluated.
+-- The points of each survivor of a round of `warriors` warriors with `survivors` survivors. Without survivors they are
+-- 0, whatever the formula is.
 abbrev pub points_each : Scanned → ℕ → ℕ → Result ℤ ExprFault
 points_each formula warriors survivors = if survivors == 0 then Ok (pos 0) else score_of formula (pos warriors) (pos survivors)
 
--- `points` are the points of each survivor by the formula `text`.
+-- `points` are the points of each of `survivors` survivors of `warriors` warriors by the formula `text`.
 abbrev pub IsScore : List ℕ → ℕ → ℕ → ℤ → Type 0
 IsScore text warriors survivors points = (formula : Scanned) × (formula_of text ≡ Ok formula) × (points_each formula warriors survivors ≡ Ok points)
 

@@ -1,4 +1,4 @@
--- Warriors as cells in an array of the caller's, and the names of programs.
+-- Warriors whose cells are in an array of the caller, why they are rejected, and the names of programs.
 use Rattle.std.specs.Prelude.{◌≡◌, ◌≢◌, ◌≤◌, ◌<◌, ◌==◌, ◌-◌, ◌++◌, ◌&&◌, ℕ, ⊤, All, Bool, List, [], ◌∷◌, Some, drop, length, map, nat_le, not, replicate, slice_get, take, take_while}
 use Rattle.std.specs.List.{list_all}
 use Rattle.mars_cell.specs.Cells.{FitsCore}
@@ -25,7 +25,7 @@ pub record IsEntrant (p : Parameters) (cells : List MarsCell) (start : ℕ) (nam
   pub name_same : w.name ≡ name
   pub author_same : w.author ≡ author
 
--- The numbers are a cell of a core of `m` cells.
+-- The numbers `numbers` are a cell of a core of `m` cells.
 abbrev pub IsCellOf : ℕ → MarsCell → Type 0
 IsCellOf m numbers = (cell : Cell) × (plain_cell cell ≡ numbers) × FitsCore m cell
 

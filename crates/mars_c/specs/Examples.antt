@@ -1,5 +1,5 @@
--- Examples, as theorems: errors, cells, programs and records as numbers, warriors in an array, the positions of a later round,
--- values out of range, and populations.
+-- Examples, as theorems: settings, errors, cells, programs, records and fates as numbers, blocks, warriors in an array,
+-- the start of a later round, values out of range, populations, and lineups.
 pub mod Wrong
 pub mod Results
 use Rattle.std.specs.Prelude.{◌≡◌, ℕ, zero, suc, pos, refl, true, false, All, List, [], ◌∷◌, ◌++◌, None, Some, Ok, Err, codes, replicate, slice_index_or}
@@ -99,13 +99,13 @@ pub operand_is_reported : fault_of (Assembly (record { line = 4; problem = assem
     ≡ record { code = 5; number = 4; problem = 0; expression = 4; line = 4; warrior = 0; begin = 30; end = 32 }
 operand_is_reported = refl
 
--- The cell at address 7, the queue of warrior 2 and the minimum distance are wrong in a block.
+-- The cell at address 7, the queue of warrior 2 and the minimum distance are wrong in three blocks.
 pub blocks_are_reported : (block_fault_of (blocks.Block (block.Cell 7)) ≡ record { code = 11; number = 5; problem = 0; expression = 0; line = 7; warrior = 0; begin = 0; end = 0 })
     × (block_fault_of (blocks.Block (block.Queue 2)) ≡ record { code = 11; number = 6; problem = 0; expression = 0; line = 0; warrior = 2; begin = 0; end = 0 })
     × (block_fault_of (blocks.Block (block.Parameters Distance)) ≡ record { code = 11; number = 3; problem = 6; expression = 0; line = 0; warrior = 0; begin = 0; end = 0 })
 blocks_are_reported = (refl, refl, refl)
 
--- The error has the first and the last number of an edit.
+-- The numbers 1, 2 and 7 of errors of edits. The last of these errors is about the edit at index 3.
 pub edits_are_reported : (block_fault_of (blocks.NoSuchEdit 0) ≡ numbered 12 1) × (block_fault_of (blocks.Edit 0 Address) ≡ numbered 12 2) × (block_fault_of (blocks.Edit 3 QueueFull) ≡ record (numbered 12 7) { warrior = 3 })
 edits_are_reported = (refl, refl, refl)
 
@@ -163,7 +163,7 @@ pub row_of_a_split : turn_row (lone of_eight (eight (cell_of Spl B Direct 5 Imme
 unfolding the_machine
 row_of_a_split = refl
 
--- An empty cell kills a single process, and the battle is over: one turn was left.
+-- An empty cell kills the only process, so the battle is over after one turn.
 pub row_of_a_death : turn_row (lone of_eight (eight []) (6 ∷ [])) ≡ record {
   warrior = 0;
   address = 6;
@@ -306,7 +306,7 @@ lengths_are_checked = (λ same. cc, λ outside. outside refl)
 abbrev imps : ℕ → ℕ → WarriorValue
 imps length start = record { name = []; author = []; cells = replicate length imp; start = start }
 
--- Imps fit a core of 80 cells. The second of two warriors starts at its second cell.
+-- Imps fit a core of 80 cells. Below, the second of two warriors starts at its second cell.
 fit : (n : ℕ) → All (FitsCore 80) (replicate n imp)
 fit zero = All-nil (FitsCore 80)
 fit (suc n) = All-cons (FitsCore 80) imp (replicate n imp) (record { a = omega arith; b = omega arith }) (fit n)
@@ -388,6 +388,6 @@ pub fates_are_numbers : (plain_fate (record { survived = true; turns = 5; start 
     × ((plain_fate (record { survived = false; turns = 5; start = 9; counts = deeds })).survived ≡ 0)
 fates_are_numbers = (refl, refl)
 
--- Any number but 0 requests what the warriors do.
+-- Every value of `counting` except 0 requests what the warriors do.
 pub lineup_is_counted : (is_counting of_two ≡ false) × (is_counting (record { seed = 0; count = 2; counting = 7; warrior = [] }) ≡ true)
 lineup_is_counted = (refl, refl)

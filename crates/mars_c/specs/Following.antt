@@ -45,8 +45,8 @@ plain_condition condition = record {
   last = condition.last;
 }
 
--- After at most `turns` turns of the battle in the words `before`, the words `after` hold the battle, `pasts` the past of each cell,
--- and `rows` the turns that meet the conditions; there are `count` of them.
+-- After at most `turns` turns of the battle in the words `before`, the words `after` hold the battle, `pasts` the past
+-- of each cell, and `rows` the first of the `count` turns that meet the conditions.
 pub record IsFollowed (turns : ℕ) (conditions : List MarsCondition) (before after : List ℕ) (pasts_before pasts : List Past)
     (rows_before rows : List Found) (count : ℕ) : Type 0 where
   pub state : State
@@ -70,7 +70,7 @@ pub record HasMoments (step : ℕ) (conditions : List MarsCondition) (before aft
   pub pasts_are : pasts ≡ followed (count * step) state pasts_before
   pub moments_are : moments ≡ moments_after count step values state pasts_before
 
--- The numbers mean conditions.
+-- Each item of `conditions` means a condition.
 abbrev pub AreConditions : List MarsCondition → Type 0
 AreConditions conditions = (values : List ConditionValue) × (map plain_condition values ≡ conditions)
 

@@ -35,13 +35,13 @@ abbrev pub EqualLeagues : Type 0
 EqualLeagues = (settings : MarsSettings) (formula : List ℕ) (cells : List MarsCell) (entrants : List MarsWarrior) (one other : List MarsRow)
     → HoldsLeague settings formula cells entrants one → HoldsLeague settings formula cells entrants other → one ≡ other
 
--- There is only one list of sums of a population with as many candidates.
+-- There is only one list of sums of a population with a given number of candidates.
 abbrev pub EqualPopulations : Type 0
 EqualPopulations = (settings : MarsSettings) (formula : List ℕ) (cells : List MarsCell) (entrants : List MarsWarrior) (one other : List MarsRow)
     → length one ≡ length other
     → HoldsSums settings formula cells entrants one → HoldsSums settings formula cells entrants other → one ≡ other
 
--- There is only one list of outcomes of some lineups.
+-- There is only one list of outcomes of given lineups.
 abbrev pub EqualOutcomes : Type 0
 EqualOutcomes = (settings : MarsSettings) (cells : List MarsCell) (entrants : List MarsWarrior) (lineups : List MarsLineup) (one other : List MarsOutcome)
     → HoldsOutcomes settings cells entrants lineups one → HoldsOutcomes settings cells entrants lineups other → one ≡ other

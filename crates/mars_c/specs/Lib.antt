@@ -1,4 +1,4 @@
--- The definitions that a reader of the contracts must trust, in this order. `Examples` has examples of them.
+-- The definitions that a reader of the contracts must trust, in this order, with laws that follow, and examples.
 pub mod Settings
 pub mod Cells
 pub mod Entrants

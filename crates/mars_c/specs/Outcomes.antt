@@ -106,7 +106,7 @@ RefusesLineup s ws lineup refusal =
     × (checked_parameters (parameters_in s) ≡ Ok p) × IsPlan (seeded s lineup.seed) plan × AreChosen ws (indices_of lineup) chosen
     × (fates_of (is_counting lineup) p chosen plan.fixed plan.rounds plan.seed ≡ Err fault) × (refusal ≡ fight_refusal fault))
 
--- `refusal` is a reason for which the match of the first lineup with an error has no fates. Those before it are fought.
+-- `refusal` is a reason for which the first lineup with an error has no fates. The lineups before it are fought.
 abbrev pub IsFirstFailure : MarsSettings → List WarriorValue → List MarsLineup → CallRefusal → Type 0
 IsFirstFailure s ws lineups refusal = (index : ℕ) × (lineup : MarsLineup) × (before : List Fate)
     × AreFought s ws (take index lineups) before × (slice_get lineups index ≡ Some lineup) × RefusesLineup s ws lineup refusal

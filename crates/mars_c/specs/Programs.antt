@@ -1,4 +1,4 @@
--- Programs of sources and load files as numbers, and texts in buffers.
+-- The programs of sources and load files as numbers, the lines of their cells, and texts in buffers.
 use Rattle.std.specs.Prelude.{◌≡◌, ◌≢◌, ◌≤◌, ◌<◌, ◌⊎◌, ℕ, List, [], ◌++◌, drop, length, map, Ok}
 use Rattle.mars_cell.specs.Load.{load}
 use Rattle.mars_cell.specs.Parameters.{Parameters}
@@ -44,16 +44,16 @@ OverflowsProgram Is program places = (w : WarriorValue) × Is w × (program ≡ 
 abbrev pub IsAssembled : MarsSettings → ℕ → List ℕ → WarriorValue → Type 0
 IsAssembled s warriors source w = (p : Parameters) × (checked_parameters (parameters_in s) ≡ Ok p) × (assembly p s.rounds warriors source ≡ Ok w)
 
--- `w` is the warrior of the load file `text`.
+-- `w` is the warrior of the load file `text`, with the settings `s`.
 abbrev pub IsLoaded : MarsSettings → List ℕ → WarriorValue → Type 0
 IsLoaded s text w = (p : Parameters) × (checked_parameters (parameters_in s) ≡ Ok p) × (load p.core_size p.max_length text ≡ Ok w)
 
--- `text` is the load file of the program `program` with the cells `cells`.
+-- `text` is the load file of the program `program` with the cells `cells` and the settings `s`.
 abbrev pub IsLoadFile : MarsSettings → List MarsCell → MarsProgram → List ℕ → Type 0
 IsLoadFile s cells program text = (p : Parameters) × (w : WarriorValue) × (checked_parameters (parameters_in s) ≡ Ok p) × (program.warrior.length ≡ length cells)
     × IsEntrant p cells program.warrior.start (named program.name) (named program.author) w × (text ≡ load_text p.core_size w)
 
--- `made` has the lines of the cells of the warrior in its source, and their labels.
+-- `made` has the lines in `source` of the cells of the warrior that `IsAssembled` defines, and their labels.
 abbrev pub AreLines : MarsSettings → ℕ → List ℕ → CellLines → Type 0
 AreLines s warriors source made = (p : Parameters) × (checked_parameters (parameters_in s) ≡ Ok p) × (source_lines p s.rounds warriors source ≡ Ok made)
 

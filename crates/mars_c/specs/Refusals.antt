@@ -1,6 +1,7 @@
--- Why a source is not assembled, a load file is not read or written, or a match, league or population is not run. The
--- definitions allow `OutOfMemory` as a refusal of every call, because an allocation may fail. Parameters: `s` are the caller's settings,
--- `text` is the score formula or the load file, and `cells` and `entrants` are the caller's warriors.
+-- Why a source is not assembled, a load file is not read or written, a formula has no value, or a match, league,
+-- population or round is not run. The definitions allow `OutOfMemory` as a refusal of every call, because an allocation
+-- may fail. Parameters: `s` are the caller's settings, `text` is the score formula or the load file, and `cells` and
+-- `entrants` are the caller's warriors.
 use Rattle.std.specs.Prelude.{◌≡◌, ◌≢◌, ◌≤◌, ◌<◌, ◌⊎◌, ◌&&◌, ℕ, ⊤, false, List, Ok, Err, Result, Some, codes, length, slice_get, sum_by, take}
 use Rattle.mars_cell.specs.Load.{load}
 use Rattle.mars_cell.specs.Parameters.{Parameters}
@@ -57,7 +58,8 @@ RefusesLoad s text (OfParameters fault) = checked_parameters (parameters_in s) �
 RefusesLoad s text (Load fault) = (p : Parameters) × (checked_parameters (parameters_in s) ≡ Ok p) × (load p.core_size p.max_length text ≡ Err fault)
 RefusesLoad s text other = ⊥
 
--- The error is a reason for which the cells are not those of `program`: a name is not valid, or they are no warrior with its start.
+-- The error is a reason for which the cells are not those of `program`: a name is not valid, or there is no such
+-- warrior.
 abbrev pub IsNoProgram : Parameters → List MarsCell → MarsProgram → EntrantFault → Type 0
 IsNoProgram p cells program entrant.Name = (is_name (named program.name) && is_name (named program.author)) ≡ false
 IsNoProgram p cells program fault = IsNoEntrant p cells program.warrior.start fault
@@ -87,7 +89,7 @@ IsWrong p cells entrants index fault = (ws : List WarriorValue) × (rest : List 
 abbrev pub LengthsDiffer : List MarsCell → List MarsWarrior → Type 0
 LengthsDiffer cells entrants = sum_by (λ (one : MarsWarrior). one.length) entrants ≢ length cells
 
--- A setting of the plan is out of its range. The position must fit battles of `warriors` warriors.
+-- The setting that the error names is out of its range. The position must fit battles of `warriors` warriors.
 abbrev pub IsOutside : MarsSettings → ℕ → SettingsFault → Type 0
 IsOutside s warriors Rounds = AreRounds s.rounds → ⊥
 IsOutside s warriors Seed = IsSeed s.seed → ⊥

@@ -1,7 +1,7 @@
 //! The functions that C calls. `include/mars.h` documents them.
 //!
-//! A function that writes a result returns 0 if it succeeds; otherwise it stores the error in `fault` and returns its code. In the
-//! clauses, 0 is MARS_DONE, and 10 is MARS_ROOM: the buffer is too short.
+//! A function that can fail stores its error in `fault`, or zeros if it succeeds, and returns the code of the error, or
+//! 0. In the clauses, 0 is MARS_DONE, and 10 is MARS_ROOM: the buffer is too short.
 ghost use Rattle.std.specs.Prelude.{◌≡◌, ◌≢◌, ◌≤◌, ◌<◌, ◌⊎◌, ◌++◌, [], drop, false, length, map, true};
 ghost use Rattle.mars_c.specs.Cells.{plain_cell};
 ghost use Rattle.mars_c.specs.Codes.{numbered};

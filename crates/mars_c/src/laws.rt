@@ -17,7 +17,7 @@ pub fn equal_populations()
     ensures { EqualPopulations }
 {}
 
-/// There is only one list of outcomes of some lineups.
+/// There is only one list of outcomes of given lineups.
 pub fn equal_outcomes()
     ensures { EqualOutcomes }
 {}

@@ -131,7 +131,7 @@ pub fn assembly_number(problem: AsmProblem) -> u32
     }
 }
 
-/// Returns the number of the problem of the text, and that of the error of the expression; 0 for a number that does not apply.
+/// Returns the numbers of the text's problem and of the expression's error; 0 for a number that does not apply.
 pub fn problem_numbers(problem: AsmProblem) -> (u32, u32)
     ensures { result ≡ codes.problem_numbers problem }
 {
@@ -142,7 +142,7 @@ pub fn problem_numbers(problem: AsmProblem) -> (u32, u32)
     }
 }
 
-/// Returns the first byte of a token and the byte after its last one; 0 and 0 if there is no token.
+/// Returns the index of the first byte of a token and the index after its last byte; 0 and 0 if there is no token.
 pub fn token_bytes(token: Option<Span>) -> (u64, u64)
     ensures { result ≡ codes.token_bytes token }
 {

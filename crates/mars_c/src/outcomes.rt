@@ -35,22 +35,22 @@ pub struct MarsLineup {
 #[repr(C)]
 #[derive(Clone, Copy)]
 pub struct MarsOutcome {
-    /// 1 if it lives at the end, else 0.
+    /// 1 if the warrior lives at the end, else 0.
     pub survived: u32,
-    /// Number of turns that all warriors had executed when it died, including its last one; if it survived, of all turns of the
-    /// round.
+    /// Number of turns that all warriors had executed when the warrior died, including its last one; if it survived, of
+    /// all turns of the round.
     pub turns: u32,
-    /// Address of its first cell.
+    /// Address of the warrior's first cell.
     pub start: u32,
-    /// Number of its own turns. This and the following numbers are 0 if the lineup doesn't request them.
+    /// Number of the warrior's own turns. This and the following numbers are 0 if the lineup doesn't request them.
     pub own_turns: u32,
-    /// Number of its turns that queued two processes.
+    /// Number of the warrior's turns that queued two processes.
     pub spawned: u32,
-    /// Number of cells at which it executed an instruction.
+    /// Number of cells at which the warrior executed an instruction.
     pub executed: u32,
-    /// Number of cells that it wrote.
+    /// Number of cells that the warrior wrote.
     pub written: u32,
-    /// Number of cells that it executed, read or wrote.
+    /// Number of cells that the warrior executed, read or wrote.
     pub touched: u32,
 }
 
@@ -72,7 +72,7 @@ impl MarsOutcome {
     }
 }
 
-/// Returns the settings with the seed of a lineup, unless that is 0.
+/// Returns the settings with the seed of a lineup, unless this seed is 0.
 fn seeded(settings: &MarsSettings, seed: u32) -> MarsSettings
     ensures { result ≡ spec_seeded settings.now seed }
 {

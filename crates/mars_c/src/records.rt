@@ -72,14 +72,14 @@ fn change_of(change: Option<CellChange>) -> MarsChange
     }
 }
 
-/// Returns the write at index `place`, or `None` if there are fewer.
+/// Returns the write at index `place`, or `None` if there is none.
 fn change_at(changes: &[CellChange], place: usize) -> Option<CellChange>
     ensures { result ≡ slice_get changes.now place }
 {
     changes.get(place).copied()
 }
 
-/// Returns the address at index `place`, or 0 if there are fewer.
+/// Returns the address at index `place`, or 0 if there is none.
 pub fn address_at(addresses: &[u32], place: usize) -> u32
     ensures { result ≡ slice_index_or addresses.now place 0 }
 {
@@ -109,7 +109,7 @@ fn taken(work: Work) -> (u32, u32)
 impl MarsRecord {
     /// Writes the record of a turn as numbers. `cycle` is the number of cycles that are complete after the turn.
     ///
-    /// The changes are written one after another, because the numbers of all of them at once would not fit into registers.
+    /// The changes are written one by one, because the numbers of all changes at once would not fit into registers.
     fn write(&mut self, atom: &Atom, cycle: u32)
         ensures { self.new ≡ plain_record atom.now cycle }
     {

@@ -33,7 +33,7 @@ pub struct MarsSettings {
     pub write_limit: u32,
     /// Maximum length of a warrior in cells, 1 to the core size.
     pub longest: u32,
-    /// Minimum distance between first cells, from the maximum length to the core size.
+    /// Minimum distance between the first cells of warriors, from the maximum length to the core size.
     pub distance: u32,
     /// Number of rounds of a match, 1 to 100,000.
     pub rounds: u32,
@@ -79,7 +79,7 @@ pub fn warriors_fault(warriors: usize) -> Option<SettingsFault>
     None
 }
 
-/// Returns the error of the rounds, then that of the seed, or `None`.
+/// Returns the error of the rounds, or else the error of the seed, or `None` if there is none.
 fn numbers_fault(settings: &MarsSettings) -> Option<SettingsFault>
     ensures rounds { result ≡ None → AreRounds settings.now.rounds }
     ensures seed { result ≡ None → IsSeed settings.now.seed }

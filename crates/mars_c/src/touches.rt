@@ -6,7 +6,7 @@ use crate::playing::TurnRow;
 use crate::records::address_at;
 use mars_core::{Atom, Battle};
 
-/// The cells that a turn reads or writes: the number of addresses, and the addresses. Unused ones are 0.
+/// The cells that a turn reads or writes: the number of addresses, and the addresses. Unused addresses are 0.
 #[repr(C)]
 #[derive(Clone, Copy)]
 pub struct MarsTouched {

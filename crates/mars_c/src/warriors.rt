@@ -1,4 +1,4 @@
-//! Warriors as numbers: their cells in an array of the caller's, their start, and their names.
+//! Warriors as numbers: their cells in an array of the caller, their start, and their names.
 ghost use Rattle.std.specs.Prelude.{◌≡◌, ◌≢◌, ◌≤◌, All, IfErr, IfOk, IfSome, None, Some, false, if◌then◌else◌, length, map, option_map, string_bytes};
 ghost use Rattle.std.specs.List.{list_all};
 ghost use Rattle.mars_cell.specs.Cells.{FitsCore};
@@ -25,7 +25,7 @@ const MAX_NAME_LEN: usize = 60;
 pub struct MarsWarrior {
     /// Number of cells, 1 to the maximum length.
     pub length: u32,
-    /// Index of the cell at which its process starts, from 0.
+    /// Index of the cell at which the warrior's process starts, from 0.
     pub start: u32,
 }
 

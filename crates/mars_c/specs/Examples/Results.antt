@@ -1,5 +1,5 @@
--- Statements about results and errors that do not hold, one condition at a time: programs, texts, edits, blocks, lineups, and the errors
--- that are reported.
+-- What follows from the definitions of results and errors, one condition at a time: reported errors, sources and load
+-- files, buffers, edits, blocks and lineups.
 use Rattle.std.specs.Prelude.{◌≡◌, ◌<◌, ◌≤◌, ⊤, ℕ, zero, suc, All, Option, None, Some, List, [], ◌∷◌, ◌++◌, Result, Ok, Err, drop, length, map, refl, slice_get, slice_index_or}
 use Rattle.std.proofs.Common.{ap, arith, inl, inr, rules, subst, sym, ◌∙◌}
 use Rattle.std.proofs.Math.Nat.{mul-le-mul_right}
@@ -78,7 +78,7 @@ the_error_of_a_match s text cells entrants refusal (a, ws, fault, made, are, is,
 
 -- ---- Sources and load files
 
--- A source that is assembled has no error, and one list of lines.
+-- A source that is assembled has no error except `OutOfMemory`, and one list of lines.
 pub assembled : (s : MarsSettings) (count : ℕ) (source : List ℕ) (w : WarriorValue) (refusal : CallRefusal)
     → IsAssembled s count source w → RefusesSource s count source refusal → refusal ≡ call.OutOfMemory
 assembled s count source w call.OutOfMemory is refuses = refl
@@ -89,7 +89,7 @@ assembled s count source w other is refuses = absurd refuses
 pub one_list : (s : MarsSettings) (count : ℕ) (source : List ℕ) (one other : CellLines) → AreLines s count source one → AreLines s count source other → one ≡ other
 one_list s count source one other (p, allowed, is) (q, too, are) = cc
 
--- A load file that is read has no error.
+-- A load file that is read has no error except `OutOfMemory`.
 pub read : (s : MarsSettings) (text : List ℕ) (w : WarriorValue) (refusal : CallRefusal)
     → IsLoaded s text w → RefusesLoad s text refusal → refusal ≡ call.OutOfMemory
 read s text w call.OutOfMemory is refuses = refl
@@ -97,14 +97,14 @@ read s text w (call.Parameters f) (p, allowed, is) refuses = cc
 read s text w (call.Load f) (p, allowed, is) (q, too, refuses) = cc
 read s text w other is refuses = absurd refuses
 
--- A program without names, of this number of cells.
+-- A program without names, of `length` cells.
 abbrev of_length : ℕ → MarsProgram
 of_length length = record { warrior = record { length = length; start = 0 }; name = []; author = [] }
 
 abbrev no_core : MarsSettings
 no_core = record (nano 1 1 0) { core = 0 }
 
--- No load file has one cell for a program of two, no cell, no core, or no byte.
+-- No load file has one cell for a program of two cells, no cell, no core, or no byte.
 pub no_load_file : (one : MarsCell) (text : List ℕ)
     → (IsLoadFile (nano 1 1 0) (one ∷ []) (of_length 2) text → ⊥)
     × (IsLoadFile (nano 1 1 0) [] (of_length 0) text → ⊥)
@@ -172,7 +172,7 @@ long_enough labels (some, short) = omega (arith, short)
 
 -- ---- Edits
 
--- The numbers of an edit of this kind: of warrior 1, its process 2, and the address 3.
+-- The numbers of an edit of the kind `what`, with warrior 1, its process 2, address 3 and the cell `cell`.
 abbrev numbers : ℕ → MarsCell → MarsEdit
 numbers what cell = record { what = what; warrior = 1; place = 2; address = 3; cell = cell }
 
@@ -207,7 +207,7 @@ no_battle words after text n history = (
   λ d. unmarked d.0 words d.2,
 )
 
--- Words that spell a battle are not refused.
+-- Words that spell a battle are not refused, except for `OutOfMemory`.
 pub a_block : (s : State) (words : List ℕ) (refusal : BlockRefusal) → Spells s words → RefusesWords words refusal → refusal ≡ refused.OutOfMemory
 a_block s words refused.OutOfMemory spells refuses = refl
 a_block s words (refused.Block fault) spells refuses = absurd (refuses.2 s spells)
@@ -222,7 +222,7 @@ pub written : (s : MarsSettings) (cells : List MarsCell) (entrants : List MarsWa
 unfolding block_of head_of field_words
 written s cells entrants round n words = (λ h. let e = h.3 in cc, λ h. omega (arith, h.2), λ h. let e = h.5 in cc)
 
--- Numbers that mean no edit are not made, and no battle starts with a round that the match does not have.
+-- Numbers that mean no edit make none, and no battle starts with a round that the match does not have.
 pub nothing_written : (cells : List MarsCell) (entrants : List MarsWarrior) (cell : MarsCell) (words after : List ℕ)
     → (HoldsStart (nano 3 7 0) cells entrants 3 words after → ⊥)
     × (OverflowsStart (nano 3 7 0) cells entrants 3 words → ⊥)
@@ -252,7 +252,7 @@ no_warrior_16_is_killed words after cell fault = (
   λ r. let e : Some fault ≡ Some NoSuchWarrior = sym r.4 ∙ no_warrior_16 r.0 words cell r.1 r.2 r.3 in cc,
 )
 
--- Neither an edit of words that are no battle nor an edit that the numbers do not mean has an error of its own.
+-- If the words are no battle or the numbers mean no edit, the refusal is not the error of an edit.
 pub no_error_of_an_edit : (words : List ℕ) (n : MarsEdit) (cell : MarsCell) (fault : EditFault)
     → (RefusesEdit (0 ∷ words) n (refused.Edit 0 fault) → ⊥) × (RefusesEdit words (numbers 5 cell) (refused.Edit 0 fault) → ⊥)
 no_error_of_an_edit words n cell fault = (λ r. no_mark r.0 words r.2, λ r. no_edit_5 cell r.1 r.3)
@@ -266,7 +266,7 @@ enough_words words many (s, spells, few) =
     let most = params.processes_most in
     omega (arith, many, few, one, core, most)
 
--- A debugger has a history, and replies nothing to nothing.
+-- The debugger requires a history, and replies nothing if there are no lines.
 pub debugged : (words lines text : List ℕ) (history : ℕ)
     → (Debugs words 0 lines text → ⊥) × (Debugs words history [] text → text ≡ [])
 unfolding lines_of until_quit
@@ -331,7 +331,7 @@ no_failing_match s ws f e = (without_core, without_warrior, of_a_file)
     of_a_file (inl entry) = entry
     of_a_file (inr fails) = no_load e fails.3 fails.8
 
--- A lineup that is not there does not fail, nor one of no core, nor one with cells of no warrior.
+-- No lineup fails if there is no lineup, if the core has no cells, or if cells belong to no warrior.
 pub no_failing_lineup : (one : MarsCell) (lineups : List MarsLineup) (refusal : CallRefusal)
     → (FailsLineup (nano 1 1 0) [] [] [] refusal → ⊥)
     × (FailsLineup no_core [] [] lineups refusal → ⊥)

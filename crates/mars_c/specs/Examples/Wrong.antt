@@ -1,4 +1,4 @@
--- Statements that do not hold, one condition at a time: settings, histories, rounds, blocks and buffers.
+-- What the definitions exclude, one condition at a time: settings, rounds, histories, blocks and buffers.
 use Rattle.std.specs.Prelude.{◌≡◌, ◌<◌, ◌≤◌, ◌+◌, ◌*◌, ℕ, Some, List, [], ◌∷◌, Result, Ok, Err, length, refl, slice_index_or}
 use Rattle.std.proofs.Common.{ap, arith, replicate, sym, ◌∙◌}
 use Rattle.std.specs.Option.{unwrap_or}
@@ -38,7 +38,7 @@ a_core_of_another_size text setup one =
     let same : parameters_in (nano 2 7 0) ≡ setup.params = cc in
     sym (ap (λ (p : Parameters). p.core_size) same)
 
--- The setup has the formula of the text, so a text that is no formula has none.
+-- The setup has the formula of the text, so a text that is no formula has no setup.
 pub no_formula_of_257_bytes : (setup : Setup) → IsSetup (nano 2 7 0) (replicate 257 87) setup → ⊥
 no_formula_of_257_bytes setup s = let e : ◌≡◌ {A = Result Scanned ExprFault} (Err Syntax) (Ok setup.formula) = s.formula in cc
 
@@ -50,7 +50,7 @@ seeds_out_of_range text setup = (λ s. omega (arith, s.plan.seed_allowed.0), λ 
 
 -- ---- Battles
 
--- A match of three rounds has no round 3: they are numbered from 0.
+-- A match of three rounds has no round 3, because rounds are numbered from 0.
 pub no_round_3 : (cells : List MarsCell) (entrants : List MarsWarrior) (s : State) → IsStart (nano 3 7 0) cells entrants 3 s → ⊥
 no_round_3 cells entrants s start = let e : 3 < 3 = start.5 in omega (arith, e)
 
@@ -79,7 +79,8 @@ no_room_for_processes s words some is h = omega (arith, some, is, h.capacity)
 
 -- ---- Buffers
 
--- A text of one byte in a buffer of two: another count, another byte of the text, and another byte after it.
+-- A text of one byte is at the front of a buffer of two, but not with the count 2, in an empty buffer, or with another
+-- byte after the text.
 pub texts_in_buffers : BeginsWith {A = ℕ} (65 ∷ []) 1 (1 ∷ 2 ∷ []) (65 ∷ 2 ∷ [])
     × (BeginsWith {A = ℕ} (65 ∷ []) 2 (1 ∷ 2 ∷ []) (65 ∷ []) → ⊥)
     × (BeginsWith {A = ℕ} (65 ∷ []) 1 [] (65 ∷ []) → ⊥)
