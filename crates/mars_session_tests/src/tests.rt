@@ -15,7 +15,7 @@ macro_rules! at {
     };
 }
 
-/// The reply of a battle of one imp, where each turn completes a cycle.
+/// The reply of a battle of one imp, in which each turn completes a cycle.
 macro_rules! imp_at {
     ($turns:expr, $position:expr, $last:expr) => {
         at!($turns, $turns, 0, 1, $position, $last)
@@ -95,7 +95,7 @@ impl Start for RingTape {
     }
 }
 
-/// Parameters with this core size, process limit and maximum length.
+/// Returns parameters with this core size, process limit and maximum length.
 fn params_of(core_size: u32, processes: u32, longest: u32) -> Result<Params, Fail> {
     let params = Params::new(
         core_size, processes, 80000, core_size, core_size, longest, longest,
@@ -202,7 +202,7 @@ fn check_script<T: Tape>(rt: &impl Abort, session: &mut Session<T>, script: &[Ch
     }
 }
 
-/// Checks that a list has a refusal, and after it the replies to the calls.
+/// Checks that a list has the refusal `Count`, and after it the replies to the calls.
 fn check_replies(rt: &impl Abort, out: &[Reply], calls: &[(Call, Reply)]) {
     assert_eq!(rt; out.len(), calls.len() + 1);
     check_reply(rt, out[0], Err(Refusal::Count));
@@ -211,7 +211,7 @@ fn check_replies(rt: &impl Abort, out: &[Reply], calls: &[(Call, Reply)]) {
     }
 }
 
-/// Checks that the calls, executed as one list, have their replies, which are appended after those that were there.
+/// Checks that the calls, executed as one list, have their replies, which are appended after the reply that was there.
 fn check_list<T: Tape>(
     rt: &impl Abort,
     alloc: Global,

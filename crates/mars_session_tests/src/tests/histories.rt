@@ -189,7 +189,7 @@ const WAYS: &[(u64, u64)] = &[
     (51, 0),
 ];
 
-/// Checks how many places a goto passes. It is refused for more than 50 turns.
+/// Checks how many places a goto passes, and that a goto to more than 50 turns is refused.
 fn check_goto<T: Tape>(rt: &impl Abort, session: &mut Session<PoorTape<T>>, turns: u64, way: u64) {
     let before = session.tape().walked();
     let reply = session.goto(turns);

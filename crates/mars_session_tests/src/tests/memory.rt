@@ -45,7 +45,7 @@ fn second_battle(alloc: Global) -> Option<Battle> {
     battle(alloc).or_else(|| battle(alloc))
 }
 
-/// Returns the imp's tape. If the first try fails, it starts at the battle that was returned.
+/// Returns the imp's tape. If the first try fails, a second one starts at the battle that was returned.
 pub fn tape<T: Begin>(alloc: Global) -> Option<T> {
     match T::begin(alloc, second_battle(alloc)?) {
         Err(battle) => T::begin(alloc, battle).ok(),
@@ -58,7 +58,7 @@ fn session<T: Begin>(alloc: Global) -> Option<Session<T>> {
     Some(Session::new(tape(alloc)?, 100))
 }
 
-/// Returns whether a reply is `OutOfMemory`. A tape that evicts never has this reply, so there it is a failure of the test.
+/// Returns whether a reply is `OutOfMemory`. False for a tape that evicts, which must never give this reply.
 pub fn is_refused<T: Tape>(reply: Reply) -> bool {
     !T::FORGETS && reply == Err(Refusal::OutOfMemory)
 }

@@ -1,6 +1,6 @@
 //! Calls that do not allocate. Each test creates its objects, allocates again, and passes whether or not that
-//! allocation and all later ones fail; dev/checks/memory lets all allocations from each one on fail. If the objects
-//! themselves cannot be allocated, the test checks nothing.
+//! allocation and all later ones fail; dev/checks/memory lets all allocations from the n-th on fail, for each n. If the
+//! objects themselves cannot be allocated, the test checks nothing.
 use super::memory::{
     ALL_COMMANDS, Begin, battle, check_same_sessions, is_refused, tape, with_future,
 };

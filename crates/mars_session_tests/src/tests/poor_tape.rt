@@ -9,7 +9,7 @@ use mars_session::Tape;
 use std::alloc::{AllocError, Global};
 use std::marker::Model;
 
-/// A tape that keeps all places, has room for `room` more, and may grow a number of times.
+/// A tape that keeps all places, has room for `room` more, and may grow `growths` times.
 #[derive(Drop)]
 pub struct PoorTape<T: Tape> {
     tape: T,
@@ -53,7 +53,7 @@ impl<T: Tape> PoorTape<T> {
         }
     }
 
-    /// Returns how many steps back and forward it took in total.
+    /// Returns how many steps back and forward the tape took in total.
     pub fn walked(&self) -> u64 {
         self.walked
     }

@@ -36,7 +36,7 @@ struct Turn {
     after: &'static [Cell],
     queue: &'static [u32],
     reply: Reply,
-    /// Number of changes of cells in its record.
+    /// Number of changes of cells in the record of the turn.
     changes: usize,
 }
 

@@ -1,4 +1,4 @@
-//! Which calls are refused, and that a refused call changes nothing.
+//! Which calls are refused, that a refused call changes nothing, and the texts of refusals.
 ghost use Rattle.std.specs.Prelude.{◌≡◌, false};
 
 use super::{
@@ -30,7 +30,7 @@ const TWO_REDOS: &[(Call, Reply)] = &[
     (Call::Redo, imp_at!(2, 2, 2)),
 ];
 
-/// Checks that a run that runs out of memory leaves cells and queues, and that both steps can still be redone.
+/// Checks that a run that runs out of memory changes no cell or queue, and that both steps can still be redone.
 fn check_refused_run<T: Start + Drop>(rt: &impl Abort, alloc: Global) -> Result<(), Fail>
     requires { T.FORGETS ≡ false }
 {

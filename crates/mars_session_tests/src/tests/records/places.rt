@@ -31,7 +31,7 @@ fn check_records(rt: &impl Abort, tape: &DeltaTape) -> Result<(), Fail> {
     Ok(())
 }
 
-/// A tape of records has one for each place after the first, also for the places after the present one.
+/// A tape of records has a record for each place after the first, also for the places after the present one.
 #[test]
 fn records_between_places(rt: HostRuntime) -> Result<(), Fail> {
     let mut tape = one_turn(lone_tape(rt.alloc(), 8, &[COPIER])?)?;
