@@ -1,7 +1,7 @@
 //! Runs over files in memory.
 //!
-//! Functions borrow the files, and then they are passed to `drop`: if they went out of scope implicitly, each such body would
-//! prove again how they are dropped.
+//! Functions borrow the files, and then the files are passed to `drop`. If they went out of scope implicitly, how they
+//! are dropped would be proved again for each such body.
 
 mod battles;
 mod contests;
@@ -98,7 +98,7 @@ fn memory_files(alloc: Global) -> Result<MemoryFiles, Fail> {
     Ok(files)
 }
 
-/// A load file that was written for a core of 8 cells, so its 7 addresses the cell before.
+/// A load file that was written for a core of 8 cells, in which 7 addresses the cell before.
 const NAMED: &[u8] = b";load 2 8\n;name Imp\n;author Dewdney\nORG 0\nMOV.I $0, $7\n";
 
 /// The read limit of 4 folds the offset 3 to -1; the write limit of 8 leaves it as it is.

@@ -1,7 +1,7 @@
 //! Transcripts of the debugger over real sessions, and over readers and writers that fail or take few bytes.
 //!
-//! Functions borrow a session, and then it is passed to `drop`: if it went out of scope implicitly, each such body would prove
-//! again how a session is dropped.
+//! Functions borrow a session, and then the session is passed to `drop`. If it went out of scope implicitly, how it is
+//! dropped would be proved again for each such body.
 ghost use Rattle.std.specs.Prelude.{Some, ◌<◌};
 
 use mars_app::debug;

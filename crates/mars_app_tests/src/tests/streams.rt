@@ -114,7 +114,7 @@ fn broken_streams(rt: HostRuntime) -> Result<(), Fail> {
 struct Full {
     bytes: Vec<u8>,
     room: usize,
-    /// Whether it takes no byte when it is full, instead of returning an error.
+    /// Whether the writer takes no byte when it is full, instead of returning an error.
     idles: bool,
 }
 

@@ -80,7 +80,7 @@ fn check_taken(rt: &impl Abort, alloc: Global, words: &[&str]) -> Result<(), Fai
 }
 
 const DEFAULT_LIMITS: &[Played] = &[
-    // The limits are the core size: half the core forward is not folded, and one cell more is.
+    // The limits are the core size, so an offset of half the core is not folded.
     (
         &["-e", "imp.load"],
         b"edit 0 MOV.I $4000, $4000\nedit 4000 NOP.F $1, $1\nstep\nlist 4000 1\n",

@@ -7,7 +7,7 @@ use std::alloc::Global;
 use std::process::Abort;
 use std::test::Fail;
 
-/// Checks the replies for reads and writes of few bytes, and of slightly less and more than 4,096.
+/// Checks the replies for reads and writes of few bytes, and of 4,096 bytes, one less and one more.
 fn check_sizes(
     rt: &impl Abort,
     alloc: Global,

@@ -1,6 +1,6 @@
 //! Neither the debugger nor its commands over a ring of records allocate. The test creates its objects, allocates
 //! again, and passes whether or not that allocation and all later ones fail; dev/checks/memory lets all allocations
-//! from each one on fail. If the objects themselves cannot be allocated, the test checks nothing.
+//! from the n-th on fail, for each n. If the objects themselves cannot be allocated, the test checks nothing.
 use super::{AMPLE, IMP, Narrow, Pieces};
 use mars_app::{DebugFault, debug_within};
 use mars_cell::{Params, read_load};
@@ -29,7 +29,7 @@ fn imp_session(alloc: Global, params: &Params) -> Option<Session<RingTape>> {
     Some(Session::new(tape, AMPLE))
 }
 
-/// Returns a writer with capacity for `room` bytes, which are allocated.
+/// Returns a writer that takes `room` bytes and has capacity for 2,000.
 fn writer(alloc: Global, room: usize) -> Option<Narrow> {
     Some(Narrow {
         bytes: Vec::with_capacity(alloc, 2000).ok()?,
@@ -41,7 +41,7 @@ fn writer(alloc: Global, room: usize) -> Option<Narrow> {
 /// How the debugger is run, and its result.
 #[derive(Clone, Copy)]
 struct Case {
-    /// Whether the reader fails at its end.
+    /// Whether the reader fails at the end of the input.
     fails: bool,
     /// Number of bytes that the writer takes.
     room: usize,

@@ -116,7 +116,7 @@ fn started(alloc: Global, arguments: &'static [&'static [u8]]) -> Result<Outcome
 /// Arguments, the exit status, the output and the line of the error.
 type Start = (&'static [&'static [u8]], u8, &'static [u8], &'static [u8]);
 
-/// The program's name need not be text and is no argument. Each argument must be text, and all of them are read.
+/// The program's name need not be text and is no argument. Each argument must be text, and every argument is read.
 const STARTS: &[Start] = &[
     (
         &[b"\xff", b"--load", b"imp.load"],
