@@ -78,7 +78,7 @@ pub warriors_are_reported : (fault_of (Warrior 1 (entrant.Field 4)) ≡ record {
     × (fault_of (Warrior 2 entrant.Start) ≡ record { code = 13; number = 2; problem = 0; expression = 0; line = 0; warrior = 2; begin = 0; end = 0 })
 warriors_are_reported = (refl, refl)
 
--- A name has at most 60 bytes, all of them printable.
+-- A name has at most 60 bytes, and each byte is printable.
 pub names_are_short : (is_name (replicate 60 126) ≡ true) × (is_name (replicate 61 126) ≡ false) × (is_name (127 ∷ []) ≡ false)
 names_are_short = (refl, refl, refl)
 
@@ -360,7 +360,7 @@ pub candidates_come_first : population (by_formula (codes "(W*W-1)/S")) 1 (stay 
 unfolding table_of starts_of drawn next_seed survivors_of_round end_of scanned value_of tree_within the_machine
 candidates_come_first = refl
 
--- A lineup has its own seed, or that of the settings if its own is 0.
+-- A lineup has its own seed, or the seed of the settings if its own seed is 0.
 pub seeds_of_lineups : ((seeded (nano 3 7 0) 9).seed ≡ 9) × ((seeded (nano 3 7 0) 0).seed ≡ 7)
 seeds_of_lineups = (refl, refl)
 
@@ -388,6 +388,6 @@ pub fates_are_numbers : (plain_fate (record { survived = true; turns = 5; start 
     × ((plain_fate (record { survived = false; turns = 5; start = 9; counts = deeds })).survived ≡ 0)
 fates_are_numbers = (refl, refl)
 
--- Every value of `counting` except 0 requests what the warriors do.
+-- Every value of `counting` except 0 requests counts of what the warriors do.
 pub lineup_is_counted : (is_counting of_two ≡ false) × (is_counting (record { seed = 0; count = 2; counting = 7; warrior = [] }) ≡ true)
 lineup_is_counted = (refl, refl)

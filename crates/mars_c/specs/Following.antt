@@ -18,13 +18,13 @@ use Rattle.mars_c.specs.declared.conditions.MarsCondition.{MarsCondition}
 use Rattle.mars_c.specs.declared.faults.BlockRefusal.{BlockRefusal}
 use Rattle.mars_c.specs.declared.faults.BlockRefusal.TheVariants.{OutOfMemory, Block, Capacity, NoSuchEdit, Edit, History, Condition, Pasts, Process}
 
--- The number that `way` of a MarsCondition has for this way.
+-- The value that the field `way` of a MarsCondition has for this way.
 abbrev pub way_index : Way → ℕ
 way_index way.Executes = 1
 way_index way.Changes = 2
 way_index way.Reads = 3
 
--- The number that `number` of a MarsCondition has for this number of a turn or a cell.
+-- The value that the field `number` of a MarsCondition has for this number of a turn or a cell.
 abbrev pub number_index : Number → ℕ
 number_index number.Warrior = 1
 number_index number.Queued = 2

@@ -35,7 +35,7 @@ plain_fate fate = record {
   touched = fate.counts.touched;
 }
 
--- The settings `s` with the seed `seed`, unless it is 0.
+-- The settings `s` with the seed `seed`, unless `seed` is 0.
 abbrev pub seeded : MarsSettings → ℕ → MarsSettings
 seeded s seed = record {
   core = s.core;
@@ -50,7 +50,7 @@ seeded s seed = record {
   position = s.position;
 }
 
--- The lineup requests what each warrior does.
+-- The lineup requests counts of what each warrior does.
 abbrev pub is_counting : MarsLineup → Bool
 is_counting lineup = not (lineup.counting == 0)
 

@@ -108,7 +108,7 @@ pub fn take(alloc: Global, words: &[u32]) -> Result<Battle, BlockRefusal>
     }
 }
 
-/// Writes the block of a battle. The words have the capacity that it needs.
+/// Writes the block of a battle. The words must have the capacity that the battle needs.
 pub fn put(battle: &Battle, words: &mut [u32])
     requires { capacity_of battle.now ≤ length words.old }
     ensures { IsWritten battle.now words.old words.new }
@@ -200,7 +200,7 @@ pub fn play_in(
 /// - `NoSuchEdit` if the numbers mean no edit
 /// - `Block` if the words are no battle
 /// - `Capacity` if there are too few words
-/// - `Edit` if an edit is impossible
+/// - `Edit` if the edit is impossible
 /// - `OutOfMemory` if an allocation fails
 ///
 /// After an error the words are unchanged.
@@ -247,10 +247,10 @@ fn make(battle: &mut Battle, edits: &[Edit]) -> Result<(), (usize, EditFault)>
 ///
 /// # Errors
 ///
-/// - `NoSuchEdit` if the numbers mean no edit
+/// - `NoSuchEdit` with the index of the first numbers that mean no edit
 /// - `Block` if the words are no battle
 /// - `Capacity` if there are too few words
-/// - `Edit` if an edit is impossible
+/// - `Edit` with the index of the first edit that is impossible, and its error
 /// - `OutOfMemory` if an allocation fails
 ///
 /// After an error the words are unchanged.

@@ -10,7 +10,7 @@ use mars_core::{Condition, Number, Way};
 use std::alloc::Global;
 
 /// A condition of a search on a number of a turn, or of a cell that the turn uses. The number must be from `first` to
-/// `last`; if `last` is less than `first`, it must not be between them.
+/// `last`, or, if `last` is less than `first`, at least `first` or at most `last`.
 #[repr(C)]
 #[derive(Clone, Copy)]
 pub struct MarsCondition {

@@ -58,7 +58,7 @@ fn give_program(made: &Made, places: &mut [MarsCell], program: &mut MarsProgram)
 }
 
 /// Returns whether a buffer of length `buffer` is empty or has room for `count` values. Nothing is written to an empty
-/// one.
+/// buffer.
 fn is_roomy(buffer: usize, count: usize) -> bool
     ensures some { result ≡ true → buffer ≢ 0 → count ≤ buffer }
     ensures short { result ≡ false → (buffer ≢ 0) × (buffer < count) }

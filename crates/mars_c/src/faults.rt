@@ -74,9 +74,9 @@ pub struct MarsFault {
     pub line: u64,
     /// Index of a warrior, a lineup, a condition or an edit, from 0.
     pub warrior: u64,
-    /// First byte of the token at which an assembly fails, from 0 in the source.
+    /// Index in the source of the first byte of the token at which an assembly fails, from 0.
     pub begin: u64,
-    /// Byte after the last one of that token.
+    /// Index after the last byte of this token.
     pub end: u64,
 }
 

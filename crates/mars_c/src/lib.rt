@@ -1,9 +1,9 @@
 //! The Core War kit for C: an assembler, matches, leagues, populations and the debugger, as functions of a static library.
 //!
-//! Each function takes settings, texts and buffers for its results. It returns 0 if it succeeds, and otherwise the code of an
-//! error, whose details it stores in `fault`. No memory outlives a call, and nothing is shared between calls, so several
-//! threads may call at once, each with its own arguments. A battle is a block of words that the caller owns: `blocks` starts,
-//! plays, edits and checks it. The header is `include/mars.h`.
+//! Each function takes settings, texts and buffers for its results. A function that can fail returns 0 if it succeeds,
+//! and otherwise the code of an error, whose details it stores in `fault`. No memory outlives a call, and nothing is
+//! shared between calls, so several threads may call at once, each with its own arguments. A battle is a block of words
+//! that the caller owns: `blocks` starts, plays, edits and checks it. The header is `include/mars.h`.
 #![tactic(auto)]
 
 mod ancestors;

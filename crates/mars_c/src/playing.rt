@@ -17,7 +17,8 @@ pub trait TurnRow: Copy {
         ensures battle { battle.new ≡ turn_of battle.old };
 }
 
-/// Executes one turn for each row and records it there. Stops if the battle is over; the other rows are unchanged then.
+/// Executes one turn for each row and records the turn in the row. Stops if the battle is over; the other rows are
+/// unchanged then.
 pub fn fill_turn_rows<R: TurnRow>(battle: &mut Battle, rows: &mut [R])
     ensures rows { rows.new ≡ recorded R.row_of battle.old rows.old }
     ensures battle { battle.new ≡ after_turns (length rows.old) battle.old }

@@ -9,7 +9,7 @@ pub enum SettingsFault {
     Rounds,
     /// The seed is not from 1 to 2,147,483,646.
     Seed,
-    /// A position is given for other than two warriors, or is nearer than the minimum distance.
+    /// A position is given for a number of warriors other than two, or is nearer than the minimum distance.
     Position,
     /// There are too few or too many warriors.
     Warriors,
@@ -28,7 +28,7 @@ pub enum SettingsFault {
 pub enum LineupFault {
     /// The number of warriors is not from 1 to 16.
     Count,
-    /// An index is not that of a warrior.
+    /// An index is not the index of a warrior.
     Index,
 }
 

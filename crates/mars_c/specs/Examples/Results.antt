@@ -64,7 +64,7 @@ pub what_is_reported : (f : MarsFault)
     × (Reports (λ r. r ≡ refused.OutOfMemory) f → f ≡ block_fault_of refused.OutOfMemory)
 what_is_reported f = (λ t. t.1 ∙ ap fault_of t.2, λ t. t.1 ∙ ap block_fault_of t.2)
 
--- A number in its range is no error, and one out of its range has no other error.
+-- A number in its range is no error. A number out of its range has the error of its setting, and no other error.
 pub ranges : (IsOutOfRange Rows ⊤ (call.Settings Rows) → ⊥) × (IsOutOfRange Rows ⊥ call.OutOfMemory → ⊥)
 ranges = (λ o. o.1 tt, λ o. let e : ◌≡◌ {A = CallRefusal} call.OutOfMemory (call.Settings Rows) = o.0 in cc)
 
@@ -182,7 +182,7 @@ no_edit_5 cell (MoveProcess warrior place address) m = let e : 5 ≡ 2 = m.0 in 
 no_edit_5 cell (KillProcess warrior place) m = let e : 5 ≡ 3 = m.0 in omega (arith, e)
 no_edit_5 cell (Spawn warrior address) m = let e : 5 ≡ 4 = m.0 in omega (arith, e)
 
--- An edit has all its numbers, and no others.
+-- The edit that numbers mean has the numbers that its kind needs.
 pub edits : (numbered : MarsCell) (cell : Cell) (w i a : ℕ)
     → (Means (numbers 1 numbered) (SetCell a cell) → (a ≡ 3) × (plain_cell cell ≡ numbered))
     × (Means (numbers 2 numbered) (MoveProcess w i a) → (w ≡ 1) × (i ≡ 2) × (a ≡ 3))
