@@ -1,4 +1,4 @@
--- How the code stores and computes what is defined. Only internal functions and proofs use these definitions.
+-- Options, errors, ends of runs and steps of the debugger, for the contracts of internal functions and for proofs.
 pub mod Plays
 pub mod Allowed
 pub mod Blames

@@ -83,7 +83,7 @@ impl Word {
         }
     }
 
-    /// Returns an argument that is given by the letter or the name of the option.
+    /// Returns an argument that is given by the letter of the option, or by its name if the option has no letter.
     fn reached<'a>(&self, alloc: Global) -> Arg<'a>
         ensures rule { rule_of result ≡ reached self.now.letter self.now.name.now }
         ensures local { result.global ≡ false }

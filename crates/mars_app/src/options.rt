@@ -65,7 +65,7 @@ pub struct Options {
     pub seed: u32,
     /// Text of the score formula.
     pub score: String,
-    /// Whether a league is run: a match of each two warriors.
+    /// Whether a league is run: a match of each pair of warriors.
     pub league: bool,
     /// Whether the load file of the only warrior is written.
     pub load: bool,
