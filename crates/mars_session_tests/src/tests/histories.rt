@@ -177,7 +177,7 @@ fn goto_finds_the_first_of_equal_turns(rt: HostRuntime) -> Result<(), Fail> {
     imp_gives(&rt, rt.alloc(), GOTO_FINDS_THE_FIRST_OF_EQUAL_TURNS)
 }
 
-/// Numbers of turns, and how many places a goto to each of them passes, one goto after another.
+/// Numbers of turns, each with the number of places that a goto to it passes, one goto after another.
 const WAYS: &[(u64, u64)] = &[
     (20, 32),
     (40, 20),

@@ -58,7 +58,8 @@ fn session<T: Begin>(alloc: Global) -> Option<Session<T>> {
     Some(Session::new(tape(alloc)?, 100))
 }
 
-/// Returns whether a reply is `OutOfMemory`. False for a tape that evicts, which must never give this reply.
+/// Returns whether a reply is `OutOfMemory`. The result is false for a tape that evicts, which must never give this
+/// reply.
 pub fn is_refused<T: Tape>(reply: Reply) -> bool {
     !T::FORGETS && reply == Err(Refusal::OutOfMemory)
 }
