@@ -1,6 +1,6 @@
--- The numbers of turns of the first and last place of a tape of records.
--- They are stored beside the list, and the invariant relates them to the history. Each method already states the history after
--- it, so one lemma for each of back, forward, marked, cut and append preserves them; only evicting reads a record.
+-- The numbers of turns of the first and last place of a tape of records. Both numbers are stored beside the list, and
+-- the invariant relates them to the history. Each method already states the history after the call, so one lemma is
+-- enough for each of back, forward, marked, cut and append; only evicting reads a record.
 use Rattle.std.proofs.Common.{◌≡◌, ℕ, zero, suc, ◌+◌, ◌-◌, ◌<◌, ◌≤◌, Bool, true, false, List, [], ◌∷◌, ◌++◌, length, set, take, refl, ap, sym, ◌∙◌, arith, add-one, nat_lt, if◌then◌else◌}
 use Rattle.std.proofs.lemmas.List.{length_push}
 use Rattle.std.proofs.lemmas.Bool.{ltb-true, ltb-false}
@@ -53,7 +53,7 @@ ends_append h t f l d = record {
   last = refl;
 }
 
--- The moves preserve both ends of a history that is stored as records.
+-- The ends of a history that is stored as records, after moves, marks, cuts and appends.
 module _ (first : Bool) (es : List (Atom × Bool)) (at : ℕ) (s : State) (f l : ℕ) (ends : HasEnds (journal_history first es at s) f l) where
   pub journal_ends_back : 0 < at → IsJournal es at s → HasEnds (journal_history first es (at - 1) (reverted (entry_at es (at - 1)).0 s)) f l
   journal_ends_back k d = rw (journal_back first es at s k d) (ends_back (journal_history first es at s) f l ends)
@@ -91,7 +91,7 @@ first_below es zero s d = omega arith
 first_below es (suc n) s d =
     let t : State = reverted (entry_at es n).0 s in omega (arith, first_below es n t d.1, (leads_turns t s (entry_at es n).0 d.0).0)
 
--- If the first record is dropped, the turns of the first place rise by those of that record.
+-- If the first record is dropped, the turns of the first place rise by the turns of this record.
 dropped_first : (e : Atom × Bool) (es : List (Atom × Bool)) (n : ℕ) (s : State) → LeadHere (e ∷ es) (suc n) s → (first_of es n s).turns ≡ (first_of (e ∷ es) (suc n) s).turns + turns_of e.0.work
 dropped_first e es zero s d = ap (λ (t : State). t.turns) (sym (record_applied (reverted e.0 s) e.0 s d.0)) ∙ turns-applied e.0 (reverted e.0 s)
 dropped_first e es (suc n) s d = dropped_first e es n (reverted (entry_at es n).0 s) d.1
@@ -122,7 +122,7 @@ full_ends first (x ∷ es) most at s t a f l d e m some leads h =
       last = rw none refl;
     })
 
--- Appending a place preserves the ends; the first place is evicted if the ring is full.
+-- The ends after a place is appended; the first place is evicted if the ring is full.
 pub pushed_ends : (first : Bool) (es : List (Atom × Bool)) (most at : ℕ) (s t : State) (a : Atom) (f l : ℕ) → IsRing es most at s → length es ≡ at → Leads s a t
     → HasEnds (journal_history first es at s) f l
     → HasEnds (journal_history (if nat_lt at most then first else (entry_at es 0).1) (keep_last most (es ++ (a, false) ∷ [])) (if nat_lt at most then at + 1 else at) t)

@@ -164,7 +164,7 @@ all_undone limit (call ∷ calls) poor h s ss a =
     let more : AllAccepted limit calls (rest poor) (after_command k one.first one.others) = rw one.is at a.2 in
     rw (stays_never limit call (first poor) k) (one_undone (length calls) k _ one.first one.others (rw one.is (all_undone limit calls (rest poor) k one.first one.others more)))
 
--- After accepted commands from any history, the same number of undos leads back.
+-- After accepted commands from any history, as many undos as commands lead back.
 some_undone : (limit : ℕ) (call : Call) (calls : List Call) (poor : List Bool) (h : History) → AllAccepted limit (call ∷ calls) poor h → Undone (suc (length calls)) h (script never limit (call ∷ calls) poor h).history
 some_undone limit call calls poor h a =
     let one = accepted_call never limit call (first poor) h a.0 a.1 in

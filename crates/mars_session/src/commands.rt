@@ -67,7 +67,7 @@ fn prepare<T: Tape>(tape: &mut T, limit: u64, bound: u64) -> Result<(), Refusal>
     }
 }
 
-/// Returns whether turns stop at a battle: if it is over or, for `Some(cycle)`, is in that cycle.
+/// Returns whether turns stop at a battle: if it is over or, for `Some(cycle)`, is in this cycle.
 fn stops(battle: &Battle, cycle: Option<u64>) -> bool
     ensures { result ≡ stops_at cycle battle.now }
 {

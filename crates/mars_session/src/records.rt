@@ -13,7 +13,7 @@ use mars_core::{Atom, Battle, turns_of};
 use std::alloc::{AllocError, Global};
 
 /// The records between the last places, up to a fixed number, each with the mark of the place that it leads to. The
-/// capacity for all of them is allocated at the start.
+/// capacity for all these records is allocated at the start.
 #[derive(Drop)]
 pub struct Records {
     /// Records, the oldest first.

@@ -15,9 +15,9 @@ use std::marker::Model;
 /// A session: a tape, and the maximum number of places after its first one.
 ///
 /// Each call returns the standing after it, or the first refusal that applies; a refused call changes nothing. The last
-/// refusals of a command are `JournalFull`, if its places may exceed the limit, and then `OutOfMemory`, if the tape has less
-/// room than they may need and an allocation fails. A tape that evicts never causes these two, and ignores the limit. Moves do
-/// not allocate. Numbers are 64-bit and are checked before they are narrowed.
+/// refusals of a command are `JournalFull`, if its places may exceed the limit, and then `OutOfMemory`, if the tape has
+/// less room than these places may need and an allocation fails. A tape that evicts never causes these two refusals,
+/// and ignores the limit. Moves do not allocate. Numbers are 64-bit and are checked before they are narrowed.
 #[derive(Drop)]
 pub struct Session<T: Tape> {
     tape: T,
