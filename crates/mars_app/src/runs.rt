@@ -35,9 +35,9 @@ use std::io::{Read, Write};
 
 /// Runs the program with these arguments, which don't include its name, and returns its exit status.
 ///
-/// With status 0 it has written the help, a load file, the transcript of a debugged battle, or the listing and results of a
-/// match or a league. Any other status is that of the first error, which is printed as one line to `faults`; if this line can't
-/// be written, the status is the same. Only the debugger reads the input.
+/// With status 0 it has written the help, a load file, the transcript of a debugged battle, or the listing and results
+/// of a match or a league. Any other status is the status of the first error, which is printed as one line to `faults`;
+/// if this line can't be written, the status is the same. Only the debugger reads the input.
 pub fn run<F: WarriorFiles, R: Read, W: Write, E: Write>(
     alloc: Global,
     words: &[String],

@@ -23,7 +23,7 @@ abbrev pub reached : Option ℕ → Text → Rule
 reached (Some letter) name = short letter (new_rule name)
 reached None name = long (new_rule name)
 
--- The rule with the default of the option, if it has one.
+-- The rule `rule` with the default of the option, if the option has a default.
 abbrev pub defaulted : Option (Bor Text) → Rule → Rule
 defaulted (Some text) rule = or_else text.now rule
 defaulted None rule = rule
