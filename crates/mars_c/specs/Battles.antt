@@ -46,8 +46,8 @@ IsStart s cells entrants round start = (setup : Setup) × (ws : List WarriorValu
 abbrev pub IsHistory : ℕ → Type 0
 IsHistory places = (1 ≤ places) × (places ≤ max_history)
 
--- A session over the battle `start`, whose history keeps `history` places beside the last one, has read the debugger's `lines`, up to
--- `quit` or all of them, and replied `text`. `session` is its state then.
+-- A session over the battle `start`, whose history keeps `history` places beside the last one, has read the debugger's
+-- `lines`, up to `quit` or to their end, and replied `text`. `session` is its state then.
 abbrev pub IsDebugged : State → ℕ → List ℕ → SessionState → List ℕ → Type 0
 IsDebugged start history lines session text = (left : Option (List ℕ))
     × Completes start.params.core_size (Some lines) left (session_at history start) (Some []) session (Some text)

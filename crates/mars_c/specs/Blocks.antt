@@ -36,7 +36,7 @@ pub record IsPlayable (s : State) (words : List ℕ) : Type 0 where
   pub spells : Spells s words
   pub capacity : capacity_of s ≤ length words
 
--- The words `after` begin with the block of `s`; after that block they equal the words `before`.
+-- The words `after` begin with the block of `s`; from the end of this block on they equal the words `before`.
 abbrev pub IsWritten : State → List ℕ → List ℕ → Type 0
 IsWritten s before after = after ≡ block_of s ++ drop (length (block_of s)) before
 

@@ -120,8 +120,9 @@ FailsLineup s cells entrants lineups refusal = (p : Parameters) × (ws : List Wa
 abbrev pub AreInRange : MarsSettings → List MarsWarrior → List MarsLineup → ℕ → Type 0
 AreInRange s entrants lineups places = All (IsLineup (length entrants)) lineups × (places ≡ rows_for s lineups)
 
--- `refusal` is the first reason for which no fates are returned: a lineup is wrong, the number of places is not that of the fates, or
--- the parameters or the warriors are rejected or a match fails. An allocation fails only if the lineups and the places are right.
+-- `refusal` is the first reason for which no fates are returned: a lineup is wrong, the number of places is not the
+-- number of fates, or the parameters or the warriors are rejected or a match fails. An allocation fails only if the
+-- lineups and the places are right.
 abbrev pub RefusesOutcomes : MarsSettings → List MarsCell → List MarsWarrior → List MarsLineup → ℕ → CallRefusal → Type 0
 RefusesOutcomes s cells entrants lineups places refusal =
     IsWrongLineup (length entrants) lineups refusal

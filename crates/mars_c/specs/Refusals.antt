@@ -160,7 +160,7 @@ FailsLeague s text cells entrants = Fails s text cells entrants (λ setup ws. le
 abbrev pub FailsRound : MarsSettings → List MarsCell → List MarsWarrior → ℕ → CallRefusal → Type 0
 FailsRound s cells entrants round = Fails s (codes "0") cells entrants (λ setup ws. round_start_state setup ws round)
 
--- `refusal` is the error of a population with `rows` candidates: that of its first match that fails, or that of the
+-- `refusal` is the error of a population with `rows` candidates: the error of its first match that fails, or of the
 -- first candidate whose whole sum does not fit.
 abbrev pub FailsPopulation : MarsSettings → List ℕ → List MarsCell → List MarsWarrior → ℕ → CallRefusal → Type 0
 FailsPopulation s text cells entrants rows = Fails s text cells entrants (λ setup ws. population setup rows ws)

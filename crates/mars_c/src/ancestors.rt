@@ -1,4 +1,4 @@
-//! Where a process of a battle in a block comes from.
+//! The ancestors of a process of a battle in a block.
 ghost use Rattle.std.specs.Prelude.{◌≡◌, IfErr, IfOk, OnErr};
 ghost use Rattle.mars_c.specs.Ancestors.{HasAncestors, RefusesAncestors};
 
