@@ -13,7 +13,7 @@ semicolon = 59
 abbrev pub ampersand : ℕ
 ampersand = 38
 
--- `:` may follow a label.
+-- `:` may follow a label, the counter of a loop or an EQU name.
 abbrev pub colon : ℕ
 colon = 58
 

@@ -13,7 +13,7 @@ use Rattle.redcode_text.specs.Tokens.{at_line, problem_of}
 abbrev pub limit : ℕ
 limit = 65536
 
--- How deep replacements may nest.
+-- The maximum depth of nested replacements.
 abbrev pub depth_limit : ℕ
 depth_limit = 32
 
@@ -22,7 +22,7 @@ pub record Equate : Type 0 where
   pub name : ℕ
   pub lines : List (List Token)
 
--- The lines of the definition of an EQU name.
+-- The lines of the definition of the name `name`, if it is an EQU name.
 abbrev pub equate_lines : List Equate → ℕ → Option (List (List Token))
 equate_lines [] name = None
 equate_lines (e ∷ es) name = elim (name == e.name) [ true ↦ Some e.lines | false ↦ equate_lines es name ]
@@ -41,7 +41,7 @@ pub record Replaced : Type 0 where
 abbrev pub Replacing : Type 0
 Replacing = Replaced → List Token → Result Replaced TextTokenProblem
 
--- The definition of the EQU name `t`, if it has at most one line.
+-- The tokens of the definition of the EQU name `t`, whose lines are given, or an error if there are several lines.
 abbrev pub one_line : Token → List (List Token) → Result (List Token) TextTokenProblem
 one_line t [] = Ok []
 one_line t (line ∷ []) = Ok line
@@ -51,8 +51,8 @@ one_line t (line ∷ next ∷ lines) = Err (problem_of t BadToken)
 abbrev pub one_more : Token → Replaced → Result Replaced TextTokenProblem
 one_more t r = elim (nat_le limit r.count) [ true ↦ Err (problem_of t TooLong) | false ↦ Ok (record { tokens = r.tokens; count = r.count + 1 }) ]
 
--- The EQU name `t` is replaced by the line of its definition, in which names are replaced by `deeper`. Without `deeper` the
--- nesting is too deep.
+-- `r` with the line of the definition of the EQU name `t` appended, in which `deeper` replaces EQU names. Without
+-- `deeper` the nesting is too deep.
 abbrev pub replaced_name : Option Replacing → Replaced → Token → List (List Token) → Result Replaced TextTokenProblem
 replaced_name None r t lines = Err (problem_of t EquDepth)
 replaced_name (Some deeper) r t lines = one_line t lines >>= λ line. one_more t r >>= λ s. deeper s line
@@ -66,12 +66,12 @@ abbrev pub replaced_token : Option Replacing → Replaced → Token → Option (
 replaced_token deeper r t (Some lines) = replaced_name deeper r t lines
 replaced_token deeper r t None = kept_token r t
 
--- The tokens with each EQU name replaced, appended to `r`.
+-- `r` with the given tokens appended. Each EQU name is replaced, and `deeper` replaces the names in its definition.
 abbrev pub each_replaced : List Equate → Option Replacing → Replacing
 each_replaced equates deeper r [] = Ok r
 each_replaced equates deeper r (t ∷ ts) = replaced_token deeper r t (token_lines equates t.kind) >>= λ s. each_replaced equates deeper s ts
 
--- How tokens are replaced if `depth` more replacements may nest.
+-- The function that replaces EQU names in a definition, in which replacements may nest to the given depth.
 abbrev pub replacing : ℕ → List Equate → Option Replacing
 replacing zero equates = None
 replacing (suc depth) equates = Some (each_replaced equates (replacing depth equates))

@@ -21,12 +21,12 @@ use Rattle.redcode_text.specs.Lines.{Reading, Line, Assert, Predefined, predefin
 
 -- ---- The header of a loop
 
--- A token is a name that is not predefined.
+-- The token is a name that is not predefined.
 abbrev pub is_undefined : Predefined → Reading → TokenKind → Bool
 is_undefined ps st (Name n) = not (is_predefined ps st n)
 is_undefined ps st _ = false
 
--- The bytes of the first name among the tokens that is not predefined.
+-- The bytes of the first name among the tokens `ts` that is not predefined, if there is one.
 abbrev pub label_span : Predefined → Reading → List Token → Option Span
 label_span ps st ts = option_map span_of (find (λ t. is_undefined ps st t.kind) ts)
 
@@ -34,13 +34,13 @@ label_span ps st ts = option_map span_of (find (λ t. is_undefined ps st t.kind)
 abbrev pub count_limit : ℕ
 count_limit = 10000
 
--- The value of a count, which must be from 0 to the limit.
+-- The number of iterations for the value of a count, which must be from 0 to `count_limit`.
 abbrev pub as_count : Result ℤ ExprFault → Result ℕ TextProblem
 as_count (Ok (pos n)) = elim (nat_le n count_limit) [ true ↦ Ok n | false ↦ Err BadCount ]
 as_count (Ok (negsuc n)) = Err BadCount
 as_count (Err e) = Err (Expression e)
 
--- The values of the names in a count.
+-- The value of the name `n` in a count, if it is predefined.
 abbrev pub count_names : Predefined → Reading → ℕ → Option ℤ
 count_names ps st n = predefined_value (with_current_line ps st.instructions) (name_at st.names n)
 
@@ -55,7 +55,7 @@ abbrev pub counted : (TextProblem → Option Span) → Result ℕ TextProblem �
 counted span (Ok n) = Ok n
 counted span (Err e) = Err (problem_at (span e) e)
 
--- The number of iterations for a count whose EQU names are replaced.
+-- The number of iterations for the count `us`, whose EQU names are replaced and which follows the token `before`.
 abbrev pub replaced_count : Predefined → Reading → Option Span → List Token → Result ℕ TextTokenProblem
 replaced_count ps st before us =
     elim (label_span ps st us) [
@@ -63,11 +63,11 @@ replaced_count ps st before us =
       | None ↦ counted (count_span (count_names ps st) before us) (as_count (value_of (count_names ps st) (kinds us)))
     ]
 
--- The number of iterations for the tokens after the word FOR, which is the token `before`.
+-- The number of iterations for the tokens `ts` after the word FOR, which has the bytes `before`.
 abbrev pub count_of : Predefined → Reading → Option Span → List Token → Result ℕ TextTokenProblem
 count_of ps st before ts = without_line (substitution st.equates ts) >>= replaced_count ps st before
 
--- The counter of a loop, the number of its iterations, and everything read up to and including its header.
+-- The header of a loop: its counter, if it has one, its number of iterations, and everything read including the header.
 pub record Head : Type 0 where
   pub counter : Option (List ℕ)
   pub count : ℕ
@@ -82,11 +82,11 @@ counter_name st None = None
 abbrev pub loop_limit : ℕ
 loop_limit = 32
 
--- Everything read, if one more loop may be open. The error has the bytes `span`.
+-- `st`, if one more loop may be open, or else an error with the bytes `span`.
 abbrev pub room_for_loop : Option Span → Reading → Result Reading TextTokenProblem
 room_for_loop span st = elim (nat_le loop_limit (length st.loops)) [ true ↦ Err (problem_at span TooLong) | false ↦ Ok st ]
 
--- The offset in the source of the word FOR of a FOR line.
+-- The offset in the source of the word FOR of the FOR line `row`.
 abbrev pub for_word_at : SourceRow → ℕ
 for_word_at row = elim (source.line_kind row.bytes) [ source.ForLine at ↦ row.at + at | _ ↦ row.at ]
 
@@ -99,11 +99,11 @@ head_line ps row st =
     count_of ps r.1 (loop_word row) (tokens_after (for_word_at row) r.0) >>= λ count.
     Ok (record { counter = counter_name r.1 counter; count = count; reading = record (r.1) { equate_grows = false } })
 
--- A ROF line: its tokens are read, but have no meaning.
+-- Everything read after the ROF line `row`, whose tokens are read but have no meaning.
 abbrev pub rof_line : SourceRow → Reading → Result Reading TextTokenProblem
 rof_line row st = line_read st >>= row_tokens row 0 >>= λ r. Ok (record (r.1) { equate_grows = false })
 
--- A FOR without its ROF, or a ROF without its FOR.
+-- The error `problem` of `row`, a FOR without its ROF or a ROF without its FOR, unless there are too many lines.
 abbrev pub unpaired_line : TextProblem → SourceRow → Reading → Result Reading TextTokenProblem
 unpaired_line problem row st = line_read st >>= λ _. Err (problem_at (loop_word row) problem)
 
@@ -113,7 +113,7 @@ unpaired_line problem row st = line_read st >>= λ _. Err (problem_at (loop_word
 abbrev pub in_round : Option (List ℕ) → ℕ → Reading → Reading
 in_round counter round st = record st { loops = record { counter = counter; round = round } ∷ st.loops }
 
--- `n` iterations of a body, the first one numbered `round`. The loop is open only while its body is read.
+-- Everything read after as many iterations of `body` as given, numbered from `round`. The loop is open only in them.
 abbrev pub rounds : (Reading → Result Reading TextFault) → Option (List ℕ) → ℕ → ℕ → Reading → Result Reading TextFault
 rounds body counter round zero st = Ok st
 rounds body counter round (suc n) st =

@@ -46,11 +46,11 @@ max_signs = 64
 abbrev pub max_parens : ℕ
 max_parens = 64
 
--- The state after one more unary operator.
+-- The state after the state `p` and one more unary operator.
 abbrev pub one_more_sign : ShapeState → Result ShapeState ExprFault
 one_more_sign p = if nat_le max_signs p.signs then Err Depth else Ok (record { opened = p.opened; signs = p.signs + 1; after_operand = false })
 
--- The state after a sign where an operand is expected.
+-- The state after a sign in the state `p`, which expects an operand.
 abbrev pub before_sign : ShapeState → Sign → Result ShapeState ExprFault
 before_sign p Plus = one_more_sign p
 before_sign p Minus = one_more_sign p
@@ -58,23 +58,23 @@ before_sign p Bang = one_more_sign p
 before_sign p OpenParen = if nat_le max_parens p.opened then Err Depth else Ok (record { opened = p.opened + 1; signs = 0; after_operand = false })
 before_sign p _ = Err Syntax
 
--- The state after a sign where a binary operator is expected.
+-- The state after a sign in the state `p`, which expects a binary operator or a closing parenthesis.
 abbrev pub after_sign : ShapeState → Sign → Result ShapeState ExprFault
 after_sign p CloseParen = if p.opened == 0 then Err Syntax else Ok (record { opened = p.opened - 1; signs = 0; after_operand = true })
 after_sign p s = if precedence s == 0 then Err Syntax else Ok (record { opened = p.opened; signs = 0; after_operand = false })
 
--- The state after an operand.
+-- The state after an operand in the state `p`.
 abbrev pub operand_at : ShapeState → Result ShapeState ExprFault
 operand_at p = if p.after_operand then Err Syntax else Ok (record { opened = p.opened; signs = 0; after_operand = true })
 
--- The state after one more token.
+-- The state after one more token in the state `p`.
 abbrev pub next_state : ShapeState → TokenKind → Result ShapeState ExprFault
 next_state p (Number n) = operand_at p
 next_state p (Name n) = operand_at p
 next_state p (token.Sign s) = if p.after_operand then after_sign p s else before_sign p s
 
--- Whether the tokens complete an expression from the state `p` on. The error is that of the first token that does not
--- fit, or of the end.
+-- `Ok` if the tokens complete an expression from the state `p` on, or else the error of the first token that does not
+-- fit or, if every token fits, of the end.
 abbrev pub shape : ShapeState → List TokenKind → Result (Unit {0}) ExprFault
 shape p [] = if p.after_operand && (p.opened == 0) then Ok tt else Err Syntax
 shape p (x ∷ xs) = next_state p x >>= λ q. shape q xs
@@ -83,7 +83,7 @@ shape p (x ∷ xs) = next_state p x >>= λ q. shape q xs
 abbrev pub start : ShapeState
 start = record { opened = 0; signs = 0; after_operand = false }
 
--- The bytes of the first token that cannot continue an expression from the state `p` on.
+-- The bytes of the first token that cannot continue an expression from the state `p` on, if there is one.
 abbrev pub misfit : ShapeState → List Token → Option Span
 misfit p [] = None
 misfit p (t ∷ ts) = elim (next_state p t.kind) [ Ok q ↦ misfit q ts | Err e ↦ Some (span_of t) ]
@@ -98,12 +98,12 @@ truth b = if b then pos 1 else pos 0
 abbrev pub is_true : ℤ → Bool
 is_true z = not (int_eq z (pos 0))
 
--- The number, if it fits a signed integer of 64 bits.
+-- The given number, if it fits a signed integer of 64 bits, or else `Range`.
 abbrev pub in_range : ℤ → Result ℤ ExprFault
 in_range (pos n) = if nat_lt n (2 ^ 63) then Ok (pos n) else Err Range
 in_range (negsuc n) = if nat_lt n (2 ^ 63) then Ok (negsuc n) else Err Range
 
--- The value of the binary operator applied to `a` and `b`.
+-- The value of the given binary operator applied to `a` and `b`.
 abbrev pub binary : Sign → ℤ → ℤ → Result ℤ ExprFault
 binary Or a b = Ok (truth (is_true a || is_true b))
 binary And a b = Ok (truth (is_true a && is_true b))
@@ -120,7 +120,7 @@ binary Slash a b = if int_eq b (pos 0) then Err DivideByZero else in_range (int_
 binary Percent a b = if int_eq b (pos 0) then Err DivideByZero else (in_range (int_div a b) >>= λ _. Ok (int_rem a b))
 binary _ a b = Err Syntax
 
--- The value of the unary operator applied to `a`.
+-- The value of the given unary operator applied to `a`.
 abbrev pub unary : Sign → ℤ → Result ℤ ExprFault
 unary Plus a = Ok a
 unary Minus a = in_range (neg_ℤ a)
@@ -162,8 +162,8 @@ ends_operand (token.Sign CloseParen) = true
 ends_operand (token.Sign _) = false
 ends_operand _ = true
 
--- The split at the operator found in `xs`, if there is one, or else at the token `x` before them, if that is the
--- operator `here`.
+-- The split of the token `x` and the tokens `xs` after it. It is at the operator found in `xs`, if there is one, or
+-- else at `x`, if `x` is the operator `here`.
 abbrev pub later_or : Option OperatorSplit → TokenKind → Option Sign → List TokenKind → Option OperatorSplit
 later_or (Some p) x here xs = Some (record { before = x ∷ p.before; sign = p.sign; after = p.after })
 later_or None x (Some s) xs = Some (record { before = []; sign = s; after = xs })
@@ -189,18 +189,19 @@ primary tree (Name n ∷ xs) = Named n
 primary tree (token.Sign OpenParen ∷ xs) = Parens (tree 5 (without_last xs))
 primary tree (token.Sign s ∷ xs) = Unary s (tree 0 xs)
 
--- The tree of tokens that are split at a binary operator of precedence `k` + 1, or else the tree `tighter`.
+-- The tree of tokens with the given split at a binary operator of precedence `k` + 1, or else the tree `tighter`.
 abbrev pub parted : (ℕ → List TokenKind → Tree) → ℕ → Option OperatorSplit → Tree → Tree
 parted tree k (Some p) tighter = Binary (tree (suc k) p.before) p.sign (tree k p.after)
 parted tree k None tighter = tighter
 
--- The tree of tokens whose binary operators outside parentheses have a precedence of at most a given one. The last of
--- the loosest operators splits them. `tree` gives the trees of fewer tokens.
+-- The tree of the tokens `xs`, whose binary operators outside parentheses have at most the given precedence. The last
+-- of the loosest operators splits `xs`. `tree` gives the trees of fewer tokens.
 abbrev pub at_level : (ℕ → List TokenKind → Tree) → ℕ → List TokenKind → Tree
 at_level tree zero xs = primary tree xs
 at_level tree (suc k) xs = parted tree k (last_operator (suc k) 0 false xs) (at_level tree k xs)
 
--- The tree of at most `n` tokens, whose binary operators outside parentheses have a precedence of at most `k`.
+-- The tree of the tokens `xs`, of which there are at most the given number, and whose binary operators outside
+-- parentheses have a precedence of at most `k`.
 unfoldable pub tree_within : ℕ → ℕ → List TokenKind → Tree
 tree_within zero k xs = Missing
 tree_within (suc n) k xs = at_level (tree_within n) k xs
@@ -219,7 +220,7 @@ value names (Unary s t) = value names t >>= λ v. unary s v
 value names (Binary l s r) = value names l >>= λ a. value names r >>= λ b. binary s a b
 value names Missing = Err Syntax
 
--- The value of an expression, or its first error: the shape is checked before any value is computed.
+-- The value of the expression `xs`, or its first error. The shape is checked before any value is computed.
 unfoldable pub value_of : (ℕ → Option ℤ) → List TokenKind → Result ℤ ExprFault
 value_of names xs = shape start xs >>= λ _. value names (tree_within (length xs) 5 xs)
 
@@ -230,7 +231,7 @@ abbrev pub is_unknown : (ℕ → Option ℤ) → TokenKind → Bool
 is_unknown names (Name n) = is_none (names n)
 is_unknown names _ = false
 
--- The bytes of the first name without a value.
+-- The bytes of the first name among the tokens `ts` that has no value, if there is one.
 abbrev pub unknown_name : (ℕ → Option ℤ) → List Token → Option Span
 unknown_name names ts = option_map span_of (find (λ t. is_unknown names t.kind) ts)
 
@@ -239,10 +240,10 @@ abbrev pub found_or : Option Span → Option Span → Option Span
 found_or (Some s) other = Some s
 found_or None other = other
 
--- The bytes of the token at which the expression `ts` has the error. If a name has no value, it is the first such name.
--- If the expression divides by zero or a value is out of range, it is the first token. Otherwise it is the token that
--- cannot continue the expression, or the last one if the expression ends too early. An expression without tokens has
--- its error at the token `before`.
+-- The bytes of the token at which the expression `ts` has the given error. For `Unknown` this is the first name without
+-- a value. For `DivideByZero` and `Range` it is the first token. Otherwise it is the token that cannot continue the
+-- expression, or the last one if the expression ends too early. An expression without tokens has its error at the token
+-- `before`.
 abbrev pub fault_span : (ℕ → Option ℤ) → Option Span → List Token → ExprFault → Option Span
 fault_span names before ts Unknown = unknown_name names ts
 fault_span names before ts DivideByZero = first_span ts

@@ -1,4 +1,4 @@
--- Laws of the text of a source, independent of how it is read.
+-- Laws of sources and of expressions: lines and loop bodies without effect, and the shapes and trees of expressions.
 use Rattle.std.specs.Prelude.{◌≡◌, ◌⊎◌, ℕ, pos, List, [], ◌∷◌, ◌++◌, length, Bool, false, true, Ok, Err, IfOk, codes}
 use Rattle.std.specs.List.{list_any}
 use Rattle.redcode_text.specs.declared.token.TokenKind.{TokenKind}
@@ -18,8 +18,8 @@ abbrev pub LinesBeforeRedcodeAreIgnored : Type 0
 LinesBeforeRedcodeAreIgnored = (before rows : List SourceRow) → list_any begins_redcode before ≡ false → list_any begins_redcode rows ≡ true
     → tree_of_rows (read_rows (before ++ rows)) ≡ tree_of_rows (read_rows rows)
 
--- Lines after END have no effect, unless one of them begins with `;redcode`, since the lines before the first
--- `;redcode` are not read. `source` is a source that reads up to an END, and 10 (LF) ends its last line.
+-- The lines `behind` after END have no effect, unless one of them begins with `;redcode`, since the lines before the
+-- first `;redcode` are not read. `source` is a source that reads up to an END, and 10 (LF) ends its last line.
 abbrev pub LinesAfterEndAreIgnored : Type 0
 LinesAfterEndAreIgnored = (ps : Predefined) (source behind : List ℕ) (read : Reading)
     → flat ps (tree_of (source ++ 10 ∷ [])) nothing_read ≡ Ok read → read.ended ≡ true → list_any (has_directive (codes "redcode")) (lines_of behind) ≡ false
@@ -51,7 +51,7 @@ TreesHaveShapes = (tree : Tree) → IsLevelled tree → IsWithin 0 0 tree →
 abbrev pub IsBegun : List TokenKind → Type 0
 IsBegun xs = (rest : List TokenKind) × (shape start (xs ++ rest) ≡ Ok tt)
 
--- The tokens that may precede an operand: + - ! and (.
+-- The token may begin an operand: it is +, -, ! or (.
 abbrev pub leads_operand : TokenKind → Bool
 leads_operand (token.Sign Plus) = true
 leads_operand (token.Sign Minus) = true
@@ -59,8 +59,8 @@ leads_operand (token.Sign Bang) = true
 leads_operand (token.Sign OpenParen) = true
 leads_operand _ = false
 
--- `token` is the first token of `xs` with which the tokens cannot be continued to an expression. The error is `Depth`
--- if the token may precede an operand and an operand was possible in its place, or else `Syntax`.
+-- `token` is the first token of `xs` with which the tokens cannot be continued to an expression. The error `fault` is
+-- `Depth` if the token may begin an operand and an operand was possible in its place, or else `Syntax`.
 pub record Misplaced (xs : List TokenKind) (fault : ExprFault) : Type 0 where
   pub before : List TokenKind
   pub token : TokenKind
@@ -72,7 +72,7 @@ pub record Misplaced (xs : List TokenKind) (fault : ExprFault) : Type 0 where
       ((fault ≡ Depth) × (leads_operand token ≡ true) × IsBegun (before ++ Number (pos 0) ∷ []))
       ⊎ ((fault ≡ Syntax) × (leads_operand token ≡ true → IsBegun (before ++ Number (pos 0) ∷ []) → ⊥))
 
--- The error of a shape is that of the first misplaced token. If there is none, the expression ends too early and the error
--- is `Syntax`.
+-- The error of a shape is the error of the first misplaced token. If there is none, the expression ends too early and
+-- the error is `Syntax`.
 abbrev pub MisshapenAtFirst : Type 0
 MisshapenAtFirst = (xs : List TokenKind) (fault : ExprFault) → shape start xs ≡ Err fault → (IsBegun xs × (fault ≡ Syntax)) ⊎ Misplaced xs fault

@@ -1,4 +1,4 @@
--- The specification of how a source is read, in this order; with its laws and examples. It is part of the trusted base.
+-- The specification of how a source is read, with laws and examples, in reading order. It is part of the trusted base.
 pub mod Bytes
 pub mod Results
 pub mod Spans

@@ -35,14 +35,14 @@ pub record Assert : Type 0 where
   pub current_line : ℕ
   pub tokens : List Token
 
--- Everything that has been read of a source: its names, lines and asserts, and the numbers of instructions, of lines
--- and of tokens so far. `ended` is true after an END.
+-- Everything that has been read of a source: its names, EQU names and lines, its name, author and asserts, and the
+-- numbers of instructions, of lines and of tokens so far. `ended` is true after an END.
 pub record Reading : Type 0 where
   -- The open loops, innermost first.
   pub loops : List OpenLoop
   pub names : List (List ℕ)
   pub equates : List Equate
-  -- An EQU line without a name continues the definition of the last EQU name.
+  -- True if an EQU line without a name continues the definition of the last EQU name.
   pub equate_grows : Bool
   pub lines : List Line
   pub instructions : ℕ
@@ -66,11 +66,11 @@ abbrev pub predefined_value : Predefined → List ℕ → Option ℤ
 predefined_value [] name = None
 predefined_value (p ∷ ps) name = elim (bytes_eq p.0 name) [ true ↦ Some p.1 | false ↦ predefined_value ps name ]
 
--- The predefined names with CURLINE, whose value is the number of instructions so far.
+-- `ps` with CURLINE, whose value is `instructions`, the number of instructions so far.
 abbrev pub with_current_line : Predefined → ℕ → Predefined
 with_current_line ps instructions = (codes "CURLINE", pos instructions) ∷ ps
 
--- The name with the index `n`.
+-- The name with the index `n` in `names`, or the empty name if there is none.
 abbrev pub name_at : List (List ℕ) → ℕ → List ℕ
 name_at names n = unwrap_or (slice_get names n) []
 
@@ -88,11 +88,11 @@ is_label st n = list_any (λ l. list_any (λ m. m == n) l.labels) st.lines
 
 -- ---- The number of lines and tokens
 
--- The step that counts one more line.
+-- The step that counts one more line, of at most `limit`.
 abbrev pub line_read : Step
 line_read st = elim (nat_le limit st.lines_read) [ true ↦ Err (problem_at None TooLong) | false ↦ Ok (record st { lines_read = st.lines_read + 1 }) ]
 
--- The step that counts the tokens `ts`.
+-- The step that counts the tokens `ts`. The count is at most `limit`.
 abbrev pub tokens_counted : List Token → Step
 tokens_counted ts st = elim (nat_lt limit (st.tokens_read + length ts)) [ true ↦ Err (problem_at None TooLong) | false ↦ Ok (record st { tokens_read = st.tokens_read + length ts }) ]
 
@@ -105,8 +105,8 @@ before_comment (b ∷ bs) = elim (b == semicolon) [ true ↦ [] | false ↦ b �
 abbrev pub WithTokens : Type 0
 WithTokens = List Token × Reading
 
--- The tokens of a row from the offset `at` on, up to a comment, and everything read including them. There may be as
--- many as the limit leaves.
+-- The tokens of `row` from the offset `at` on, up to a comment, and everything read including them. There may be as
+-- many tokens as the limit leaves after `st`.
 abbrev pub row_tokens : SourceRow → ℕ → Reading → Result WithTokens TextTokenProblem
 row_tokens row at st =
     tokens st.loops row.number (row.at + at) (limit - st.tokens_read) st.names (before_comment (drop at row.bytes)) >>= λ s.
@@ -114,11 +114,11 @@ row_tokens row at st =
 
 -- ---- FOR and EQU lines
 
--- The tokens before the word at the offset `at` in the source.
+-- The tokens of `ts` before the word at the offset `at` in the source.
 abbrev pub tokens_before : ℕ → List Token → List Token
 tokens_before at ts = filter (λ t. nat_lt t.from at) ts
 
--- The tokens after the word at the offset `at` in the source.
+-- The tokens of `ts` after the word at the offset `at` in the source.
 abbrev pub tokens_after : ℕ → List Token → List Token
 tokens_after at ts = filter (λ t. nat_lt at t.from) ts
 
@@ -140,19 +140,19 @@ abbrev pub name_with_colon : ℕ → List Token → Result (Option ℕ) TextToke
 name_with_colon n [] = Ok (Some n)
 name_with_colon n (t ∷ ts) = elim (is_colon t.kind) [ true ↦ name_alone n ts | false ↦ Err (misplaced t) ]
 
--- The name before FOR or EQU, if there is one. A colon may follow it. Any other token is not allowed there.
+-- The name before FOR or EQU, if there is one. A colon may follow the name. Any other token is an error.
 abbrev pub name_in_front : List Token → Result (Option ℕ) TextTokenProblem
 name_in_front [] = Ok None
 name_in_front (t ∷ ts) = elim t.kind [ Name n ↦ name_with_colon n ts | _ ↦ Err (misplaced t) ]
 
--- The EQU names, with one line added to the definition of the last one.
+-- The EQU names, with the line `ts` added to the definition of the last one.
 abbrev pub with_line : List Equate → List Token → List Equate
 with_line [] ts = []
 with_line (e ∷ []) ts = record { name = e.name; lines = e.lines ++ ts ∷ [] } ∷ []
 with_line (e ∷ f ∷ es) ts = e ∷ with_line (f ∷ es) ts
 
--- The step that defines a name as the tokens `ts`, or without a name continues the last definition. An error has the bytes
--- `span`.
+-- The step that defines the given name as the tokens `ts` or, without a name, adds the line `ts` to the last
+-- definition. An error has the bytes `span`.
 abbrev pub equated : Predefined → Option Span → List Token → Option ℕ → Step
 equated ps span ts None st = elim st.equate_grows [ true ↦ Ok (record st { equates = with_line st.equates ts }) | false ↦ Err (problem_at span BadToken) ]
 equated ps span ts (Some n) st =
@@ -161,15 +161,15 @@ equated ps span ts (Some n) st =
       | false ↦ Ok (record st { equates = st.equates ++ record { name = n; lines = ts ∷ [] } ∷ []; equate_grows = true })
     ]
 
--- The step that reads an EQU line, whose word EQU is at the offset `at` in the source. The first token is the name, or
--- without a name the word EQU.
+-- The step that reads an EQU line with the tokens `ts`, whose word EQU is at the offset `at` in the source. An error of
+-- the definition has the first token, which is the name or, without a name, the word EQU.
 abbrev pub equ_line : Predefined → ℕ → List Token → Step
 equ_line ps at ts st = name_in_front (tokens_before at ts) >>= λ name. equated ps (first_span ts) (tokens_after at ts) name st
 
 -- ---- Ordinary lines
 
--- The parts of a line: its labels, the tokens of the labels with their colons, the operation, the bytes of the last token
--- up to the operation, and the remaining tokens.
+-- The parts of a line: its labels, the tokens of the labels with their colons, the operation, the bytes of the
+-- operation or else of the last token before `rest`, and the remaining tokens.
 pub record Parts : Type 0 where
   pub labels : List ℕ
   pub label_tokens : List Token
@@ -192,12 +192,12 @@ is_operation st n = is_equate st n || list_any (str_eq_ignore_ascii_case (name_a
 abbrev pub may_label : Predefined → Reading → List ℕ → ℕ → Bool
 may_label ps st labels n = not (is_label st n || is_predefined ps st n || list_any (λ m. m == n) labels)
 
--- The colon after a label, if there is one, and the tokens after it.
+-- The colon at the start of the tokens after a label, if there is one, and the remaining tokens.
 abbrev pub split_colon : List Token → List Token × List Token
 split_colon [] = ([], [])
 split_colon (t ∷ ts) = elim t.kind [ token.Sign s ↦ elim s [ Colon ↦ (t ∷ [], ts) | _ ↦ ([], t ∷ ts) ] | _ ↦ ([], t ∷ ts) ]
 
--- The parts of a line that has only labels before the tokens `ts`.
+-- The parts of a line that has the labels `labels`, with the tokens `before`, and no operation before the tokens `ts`.
 abbrev pub without_operation : List ℕ → List Token → List Token → Parts
 without_operation labels before ts =
     record { labels = labels; label_tokens = before; operation = None; operation_span = last_span None before; rest = ts }
@@ -223,7 +223,7 @@ parts_within ps st (suc k) labels before (t ∷ ts) =
 abbrev pub parts_of : Predefined → Reading → List Token → Result Parts TextTokenProblem
 parts_of ps st ts = parts_within ps st (length ts) [] [] ts
 
--- The operation is `word`, in either case.
+-- There is an operation, and its name among `names` is `word`, in either case.
 abbrev pub is_keyword : List (List ℕ) → List ℕ → Option ℕ → Bool
 is_keyword names word (Some n) = str_eq_ignore_ascii_case (name_at names n) word
 is_keyword names word None = false
@@ -240,7 +240,7 @@ is_end names operation = is_keyword names (codes "end") operation
 abbrev pub is_instruction : List (List ℕ) → Option ℕ → List Token → Bool
 is_instruction names operation rest = (is_some operation || nat_lt 0 (length rest)) && not (is_org names operation || is_end names operation)
 
--- Everything read, with one line added whose operation is not an EQU name.
+-- `st` with the line `p` added, which has the number `number` and whose operation is not an EQU name.
 abbrev pub line_added : ℕ → Parts → Reading → Reading
 line_added number p st =
     record st {
@@ -250,30 +250,30 @@ line_added number p st =
       ended = is_end st.names p.operation;
     }
 
--- A token with the given line number.
+-- The token `t` with the line number `number`.
 abbrev pub token_on_line : ℕ → Token → Token
 token_on_line number t = record t { line = number }
 
--- Tokens with the given line number: tokens that come from EQU get the number of the line that uses the name.
+-- The tokens `ts` with the line number `number`. Tokens from EQU get the number of the line that uses the name.
 abbrev pub on_line : ℕ → List Token → List Token
 on_line number ts = map (token_on_line number) ts
 
--- The lines with `ts` put before the first one.
+-- The lines with `ts` put before the first one, or the line `ts` if there are no lines.
 abbrev pub prepend_to_first : List Token → List (List Token) → List (List Token)
 prepend_to_first ts [] = ts ∷ []
 prepend_to_first ts (l ∷ ls) = (ts ++ l) ∷ ls
 
--- The lines with `ts` put after the last one.
+-- The lines with `ts` put after the last one, or the line `ts` if there are no lines.
 abbrev pub append_to_last : List (List Token) → List Token → List (List Token)
 append_to_last [] ts = ts ∷ []
 append_to_last (l ∷ []) ts = (l ++ ts) ∷ []
 append_to_last (l ∷ m ∷ ls) ts = l ∷ append_to_last (m ∷ ls) ts
 
--- Continues with `rest`, unless an END was read.
+-- The result of `rest` after `st`, or `st` itself if it has read an END.
 abbrev pub unless_ended : {E : Type 0} → Reading → (Reading → Result Reading E) → Result Reading E
 unless_ended st rest = elim st.ended [ true ↦ Ok st | false ↦ rest st ]
 
--- The step that reads the lines that come from EQU, each by the rules for an ordinary line.
+-- The step that counts and reads the given lines, which come from EQU, each by `ordinary`, up to an END.
 abbrev pub each_line : (List Token → Step) → List (List Token) → Step
 each_line ordinary [] st = Ok st
 each_line ordinary (l ∷ ls) st = line_read st >>= tokens_counted l >>= ordinary l >>= λ a. unless_ended a (each_line ordinary ls)
@@ -283,25 +283,25 @@ abbrev pub operation_lines : Reading → Option ℕ → Option (List (List Token
 operation_lines st (Some n) = equate_lines st.equates n
 operation_lines st None = None
 
--- The step that reads a line with this number, given in parts. If its operation is an EQU name, the lines of the name's
--- definition replace it. `deeper` reads each of them; without `deeper` they are nested too deep.
+-- The step that reads the line `p` with the number `number`. If its operation is an EQU name, the given lines of the
+-- definition replace it. `deeper` reads each of these lines; without `deeper` they are nested too deep.
 abbrev pub parts_read : Option (List Token → Step) → ℕ → Parts → Option (List (List Token)) → Step
 parts_read deeper number p None st = Ok (line_added number (record p { rest = on_line number p.rest }) st)
 parts_read None number p (Some lines) st = Err (problem_at p.operation_span EquDepth)
 parts_read (Some ordinary) number p (Some lines) st = each_line ordinary (append_to_last (prepend_to_first p.label_tokens lines) p.rest) st
 
--- The step that reads an ordinary line with this number. `deeper` reads the lines that replace an EQU name.
+-- The step that reads the ordinary line `ts` with the number `number`. `deeper` reads lines that replace an EQU name.
 abbrev pub ordinary_with : Predefined → ℕ → Option (List Token → Step) → List Token → Step
 ordinary_with ps number deeper ts st = parts_of ps st ts >>= λ p. parts_read deeper number p (operation_lines st p.operation) st
 
--- The step that reads an ordinary line with this number, in which EQU names may nest `depth` deep.
+-- The step that reads an ordinary line with the number `number`, in which EQU names may nest to the given depth.
 abbrev pub ordinary_line : Predefined → ℕ → ℕ → List Token → Step
 ordinary_line ps number zero = ordinary_with ps number None
 ordinary_line ps number (suc depth) = ordinary_with ps number (Some (ordinary_line ps number depth))
 
 -- ---- Directives
 
--- The byte, or `?` if it is not printable.
+-- The byte `b`, or `?` if `b` is not printable.
 abbrev pub printable : ℕ → ℕ
 printable b = elim (nat_le first_printed b && nat_le b last_printed) [ true ↦ b | false ↦ question_mark ]
 
@@ -314,7 +314,7 @@ max_name_len = 60
 abbrev pub directive_value : List ℕ → List ℕ
 directive_value text = take max_name_len (map printable (reverse (without_blanks (reverse (without_blanks text)))))
 
--- The first text, or `old` if it is empty.
+-- The first text or, if it is empty, `old`.
 abbrev pub unless_empty : List ℕ → List ℕ → List ℕ
 unless_empty [] old = old
 unless_empty (b ∷ bs) old = b ∷ bs
@@ -338,7 +338,7 @@ comment_line row st =
 
 -- ---- A line that is neither FOR nor ROF
 
--- The step that reads the tokens of a line of the given kind. A line without tokens adds nothing.
+-- The step that reads the given tokens of `row`, which has the given kind. A line without tokens adds nothing.
 abbrev pub tokens_line : Predefined → LineKind → SourceRow → List Token → Step
 tokens_line ps kind row [] st = Ok st
 tokens_line ps (EquLine at) row (t ∷ ts) st = equ_line ps (row.at + at) (t ∷ ts) st

@@ -1,4 +1,4 @@
--- Steps of a definition, one after another.
+-- The operator that makes the steps of a definition one after another, up to the first error.
 use Rattle.std.specs.Prelude.{Result, Ok, Err}
 
 infixl 10 ◌>>=◌

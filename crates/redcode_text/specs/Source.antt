@@ -1,4 +1,4 @@
--- The lines of a source, and the tree of its loops.
+-- The lines of a source, with their words, kinds and directives, and the tree of its loops.
 use Rattle.std.specs.Prelude.{ℕ, ◌+◌, List, [], ◌∷◌, length, drop, take, Bool, true, false, ◌&&◌, Option, Some, None, ◌==◌, codes, nat_eq}
 use Rattle.std.specs.List.{starts_with, list_any, onto_first, prefix_len}
 use Rattle.std.specs.Str.{str_eq_ignore_ascii_case, str_to_ascii_lowercase}
@@ -14,7 +14,7 @@ pub record SourceRow : Type 0 where
   pub at : ℕ
   pub bytes : List ℕ
 
--- The lines of a source. LF ends a line, and the last line may lack it.
+-- The lines of a source, without the LF that ends each line. The last line may lack its LF.
 abbrev pub lines_of : List ℕ → List (List ℕ)
 lines_of [] = []
 lines_of (b ∷ bs) = elim (b == line_feed) [ true ↦ [] ∷ lines_of bs | false ↦ onto_first b (lines_of bs) ]
@@ -30,15 +30,15 @@ rows_of source = rows_from 1 0 (lines_of source)
 
 -- ---- Words of a line
 
--- The number of whitespace bytes at the start.
+-- The number of whitespace bytes at the start of `bytes`.
 abbrev pub blank_len : List ℕ → ℕ
 blank_len bytes = prefix_len is_blank bytes
 
--- The offset of the first byte from `at` on that is not whitespace.
+-- The offset in `bytes` after the whitespace, if there is any, at the offset `at`.
 abbrev pub past_blanks : List ℕ → ℕ → ℕ
 past_blanks bytes at = at + blank_len (drop at bytes)
 
--- The offset after the word at the offset `at`.
+-- The offset in `bytes` after the word, if there is one, at the offset `at`.
 abbrev pub past_word : List ℕ → ℕ → ℕ
 past_word bytes at = at + word_len (drop at bytes)
 
@@ -51,19 +51,19 @@ colon_len (b ∷ bs) = elim (b == colon) [ true ↦ 1 | false ↦ 0 ]
 abbrev pub past_colon : List ℕ → ℕ → ℕ
 past_colon bytes at = at + colon_len (drop at bytes)
 
--- The offset of the first word of a line.
+-- The offset of the first word of the line `bytes`, which may be empty.
 abbrev pub first_word_at : List ℕ → ℕ
 first_word_at bytes = past_blanks bytes 0
 
--- The offset of the second word of a line. A colon may separate it from the first.
+-- The offset of the second word of the line `bytes`, which may be empty. A colon may separate it from the first word.
 abbrev pub second_word_at : List ℕ → ℕ
 second_word_at bytes = past_blanks bytes (past_colon bytes (past_blanks bytes (past_word bytes (first_word_at bytes))))
 
--- The word at the offset `at` is `word`, in either case.
+-- The word at the offset `at` of `bytes` is `word`, in either case.
 abbrev pub has_word : List ℕ → List ℕ → ℕ → Bool
 has_word word bytes at = str_eq_ignore_ascii_case (take (word_len (drop at bytes)) (drop at bytes)) word
 
--- The offset of `word`, if it is the first or the second word of a line.
+-- The offset of `word`, if it is the first or the second word of the line `bytes`.
 abbrev pub leading_word_at : List ℕ → List ℕ → Option ℕ
 leading_word_at word bytes =
     elim (has_word word bytes (first_word_at bytes)) [
@@ -98,11 +98,11 @@ line_kind bytes =
       | false ↦ for_or (equ_or_other (leading_word_at (codes "equ") bytes)) (leading_word_at (codes "for") bytes)
     ]
 
--- The bytes of the word at the offset `at` of a row.
+-- The bytes of the word at the offset `at` of `row`.
 abbrev pub word_span : SourceRow → ℕ → Option Span
 word_span row at = Some (record { from = row.at + at; to = row.at + past_word row.bytes at })
 
--- The bytes of the word FOR of a FOR line, or of the first word of any other line: the word ROF of a ROF line.
+-- The bytes of the word FOR if `row` is a FOR line, or else of its first word, which is the word ROF of a ROF line.
 abbrev pub loop_word : SourceRow → Option Span
 loop_word row = elim (line_kind row.bytes) [ ForLine at ↦ word_span row at | _ ↦ word_span row (first_word_at row.bytes) ]
 
@@ -116,7 +116,7 @@ without_blanks bytes = drop (blank_len bytes) bytes
 abbrev pub is_comment : List ℕ → Bool
 is_comment bytes = starts_with nat_eq (without_blanks bytes) (semicolon ∷ [])
 
--- The line is a comment that begins with `word`, in either case.
+-- The line `bytes` is a comment that begins with `word`, in either case. `word` is given in lower case.
 abbrev pub has_directive : List ℕ → List ℕ → Bool
 has_directive word bytes = starts_with nat_eq (str_to_ascii_lowercase (without_blanks bytes)) (semicolon ∷ word)
 
@@ -128,12 +128,12 @@ directive_text_at word bytes = blank_len bytes + length word + 1
 abbrev pub directive_text : List ℕ → List ℕ → List ℕ
 directive_text word bytes = drop (directive_text_at word bytes) bytes
 
--- A word directly before this text ends there: the text is empty or begins with whitespace.
+-- The text is empty or begins with whitespace, so that it does not continue a word before it.
 abbrev pub ends_word : List ℕ → Bool
 ends_word [] = true
 ends_word (b ∷ bs) = is_blank b
 
--- The line is a comment that begins with `word`, in either case, and whitespace or the end of the line follows it.
+-- The line `bytes` is a comment that begins with `word`, in either case, and then has whitespace or ends.
 abbrev pub has_directive_word : List ℕ → List ℕ → Bool
 has_directive_word word bytes = has_directive word bytes && ends_word (directive_text word bytes)
 
@@ -146,7 +146,7 @@ abbrev pub from_redcode : List SourceRow → List SourceRow
 from_redcode [] = []
 from_redcode (row ∷ rows) = elim (begins_redcode row) [ true ↦ row ∷ rows | false ↦ from_redcode rows ]
 
--- The rows that are read: those from the first `;redcode` on, or all of them if there is none.
+-- The rows that are read: from the first `;redcode` on, or all rows if there is no `;redcode`.
 abbrev pub read_rows : List SourceRow → List SourceRow
 read_rows rows = elim (list_any begins_redcode rows) [ true ↦ from_redcode rows | false ↦ rows ]
 
@@ -160,18 +160,18 @@ pub data Items : Type 0 where
   UnclosedFor : SourceRow → Items → Items
   LoneRof : SourceRow → Items → Items
 
--- The result of pairing the rows from the end of the source up to here. `here` has the items of the current body. `waiting`
--- has each ROF whose FOR was not found yet, with the items after the ROF.
+-- The pairing of the rows from some row to the end of the source. `here` has the items from that row to the end of its
+-- body. `waiting` has each ROF whose FOR is before that row, the nearest first, with the items after the ROF.
 pub record Pairing : Type 0 where
   pub here : Items
   pub waiting : List (SourceRow × Items)
 
--- The FOR `head` opens a loop: its body is `here`, and it ends at the nearest waiting ROF.
+-- The FOR `head` opens a loop with the body `here`, up to the nearest waiting ROF. Without a ROF, `head` is unclosed.
 abbrev pub opened : SourceRow → Items → List (SourceRow × Items) → Pairing
 opened head here [] = record { here = UnclosedFor head here; waiting = [] }
 opened head here (rof ∷ waiting) = record { here = Loop head here rof.0 rof.1; waiting = waiting }
 
--- The pairing `p` with one more row of the given kind before it.
+-- The pairing `p` with the row `row` before it, which has the given kind.
 abbrev pub paired_with : LineKind → SourceRow → Pairing → Pairing
 paired_with (ForLine at) row p = opened row p.here p.waiting
 paired_with RofLine row p = record { here = Nothing; waiting = (row, p.here) ∷ p.waiting }
@@ -183,7 +183,7 @@ abbrev pub paired : List SourceRow → Pairing
 paired [] = record { here = Nothing; waiting = [] }
 paired (row ∷ rows) = paired_with (line_kind row.bytes) row (paired rows)
 
--- The items, followed by a ROF without a FOR, at which reading ends.
+-- The items, followed by `rof`, a ROF without a FOR, at which reading ends.
 abbrev pub then_lone : SourceRow → Items → Items
 then_lone rof Nothing = LoneRof rof Nothing
 then_lone rof (Plain row rest) = Plain row (then_lone rof rest)
@@ -196,10 +196,10 @@ abbrev pub with_lone : Items → List (SourceRow × Items) → Items
 with_lone here [] = here
 with_lone here (rof ∷ waiting) = then_lone rof.0 here
 
--- The tree of the rows that are read.
+-- The tree of the rows `rows`.
 abbrev pub tree_of_rows : List SourceRow → Items
 tree_of_rows rows = with_lone (paired rows).here (paired rows).waiting
 
--- The tree of a source.
+-- The tree of the rows of `source` that are read.
 abbrev pub tree_of : List ℕ → Items
 tree_of source = tree_of_rows (read_rows (rows_of source))

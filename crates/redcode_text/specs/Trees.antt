@@ -1,4 +1,4 @@
--- The trees of expressions, independent of how tokens are read: each tree that tokens can spell.
+-- The trees of expressions, independent of how tokens are read: how they are spelled and arranged, and their limits.
 use Rattle.std.specs.Prelude.{◌≡◌, ℕ, ◌+◌, ◌<◌, ◌≤◌, List, [], ◌∷◌, ◌++◌, Bool, true, false, ⊤}
 use Rattle.redcode_text.specs.declared.token.TokenKind.{TokenKind}
 use Rattle.redcode_text.specs.declared.token.TokenKind.TheVariants.{Number, Name}
@@ -16,7 +16,7 @@ spelling (Unary s t) = token.Sign s ∷ spelling t
 spelling (Binary l s r) = spelling l ++ token.Sign s ∷ spelling r
 spelling Missing = []
 
--- The precedence of the binary operator at the root, 0 if there is none.
+-- The precedence of the binary operator at the root of a tree, or 0 if there is none.
 abbrev pub rank : Tree → ℕ
 rank (Binary l s r) = precedence s
 rank _ = 0
@@ -28,7 +28,8 @@ is_prefix Minus = true
 is_prefix Bang = true
 is_prefix _ = false
 
--- Operators of equal precedence group to the left, and looser operators are above tighter ones.
+-- The tree is arranged by precedence, and nothing in it is missing. Outside parentheses, binary operators of equal
+-- precedence group to the left, looser ones are above tighter ones, and unary ones are below all of them.
 abbrev pub IsLevelled : Tree → Type 0
 IsLevelled (Numeral n) = Unit {0}
 IsLevelled (Named n) = Unit {0}

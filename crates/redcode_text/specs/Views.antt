@@ -1,4 +1,4 @@
--- The specification's view of the values of the code.
+-- How the specification represents the code's predefined names, lines, asserts and tokens.
 use Rattle.std.specs.Prelude.{ℕ, List, [], ◌∷◌, Vec, codes}
 use Rattle.redcode_text.specs.declared.names.predefined.PredefinedNames.{PredefinedNames}
 use Rattle.redcode_text.specs.declared.program.Assert as assert
@@ -7,7 +7,7 @@ use Rattle.redcode_text.specs.declared.token.Token.{Token}
 use Rattle.redcode_text.specs.Lines.{Assert, Line, Predefined}
 use Rattle.redcode_text.specs.Tokens.{Scanned}
 
--- The predefined names with their values.
+-- The predefined names with their values in `n`, without CURLINE.
 abbrev pub predefined_of : PredefinedNames → Predefined
 predefined_of n =
     (codes "CORESIZE", n.core_size) ∷ (codes "MAXPROCESSES", n.max_processes) ∷ (codes "MAXCYCLES", n.max_cycles) ∷ (codes "MAXLENGTH", n.max_length)

@@ -7,14 +7,14 @@ ghost use Rattle.redcode_text.specs.Bytes.{ampersand};
 ghost use Rattle.redcode_text.specs.Source.{blank_len};
 ghost use Rattle.redcode_text.specs.Tokens.{is_blank, is_letter, is_word_byte, begins_name, begins_word, word_len};
 
-/// Returns whether a byte is whitespace: up to 32, except for LF.
+/// Returns whether a byte is whitespace: at most 32, except for LF.
 pub fn is_blank(byte: u8) -> bool
     ensures { result ≡ is_blank byte }
 {
     byte <= b' ' && byte != b'\n'
 }
 
-/// Returns the number of whitespace bytes at the start.
+/// Returns the number of whitespace bytes at the start of `bytes`.
 pub fn blank_len(bytes: &[u8]) -> usize
     ensures value { result ≡ blank_len bytes.now }
     ensures within { result ≤ length bytes.now }
@@ -64,7 +64,7 @@ pub fn is_word(part: &[u8], word: &[u8]) -> bool
     part.eq_ignore_ascii_case(word)
 }
 
-/// Returns the number of bytes of the word at the start, including its joins.
+/// Returns the number of bytes of the word at the start of `bytes`, including its joins, or 0 if there is no word.
 pub fn word_len(bytes: &[u8]) -> usize
     ensures value { result ≡ word_len bytes.now }
     ensures within { result ≤ length bytes.now }
@@ -78,7 +78,7 @@ pub fn word_len(bytes: &[u8]) -> usize
     len
 }
 
-/// Returns the number of bytes before the next `&`.
+/// Returns the number of bytes before the first `&`, or of all bytes if there is none.
 pub fn part_len(bytes: &[u8]) -> usize
     ensures value { result ≡ prefix_len (λ b. not (b == ampersand)) bytes.now }
     ensures within { result ≤ length bytes.now }

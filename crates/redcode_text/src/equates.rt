@@ -65,7 +65,7 @@ impl Model for Replaced {
 }
 
 impl Replaced {
-    /// Counts one more replaced name.
+    /// Counts the replacement of the EQU name `name`, unless the limit is reached.
     fn count_one(&mut self, name: Token) -> Result<(), TextTokenProblem>
         ensures { Gives (λ _. self.new) result (one_more name self.old) }
     {
@@ -76,7 +76,7 @@ impl Replaced {
         Ok(())
     }
 
-    /// Appends a token that isn't an EQU name.
+    /// Appends a token that isn't an EQU name, unless the limit is reached.
     fn keep(&mut self, token: Token) -> Result<(), TextTokenProblem>
         ensures { Gives (λ _. self.new) result (kept_token self.old token) }
     {
@@ -90,7 +90,7 @@ impl Replaced {
     }
 }
 
-/// Returns the definition of an EQU name, which may have at most one line.
+/// Returns the tokens of the EQU name `name`, whose definition `lines` may have at most one line.
 fn only_line(name: Token, lines: &[Vec<Token>]) -> Result<&[Token], TextTokenProblem>
     ensures { let defined = one_line name (map (λ line. line.items) lines.now) in MatchResult result (λ line. defined ≡ Ok line.now)
         (λ problem. defined ≡ Err problem) }
@@ -124,7 +124,7 @@ impl Equates {
         self.replace_each(depth - 1, line, replaced)
     }
 
-    /// Appends a token, or its expansion if it is an EQU name, to `replaced`.
+    /// Appends a token, or its expansion if it is an EQU name, to `replaced`. At most `depth` expansions may nest.
     #[cycle(replacing)]
     fn put(
         &self,
@@ -144,7 +144,7 @@ impl Equates {
         }
     }
 
-    /// Appends tokens, with each EQU name expanded, to `replaced`.
+    /// Appends tokens, with each EQU name expanded, to `replaced`. At most `depth` expansions may nest.
     #[cycle(replacing)]
     fn replace_each(
         &self,
@@ -184,7 +184,7 @@ impl Equates {
         Ok(())
     }
 
-    /// Replaces each EQU name by its definition, and the names in the definition in turn, at most 32 deep.
+    /// Replaces each EQU name of `tokens` by its definition, and the names in the definition in turn, at most 32 deep.
     pub fn substitute(&self, alloc: Global, tokens: &[Token]) -> Result<Vec<Token>, TextFault>
         ensures value { IsResult (λ made. made.items) result (substitution self.now tokens.now) }
         ensures few { IfOk result (λ made. vec_len made ≤ MAX_REPLACED) }

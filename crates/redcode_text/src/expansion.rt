@@ -43,7 +43,7 @@ fn program_of(reading: Reading) -> Program
     }
 }
 
-/// Reads rows of a source, up to END.
+/// Reads rows of a source, up to END. `names` has the values of the predefined names.
 fn read_from_rows(
     alloc: Global,
     rows: &[SourceRow<'_>],
@@ -66,7 +66,7 @@ fn read_from_rows(
     }
 }
 
-/// Reads a source.
+/// Reads a source from its first `;redcode` line on, up to END.
 #[tactic(auto, using(crate::proofs::SourceRows::rows_fit))]
 fn read_source(alloc: Global, bytes: &[u8], names: &PredefinedNames) -> Result<Reading, TextFault>
     ensures { IsResult (λ reading. reading_of reading) result (flat (predefined_of names.now) (tree_of bytes.now) nothing_read) }
@@ -89,7 +89,7 @@ fn read_source(alloc: Global, bytes: &[u8], names: &PredefinedNames) -> Result<R
 /// Returns the first error in the order of reading, with its line number in the source, from 1, and its token. The errors
 /// of one line come in this order:
 ///
-/// - `TooLong` if 65,536 lines were read before it
+/// - `TooLong` if 65,536 lines were read before the line
 /// - `UnclosedFor` and `RofAlone`
 /// - the errors of its tokens, from the left: `NotAscii`, `BadToken`, or `TooLong` for the 65,537th token of the source
 /// - in a FOR line: `BadToken` for the tokens before FOR, `TooLong` for the 33rd open loop, `EquDepth`, `BadToken` or

@@ -41,7 +41,7 @@ fn evaluate<E: Env, const N: usize>(tokens: &[Token], env: &E) -> Result<i64, Ex
     evaluation.finish()
 }
 
-/// Evaluates a single number or name without a stack. Most expressions are of this kind.
+/// Evaluates a single number or name, the most frequent expressions, without a stack. Other tokens give `None`.
 #[tactic(auto, unfolding(crate::specs::Expression::value_of, crate::specs::Expression::tree_within))]
 fn evaluate_operand<E: Env>(tokens: &[Token], env: &E) -> Option<Result<i64, ExprFault>>
     ensures { IfSome result (λ value. value ≡ value_of (E.value_of env.now) (kinds tokens.now)) }

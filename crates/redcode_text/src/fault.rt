@@ -27,7 +27,7 @@ pub enum ExprFault {
     Depth,
 }
 
-/// An error in a line. It is displayed as its number and name, followed by the error inside it.
+/// An error in a line. It is displayed as its number and name; `Expression` is followed by the error of the expression.
 #[derive(Clone, Copy, Debug, PartialEq, Eq, Error)]
 pub enum TextProblem {
     /// A byte of 128 or more outside a comment.
@@ -45,7 +45,7 @@ pub enum TextProblem {
     /// A count that isn't a number from 0 to 10,000.
     #[error("5 BadCount")]
     BadCount,
-    /// A name in a count that is neither predefined nor an EQU name.
+    /// A name in a count that isn't predefined after EQU names were replaced.
     #[error("6 LabelInCount")]
     LabelInCount,
     /// A label or EQU name that is in use already.
@@ -91,7 +91,7 @@ pub struct TextFault {
     pub token: Option<Span>,
 }
 
-/// An error that has no line yet.
+/// An error in a line, without the line number.
 #[derive(Clone, Copy, Drop)]
 pub struct TextTokenProblem {
     pub problem: TextProblem,
@@ -122,7 +122,7 @@ impl<T: Drop> From<AllocFailed<T>> for TextTokenProblem {
 }
 
 impl TextProblem {
-    /// Adds the bytes of the token at which an error arises.
+    /// Returns the error with `token`, the bytes of the token at which the error arises.
     pub(crate) fn at_token(self, token: Option<Span>) -> TextTokenProblem
         ensures { result ≡ problem_at token self }
     {
@@ -134,7 +134,7 @@ impl TextProblem {
 }
 
 impl TextTokenProblem {
-    /// Adds a line number to an error; `OutOfMemory` gets the line 0 and no token.
+    /// Returns the error with the line number `line`; `OutOfMemory` gets the line 0 and no token.
     pub fn at_line(self, line: usize) -> TextFault
         ensures problem { result.problem ≡ self.problem }
         ensures line { result.line ≡ fault_line line self.problem }

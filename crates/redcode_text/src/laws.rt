@@ -1,5 +1,4 @@
-//! Laws of the definitions: the meaning of a source's text, independent of how it is read. The functions do nothing;
-//! their contracts are the laws.
+//! Laws of sources and of expressions. The functions do nothing; their contracts are the laws.
 ghost use Rattle.redcode_text.specs.Laws.{LinesBeforeRedcodeAreIgnored, LinesAfterEndAreIgnored, ZeroIterationBodiesAreIgnored, MisshapenAtFirst, ShapesAreTrees, TreesHaveShapes};
 
 /// Lines before the first `;redcode` have no effect.
@@ -35,10 +34,10 @@ pub fn trees_have_shapes()
     ensures { TreesHaveShapes }
 {}
 
-/// The error of a shape is that of the first token after which no expression is possible.
+/// The error of a shape belongs to the first token after which no expression is possible.
 ///
-/// It is `Depth` for a unary operator or a parenthesis if an operand is possible in its place, and `Syntax` for any other
-/// token. If no token is misplaced, the tokens end too early, which is `Syntax`.
+/// The error is `Depth` for a unary operator or an open parenthesis if an operand is possible in its place, and `Syntax`
+/// for any other token. If no token is misplaced, the tokens end too early, which is `Syntax`.
 pub fn misshapen_at_first()
     ensures { MisshapenAtFirst }
 {}

@@ -29,7 +29,7 @@ pub struct Text<'a> {
     pub bytes: &'a [u8],
 }
 
-/// Reads the sign at the start of `bytes`. A sign of two bytes has precedence over one of one byte.
+/// Reads the sign at the start of `bytes`. A sign of two bytes has precedence over a sign of one byte.
 fn read_sign(bytes: &[u8]) -> Result<Spelled, TextProblem>
     ensures value { found_without_names result ≡ sign_token [] bytes.now }
     ensures len { IfOk result (λ s. (1 ≤ s.len) × (s.len ≤ length bytes.now)) }
@@ -72,7 +72,8 @@ fn read_token(alloc: Global, names: &mut SourceNames, bytes: &[u8]) -> Result<Sp
     read_sign(bytes)
 }
 
-/// Returns the number of bytes that an error at the start of `bytes` concerns: those of a word, or else one byte.
+/// Returns the number of bytes that an error at the start of `bytes` concerns: all bytes of the word there, or else
+/// one.
 fn unread_len(bytes: &[u8]) -> usize
     requires { 1 ≤ length bytes.now }
     ensures value { result ≡ unread_len bytes.now }
@@ -85,7 +86,7 @@ fn unread_len(bytes: &[u8]) -> usize
     }
 }
 
-/// Returns the bytes of a source from `at` on, `len` in number.
+/// Returns the `len` bytes of a source from the offset `at` on.
 fn span_at(at: usize, len: usize) -> Option<Span>
     requires { at + len < 2 ^ 64 }
     ensures { result ≡ span_at at len }
@@ -178,7 +179,7 @@ pub struct LineTokens {
 ///
 /// # Errors
 ///
-/// - `NotAscii` or `BadToken` for the first byte that starts no token; LF and `;` start none
+/// - `NotAscii` or `BadToken` for the first byte or word that is no token; LF and `;` are no tokens
 /// - `OutOfMemory`, with the line 0, replaces any error that would have been found after the allocation that failed
 pub fn scan(alloc: Global, text: &[u8]) -> Result<LineTokens, TextFault>
     ensures { IsResult (λ s. scan_of s.tokens s.names) result (scanned text.now) }

@@ -1,9 +1,9 @@
 //! The limits of a source and of an expression.
 
-/// The maximum number of lines that are read; lines of a loop count once per iteration.
+/// The maximum number of lines that are read; lines of a loop count once per iteration, and EQU lines again when used.
 pub const MAX_LINES: usize = 65_536;
 
-/// The maximum number of tokens that are read; tokens of a loop count once per iteration.
+/// The maximum number of tokens that are read; tokens of a loop count once per iteration, and of EQU lines when used.
 pub const MAX_TOKENS: usize = 65_536;
 
 /// The maximum number of open loops.
@@ -12,7 +12,7 @@ pub const MAX_LOOPS: usize = 32;
 /// The maximum number of iterations of a loop.
 pub const MAX_COUNT: i64 = 10_000;
 
-/// How deep EQU names may nest, as operations and in operands.
+/// The maximum depth to which EQU names may nest, as operations and in operands and counts.
 pub const MAX_NESTING: usize = 32;
 
 /// The maximum number of EQU names that are replaced in one operand or count.

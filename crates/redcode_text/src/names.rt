@@ -39,7 +39,7 @@ impl NameTable {
         }
     }
 
-    /// Returns the index of a name, which is added if it is new.
+    /// Returns the index of `name`, and appends the name if it is new.
     pub(crate) fn index_of(&mut self, alloc: Global, name: &[u8]) -> Result<usize, AllocError>
         requires ascii { IsAscii name.now }
         ensures index { IfOk result (λ n. n ≡ name_index self.old name.now) }
@@ -62,7 +62,7 @@ impl NameTable {
         self.names.len()
     }
 
-    /// Returns the bytes of the name with this index, or no bytes if there is none.
+    /// Returns the bytes of the name with this index, or no bytes if there is no such name.
     pub fn name(&self, index: usize) -> &[u8]
         ensures { result.now ≡ name_at self.now index }
     {

@@ -1,4 +1,4 @@
-//! Programs: the part of a source that the assembler needs.
+//! Programs: the part of a source that the assembler needs, with its lines and asserts.
 ghost use Rattle.std.specs.Prelude.{◌≡◌};
 ghost use Rattle.redcode_text.specs.Lines.{is_end, is_instruction, is_keyword};
 
@@ -30,15 +30,15 @@ pub struct Line {
 pub struct Assert {
     /// The line number in the source, from 1.
     pub number: usize,
-    /// The number of instructions before it.
+    /// The number of instructions before the assert.
     pub current_line: u32,
     /// The expression.
     pub tokens: Vec<Token>,
 }
 
-/// A source after FOR loops, and EQU names that are used as operations, were expanded: its lines, with the names in them.
+/// A source after FOR loops, and EQU names that are used as operations, were expanded: its lines, names and asserts.
 ///
-/// It has at most 65,536 lines. Its name and its author have at most 60 bytes, each from 32 to 126.
+/// A program has at most 65,536 lines. Its name and its author have at most 60 bytes, each from 32 to 126.
 #[derive(Drop)]
 pub struct Program {
     pub(crate) names: NameTable,
@@ -137,9 +137,9 @@ impl Program {
     /// # Errors
     ///
     /// Returns the first error, from left to right: `EquDepth` if expansions nest more than 32 deep, `BadToken` for a
-    /// name whose definition has several lines, or `TooLong` for more than 65,536 tokens or replacements. It has the line
-    /// of the token among `tokens` that caused it, which is the line of the use, and the bytes of the token at which it
-    /// arises, which may be in a definition. `OutOfMemory` has the line 0 and no token.
+    /// name whose definition has several lines, or `TooLong` for more than 65,536 tokens or replacements. The error has
+    /// the line of the token among `tokens` that caused it, which is the line of the use, and the bytes of the token at
+    /// which it arises, which may be in a definition. `OutOfMemory` has the line 0 and no token.
     pub fn substitute(&self, alloc: Global, tokens: &[Token]) -> Result<Vec<Token>, TextFault>
         ensures value { IsResult (λ made. made.items) result (substitution self.now.equates tokens.now) }
         ensures few { IfOk result (λ made. vec_len made ≤ limit) }

@@ -54,7 +54,7 @@ pub struct Reading {
 }
 
 /// The words that are operations without being EQU names, in either case. LDP, STP and PIN belong to the P-space of
-/// pMARS: they aren't opcodes here, but they can't be labels either, as in pMARS.
+/// pMARS: they aren't opcodes here, but as in pMARS, they can't be labels.
 const OPERATIONS: [&str; 25] = [
     "dat", "mov", "add", "sub", "mul", "div", "mod", "jmp", "jmz", "jmn", "djn", "seq", "sne",
     "slt", "spl", "nop", "cmp", "org", "end", "equ", "for", "rof", "ldp", "stp", "pin",
@@ -107,7 +107,7 @@ impl Reading {
         })
     }
 
-    /// Counts one more line.
+    /// Counts one more line, unless the limit is reached.
     pub fn count_line(&mut self) -> Result<(), TextTokenProblem>
         ensures value { Gives (λ _. reading_of self.new) result (line_read (reading_of self.old)) }
         ensures equates { self.new.equates ≡ self.old.equates }
@@ -120,7 +120,7 @@ impl Reading {
         Ok(())
     }
 
-    /// Counts the tokens of a line that comes from EQU.
+    /// Counts the tokens of a line that comes from EQU, unless they exceed the limit.
     pub fn count_tokens(&mut self, tokens: &[Token]) -> Result<(), TextTokenProblem>
         ensures value { Gives (λ _. reading_of self.new) result (tokens_counted tokens.now (reading_of self.old)) }
         ensures equates { self.new.equates ≡ self.old.equates }
@@ -134,7 +134,7 @@ impl Reading {
         Ok(())
     }
 
-    /// Reads the tokens of a row from an offset on, up to a comment.
+    /// Reads the tokens of a row from the offset `at` on, up to a comment.
     pub fn row_tokens(
         &mut self,
         alloc: Global,
@@ -171,7 +171,7 @@ impl Reading {
         self.equates.lines_of(name).is_some()
     }
 
-    /// Returns whether a name is a label.
+    /// Returns whether a name is a label of a line that was read.
     #[tactic(auto, using(crate::proofs::NameSets::label_known))]
     pub fn is_label(&self, name: usize) -> bool
         ensures { result ≡ is_label (reading_of self.now) name }
@@ -187,7 +187,7 @@ impl Reading {
         names.value_at(0, self.names.table.name(name)).is_some()
     }
 
-    /// Returns whether a name is an operation.
+    /// Returns whether a name is an EQU name or, in either case, one of `OPERATIONS`.
     pub fn is_operation(&self, name: usize) -> bool
         ensures { result ≡ is_operation (reading_of self.now) name }
     {
@@ -195,7 +195,7 @@ impl Reading {
     }
 }
 
-/// Returns the first token that starts before an offset of the source, and the tokens after it.
+/// Returns the first token that starts before the offset `at` of the source, and the tokens after it.
 fn next_before(tokens: &[Token], at: usize) -> Option<(Token, &[Token])>
     ensures { MatchOption result (tokens_before at tokens.now ≡ []) (λ r. tokens_before at tokens.now ≡ r.0 ∷ tokens_before at r.1.now) }
 {
@@ -214,7 +214,8 @@ fn misplaced(token: Token) -> TextTokenProblem
     TextProblem::BadToken.at_token(Some(token.span()))
 }
 
-/// Returns the name before an offset of the source, if there is one. A colon may follow it; any other token is an error.
+/// Returns the name before the offset `at` of the source, if there is one. A colon may follow the name; any other token
+/// is an error.
 pub fn name_in_front(tokens: &[Token], at: usize) -> Result<Option<usize>, TextTokenProblem>
     ensures { result ≡ name_in_front (tokens_before at tokens.now) }
 {
@@ -236,7 +237,7 @@ pub fn name_in_front(tokens: &[Token], at: usize) -> Result<Option<usize>, TextT
     }
 }
 
-/// Retains the tokens that start after an offset of the source.
+/// Retains the tokens that start after the offset `at` of the source.
 pub fn keep_after(tokens: &mut Vec<Token>, at: usize)
     ensures { tokens.new.items ≡ tokens_after at tokens.old.items }
 {

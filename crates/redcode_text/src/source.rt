@@ -1,4 +1,4 @@
-//! The lines of a source, and the ROF of each FOR.
+//! The lines of a source, and where the items after each line end.
 ghost use Rattle.std.specs.Prelude.{◌≡◌, ◌≤◌, ◌==◌, length, map, not, IfOk, ℕ, ◌+◌, ◌<◌, slice_index, vec_len};
 ghost use Rattle.std.specs.List.{prefix_len};
 ghost use Rattle.redcode_text.specs.Bytes.{line_feed};
@@ -13,7 +13,7 @@ use crate::source::directives::has_directive;
 use crate::source::row::{LineKind, SourceRow};
 use std::alloc::{AllocError, Global};
 
-/// Returns the number of bytes of the first line.
+/// Returns the number of bytes of the first line, without its LF.
 fn line_len(bytes: &[u8]) -> usize
     ensures value { result ≡ prefix_len (λ b. not (b == line_feed)) bytes.now }
     ensures within { result ≤ length bytes.now }
@@ -52,7 +52,8 @@ pub fn read_rows<'r, 'a>(rows: &'r [SourceRow<'a>]) -> &'r [SourceRow<'a>]
     rows
 }
 
-/// Returns the end of the items that start at an index, given the ends for all later indices.
+/// Returns the end of the items from the row `first` on. `ends` has the end of the items after each row from `first`
+/// on.
 pub fn end_from(rows: &[SourceRow<'_>], ends: &[usize], first: usize) -> usize
     requires within { first ≤ length rows.now }
     requires same_length { length ends.now ≡ length rows.now }
@@ -76,7 +77,7 @@ pub fn end_from(rows: &[SourceRow<'_>], ends: &[usize], first: usize) -> usize
     }
 }
 
-/// Returns for each row the index of the ROF that ends the items after it, or the number of rows if none ends them.
+/// Returns, for each row, the index of the ROF that ends the items after it, or the number of rows if none ends them.
 pub fn ends_of(alloc: Global, rows: &[SourceRow<'_>]) -> Result<Vec<usize>, AllocError>
     ensures ends { IfOk result (λ ends. AreEnds rows.now ends.items) }
     ensures len { IfOk result (λ ends. vec_len ends ≡ length rows.now) }

@@ -1,4 +1,4 @@
-//! The tokens of a line, and the signs that bytes form.
+//! Tokens, their bytes in the source, and the signs that bytes form.
 ghost use Rattle.std.specs.Prelude.{◌≡◌, [], ◌∷◌};
 ghost use Rattle.redcode_text.specs.Tokens.{look_up, one_byte_signs, two_byte_signs};
 ghost use Rattle.redcode_text.specs.Spans.{first_span, last_span, span_of};
@@ -98,7 +98,7 @@ impl Token {
     }
 }
 
-/// Returns the bytes of the first token, if there is one.
+/// Returns the bytes of the first of `tokens`, if there is one.
 pub fn first_span(tokens: &[Token]) -> Option<Span>
     ensures { result ≡ first_span tokens.now }
 {
@@ -108,7 +108,7 @@ pub fn first_span(tokens: &[Token]) -> Option<Span>
     }
 }
 
-/// Returns the bytes of the last token, or `before` if there is none.
+/// Returns the bytes of the last of `tokens`, or `before` if there are no tokens.
 pub fn last_span(before: Option<Span>, tokens: &[Token]) -> Option<Span>
     ensures { result ≡ last_span before tokens.now }
 {
@@ -125,7 +125,7 @@ pub struct Spelled {
     pub len: usize,
 }
 
-/// Returns the sign that two bytes form.
+/// Returns the sign that two bytes form, if they form one.
 pub fn two_byte_sign(first: u8, second: u8) -> Option<Sign>
     ensures { result ≡ look_up two_byte_signs (first ∷ second ∷ []) }
 {
@@ -140,7 +140,7 @@ pub fn two_byte_sign(first: u8, second: u8) -> Option<Sign>
     }
 }
 
-/// Returns the sign that one byte forms.
+/// Returns the sign that one byte forms, if it forms one.
 pub fn one_byte_sign(byte: u8) -> Option<Sign>
     ensures { result ≡ look_up one_byte_signs (byte ∷ []) }
 {

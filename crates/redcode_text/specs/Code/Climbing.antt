@@ -1,5 +1,5 @@
--- The evaluation of an expression from left to right, with a stack of the operators and parentheses that wait. The expression
--- has a valid shape.
+-- The evaluation of an expression with a valid shape from left to right, with a stack of the operators and parentheses
+-- that wait, and how the code represents its state.
 use Rattle.std.specs.Prelude.{ℕ, List, [], ◌∷◌, ◌++◌, ◌<◌, ◌≤◌, map, slice_range, Bool, true, false, ℤ, Option, Result, Ok, Err, if◌then◌else◌, nat_le}
 use Rattle.redcode_text.specs.Results.{◌>>=◌}
 use Rattle.redcode_text.specs.declared.token.TokenKind.{TokenKind}
@@ -42,15 +42,16 @@ pub record State : Type 0 where
   pub value : ℤ
   pub after : Bool
 
--- The state that expects an operand after the unary operators `signs`.
+-- The state with the stack `stack` that expects an operand after the unary operators `signs`. Its value `v` is not
+-- used.
 abbrev pub wants : ℤ → List Waiting → List TokenKind → State
 wants v stack signs = record { stack = stack; signs = signs; value = v; after = false }
 
--- The state directly after an operand with the value `v`.
+-- The state with the stack `stack` directly after an operand with the value `v`.
 abbrev pub has : ℤ → List Waiting → State
 has v stack = record { stack = stack; signs = []; value = v; after = true }
 
--- The state after the operand `n`, to which the unary operators before it are applied.
+-- The state after the state `st` and the operand `n`, to which the unary operators before it are applied.
 abbrev pub operand : State → ℤ → Result State ExprFault
 operand st n = signed st.signs n >>= λ v. Ok (has v st.stack)
 
@@ -66,16 +67,16 @@ placed CloseParen v (Opened signs ∷ stack) = signed signs v >>= λ w. Ok (has 
 placed CloseParen v _ = Err Syntax
 placed s v stack = Ok (wants v (Left v s ∷ stack) [])
 
--- The state after the sign `s`, where an operand is expected.
+-- The state after the sign `s` in the state `st`, which expects an operand.
 abbrev pub before_mark : State → Sign → Result State ExprFault
 before_mark st OpenParen = Ok (wants st.value (Opened st.signs ∷ st.stack) [])
 before_mark st s = Ok (wants st.value st.stack (st.signs ++ token.Sign s ∷ []))
 
--- The state after the sign `s`, which follows an operand.
+-- The state after the sign `s` in the state `st`, which is directly after an operand.
 abbrev pub after_mark : State → Sign → Result State ExprFault
 after_mark st s = reduced (reach s) st.stack st.value >>= λ r. placed s r.0 r.1
 
--- The state after one more token. `names` has the values of names.
+-- The state after one more token in the state `st`. `names` has the values of names.
 abbrev pub move : (ℕ → Option ℤ) → State → TokenKind → Result State ExprFault
 move names st (Number n) = operand st n
 move names st (Name n) = known (names n) >>= λ v. operand st v

@@ -18,22 +18,22 @@ trimmed text = reverse (without_blanks (reverse (without_blanks text)))
 abbrev pub printed_value : List ℕ → List ℕ
 printed_value text = take max_name_len (map printable text)
 
--- Everything read, with the name from `text` unless that is empty.
+-- `st` with the name from `text`, unless `text` is empty.
 abbrev pub with_name_text : List ℕ → Reading → Reading
 with_name_text text st = record st { name = unless_empty (printed_value text) st.name }
 
--- Everything read, with the author from `text` unless that is empty.
+-- `st` with the author from `text`, unless `text` is empty.
 abbrev pub with_author_text : List ℕ → Reading → Reading
 with_author_text text st = record st { author = unless_empty (printed_value text) st.author }
 
--- The step that adds an assert, whose expression starts at the byte `at` of its row.
+-- The step that adds the assert of `row`, whose expression starts at the offset `at` of the row.
 abbrev pub assert_at : SourceRow → ℕ → Reading → Result Reading TextTokenProblem
 assert_at row at st =
     row_tokens row at st >>= λ r.
     Ok (record (r.1) { asserts = r.1.asserts ++ record { number = row.number; current_line = r.1.instructions; tokens = r.0 } ∷ [] })
 
--- The offset of the text after `directive`, if the line `bytes` begins, after whitespace, with it as a whole word.
--- `directive` is in lower case and includes the `;`.
+-- The offset after `directive` in the line `bytes`, if the line begins with `directive` as a whole word, in either case
+-- and after any whitespace. `directive` is in lower case and includes the `;`.
 abbrev pub text_found : List ℕ → List ℕ → Option ℕ
 text_found directive bytes =
     if starts_with nat_eq (str_to_ascii_lowercase (without_blanks bytes)) directive && ends_word (drop (blank_len bytes + length directive) bytes)
@@ -58,22 +58,22 @@ abbrev pub assert_place : Comment → ℕ
 assert_place (Assert at) = at
 assert_place comment = 0
 
--- The meaning of a comment with `;assert` before the given offset, or else of one without a directive.
+-- The meaning of a comment with `;assert` before the given offset, or else of a comment without a directive.
 abbrev pub assert_or_other : Option ℕ → Meaning
 assert_or_other (Some at) = IsAssert at
 assert_or_other None = IsOther
 
--- The meaning of a comment with `;author` before the given offset, or else the meaning `other`.
+-- The meaning of the comment `bytes` with `;author` before the given offset, or else the meaning `other`.
 abbrev pub author_or : List ℕ → Meaning → Option ℕ → Meaning
 author_or bytes other (Some at) = IsAuthor (trimmed (drop at bytes))
 author_or bytes other None = other
 
--- The meaning of a comment with `;name` before the given offset, or else the meaning `other`.
+-- The meaning of the comment `bytes` with `;name` before the given offset, or else the meaning `other`.
 abbrev pub name_or : List ℕ → Meaning → Option ℕ → Meaning
 name_or bytes other (Some at) = IsName (trimmed (drop at bytes))
 name_or bytes other None = other
 
--- The meaning of a comment that does not begin with `;name`.
+-- The meaning of the comment `bytes`, which does not begin with `;name`.
 abbrev pub author_meaning : List ℕ → Meaning
 author_meaning bytes = author_or bytes (assert_or_other (text_found (semicolon ∷ codes "assert") bytes)) (text_found (semicolon ∷ codes "author") bytes)
 

@@ -16,7 +16,7 @@ word_place (line.For at) = at
 word_place (line.Equ at) = at
 word_place kind = 0
 
--- `kind` is the kind of the line, and its offset is inside the line.
+-- `kind` is the kind of the line `bytes`, and its offset is at most the length of the line.
 pub record IsKind (kind : code.LineKind) (bytes : List ℕ) : Type 0 where
   pub is : kind_of kind ≡ line_kind bytes
   pub inside : word_place kind ≤ length bytes

@@ -1,4 +1,4 @@
--- How the code reads the items of a source, one after another.
+-- How the code reads the items of a source, one after another, and what holds for the rows that it reads.
 use Rattle.std.specs.Prelude.{◌≡◌, ℕ, ◌+◌, ◌<◌, ◌≤◌, ◌^◌, List, length, get_or, Result, Ok, Err}
 use Rattle.redcode_text.specs.Results.{◌>>=◌}
 use Rattle.redcode_text.specs.declared.fault.TextFault.{TextFault}
@@ -18,7 +18,7 @@ one_loop ps head body rof st =
     rounds (flat ps body) h.counter 1 h.count h.reading >>= λ a.
     unless_ended a (λ b. at_line rof.number (rof_line rof b))
 
--- Each row is inside the source: its end fits 64 bits.
+-- The end of each row is an offset below 2^64.
 abbrev pub RowsFit : List code.SourceRow → Type 0
 RowsFit rows = (i : ℕ) (d : code.SourceRow) → i < length rows → (get_or rows i d).at + length (get_or rows i d).bytes.now < 2 ^ 64
 

@@ -8,7 +8,7 @@ use Rattle.redcode_text.specs.Source.{Items, Nothing, Pairing, paired}
 abbrev pub paired_from : List code.SourceRow → ℕ → Pairing
 paired_from rows i = paired (map row_of (drop i rows))
 
--- The items of the current body from row `i` on.
+-- The items from row `i` on, up to the end of the body in which row `i` is.
 abbrev pub here_from : List code.SourceRow → ℕ → Items
 here_from rows i = (paired_from rows i).here
 

@@ -1,4 +1,4 @@
--- The evaluation of `Climbing`, on the state of the code.
+-- The evaluation of `Climbing` on the state of the code, and an invariant of that state.
 use Rattle.std.specs.Prelude.{◌≡◌, ℕ, List, [], ◌∷◌, ◌+◌, ◌-◌, ◌<◌, ◌≤◌, length, slice_range, true, false, ℤ, Option, Result, Ok, Err, if◌then◌else◌, nat_le}
 use Rattle.redcode_text.specs.Results.{◌>>=◌}
 use Rattle.redcode_text.specs.declared.token.Token.{Token}
@@ -23,7 +23,7 @@ reduced_on k [] v = Ok (v, [])
 reduced_on k (Value u s ∷ stack) v = if nat_le (precedence s) k then (binary s u v >>= λ w. reduced_on k stack w) else Ok (v, Value u s ∷ stack)
 reduced_on k (Open from to ∷ stack) v = Ok (v, Open from to ∷ stack)
 
--- `read` has the value and the stack, or the error, that the code returned.
+-- `read` has the value that the code returned and the stack `stack`, or the error that the code returned.
 abbrev pub GivesOn : {A B : Type 0} → B → Result A ExprFault → Result (A × B) ExprFault → Type 0
 GivesOn stack (Ok v) read = read ≡ Ok (v, stack)
 GivesOn stack (Err e) read = read ≡ Err e
@@ -33,12 +33,12 @@ abbrev pub GivesState : {B : Type 0} → B → Result (Unit {0}) ExprFault → R
 GivesState after (Ok v) read = read ≡ Ok after
 GivesState after (Err e) read = read ≡ Err e
 
--- The state after the binary operator `s`, which is the token at the index `at`.
+-- The state after the binary operator `s` in the state `r`. The operator is the token at the index `at`.
 abbrev pub operated : ℕ → Sign → Progress → Result Progress ExprFault
 operated at s r = reduced_on (precedence s) r.stack r.value >>= λ x. Ok (record { stack = Value x.0 s ∷ x.1; first_sign = at + 1; value = x.0; after_operand = false })
 
--- The state after the closing parenthesis at the index `at`. `v` is the value inside the parentheses, whose waiting
--- operators have been applied.
+-- The state after the closing parenthesis at the index `at`. `v` and the given stack are left after the operators
+-- inside the parentheses were applied.
 abbrev pub popped : List Token → ℕ → ℤ → List Pending → Result Progress ExprFault
 popped ts at v (Open from to ∷ stack) = signed (kinds (slice_range ts from to)) v >>= λ w. Ok (record { stack = stack; first_sign = at + 1; value = w; after_operand = true })
 popped ts at v _ = Err Syntax
@@ -86,8 +86,8 @@ IsOrdered [] n = n ≡ 0
 IsOrdered (Value v s ∷ stack) n = (0 < precedence s) × StaysAt (precedence s) stack × IsOrdered stack n
 IsOrdered (Open from to ∷ stack) n = (0 < n) × IsOrdered stack (n - 1)
 
--- The code's state `r` before the token `n` corresponds to the state `p` of the shape. The stack has at most one entry for
--- each token read.
+-- The code's state `r` before the token at the index `n` corresponds to the state `p` of the shape. The stack has at
+-- most one entry for each token read.
 pub record Corresponds (n : ℕ) (r : Progress) (p : ShapeState) : Type 0 where
   pub ordered : IsOrdered r.stack p.opened
   pub opened : p.opened ≤ max_parens

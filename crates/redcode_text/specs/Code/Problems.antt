@@ -5,16 +5,16 @@ use Rattle.redcode_text.specs.declared.fault.TextProblem.TheVariants.{OutOfMemor
 use Rattle.redcode_text.specs.declared.fault.TextTokenProblem.{TextTokenProblem}
 use Rattle.redcode_text.specs.declared.token.Span.{Span}
 
--- The error `e`, which has the given problem, is the defined error, or memory ran out.
+-- The error `e`, which has the given problem, is the error of `defined`, or memory ran out.
 abbrev pub FailsBy : {X E : Type 0} → TextProblem → E → Result X E → Type 0
 FailsBy OutOfMemory e defined = ⊤
 FailsBy problem e defined = defined ≡ Err e
 
--- The error is the defined error, or memory ran out.
+-- The error `e` is the error of `defined`, or memory ran out.
 abbrev pub Fails : {X : Type 0} → TextTokenProblem → Result X TextTokenProblem → Type 0
 Fails e defined = FailsBy e.problem e defined
 
--- The result, mapped by `f`, is the defined result, or memory ran out.
+-- The given result, mapped by `f`, is `defined`, or memory ran out.
 abbrev pub Gives : {X Y : Type 0} → (Y → X) → Result Y TextTokenProblem → Result X TextTokenProblem → Type 0
 Gives f (Ok y) defined = defined ≡ Ok (f y)
 Gives f (Err e) defined = FailsBy e.problem e defined

@@ -25,6 +25,6 @@ reading_of r =
       ended = r.ended;
     }
 
--- The parts of a line, which the code represents by indices of its tokens.
+-- The parts of the line with the tokens `ts`, which the code represents by indices of the tokens.
 abbrev pub parts_at : List Token → parts.Parts → Parts
 parts_at ts p = record { labels = p.labels.items; label_tokens = take p.labels_end ts; operation = p.operation; operation_span = last_span None (take p.rest_at ts); rest = drop p.rest_at ts }

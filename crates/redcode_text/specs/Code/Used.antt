@@ -4,7 +4,8 @@ use Rattle.redcode_text.specs.Results.{◌>>=◌}
 use Rattle.redcode_text.specs.declared.token.Token.{Token}
 use Rattle.redcode_text.specs.Lines.{Reading, Step, line_read, operation_lines, tokens_counted}
 
--- The lines of an EQU name with the tokens `before` put before the first line and the tokens `behind` after the last.
+-- The lines of an EQU name with the tokens `before` put before the first line and the tokens `behind` after the last. A
+-- definition without lines gives one line.
 abbrev pub used : List Token → List (List Token) → List Token → List (List Token)
 used before [] behind = (before ++ behind) ∷ []
 used before (l ∷ []) behind = ((before ++ l) ++ behind) ∷ []

@@ -20,7 +20,7 @@ text (l ∷ ls) = l ++ 10 ∷ text ls
 abbrev pub predefined : Predefined
 predefined = (codes "CORESIZE", pos 8000) ∷ []
 
--- What an example shows of a token: it leaves out where the token is.
+-- What an example shows of a token: its kind, with the name itself, but not the token's position.
 pub data Shown : Type 0 where
   N : ℕ → Shown
   W : List ℕ → Shown
@@ -41,7 +41,7 @@ abbrev pub shown_operation : List (List ℕ) → Option ℕ → List ℕ
 shown_operation names None = []
 shown_operation names (Some n) = name_at names n
 
--- The lines of a program, or the line of its error and the error.
+-- The lines of a program, or the line number and the problem of an error.
 abbrev pub Listing : Type 0
 Listing = Result (List ShownLine) (ℕ × TextProblem)
 
@@ -109,7 +109,7 @@ pub row_counts :
 unfolding expansion value_of tree_within digits
 row_counts = (refl, refl, refl, refl, refl, refl, refl, refl)
 
--- EQU lines.
+-- EQU lines: names that are in use, definitions of several lines, and a definition that uses its own name.
 pub row_equates :
     (lines (codes "CORESIZE EQU 1" ∷ []) ≡ fault 1 Duplicate)
     × (lines (codes "DAT 0" ∷ codes " EQU 1" ∷ []) ≡ fault 2 BadToken)
@@ -122,7 +122,8 @@ pub row_equates :
 unfolding expansion value_of tree_within digits
 row_equates = (refl, refl, refl, refl, refl, refl, refl, refl)
 
--- The word in the line decides its kind, even if the word's token is the number of a counter.
+-- The words of a line decide its kind, even if the token of a word is the number of a counter. Only as the first word
+-- is ROF the end of a loop.
 pub row_words :
     (lines (codes "EQU FOR 1" ∷ codes "x EQU 5" ∷ codes "x" ∷ codes "ROF" ∷ []) ≡ Ok (line 3 [] [] (N 5 ∷ []) ∷ []))
     × (lines (codes "i FOR 1" ∷ codes "MOV.i 5&i, i" ∷ codes "ROF" ∷ []) ≡ Ok (line 2 [] (codes "MOV") (Mark (token.Sign Dot) ∷ N 1 ∷ N 501 ∷ comma ∷ N 1 ∷ []) ∷ []))

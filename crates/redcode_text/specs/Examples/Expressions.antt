@@ -29,7 +29,7 @@ abbrev times : ℕ → TokenKind → List TokenKind
 times zero x = []
 times (suc k) x = x ∷ times k x
 
--- Operators of one level group to the left, and tighter ones come first. Division truncates towards zero.
+-- Operators of equal precedence group to the left, and tighter ones come first. Division truncates towards zero.
 pub row_values :
     (eval (n 2 ∷ s Plus ∷ n 3 ∷ s Star ∷ n 4 ∷ s Percent ∷ n 5 ∷ []) ≡ Ok (pos 4))
     × (eval (n 10 ∷ s Minus ∷ n 3 ∷ s Minus ∷ n 2 ∷ []) ≡ Ok (pos 5))
@@ -42,7 +42,8 @@ pub row_values :
 unfolding value_of tree_within
 row_values = (refl, refl, refl, refl, refl, refl, refl, refl)
 
--- Each level next to its neighbour, and each comparison with both results.
+-- A sum with a remainder as its operand, two comparisons in a row, each comparison with both results, and a
+-- conjunction.
 pub levels_and_comparisons :
     (eval (n 7 ∷ s Plus ∷ n 3 ∷ s Percent ∷ n 2 ∷ []) ≡ Ok (pos 8))
     × (eval (n 1 ∷ s Equal ∷ n 2 ∷ s Less ∷ n 1 ∷ []) ≡ Ok (pos 1))
@@ -59,7 +60,7 @@ pub levels_and_comparisons :
 unfolding value_of tree_within
 levels_and_comparisons = (refl, refl, refl, refl, refl, refl, refl, refl, refl, refl, refl, refl)
 
--- The smallest and the largest value. Both operands are evaluated.
+-- The smallest and the largest value. Both operands of || and && are evaluated. Errors of the shape come first.
 pub values_are_checked :
     (eval (s Minus ∷ n 9223372036854775807 ∷ s Minus ∷ n 1 ∷ []) ≡ Ok (negsuc 9223372036854775807))
     × (eval (s Minus ∷ n 9223372036854775807 ∷ s Minus ∷ n 2 ∷ []) ≡ Err Range)
@@ -97,12 +98,13 @@ row_limits = (refl, refl, refl, refl, refl)
 abbrev at : ℕ → ℕ → Option Span
 at from to = Some (record { from = from; to = to })
 
--- The bytes of the token at which the expression `text` has this error. The token before it has the bytes from 90 to 91.
+-- The bytes of the token at which the expression `text` has the error `fault`. The token before it has the bytes from
+-- 90 up to, but excluding, 91.
 abbrev place : List ℕ → ExprFault → Option Span
 place text fault = elim (scanned text) [ Ok f ↦ fault_span names (at 90 91) f.tokens fault | Err e ↦ None ]
 
 -- Each error has one token: the first that does not fit, the last one if the expression ends too early, the token
--- before it if it is empty, the first name without a value, or the first token if a value is wrong.
+-- before an empty expression, the first name without a value, or the first token if a value is wrong.
 pub places_of_errors :
     (place (codes "2*3 4 5") Syntax ≡ at 4 5)
     × (place (codes "2*(3+4") Syntax ≡ at 5 6)

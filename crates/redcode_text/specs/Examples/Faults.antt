@@ -7,12 +7,12 @@ use Rattle.redcode_text.specs.Expansion.{expansion}
 use Rattle.redcode_text.specs.Tokens.{tokens}
 use Rattle.redcode_text.specs.Examples.Expansion.{predefined, text}
 
--- The bytes of the token of the error.
+-- The bytes of the token of the error in a source with the lines `ls`.
 abbrev pub token : List (List ℕ) → Option Span
 unfolding expansion
 token ls = elim (expansion predefined (text ls)) [ Ok st ↦ None | Err e ↦ e.token ]
 
--- The text of that token.
+-- The text of the token of the error in a source with the lines `ls`.
 abbrev pub word : List (List ℕ) → Option (List ℕ)
 word ls = option_map (λ span. take (span.to - span.from) (drop span.from (text ls))) (token ls)
 
@@ -52,8 +52,8 @@ pub words_in_front :
 unfolding expansion value_of tree_within digits
 words_in_front = (refl, refl, refl, refl)
 
--- An error of a count has the first token of the count, which may be in a definition; the first name that is a label;
--- or the token of the expression's error, which is the word FOR if there are no tokens.
+-- An error of a count has the first token of the count, the first name that is a label, or the token of the
+-- expression's error. The token may be in a definition. A count without tokens has the word FOR.
 pub words_of_counts :
     (token (codes "FOR -1" ∷ codes "ROF" ∷ []) ≡ at 4 5)
     × (token (codes "n EQU 5-9" ∷ codes "FOR n" ∷ codes "ROF" ∷ []) ≡ at 6 7)

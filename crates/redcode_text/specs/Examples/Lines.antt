@@ -1,4 +1,5 @@
--- Examples: EQU names and their lines, what counts as an instruction or a line, and the limits of loops and names.
+-- Examples: EQU names and their lines, END, operations, what counts as an instruction, a line or a token, positions of
+-- tokens and operations, names, and limits.
 use Rattle.std.specs.Prelude.{◌≡◌, ℕ, zero, suc, ◌+◌, List, [], ◌∷◌, ◌++◌, map, replicate, Option, None, Some, Ok, Err, codes, decimal, option_map, refl}
 use Rattle.std.specs.Fmt.{digits}
 use Rattle.redcode_text.specs.declared.fault.TextProblem.TheVariants.{BadToken, Duplicate, EquDepth, TooLong}
@@ -57,7 +58,7 @@ abbrev pub instructions_before : List (List ℕ) → List ℕ
 unfolding expansion
 instructions_before ls = elim (expansion predefined (text ls)) [ Ok st ↦ map (λ a. a.current_line) st.asserts | Err e ↦ [] ]
 
--- ORG, END and a label on a line of its own are not instructions.
+-- ORG and a label on a line of its own are not instructions. A number on a line of its own is an instruction.
 pub instructions_are_counted : instructions_before (codes "ORG 0" ∷ codes "a" ∷ codes ";assert 1" ∷ codes "NOP" ∷ codes "5" ∷ codes ";assert 1" ∷ []) ≡ 0 ∷ 2 ∷ []
 unfolding expansion value_of tree_within digits
 instructions_are_counted = refl
@@ -67,7 +68,7 @@ abbrev counted : List (List ℕ) → ℕ × ℕ
 counted ls = elim (flat predefined (tree_of (text ls)) nothing_read) [ Ok st ↦ (st.lines_read, st.tokens_read) | Err e ↦ (0, 0) ]
 
 -- EQU, FOR and ROF lines count. A line in a loop counts in each iteration. The lines of an EQU name that is used as an
--- operation count in addition to the line that uses it.
+-- operation count in addition to the line that uses the name.
 pub lines_and_tokens_are_counted : counted (codes "x EQU NOP 1" ∷ codes " EQU DAT" ∷ codes "FOR 2" ∷ codes "x" ∷ codes "ROF" ∷ []) ≡ (10, 17)
 unfolding value_of tree_within
 lines_and_tokens_are_counted = refl
@@ -96,7 +97,7 @@ pub operations_have_places : operation_spans (codes "a NOP 1" ∷ codes "b: c 5"
 unfolding expansion value_of tree_within digits
 operations_have_places = refl
 
--- The name that a source gives.
+-- The name that a source with the lines `ls` gives.
 abbrev pub named : List (List ℕ) → List ℕ
 unfolding expansion
 named ls = elim (expansion predefined (text ls)) [ Ok st ↦ st.name | Err e ↦ [] ]
@@ -120,7 +121,7 @@ pub open_loops_are_limited :
 unfolding expansion value_of tree_within digits
 open_loops_are_limited = (refl, refl, refl)
 
--- EQU lines up to number `n`: c1 is 1, and each other name is defined as the previous one.
+-- As many EQU lines as given: c1 is 1, and each other name is defined as the previous one.
 abbrev chain : ℕ → List (List ℕ)
 chain zero = []
 chain (suc zero) = codes "c1 EQU 1" ∷ []

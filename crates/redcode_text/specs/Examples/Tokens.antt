@@ -18,12 +18,12 @@ n k = Number (pos k)
 abbrev s : Sign → TokenKind
 s x = token.Sign x
 
--- The tokens and names of a text.
+-- The kinds of the tokens and the names in a result, or the problem in its error.
 abbrev said : Result Scanned TextTokenProblem → Result (List TokenKind × List (List ℕ)) TextProblem
 said (Ok r) = Ok (kinds r.tokens, r.names)
 said (Err e) = Err e.problem
 
--- The tokens and names of a text outside loops.
+-- The kinds of the tokens of the text `bs`, outside loops, and their names, or the problem in the error.
 abbrev read : List ℕ → Result (List TokenKind × List (List ℕ)) TextProblem
 read bs = said (tokens [] 1 0 100 [] bs)
 
@@ -88,7 +88,7 @@ pub row_joins :
 unfolding digits
 row_joins = (refl, refl, refl, refl, refl, refl, refl, refl, refl, refl, refl, refl)
 
--- There is a maximum number of tokens. A bad token beyond it is reported as bad.
+-- There is a maximum number of tokens. A bad token beyond the maximum is reported as bad.
 pub row_room :
     (said (tokens [] 1 0 2 [] (codes "a b")) ≡ Ok (Name 0 ∷ Name 1 ∷ [], codes "a" ∷ codes "b" ∷ []))
     × (said (tokens [] 1 0 1 [] (codes "a b")) ≡ Err TooLong)

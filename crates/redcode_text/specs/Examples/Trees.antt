@@ -18,13 +18,13 @@ two = Numeral (pos 2)
 pub levelled : IsLevelled (Binary (Binary two Minus two) Minus (Binary two Star two)) × IsLevelled (Binary (Unary Minus two) Star two)
 levelled = ((omega arith, omega arith, omega arith, (omega arith, omega arith, omega arith, tt, tt), (omega arith, omega arith, omega arith, tt, tt)), (omega arith, omega arith, omega arith, (refl, refl, tt), tt))
 
--- Without parentheses, no sum is below a product or a unary operator, and no difference is the right operand of another.
--- Nothing is missing.
+-- Without parentheses, no sum is below a product or a unary operator, and no difference is the right operand of
+-- another. * is no unary operator, and no operand is missing.
 pub not_levelled : (IsLevelled (Binary (Binary two Plus two) Star two) → ⊥) × (IsLevelled (Binary two Minus (Binary two Minus two)) → ⊥)
     × (IsLevelled (Unary Minus (Binary two Plus two)) → ⊥) × (IsLevelled (Unary Star two) → ⊥) × (IsLevelled (Binary two Plus Missing) → ⊥)
 not_levelled = (λ l. omega (arith, l.1), λ l. omega (arith, l.2), λ l. omega (arith, l.1), λ l. cc (l.0), λ l. l.4)
 
--- One more unary operator or parenthesis, at the limit and beyond.
+-- One more parenthesis or unary operator, up to the limit and beyond.
 pub limits_of_trees : IsWithin 63 0 (Parens two) × (IsWithin 64 0 (Parens two) → ⊥) × IsWithin 0 63 (Unary Minus two) × (IsWithin 0 64 (Unary Minus two) → ⊥)
 limits_of_trees = ((omega arith, tt), λ w. omega (arith, w.0), (omega arith, tt), λ w. omega (arith, w.0))
 

@@ -14,7 +14,8 @@ use std::marker::Model;
 /// An entry of the stack: it waits for the rest of the expression.
 #[derive(Clone, Copy)]
 enum Pending {
-    /// An open parenthesis, with the range of token indices of the unary operators before it.
+    /// An open parenthesis, with the indices of the unary operators before it: from the first up to, excluding, the
+    /// second.
     Open(usize, usize),
     /// A value, and the operator that waits for its right operand.
     Value(i64, Sign),
@@ -26,7 +27,7 @@ impl Default for Pending {
     }
 }
 
-/// A stack of at most `N` entries, the latest on top. All `N` entries are written when it is created.
+/// A stack of at most `N` entries, the latest on top. All `N` entries are written when the stack is created.
 #[derive(Drop)]
 struct Stack<const N: usize> {
     entries: ArrayVec<Pending, N>,
@@ -57,7 +58,7 @@ impl<const N: usize> Stack<N> {
         self.entries.push(entry);
     }
 
-    /// Pops the value on top if its operator is no looser than `reach`.
+    /// Pops the value on top if its operator is no looser than `reach`, or else pops nothing.
     fn pop_value(&mut self, reach: u8) -> Option<(i64, Sign)>
         ensures taken { IfSome result (λ top. self.old ≡ Pending.Value top.0 top.1 ∷ self.new) }
         ensures tight { IfSome result (λ top. precedence top.1 ≤ reach) }
@@ -75,7 +76,7 @@ impl<const N: usize> Stack<N> {
         Some((value, sign))
     }
 
-    /// Pops the entry on top if it is an open parenthesis.
+    /// Pops the entry on top, and returns its indices if it is an open parenthesis.
     fn pop_open(&mut self) -> Option<(usize, usize)>
         ensures taken { IfSome result (λ top. self.old ≡ Pending.Open top.0 top.1 ∷ self.new) }
         ensures none { IfNone result (IsNoOpen self.old) }
@@ -166,7 +167,7 @@ impl<const N: usize> Evaluator<N> {
         self.after_operand = false;
     }
 
-    /// Returns the value, after all tokens were taken.
+    /// Returns the value of the expression, after all tokens were taken.
     pub fn finish(&mut self) -> Result<i64, ExprFault>
         ensures { result ≡ finished self.old }
     {
@@ -241,7 +242,7 @@ impl<const N: usize> Evaluator<N> {
     }
 }
 
-/// Applies all waiting operators that are no looser than `reach`, and returns the value.
+/// Applies the operators on top of the stack, as long as they are no looser than `reach`, and returns the value.
 fn reduce_on<const N: usize>(stack: &mut Stack<N>, value: i64, reach: u8) -> Result<i64, ExprFault>
     ensures value { GivesOn stack.new result (reduced_on reach stack.old value) }
     ensures inside { (n : ℕ) → AreInside n stack.old → AreInside n stack.new }

@@ -24,7 +24,7 @@ pub fn precedence(sign: Sign) -> u8
     }
 }
 
-/// Applies a binary operator.
+/// Applies a binary operator. Any other sign is `Syntax`.
 pub fn apply_binary(sign: Sign, left: i64, right: i64) -> Result<i64, ExprFault>
     ensures { result ≡ binary sign left right }
 {
@@ -56,7 +56,7 @@ pub fn apply_binary(sign: Sign, left: i64, right: i64) -> Result<i64, ExprFault>
     }
 }
 
-/// Applies a unary operator.
+/// Applies a unary operator. Any other sign is `Syntax`.
 pub fn apply_unary(sign: Sign, value: i64) -> Result<i64, ExprFault>
     ensures { result ≡ unary sign value }
 {

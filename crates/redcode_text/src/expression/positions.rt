@@ -43,8 +43,9 @@ fn misfit_or_last(before: Option<Span>, tokens: &[Token]) -> Option<Span>
 
 /// Returns the bytes of the token at which an expression has the error that `eval` returned. Does not allocate.
 ///
-/// `Syntax` and `Depth` have the token that can't continue the expression, or the last one if it ends too early, or
-/// `before` if there is none. `Unknown` has the name, `DivideByZero` and `Range` have the first token.
+/// `Syntax` and `Depth` have the token that can't continue the expression, or the last token if the expression ends too
+/// early, or `before` if there are no tokens. `Unknown` has the first name without a value. `DivideByZero` and `Range`
+/// have the first token.
 pub fn fault_span<E: Env>(
     names: &E,
     before: Option<Span>,

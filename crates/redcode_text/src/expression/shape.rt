@@ -18,7 +18,7 @@ pub struct ShapeState {
     pub after_operand: bool,
 }
 
-/// Returns the state after one more token, or the error of that token.
+/// Returns the state after `state` and one more token, or the error of that token.
 fn step(state: ShapeState, kind: TokenKind) -> Result<ShapeState, ExprFault>
     ensures { result ≡ next_state state kind }
 {
@@ -43,7 +43,7 @@ fn step(state: ShapeState, kind: TokenKind) -> Result<ShapeState, ExprFault>
     }
 }
 
-/// Returns the state after a sign where an operand is expected.
+/// Returns the state after `state`, which expects an operand, and a sign, or the error of the sign.
 fn step_before_operand(state: ShapeState, sign: Sign) -> Result<ShapeState, ExprFault>
     ensures { result ≡ before_sign state sign }
 {
@@ -72,7 +72,7 @@ fn step_before_operand(state: ShapeState, sign: Sign) -> Result<ShapeState, Expr
     }
 }
 
-/// Returns the state after a sign where a binary operator is expected.
+/// Returns the state after `state`, which follows an operand, and a sign, or the error of the sign.
 fn step_after_operand(state: ShapeState, sign: Sign) -> Result<ShapeState, ExprFault>
     ensures { result ≡ after_sign state sign }
 {

@@ -8,13 +8,13 @@ use crate::names::NameTable;
 /// An open loop.
 #[derive(Clone, Copy)]
 pub struct OpenLoop {
-    /// The index of its counter among the names, if it has one.
+    /// The index of the loop's counter among the names, if it has one.
     pub counter: Option<usize>,
     /// The number of the iteration, from 1.
     pub round: u32,
 }
 
-/// Returns the iteration of the innermost loop whose counter has this name. At most 32 loops are open.
+/// Returns the iteration of the innermost of `loops`, innermost last and at most 32, whose counter is `name`, if any.
 pub fn find_round(names: &NameTable, loops: &[OpenLoop], name: &[u8]) -> Option<u32>
     ensures { result ≡ round_of (open_loops names.now loops.now) name.now }
 {

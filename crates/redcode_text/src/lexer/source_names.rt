@@ -39,7 +39,7 @@ impl SourceNames {
         table
     }
 
-    /// Returns the index of a name, which is added if it is new.
+    /// Returns the index of `name`, and appends the name if it is new. An error closes all loops.
     pub fn index_of(&mut self, alloc: Global, name: &[u8]) -> Result<usize, AllocError>
         requires ascii { IsAscii name.now }
         ensures index { IfOk result (λ n. n ≡ name_index self.old.table name.now) }
@@ -62,7 +62,7 @@ impl SourceNames {
         self.loops.len()
     }
 
-    /// Opens a loop, which becomes the innermost one.
+    /// Opens a loop in the iteration `round`. It becomes the innermost loop.
     pub fn open_loop(&mut self, counter: Option<usize>, round: u32) -> Result<(), AllocError>
         requires there { IsThere self.old.table counter }
         ensures loops { OnOk result (loops_of self.new
@@ -73,7 +73,7 @@ impl SourceNames {
         Ok(())
     }
 
-    /// Closes the innermost loop, and returns its counter.
+    /// Closes the innermost loop, if a loop is open, and returns its counter, if it has one.
     pub fn close_loop(&mut self) -> Option<usize>
         ensures counter { option_map (name_at self.new.table) result ≡ innermost_counter (loops_of self.old) }
         ensures there { IsThere self.new.table result }
@@ -86,7 +86,7 @@ impl SourceNames {
         }
     }
 
-    /// Returns the iteration of the innermost loop whose counter has this name.
+    /// Returns the iteration of the innermost loop whose counter is `name`, if there is one.
     pub fn round_of(&self, name: &[u8]) -> Option<u32>
         ensures { result ≡ round_of (loops_of self.now) name.now }
     {

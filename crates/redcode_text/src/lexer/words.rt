@@ -29,7 +29,7 @@ fn number_of(digits: &[u8]) -> Option<u64>
     Some(number)
 }
 
-/// Returns the token of a number.
+/// Returns the kind of the token of a number, which must be below 2^63.
 fn number_kind(digits: &[u8]) -> Result<TokenKind, TextProblem>
     requires { list_all is_ascii_digit digits.now ≡ true }
     ensures { result ≡ number_kind (digits_value 10 digits.now) }
@@ -40,7 +40,7 @@ fn number_kind(digits: &[u8]) -> Result<TokenKind, TextProblem>
     }
 }
 
-/// Returns the token of a word that isn't a counter.
+/// Returns the token of `word`, which isn't a counter. The word has `len` bytes in the source.
 fn plain_word(
     alloc: Global,
     names: &mut SourceNames,
@@ -89,7 +89,7 @@ fn joined_word(
     }
 }
 
-/// Appends the digits of an iteration's number to a word.
+/// Appends the digits of the iteration number `round`, at least two, to a word.
 fn push_round(word: &mut Vec<u8>, round: u32) -> Result<(), AllocError>
     ensures digits { OnOk result (word.new.items ≡ word.old.items ++ round_digits round) }
     ensures ascii { IsAscii word.old.items → OnOk result (IsAscii word.new.items) }
@@ -102,7 +102,7 @@ fn push_round(word: &mut Vec<u8>, round: u32) -> Result<(), AllocError>
     Ok(())
 }
 
-/// Replaces each join of a word by the digits of its counter.
+/// Returns a word with each join replaced by the digits of the counter's iteration.
 fn join_word(alloc: Global, names: &SourceNames, word: &[u8]) -> Result<Vec<u8>, TextProblem>
     requires { IsAscii word.now }
     ensures value { GivesBare (λ w. w.items) result (joined (loops_of names.now) word.now) }

@@ -20,7 +20,7 @@ pub struct PredefinedNames {
     pub rounds: i64,
     /// WARRIORS, the number of warriors.
     pub warriors: i64,
-    /// VERSION.
+    /// VERSION, a version number.
     pub version: i64,
 }
 
@@ -31,7 +31,7 @@ struct NamedValue<'a> {
     value: i64,
 }
 
-/// Returns the value of a name among `values`.
+/// Returns the value of `name` among `values`, if it is there.
 fn value_among(values: &[NamedValue<'_>], name: &[u8]) -> Option<i64>
     ensures { result ≡ predefined_value (map (λ v. (v.name.now, v.value)) values.now) name.now }
 {
@@ -68,14 +68,14 @@ impl PredefinedNames {
         ]
     }
 
-    /// Returns the value of a predefined name, except for CURLINE.
+    /// Returns the value of `name`, if it is a predefined name other than CURLINE.
     fn value(&self, name: &[u8]) -> Option<i64>
         ensures { result ≡ predefined_value (predefined_of self.now) name.now }
     {
         value_among(&self.table(), name)
     }
 
-    /// Returns the value of a predefined name. `current_line` is the value of CURLINE.
+    /// Returns the value of `name`, if it is a predefined name. `current_line` is the value of CURLINE.
     pub fn value_at(&self, current_line: u32, name: &[u8]) -> Option<i64>
         ensures { result ≡ predefined_value (with_current_line (predefined_of self.now) current_line) name.now }
     {

@@ -50,7 +50,7 @@ impl NameSet {
         self.names.contains(&name)
     }
 
-    /// Inserts a name.
+    /// Inserts a name, which may be in the set already.
     pub fn insert(&mut self, name: usize) -> Result<(), AllocError>
         ensures { OnOk result (HasSame self.new (self.old ++ name ∷ [])) }
     {

@@ -31,7 +31,7 @@ impl Reading {
         }
     }
 
-    /// Sets the name from the text of `;name` without whitespace at both ends.
+    /// Sets the name from the text of `;name` without whitespace at both ends, unless the text is empty.
     fn take_name(&mut self, alloc: Global, text: &[u8]) -> Result<(), TextTokenProblem>
         ensures value { Gives (λ _. reading_of self.new) result (Ok (with_name_text text.now (reading_of self.old))) }
     {
@@ -42,7 +42,7 @@ impl Reading {
         Ok(())
     }
 
-    /// Sets the author from the text of `;author` without whitespace at both ends.
+    /// Sets the author from the text of `;author` without whitespace at both ends, unless the text is empty.
     fn take_author(&mut self, alloc: Global, text: &[u8]) -> Result<(), TextTokenProblem>
         ensures value { Gives (λ _. reading_of self.new) result (Ok (with_author_text text.now (reading_of self.old))) }
     {
@@ -53,7 +53,7 @@ impl Reading {
         Ok(())
     }
 
-    /// Reads the expression of an assert, which starts at an offset of a row.
+    /// Reads the expression of an assert, which starts at the offset `at` of a row.
     fn read_assert(
         &mut self,
         alloc: Global,

@@ -1,4 +1,4 @@
-//! Ordinary lines: their labels, operation and other tokens, and the lines of EQU names that replace them.
+//! Ordinary lines: their labels, operation and other tokens, and the lines that replace an EQU name.
 ghost use Rattle.std.specs.Prelude.{◌≡◌, ◌≤◌, drop, length, take, IfOk, ◌<◌, ◌+◌, [], ◌∷◌, ◌++◌, map, option_map, vec_len, Ok, OnErr, OnOk};
 ghost use Rattle.redcode_text.specs.Views.{predefined_of};
 ghost use Rattle.redcode_text.specs.Code.Readings.{parts_at, reading_of};
@@ -48,7 +48,7 @@ impl Reading {
         !(self.is_label(name) || self.is_predefined(names, name) || labels.contains(name))
     }
 
-    /// Splits a line into its parts, and inserts its labels into the given empty set.
+    /// Splits a line into its parts, and inserts its labels into the empty set `known`.
     fn parts_with(
         &self,
         alloc: Global,
@@ -146,7 +146,7 @@ impl Reading {
     }
 }
 
-/// An operation that is an EQU name, with the tokens before and after it.
+/// An operation that is an EQU name, with the tokens of the labels before it and the tokens after it.
 #[derive(Clone, Copy)]
 struct Operation<'a> {
     name: Option<usize>,
@@ -154,7 +154,7 @@ struct Operation<'a> {
     behind: &'a [Token],
 }
 
-/// Copies tokens and gives them a line number, so that an error in a token that comes from EQU has the line of the use.
+/// Copies tokens and gives them the line number `number`, so that an error in a token from EQU has the line of the use.
 fn on_line(alloc: Global, number: usize, tokens: &[Token]) -> Result<Vec<Token>, TextTokenProblem>
     ensures { Gives (λ made. made.items) result (Ok (on_line number tokens.now)) }
 {
@@ -171,7 +171,7 @@ fn on_line(alloc: Global, number: usize, tokens: &[Token]) -> Result<Vec<Token>,
 }
 
 impl Reading {
-    /// Returns the lines of the definition of an operation that is an EQU name.
+    /// Returns the lines of the definition of an operation, if it is an EQU name.
     fn operation_lines(&self, operation: Option<usize>) -> Option<&[Vec<Token>]>
         ensures { option_map (λ lines. map (λ line. line.items) lines.now) result ≡ operation_lines (reading_of self.now) operation }
     {
@@ -181,7 +181,7 @@ impl Reading {
         }
     }
 
-    /// Returns the lines of the definition of an operation that is an EQU name, or no lines if it isn't.
+    /// Returns the lines of the definition of an operation, or no lines if it isn't an EQU name.
     fn lines_under(&self, operation: Option<usize>) -> &[Vec<Token>]
         ensures { map (λ line. line.items) result.now ≡ lines_under (reading_of self.now) operation }
     {
@@ -220,9 +220,9 @@ impl Reading {
         })
     }
 
-    /// Reads the tokens of an ordinary line with this number.
+    /// Reads the tokens of an ordinary line with the line number `number`.
     ///
-    /// If its operation is an EQU name, the lines of that name replace it; these may nest `depth` deep.
+    /// If its operation is an EQU name, the lines of the definition replace the name; EQU names may nest `depth` deep.
     #[cycle(ordinary)]
     pub fn read_ordinary(
         &mut self,
@@ -257,7 +257,7 @@ impl Reading {
         self.read_used(alloc, names, number, depth - 1, operation)
     }
 
-    /// Reads a line that comes from EQU as an ordinary line.
+    /// Counts a line that comes from EQU and its tokens, and reads them as an ordinary line.
     #[cycle(ordinary)]
     fn read_line(
         &mut self,

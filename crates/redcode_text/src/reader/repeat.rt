@@ -43,7 +43,7 @@ impl Reading {
     }
 }
 
-/// Reads the row at an index, which is neither FOR nor ROF, and returns the next index.
+/// Reads the row at the index `at`, which is neither FOR nor ROF, and returns the next index.
 fn read_row(
     alloc: Global,
     names: &PredefinedNames,
@@ -64,7 +64,7 @@ fn read_row(
     }
 }
 
-/// Reads a FOR row.
+/// Reads a FOR row, whose word FOR is at the offset `word_at` of the row.
 fn read_for_row(
     alloc: Global,
     names: &PredefinedNames,
@@ -87,7 +87,7 @@ fn read_for_row(
     }
 }
 
-/// Reads a ROF row.
+/// Reads a ROF row, whose tokens have no meaning.
 fn read_rof_row(alloc: Global, row: SourceRow<'_>, reading: &mut Reading) -> Result<(), TextFault>
     requires fits { row.at + length row.bytes.now < 2 ^ 64 }
     ensures loops { OnOk result (loops_of reading.new.names ≡ loops_of reading.old.names) }
@@ -116,12 +116,11 @@ fn refuse_unpaired(
     }
 }
 
-/// The rows of a source, and the end of the loop of each FOR.
+/// The rows of a source, and where the items after each row end.
 #[derive(Clone, Copy)]
 struct PairedRows<'a> {
     rows: &'a [SourceRow<'a>],
-    /// For each row, the index of the row that ends the items after it: their ROF, or the number of rows if none ends
-    /// them.
+    /// For each row, the index of the ROF that ends the items after the row, or the number of rows if none ends them.
     ends: &'a [usize],
     ghost same_length: { length ends.now ≡ length rows.now },
     ghost fit: { RowsFit rows.now },
@@ -163,7 +162,7 @@ fn read_items(
     Ok(())
 }
 
-/// Reads the loop whose FOR is at an index, and returns the index of the row after its ROF.
+/// Reads the loop of the FOR at the index `at`, with its word FOR at `word_at`, and returns the index after its ROF.
 #[cycle(items)]
 fn read_loop(
     alloc: Global,
@@ -192,7 +191,7 @@ fn read_loop(
     Ok(last + 1)
 }
 
-/// Reads the items from `first` on as many times as the header of their loop says, up to END.
+/// Reads the items from `first` on as many times as `head`, the header of their loop, says, up to END.
 #[cycle(items)]
 fn read_rounds(
     alloc: Global,
@@ -229,7 +228,7 @@ fn read_rounds(
     Ok(())
 }
 
-/// Reads all rows, up to END.
+/// Reads all rows, up to END or to the error of a ROF without a FOR.
 pub fn read_all(
     alloc: Global,
     names: &PredefinedNames,

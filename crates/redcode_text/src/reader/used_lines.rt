@@ -16,15 +16,16 @@ fn joined(alloc: Global, front: &[Token], back: &[Token]) -> Result<Vec<Token>, 
     Ok(made)
 }
 
-/// Returns the tokens that precede the line at an index in an EQU definition: `before` for the first line, none for the
-/// others.
+/// Returns the tokens that precede the line at the index `at` of an EQU definition: `before` for the first line, and
+/// none for the others.
 fn before_line(before: &[Token], at: usize) -> &[Token]
     ensures { result.now ≡ before_line before.now at }
 {
     if at == 0 { before } else { &[] }
 }
 
-/// Returns the last of the lines that replace an EQU name.
+/// Returns the last of the lines that replace an EQU name. `lines` has the last line of the definition, if there is
+/// one.
 fn last_line(
     alloc: Global,
     before: &[Token],
@@ -43,8 +44,8 @@ fn last_line(
     }
 }
 
-/// Returns one of the lines that replace an EQU name. Labels precede the first line, and the tokens after the name follow
-/// the last line.
+/// Returns the line at the index `at` of the lines that replace an EQU name, whose definition is `lines`. `before`
+/// precedes the first line, and `behind` follows the last line.
 pub fn used_line(
     alloc: Global,
     before: &[Token],

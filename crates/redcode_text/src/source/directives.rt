@@ -13,7 +13,7 @@ use crate::fault::{TextProblem, TextTokenProblem};
 use crate::limits::MAX_NAME;
 use std::alloc::Global;
 
-/// Returns whether a line begins, after whitespace, with `directive`, in either case.
+/// Returns whether a line begins, after whitespace, with `directive`, in either case. `directive` is in lower case.
 pub fn has_directive(directive: &[u8], bytes: &[u8]) -> bool
     requires { str_to_ascii_lowercase directive.now ≡ directive.now }
     ensures value { result ≡ starts_with nat_eq (str_to_ascii_lowercase (without_blanks bytes.now)) directive.now }
@@ -26,8 +26,8 @@ pub fn has_directive(directive: &[u8], bytes: &[u8]) -> bool
     is_word(directive, &text[..directive.len()])
 }
 
-/// Returns the offset of a directive's text, if the line is that directive: whitespace or the end of the line follows its
-/// word.
+/// Returns the offset after `directive`, if the line begins, after whitespace, with `directive` as a whole word, in
+/// either case. `directive` is in lower case and includes the `;`.
 fn directive_text_at(directive: &[u8], bytes: &[u8]) -> Option<usize>
     requires { str_to_ascii_lowercase directive.now ≡ directive.now }
     ensures value { result ≡ text_found directive.now bytes.now }
@@ -70,7 +70,7 @@ fn trimmed_len(text: &[u8]) -> usize
     0
 }
 
-/// Returns bytes as a string for a name, with `?` for those that aren't printable.
+/// Returns bytes as a string for a name, with `?` for bytes that aren't printable.
 fn printed(alloc: Global, bytes: &[u8]) -> Result<String, TextTokenProblem>
     ensures { Gives (λ text. string_bytes text) result (Ok (map printable bytes.now)) }
 {
@@ -89,8 +89,8 @@ fn trimmed(text: &[u8]) -> &[u8]
     &front[..trimmed_len(front)]
 }
 
-/// Returns the value of `;name` or `;author`: the printable form of at most 60 bytes of `trimmed`, which has no
-/// whitespace at both ends.
+/// Returns the value of `;name` or `;author`: the printable form of the first 60 bytes, or fewer, of `trimmed`, which
+/// has whitespace at neither end.
 pub fn directive_value(alloc: Global, trimmed: &[u8]) -> Result<String, TextTokenProblem>
     ensures value { Gives (λ value. string_bytes value) result (Ok (printed_value trimmed.now)) }
     ensures printed { IfOk result (λ value. IsPrinted (string_bytes value)) }

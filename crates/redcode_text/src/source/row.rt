@@ -18,7 +18,7 @@ pub enum LineKind {
     Other,
 }
 
-/// Returns the offset of the first byte from `at` on that isn't whitespace.
+/// Returns the offset after the whitespace, if there is any, at the offset `at`.
 fn past_blanks(bytes: &[u8], at: usize) -> usize
     requires { at ≤ length bytes.now }
     ensures value { result ≡ past_blanks bytes.now at }
@@ -53,7 +53,7 @@ fn first_word_at(bytes: &[u8]) -> usize
     past_blanks(bytes, 0)
 }
 
-/// Returns the offset of the second word. A colon may separate it from the first one.
+/// Returns the offset of the second word of a line. A colon may separate it from the first word.
 fn second_word_at(bytes: &[u8]) -> usize
     ensures value { result ≡ second_word_at bytes.now }
     ensures within { result ≤ length bytes.now }
@@ -62,7 +62,7 @@ fn second_word_at(bytes: &[u8]) -> usize
     past_blanks(bytes, past_colon(bytes, behind))
 }
 
-/// Returns whether the word at an offset is `word`, in either case.
+/// Returns whether the word at the offset `at` is `word`, in either case.
 fn has_word(word: &[u8], bytes: &[u8], at: usize) -> bool
     requires { at ≤ length bytes.now }
     ensures { result ≡ has_word word.now bytes.now at }
@@ -104,7 +104,7 @@ fn line_kind(bytes: &[u8]) -> LineKind
     }
 }
 
-/// Returns the number of bytes before a comment.
+/// Returns the number of bytes before the first `;`, or of all bytes if there is none.
 fn code_len(bytes: &[u8]) -> usize
     ensures value { result ≡ prefix_len (λ b. not (b == semicolon)) bytes.now }
     ensures within { result ≤ length bytes.now }
@@ -112,7 +112,7 @@ fn code_len(bytes: &[u8]) -> usize
     bytes.iter().take_while(|byte| **byte != b';').count()
 }
 
-/// Returns the bytes before a comment.
+/// Returns the bytes before the first `;`, or all bytes if there is none.
 pub fn before_comment(bytes: &[u8]) -> &[u8]
     ensures value { result.now ≡ before_comment bytes.now }
     ensures within { length result.now ≤ length bytes.now }
@@ -125,10 +125,10 @@ pub fn before_comment(bytes: &[u8]) -> &[u8]
 pub struct SourceRow<'a> {
     /// The line number, from 1.
     pub number: usize,
-    /// The offset of its first byte in the source.
+    /// The offset of the line's first byte in the source.
     pub at: usize,
     pub bytes: &'a [u8],
-    /// Stored, because a line of a loop is read again in each iteration.
+    /// The kind, stored because a line of a loop is read again in each iteration.
     kind: LineKind,
     ghost kind_is: { IsKind kind bytes.now },
 }
@@ -148,7 +148,7 @@ impl<'a> SourceRow<'a> {
         }
     }
 
-    /// Returns whether the line has nothing but a comment.
+    /// Returns whether the line has only a comment.
     pub fn is_comment(&self) -> bool
         ensures { result ≡ is_comment self.now.bytes.now }
     {
@@ -158,7 +158,7 @@ impl<'a> SourceRow<'a> {
         }
     }
 
-    /// Returns the bytes of the word at an offset of the line.
+    /// Returns the bytes of the word at the offset `at` of the line.
     fn word_span(&self, at: usize) -> Option<Span>
         requires within { at ≤ length self.now.bytes.now }
         requires fits { self.now.at + length self.now.bytes.now < 2 ^ 64 }
@@ -170,7 +170,7 @@ impl<'a> SourceRow<'a> {
         })
     }
 
-    /// Returns the bytes of the word FOR of a FOR line, or of the first word of any other line: the word ROF of a ROF line.
+    /// Returns the bytes of the word FOR of a FOR line, or else of the line's first word, which is ROF in a ROF line.
     pub fn loop_word(&self) -> Option<Span>
         requires { self.now.at + length self.now.bytes.now < 2 ^ 64 }
         ensures { result ≡ loop_word (row_of self.now) }

@@ -61,8 +61,8 @@ fn as_count(value: Result<i64, ExprFault>) -> Result<u32, TextProblem>
     }
 }
 
-/// Returns the bytes of the token at which a count has this error: the token at which its expression has the error, or
-/// its first token if its value is no count. A count without tokens has its error at the token `before`.
+/// Returns the bytes of the token at which a count has the error `problem`: the token at which its expression has the
+/// error, or its first token if its value is no count. A count without tokens has its error at the token `before`.
 fn count_span<E: Env>(
     names: &E,
     before: Option<Span>,
@@ -77,7 +77,7 @@ fn count_span<E: Env>(
     }
 }
 
-/// Returns the value of a count.
+/// Returns the value of a count whose EQU names are replaced. `before` has the bytes of the token before the count.
 fn counted<E: Env>(
     names: &E,
     before: Option<Span>,
@@ -142,7 +142,8 @@ impl Reading {
         }
     }
 
-    /// Returns the number of iterations, from the tokens of the count, which follow the word FOR, the token `before`.
+    /// Returns the number of iterations, from the tokens of the count, which follow the word FOR with the bytes
+    /// `before`.
     #[tactic(auto, using(crate::proofs::Failing::fails_bare))]
     fn count_of(
         &self,
@@ -162,7 +163,7 @@ impl Reading {
 }
 
 impl Reading {
-    /// Reads a FOR line, whose word FOR is at an offset of the line.
+    /// Reads a FOR line, whose word FOR is at the offset `word_at` of the line.
     pub fn read_head(
         &mut self,
         alloc: Global,
