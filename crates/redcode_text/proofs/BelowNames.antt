@@ -23,7 +23,7 @@ use Rattle.redcode_text.specs.Tokens.{Found, OpenLoop, Scanned, at_token, proble
 use Rattle.redcode_text.proofs.Named.{IsBelow}
 use Rattle.redcode_text.proofs.NamesMore.{with-front, with-inside}
 
--- A property of a result's value, if there is a value.
+-- The value of a result, if there is a value, has the property `P`.
 abbrev pub Holds : {A E : Type 0} → (A → Type 0) → Result A E → Type 0
 Holds P (Ok a) = P a
 Holds P (Err e) = ⊤

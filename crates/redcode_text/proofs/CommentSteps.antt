@@ -20,7 +20,7 @@ no_name row st =
       | false ↦ no_author row st
     ]
 
--- The line is a directive whose text starts at `at`.
+-- The line `bytes` is the directive `word`, whose text starts at the offset `at`.
 abbrev begins : List ℕ → List ℕ → ℕ → Bool
 begins word bytes at = starts_with nat_eq (str_to_ascii_lowercase (without_blanks bytes)) (59 ∷ word) && ends_word (drop at bytes)
 

@@ -10,7 +10,7 @@ use Rattle.redcode_text.specs.Expression.{kinds, value_of}
 use Rattle.redcode_text.specs.Lines.{Predefined, Reading}
 use Rattle.redcode_text.specs.Tokens.{problem_at}
 
--- The number of iterations for these values of names.
+-- The number of iterations for the count `us`, if the names have the values `names`.
 abbrev pub valued : Option Span → List Token → (ℕ → Option ℤ) → Result ℕ TextTokenProblem
 valued before us names = counted (count_span names before us) (as_count (value_of names (kinds us)))
 

@@ -25,7 +25,7 @@ module _ {T : Type 0} (f : T → List (List Token)) where
   inserted true k v e es more none rest = cc
   inserted false k v e es more none rest = ap (λ l. record { name = e.0; lines = f e.1 } ∷ l) (rest none)
 
-  -- A new name is appended.
+  -- Inserting a new EQU name with a line appends the name and the line.
   pub insert-equate : (k : ℕ) (v : T) (es : List (ℕ × T)) → equate_lines (equates es) k ≡ None → equates (insert_entry nat_eq es k v) ≡ equates es ++ record { name = k; lines = f v } ∷ []
   insert-equate k v [] none = refl
   insert-equate k v (e ∷ es) none = inserted (nat_eq k e.0) k v e es (insert_entry nat_eq es k v) none (insert-equate k v es)

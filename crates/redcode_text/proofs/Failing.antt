@@ -10,7 +10,7 @@ use Rattle.redcode_text.specs.Outcomes.{FailsAt}
 use Rattle.redcode_text.specs.Code.Problems.{Fails, FailsBare, FailsBy, fault_line, fault_token}
 use Rattle.redcode_text.specs.Tokens.{at_line, at_token, problem_at, without_line}
 
--- If `f` turns the error `e` into the error `to`, it turns a result that fails with `e` into one that fails with `to`.
+-- If `f` turns the error `e` into the error `to`, and a result fails with `e`, then `f` of the result fails with `to`.
 passed-on : {A B E F : Type 0} (p : TextProblem) (e : E) (to : F) (r : Result A E) (f : Result A E → Result B F) → f (Err e) ≡ Err to → FailsBy p e r → FailsBy p to (f r)
 passed-on NotAscii e to r f is h = ap f h ∙ is
 passed-on BadToken e to r f is h = ap f h ∙ is
@@ -27,7 +27,7 @@ passed-on OutOfMemory e to r f is h = tt
 pub fails-bind : {A B : Type 0} (e : TextTokenProblem) (r : Result A TextTokenProblem) (f : A → Result B TextTokenProblem) → Fails e r → Fails e (r >>= f)
 fails-bind e r f h = passed-on e.problem e e r (λ r. r >>= f) refl h
 
--- An error gets the bytes of its token.
+-- An error with the bytes of its token is the defined error, with the bytes added.
 pub fails-token : {A : Type 0} (span : Option Span) (p : TextProblem) (r : Result A TextProblem) → FailsBare p r → Fails (problem_at span p) (at_token span r)
 fails-token span p r h = passed-on p p (problem_at span p) r (at_token span) refl h
 

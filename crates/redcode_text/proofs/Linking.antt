@@ -34,7 +34,7 @@ reduced-seen ts k (Value u s ∷ stack) v = go (leb (precedence s) k) (λ w. red
     go true ih = (λ i. binary s u v >>= λ w. ih w i) ∙ sym (assoc (binary s u v) (λ w. reduced_on k stack w) (λ p. Ok (p.0, waiting_all ts p.1)))
     go false ih = refl
 
--- A state without unary operators, after the token `n`.
+-- A state without unary operators before the token at the index `n`.
 fresh : (ts : List Token) (n : ℕ) (stack : List Pending) (v : ℤ) (after : Bool) → record { stack = waiting_all ts stack; signs = []; value = v; after = after } ≡ seen ts n (record { stack = stack; first_sign = n; value = v; after_operand = after })
 fresh ts n stack v after = ap (λ l. record { stack = waiting_all ts stack; signs = l; value = v; after = after }) (sym (none-between ts n))
 
@@ -64,7 +64,7 @@ after-seen ts n s r =
     after-by ts n (precedence s) s r (λ v stack. Ok (record { stack = Value v s ∷ stack; first_sign = n + 1; value = v; after_operand = false }))
     (λ v stack. ap (λ y. Ok y) (fresh ts (n + 1) (Value v s ∷ stack) v false))
 
--- The unary operators up to the next token are the ones before it, and that token.
+-- The kinds of the tokens from `a` up to and including `n` are the kinds before `n`, followed by the kind at `n`.
 signs-more : (ts : List Token) (a n : ℕ) (d : Token) → a ≤ n → n < length ts → kinds (slice_range ts a (n + 1)) ≡ kinds (slice_range ts a n) ++ (get_or ts n d).kind ∷ []
 signs-more ts a n d le lt =
     let count : n + 1 - a ≡ suc (n - a) = omega arith in
@@ -74,7 +74,7 @@ signs-more ts a n d le lt =
     ∙ map-append (λ t. t.kind) (take (n - a) (drop a ts)) (get_or (drop a ts) (n - a) d ∷ [])
     ∙ ap (λ t. kinds (take (n - a) (drop a ts)) ++ t.kind ∷ []) (get_or-drop a ts (n - a) d ∙ ap (λ k. get_or ts k d) there)
 
--- A unary operator is added to the ones directly before it.
+-- A unary operator is added to the unary operators directly before it.
 sign-seen : (ts : List Token) (n : ℕ) (s : Sign) (r : Progress) (d : Token) → r.first_sign ≤ n → n < length ts → (get_or ts n d).kind ≡ token.Sign s → r.after_operand ≡ false → ok (record { stack = waiting_all ts r.stack; signs = kinds (slice_range ts r.first_sign n) ++ token.Sign s ∷ []; value = r.value; after = false }) ≡ ok (seen ts (n + 1) r)
 sign-seen ts n s r d le lt is f =
     (λ i. ok (record { stack = waiting_all ts r.stack; signs = sym (signs-more ts r.first_sign n d le lt ∙ ap (λ k. kinds (slice_range ts r.first_sign n) ++ k ∷ []) is) i; value = r.value; after = sym f i }))

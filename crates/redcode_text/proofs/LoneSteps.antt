@@ -56,7 +56,7 @@ pub lone-ended : (ps : Predefined) (items : Items) (waiting : List (SourceRow ×
 lone-ended ps items [] st a e h ended = h
 lone-ended ps items (rof ∷ waiting) st a e h ended = flat-lone ps rof.0 items st e ∙ ap (λ r. r >>= λ a. unless_ended a (lone rof.0)) h ∙ stops a (lone rof.0) ended
 
--- If the items of all rows end at a ROF, reading them ends with its error.
+-- If the items of all rows end at a ROF, reading the rows ends with the error of the ROF.
 pub lone-at : (ps : Predefined) (rows : List code.SourceRow) (j : ℕ) (s : code.SourceRow) (st a : Reading) → st.ended ≡ false → flat ps (here_from rows 0) st ≡ Ok a → a.ended ≡ false → EndsAt rows 0 j → j < length rows → s ≡ get_or rows j s
     → flat ps (tree_of_rows (map row_of rows)) st ≡ at_line (row_of s).number (unpaired_line RofAlone (row_of s) a)
 lone-at ps rows j s st a e h going ends inside si =

@@ -13,7 +13,7 @@ use Rattle.redcode_text.specs.Code.Labels.{AreLabels, HasSame, has}
 same-either : (n m : ℕ) → (n == m) ≡ (m == n)
 same-either n m = grind arith
 
--- The test of the set is the defined one.
+-- Looking up a name in the set is the defined test `has`.
 pub found : (n : ℕ) (names : List ℕ) → list_any (nat_eq n) names ≡ has names n
 found n [] = refl
 found n (m ∷ names) = (λ i. same-either n m i || found n names i)

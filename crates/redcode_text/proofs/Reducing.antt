@@ -14,6 +14,6 @@ inside-pop n u s old new e h = let P : List Pending → Type 0 = AreInside n in 
 pub none-between : (ts : List Token) (n : ℕ) → kinds (slice_range ts n n) ≡ []
 none-between ts n = ap (λ k. kinds (take k (drop n ts))) (let e : n - n ≡ 0 = omega arith in e)
 
--- The unary operators before the latest parenthesis are inside.
+-- The unary operators before the open parenthesis on top of the stack are among the first `n` tokens.
 pub inside-open : (n a b : ℕ) (old new : List Pending) → old ≡ Open a b ∷ new → AreInside n old → (a ≤ b) × (b ≤ n)
 inside-open n a b old new e h = let P : List Pending → Type 0 = AreInside n in let k = subst P e h in (k.0, k.1)

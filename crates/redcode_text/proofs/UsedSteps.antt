@@ -18,7 +18,7 @@ used-is before [] behind = refl
 used-is before (l ∷ []) behind = refl
 used-is before (l ∷ m ∷ ls) behind = ap (λ r. (before ++ l) ∷ r) (behind-used m ls behind)
 
--- There is at least one line.
+-- At least one line replaces an EQU name.
 pub used-length : (before : List Token) (lines : List (List Token)) (behind : List Token) → length (used before lines behind) ≡ length lines - 1 + 1
 used-length before [] behind = refl
 used-length before (l ∷ []) behind = refl
@@ -29,7 +29,7 @@ nothing-before zero = refl
 nothing-before (suc at) = refl
 
 module _ {T : Type 0} (f : T → List Token) where
-  -- A line before the last.
+  -- How a line before the last is built.
   pub used-before-last : (before : List Token) (lines : List T) (behind : List Token) (at : ℕ) (d : List Token) (x : T) → at + 1 < length lines → x ≡ get_or lines at x
       → before_line before at ++ f x ≡ get_or (used before (map f lines) behind) at d
   used-before-last before [] behind at d x h is = absurd (omega (arith, h))
@@ -38,7 +38,7 @@ module _ {T : Type 0} (f : T → List Token) where
   used-before-last before (l ∷ m ∷ ls) behind (suc at) d x h is =
       ap (λ b. b ++ f x) (sym (nothing-before at)) ∙ used-before-last [] (m ∷ ls) behind at d x (omega (arith, h)) is
 
-  -- The last line.
+  -- How the last line is built.
   pub used-last : (before : List Token) (lines : List T) (behind : List Token) (at : ℕ) (d : List Token) → at ≡ length lines - 1
       → get_or (used (before_line before at) (map f (drop at lines)) behind) 0 d ≡ get_or (used before (map f lines) behind) at d
   used-last before [] behind zero d h = refl

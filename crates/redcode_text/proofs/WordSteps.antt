@@ -12,7 +12,7 @@ pub word_len-none : (bs : List ℕ) → begins_word bs ≡ false → word_len bs
 word_len-none [] e = refl
 word_len-none (b ∷ bs) e = ap (λ (t : Bool). elim t as (λ _. ℕ) [ true ↦ word_len bs + 1 | false ↦ 0 ]) e
 
--- The length of the word at the offset `n` is one more than at the next offset.
+-- If a word begins at the offset `n`, its length is one more than the length of the word at the next offset.
 pub word_len-drop : (bs : List ℕ) (n : ℕ) → begins_word (drop n bs) ≡ true → (n < length bs) × (word_len (drop n bs) ≡ word_len (drop (n + 1) bs) + 1)
 word_len-drop bs n e =
     let m = word_len-more (drop n bs) e in

@@ -42,7 +42,7 @@ pub any-rows : (number at : ℕ) (lines : List (List ℕ)) → list_any begins_r
 any-rows number at [] = refl
 any-rows number at (l ∷ lines) = ap (λ b. has_directive (codes "redcode") l || b) (any-rows (number + 1) (at + length l + 1) lines)
 
--- The rows of more lines are the rows of the first lines, followed by others, which include a `;redcode` exactly if
+-- The rows of more lines are the rows of the first lines, followed by other rows, which include a `;redcode` exactly if
 -- the added lines do.
 rows-append : (number at : ℕ) (before after : List (List ℕ)) →
     (rest : List SourceRow) × (rows_from number at (before ++ after) ≡ rows_from number at before ++ rest) × (list_any begins_redcode rest ≡ list_any (has_directive (codes "redcode")) after)

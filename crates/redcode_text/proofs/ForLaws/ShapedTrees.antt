@@ -1,6 +1,6 @@
--- Tokens with a valid shape spell a tree, and the error of a shape is that of the first misplaced token. Each state of
--- the shape can be continued to an end (`begun`). So the tokens before the first error can be continued to an
--- expression, and with the token that has the error they can't.
+-- Tokens with a valid shape spell a tree, and the error of a shape is the error of the first misplaced token. Each
+-- state of the shape can be continued to an end (`begun`). So the tokens before the first error can be continued to an
+-- expression, but not together with the token that has the error.
 use Rattle.std.proofs.Common.{◌≡◌, ◌∙◌, refl, ap, sym, subst, ℕ, zero, suc, ◌+◌, ◌-◌, ◌<◌, pos, List, [], ◌∷◌, ◌++◌, length, append-nil, append_assoc, add-one, Bool, true, false, ◌&&◌, ◌==◌, cond, eqb, leb, ◌⊎◌, inl, inr, ⊎_elim, Result, Ok, Err, arith}
 use Rattle.std.proofs.lemmas.Bool.Decides.{nat_tests}
 use Rattle.redcode_text.specs.Results.{◌>>=◌}

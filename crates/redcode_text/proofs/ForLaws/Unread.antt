@@ -1,4 +1,4 @@
--- The meaning of a source's text, independent of how it is read.
+-- Lines before the first `;redcode`, and the body of a loop without iterations, have no effect.
 use Rattle.std.proofs.Common.{◌≡◌, ◌∙◌, refl, ℕ, suc, zero, List, [], ◌∷◌, ◌++◌, Bool, true, false, ◌||◌, Option, Result, Ok, Err, IfOk, ap, sym}
 use Rattle.std.specs.List.{list_any}
 use Rattle.redcode_text.specs.Results.{◌>>=◌}
