@@ -10,7 +10,7 @@ use Rattle.redcode_asm.specs.Assembly.{Placed, placed_from}
 abbrev pub left_among : List (List ℕ) → ℕ → ℕ → List Line → List Placed
 left_among names dropped index ls = drop dropped (filter (λ p. is_instruction names p.line.operation p.line.rest) (placed_from names index ls))
 
--- The instructions that are left at the line `l`, where `b` says whether it is an instruction.
+-- The instructions that are left from the line `l` on, which is an instruction if `b` is true.
 abbrev at_line_by : Bool → List (List ℕ) → ℕ → ℕ → Line → List Line → List Placed
 at_line_by b names dropped index l ls =
     drop dropped (if b then record { index = index; line = l } ∷ left_among names 0 (elim b as (λ _. ℕ) [ true ↦ index + 1 | false ↦ index ]) ls
@@ -26,7 +26,7 @@ one-less names longest index l ls inside = let e : longest - index ≡ suc (long
 pub lines-from : (xs : List code.Line) (i : ℕ) (x : code.Line) → i < length xs → x ≡ get_or xs i x → map line_of (drop i xs) ≡ line_of x ∷ map line_of (drop (i + 1) xs)
 lines-from xs i x inside at = rw (drop-cons xs i x inside, add-one i) (ap (λ y. line_of y ∷ map line_of (drop (suc i) xs)) (sym at))
 
--- Passing an instruction leaves the same instructions beyond the maximum length.
+-- Passing an instruction leaves the instructions beyond the maximum length unchanged.
 pub past-instruction : (names : List (List ℕ)) (longest index next i : ℕ) (xs : List code.Line) (x : code.Line) → i < length xs → x ≡ get_or xs i x → next ≡ index + 1 → index < longest
     → is_instruction names x.operation x.rest.items ≡ true
     → left_among names (longest - next) next (map line_of (drop (i + 1) xs)) ≡ left_among names (longest - index) index (map line_of (drop i xs))
@@ -35,7 +35,7 @@ past-instruction names longest index next i xs x inside at more below is =
     ∙ sym (ap (left_among names (longest - index) index) (lines-from xs i x inside at)
     ∙ by-line names (longest - index) index (line_of x) (map line_of (drop (i + 1) xs)) true is ∙ one-less names longest index (line_of x) (map line_of (drop (i + 1) xs)) below)
 
--- Passing another line leaves the same instructions beyond the maximum length.
+-- Passing another line leaves the instructions beyond the maximum length unchanged.
 pub past-other : (names : List (List ℕ)) (longest index next i : ℕ) (xs : List code.Line) (x : code.Line) → i < length xs → x ≡ get_or xs i x → next ≡ index
     → is_instruction names x.operation x.rest.items ≡ false
     → left_among names (longest - next) next (map line_of (drop (i + 1) xs)) ≡ left_among names (longest - index) index (map line_of (drop i xs))

@@ -1,4 +1,4 @@
--- Evaluating a formula has no errors except those of its values.
+-- Evaluating a formula has no errors except DivideByZero and Range.
 use Rattle.std.proofs.Common.{◌≡◌, ◌∙◌, ℕ, ◌<◌, List, [], ◌∷◌, ◌++◌, length, Bool, true, false, ◌&&◌, ◌||◌, if◌then◌else◌, ℤ, Option, Some, None, is_some, Result, Ok, Err, ap, sym, subst, refl, arith, IfErr}
 use Rattle.std.specs.Prelude.{pos, negsuc, ◌^◌, nat_lt, neg_ℤ, ◌+ℤ◌, ◌-ℤ◌, ◌*ℤ◌, int_div, int_rem, codes}
 use Rattle.std.specs.Ordering.{int_eq}

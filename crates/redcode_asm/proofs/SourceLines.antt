@@ -41,7 +41,7 @@ none_after names index count (l ∷ ls) up =
 abbrev one : ℕ → Line → Placed
 one index l = record { index = index; line = l }
 
--- `text` has the labels of the lines `before`; those from the offset `begin` on are labels of the instruction `index`.
+-- `text` has the labels of the lines `before`. The labels from the offset `begin` on belong to the instruction `index`.
 record Reaches (names : List (List ℕ)) (before : List Placed) (index begin : ℕ) (text : List ℕ) : Type 0 where
   inside : begin ≤ length text
   finished : firsts names before index ≡ take begin text
@@ -56,7 +56,7 @@ not_one : (names : List (List ℕ)) (before : List Placed) (index : ℕ) (l : Li
 not_one names before index l =
     rw (firsts_of_both names before (one index l ∷ []) index, excluded index index (labels_text names l.labels) (omega arith), append-nil (firsts names before index)) refl
 
--- Lines from the index `index` on don't change the labels of the instructions before it.
+-- Lines from the index `index` on don't change the labels of the instructions before `index`.
 firsts_stay : (names : List (List ℕ)) (before : List Placed) (index count : ℕ) (ls : List Line) → count ≤ index
     → firsts names (before ++ placed_from names index ls) count ≡ firsts names before count
 firsts_stay names before index count ls up =

@@ -35,12 +35,12 @@ use Rattle.redcode_asm.specs.declared.fault.AsmProblem.{AsmProblem}
 use Rattle.redcode_asm.specs.declared.fault.AsmTokenProblem.{AsmTokenProblem}
 use Rattle.redcode_asm.specs.declared.fault.AsmProblem.TheVariants.{Text, Operation, Operand, Expression, AssertFailed, BadOrigin, Empty, TooLong}
 
--- The value, or the error `problem` if there is none.
+-- The given value, or the error `problem` if there is none.
 abbrev pub ok_or : {A : Type 0} → AsmProblem → Option A → Result A AsmProblem
 ok_or problem (Some x) = Ok x
 ok_or problem None = Err problem
 
--- A result whose error gets the bytes of the token at which it arises.
+-- A result whose error gets `span`, the bytes of the token at which the error arises.
 abbrev pub at_token : {A : Type 0} → Option Span → Result A AsmProblem → Result A AsmTokenProblem
 at_token span (Ok x) = Ok x
 at_token span (Err e) = Err (record { problem = e; token = span })
@@ -58,7 +58,7 @@ predefined p rounds warriors =
     (codes "CORESIZE", pos p.core_size) ∷ (codes "MAXPROCESSES", pos p.processes) ∷ (codes "MAXCYCLES", pos p.cycles) ∷ (codes "MAXLENGTH", pos p.max_length)
     ∷ (codes "MINDISTANCE", pos p.distance) ∷ (codes "ROUNDS", pos rounds) ∷ (codes "WARRIORS", pos warriors) ∷ (codes "VERSION", pos 80) ∷ []
 
--- A line with its index: the number of instructions before it.
+-- A line with its index, which is the number of instructions before the line.
 pub record Placed : Type 0 where
   pub index : ℕ
   pub line : Line
@@ -90,7 +90,7 @@ abbrev pub value_or : Option ℤ → Option ℤ → Option ℤ
 value_or (Some v) other = Some v
 value_or None other = other
 
--- The value of the name `n` on a line with `index` instructions before it, if `n` is not a label.
+-- The value of the name `n` on a line with `index` instructions before it, if `n` is predefined or CURLINE.
 abbrev pub known_value : Predefined → ProgramValue → ℕ → ℕ → Option ℤ
 known_value ps source index n = predefined_value (with_current_line ps index) (name_at source.names n)
 
@@ -113,8 +113,8 @@ abbrev pub texted : {A : Type 0} → Result A TextTokenProblem → Result A AsmT
 texted (Ok x) = Ok x
 texted (Err e) = Err (record { problem = Text e.problem; token = e.token })
 
--- The tokens `ts` with each EQU name replaced by its definition. The error has no line yet: it gets the line on which the
--- names are used.
+-- The tokens `ts` with each EQU name replaced by its definition. An error has no line yet, and gets the line on which
+-- the names are used.
 abbrev pub replaced : ProgramValue → List Token → Result (List Token) AsmTokenProblem
 replaced source ts = texted (without_line (substitution source.equates ts))
 
@@ -156,13 +156,13 @@ pub record Operands : Type 0 where
   pub a : Option (List Token)
   pub b : Option (List Token)
 
--- The operands of an instruction without operands: only DAT and NOP may have none.
+-- The operands of an instruction that is written without operands, which only DAT and NOP may be.
 abbrev pub no_operand : Op → Result Operands AsmProblem
 no_operand op.Dat = Ok (record { a = None; b = None })
 no_operand op.Nop = Ok (record { a = None; b = None })
 no_operand o = Err Operand
 
--- The operands of an instruction with one operand: it is the B-operand of DAT, and the A-operand of any other opcode.
+-- The operands of an instruction with the one operand `x`, the B-operand of DAT or the A-operand of any other opcode.
 abbrev pub one_operand : Op → List Token → Operands
 one_operand op.Dat x = record { a = None; b = Some x }
 one_operand o x = record { a = Some x; b = None }
@@ -227,7 +227,7 @@ split_modifier names (t ∷ ts) = elim (is_dot t.kind) [ true ↦ modifier_first
 abbrev pub modifier_span : List Token → Option Span
 modifier_span ts = last_span None (take 2 ts)
 
--- The cell with these parts. If no modifier is given, it has the default modifier.
+-- The cell with the opcode `o`, the modifier `given` or else the default modifier, and the operands `a` and `b`.
 abbrev pub cell_with : Op → Option Modifier → Mode × ℕ → Mode × ℕ → Cell
 cell_with o given a b = record { op = o; modifier = unwrap_or given (default_modifier o a.0 b.0); a_mode = a.0; a = a.1; b_mode = b.0; b = b.1 }
 
@@ -254,17 +254,17 @@ cells_of ps m source (p ∷ rest) = at_line p.line.number (cell_of ps m source p
 
 -- ---- Length, start and asserts
 
--- The error TooLong, if there are instructions beyond the maximum length, which are given.
+-- The error TooLong at the first of the given instructions, which are beyond the maximum length, if there are any.
 abbrev pub none_past : List Placed → Result (Unit {0}) AsmFault
 none_past [] = Ok tt
 none_past (p ∷ rest) = Err (record { line = p.line.number; problem = TooLong; token = p.line.operation_span })
 
--- The error Empty, if there are no instructions.
+-- The error Empty, if no instructions are given.
 abbrev pub not_empty : List Placed → Result (Unit {0}) AsmFault
 not_empty [] = Err (record { line = 0; problem = Empty; token = None })
 not_empty (p ∷ rest) = Ok tt
 
--- The instructions `is` are at least one and at most `longest`.
+-- The instructions `is` are at most `longest`, or else TooLong, and at least one, or else Empty.
 abbrev pub length_checked : ℕ → List Placed → Result (Unit {0}) AsmFault
 length_checked longest is = none_past (drop longest is) >>= λ _. not_empty is
 
@@ -292,7 +292,7 @@ end_operand ps source count p (t ∷ ts) = start_at ps source count p (t ∷ ts)
 abbrev pub end_start : Predefined → ProgramValue → ℕ → Placed → Result ℕ AsmTokenProblem
 end_start ps source count p = replaced source p.line.rest >>= end_operand ps source count p
 
--- The last line for which `keeps` is true.
+-- The last of the lines `ps` for which `keeps` is true. Here `ps` is not the list of predefined names.
 abbrev pub last_where : (Line → Bool) → List Placed → Option Placed
 last_where keeps ps = last_or None (filter (λ p. keeps p.line) ps)
 
@@ -317,7 +317,7 @@ holds _ = Ok tt
 abbrev pub tokens_hold : (ℕ → Option ℤ) → List Token → Result (Unit {0}) AsmTokenProblem
 tokens_hold names ts = value_in names None ts >>= λ v. at_token (first_span ts) (holds v)
 
--- The assert `a` holds. Labels have no value in it.
+-- The assert `a` holds. Labels have no value in an assert.
 abbrev pub assert_holds : Predefined → ProgramValue → Assert → Result (Unit {0}) AsmTokenProblem
 assert_holds ps source a = replaced source a.tokens >>= tokens_hold (known_value ps source a.current_line)
 
@@ -328,8 +328,8 @@ asserts_hold ps source (a ∷ rest) = at_line a.number (assert_holds ps source a
 
 -- ---- The whole source
 
--- The warrior of the program `source` for the parameters `p`. The errors of the instructions come first, then those of
--- the length, the start and the asserts.
+-- The warrior of the program `source` for the parameters `p`, or its first error. Errors of the instructions come
+-- first, then errors of the length, of the start and of the asserts.
 abbrev pub warrior_of : Predefined → Parameters → ProgramValue → Result WarriorValue AsmFault
 warrior_of ps p source =
     cells_of ps p.core_size source (instructions source) >>= λ cells.

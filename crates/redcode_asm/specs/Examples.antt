@@ -1,4 +1,4 @@
--- Examples. The check computes each of them.
+-- Examples of the specification, each of which the check computes.
 pub mod Warriors
 pub mod Tokens
 pub mod Formulas

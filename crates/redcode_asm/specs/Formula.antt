@@ -18,7 +18,7 @@ use Rattle.redcode_text.specs.Tokens.{Scanned, scanned}
 abbrev pub is_variable : List ℕ → Bool
 is_variable name = bytes_eq name (codes "W") || bytes_eq name (codes "S")
 
--- A token may occur in a formula: it is no name, or it is W or S.
+-- The token may occur in a formula: it is W, S or no name.
 abbrev pub may_occur : List (List ℕ) → TokenKind → Bool
 may_occur names (Name n) = is_variable (name_at names n)
 may_occur names _ = true
@@ -32,7 +32,7 @@ abbrev pub scanned_formula : Result Scanned TextFault → Result Scanned ExprFau
 scanned_formula (Ok f) = checked_formula f
 scanned_formula (Err e) = Err Syntax
 
--- The formula of a text of at most 256 bytes.
+-- The formula of `text`, which may have at most 256 bytes, or else the error Syntax.
 abbrev pub formula_of : List ℕ → Result Scanned ExprFault
 formula_of text = if nat_lt 256 (length text) then Err Syntax else scanned_formula (scanned text)
 
@@ -44,7 +44,7 @@ variable_value w s name = if bytes_eq name (codes "W") then Some w else if bytes
 abbrev pub score_of : Scanned → ℤ → ℤ → Result ℤ ExprFault
 score_of f w s = value_of (λ n. variable_value w s (name_at f.names n)) (kinds f.tokens)
 
--- The result is the defined formula or the defined error, unless memory ran out.
+-- The result is the formula or the error that `defined` has, unless memory ran out.
 abbrev pub Checks : Result Scanned FormulaFault → Result Scanned ExprFault → Type 0
 Checks (Ok f) defined = defined ≡ Ok f
 Checks (Err (Expression e)) defined = defined ≡ Err e

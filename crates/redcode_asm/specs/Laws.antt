@@ -21,7 +21,7 @@ IsValueFault DivideByZero = ⊤
 IsValueFault Range = ⊤
 IsValueFault _ = ⊥
 
--- A formula that was accepted has a value for all `w` and `s`, unless it divides by zero or a number does not fit 64 bits.
+-- A formula that was accepted has a value for all `w` and `s`, unless it divides by zero or a value is out of range.
 abbrev pub ScoresHaveValues : Type 0
 ScoresHaveValues = (text : List ℕ) (f : Scanned) (w s : ℤ) → formula_of text ≡ Ok f → IfErr (score_of f w s) IsValueFault
 
@@ -30,8 +30,8 @@ abbrev pub AssembledLoadIsRead : Type 0
 AssembledLoadIsRead = (p : Parameters) (rounds warriors : ℕ) (source : List ℕ) (w : WarriorValue) → AreInRange p → assembly p rounds warriors source ≡ Ok w
     → load p.core_size p.max_length (load_text p.core_size w) ≡ Ok w
 
--- The names `one` and `other` mean the same, whether as an operation, as a modifier or, at any instruction, in an
--- expression.
+-- The names `one` and `other` have the same meaning, whether as an operation, as a modifier or, at any instruction, in
+-- an expression.
 pub record SaysTheSame (ps : Predefined) (one other : List ℕ) : Type 0 where
   pub opcode : op_of one ≡ op_of other
   pub modifier : modifier_of one ≡ modifier_of other
@@ -39,8 +39,8 @@ pub record SaysTheSame (ps : Predefined) (one other : List ℕ) : Type 0 where
   pub end : str_eq_ignore_ascii_case one (codes "end") ≡ str_eq_ignore_ascii_case other (codes "end")
   pub value : (instructions : ℕ) → predefined_value (with_current_line ps instructions) one ≡ predefined_value (with_current_line ps instructions) other
 
--- Names are free: if each name of a program is replaced by one that means the same, the program is assembled to the same
--- warrior or has the same error. So labels and EQU names can be chosen freely.
+-- Names are free: if each name of a program is replaced by a name with the same meaning, the program is assembled to
+-- the same warrior or has the same error. So labels and EQU names can be chosen freely.
 abbrev pub NamesAreFree : Type 0
 NamesAreFree = (ps : Predefined) (p : Parameters) (source : ProgramValue) (names : List (List ℕ)) → ((n : ℕ) → SaysTheSame ps (name_at source.names n) (name_at names n))
     → warrior_of ps p source ≡ warrior_of ps p (record source { names = names })

@@ -1,4 +1,4 @@
--- The specification of the assembler, which is part of the trusted base, with its laws and examples.
+-- The specification of the assembler and of score formulas, with laws and examples. It is part of the trusted base.
 pub mod Formula
 pub mod Assembly
 pub mod LoadFiles

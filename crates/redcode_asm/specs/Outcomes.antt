@@ -4,12 +4,12 @@ use Rattle.redcode_asm.specs.declared.fault.AsmFault.{AsmFault}
 use Rattle.redcode_asm.specs.declared.fault.AsmProblem.{AsmProblem}
 use Rattle.redcode_asm.specs.declared.fault.AsmProblem.TheVariants.{OutOfMemory}
 
--- The error is the defined error, or memory ran out, which is reported with neither a line nor a token.
+-- If the problem is `OutOfMemory`, `fault` has the line 0 and no token. Otherwise `fault` is the error of `defined`.
 abbrev pub FailsAt : {X : Type 0} → AsmProblem → AsmFault → Result X AsmFault → Type 0
 FailsAt OutOfMemory fault defined = (fault.line ≡ 0) × (fault.token ≡ None)
 FailsAt problem fault defined = defined ≡ Err fault
 
--- The result, mapped by `f`, is the defined result, or memory ran out.
+-- The given result, mapped by `f`, is `defined`, or memory ran out.
 abbrev pub IsResult : {X Y : Type 0} → (Y → X) → Result Y AsmFault → Result X AsmFault → Type 0
 IsResult f (Ok y) defined = defined ≡ Ok (f y)
 IsResult f (Err fault) defined = FailsAt fault.problem fault defined

@@ -9,7 +9,7 @@ use Rattle.redcode_asm.specs.declared.fault.AsmFault.{AsmFault}
 use Rattle.redcode_asm.specs.declared.lines.CellLine.{CellLine}
 use Rattle.redcode_asm.specs.Assembly.{Placed, instructions, placed, predefined, text_read, warrior_of}
 
--- The lines of the cells of a warrior, and the text of all their labels.
+-- The lines of the cells of a warrior, and the text of all labels of the cells.
 pub record CellLines : Type 0 where
   pub lines : List CellLine
   pub labels : List ℕ
@@ -23,7 +23,7 @@ labels_text names labels = flat_map (λ label. name_at names label ++ 0 ∷ []) 
 abbrev pub first_labels : ProgramValue → ℕ → List ℕ
 first_labels source count = flat_map (λ p. if nat_lt p.index count then labels_text source.names p.line.labels else []) (placed source)
 
--- The line of the instruction `p`. Its labels follow the labels of the instructions before it.
+-- The line number of the instruction `p`, and where its labels begin and end in the text of all labels.
 abbrev pub cell_line : ProgramValue → Placed → CellLine
 cell_line source p = record { line = p.line.number; begin = length (first_labels source p.index); end = length (first_labels source (p.index + 1)) }
 

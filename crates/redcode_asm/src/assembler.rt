@@ -55,8 +55,8 @@ pub fn read_program(
 /// Returns the first error, with its line, in this order:
 /// - `Text`, for each error of `expand`.
 /// - The errors of each instruction in turn: `Operation` for an unknown opcode or modifier, `Text` if the EQU names in the
-///   operands can't be replaced, `Operand` for an operand that is missing or empty or a third one, `Expression` for the
-///   A-operand, then for the B-operand. Instructions beyond the maximum length are checked too.
+///   operands can't be replaced, `Operand` for a missing, empty or third operand, `Expression` for the A-operand, then
+///   for the B-operand. Instructions beyond the maximum length are checked too.
 /// - `TooLong`, with the line of the first instruction beyond the maximum length, then `Empty`, with the line 0.
 /// - The errors of the start, with the line of the ORG or END that gives it: `Text`, `Expression`, then `BadOrigin` if the
 ///   value isn't the index of an instruction. The last ORG counts, and END counts only without ORG.

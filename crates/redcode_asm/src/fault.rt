@@ -6,7 +6,7 @@ use redcode_text::{ExprFault, Span, TextFault, TextProblem};
 use std::alloc::{AllocError, AllocFailed};
 use thiserror::Error;
 
-/// An error in a line of a source. It is displayed as its number and name, followed by the error inside it.
+/// An error in a line of a source. It is displayed as its number and name, and the error of `Text` or `Expression`.
 #[derive(Clone, Copy, Debug, PartialEq, Eq, Error)]
 pub enum AsmProblem {
     /// The text can't be read.
@@ -53,7 +53,7 @@ pub struct AsmFault {
     pub token: Option<Span>,
 }
 
-/// An error that has no line yet.
+/// An error in a line of a source, without the line number.
 #[derive(Clone, Copy, Drop)]
 pub struct AsmTokenProblem {
     pub problem: AsmProblem,
@@ -62,7 +62,7 @@ pub struct AsmTokenProblem {
 }
 
 impl AsmTokenProblem {
-    /// Adds a line number to an error; `OutOfMemory` gets the line 0 and no token.
+    /// Returns the error with the line number `line`; `OutOfMemory` gets the line 0 and no token.
     pub fn at_line(self, line: usize) -> AsmFault
         ensures problem { result.problem ≡ self.problem }
         ensures line { result.line ≡ fault_line line self.problem }
@@ -80,7 +80,7 @@ impl AsmTokenProblem {
 }
 
 impl AsmProblem {
-    /// Adds the bytes of the token at which an error arises.
+    /// Returns the error with `token`, the bytes of the token at which the error arises.
     pub(crate) fn at_token(self, token: Option<Span>) -> AsmTokenProblem
         ensures { result ≡ record { problem = self; token = token } }
     {
@@ -116,7 +116,7 @@ impl AsmFault {
     }
 }
 
-/// The reason why a text isn't a formula. It is displayed as its number and name, followed by the error of the expression.
+/// The reason why a text isn't a formula. It is displayed as its number and name, and the error of `Expression`.
 #[derive(Clone, Copy, Debug, PartialEq, Eq, Error)]
 pub enum FormulaFault {
     /// The text isn't an expression in W and S.

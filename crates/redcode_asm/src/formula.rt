@@ -1,4 +1,4 @@
-//! Score formulas.
+//! Score formulas: how they are read, and their values.
 ghost use Rattle.std.specs.Prelude.{◌≡◌, Ok, Err, IfErr, MatchResult};
 ghost use Rattle.redcode_text.specs.Expression.{kinds};
 ghost use Rattle.redcode_text.specs.Views.{scan_of};
@@ -104,7 +104,7 @@ impl Formula {
     ///
     /// # Errors
     ///
-    /// - `Syntax` if the text is too long or has a byte that belongs to no token
+    /// - `Syntax` if the text is too long or has a part that is no token
     /// - `Syntax` or `Depth` if the tokens don't have the shape of an expression
     /// - `Unknown` if there is a name other than W and S
     /// - `OutOfMemory` if an allocation fails

@@ -124,7 +124,7 @@ pub struct Operation {
     pub span: Option<Span>,
 }
 
-/// Splits the tokens after an opcode into operands, and adds the token at which it arises to an error.
+/// Splits the tokens after an opcode into operands, and adds to an error the token at which the error arises.
 fn line_operands(operation: Operation, tokens: &[Token]) -> Result<Operands<'_>, AsmTokenProblem>
     ensures { let defined = at_token (operands_span operation.span tokens.now) (given_operands operation.op tokens.now) in
         MatchResult result (λ given. defined ≡ Ok (operands_in given)) (λ problem. defined ≡ Err problem) }

@@ -1,7 +1,7 @@
 //! The assembler, and score formulas.
 //!
-//! `redcode_text` reads the program of a source. From it, `warriors` makes the `cells`, checks their number, finds the
-//! start (`starts`) and checks the `asserts`. This order decides which error is reported.
+//! `redcode_text` reads the program of a source. From the program, `warriors` makes the `cells`, checks their number,
+//! finds the start (`starts`) and checks the `asserts`. This order decides which error is reported.
 //!
 //! The crates above this one may use:
 //! - `assemble` returns the warrior of a source, with all numbers below the core size, or its first error, with its line

@@ -1,4 +1,4 @@
-//! The line of each instruction in the source.
+//! The line and the labels of each instruction in the source.
 ghost use Rattle.std.specs.Prelude.{◌≡◌, ◌++◌, All, IfOk, OnOk, length, map};
 ghost use Rattle.mars_cell.specs.Cells.{FitsCore};
 ghost use Rattle.redcode_text.specs.Views.{line_of, predefined_of};
@@ -20,9 +20,9 @@ use std::alloc::{AllocError, Global};
 pub struct CellLine {
     /// Number of the line, from 1.
     pub line: u64,
-    /// Offset of its first label in the text of all labels.
+    /// Offset of the cell's first label in the text of all labels.
     pub begin: u64,
-    /// Offset of the byte after its last label.
+    /// Offset after the zero byte of the cell's last label.
     pub end: u64,
 }
 

@@ -9,7 +9,7 @@ use std::alloc::Global;
 
 /// Assembles a source, for a core with these parameters, and returns the load file of its warrior.
 ///
-/// `mars_cell::read_load` reads it back as the same warrior.
+/// `mars_cell::read_load` reads the load file back as the same warrior.
 ///
 /// # Errors
 ///

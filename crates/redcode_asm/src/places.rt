@@ -124,7 +124,7 @@ impl Labels {
         Ok(labels)
     }
 
-    /// Returns the number of instructions before the line of a label.
+    /// Returns the number of instructions before the line of a label, if the label is in the table.
     pub fn index_of(&self, label: usize) -> Option<u32>
         ensures { result ≡ lookup (nat_eq label) self.now }
     {

@@ -21,7 +21,7 @@ pub struct Source<'a> {
     ghost table: { labels.now ≡ table_with [] (placed program.now) },
 }
 
-/// Returns the value of the name with this index, if it isn't a label. `current_line` is the value of CURLINE.
+/// Returns the value of the name with this index, if it is predefined. `current_line` is the value of CURLINE.
 fn known_value(
     predefined: &PredefinedNames,
     names: &NameTable,

@@ -120,7 +120,7 @@ impl<'a> Source<'a> {
         }
     }
 
-    /// Returns the start that the last ORG sets, or else END, or else 0. `count` is the number of instructions.
+    /// Returns the start that the last ORG sets, or else the last END, or else 0, for `count` instructions.
     pub fn start(&self, alloc: Global, count: u32) -> Result<u32, AsmFault>
         ensures value { IsResult (λ start. start) result (start_of (predefined_of self.now.predefined.now) self.now.program.now count) }
         ensures below { 0 < count → IfOk result (λ start. start < count) }

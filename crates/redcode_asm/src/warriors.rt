@@ -32,7 +32,7 @@ fn named_warrior(
 }
 
 impl<'a> Source<'a> {
-    /// Checks that there are instructions and not more than `longest`: returns `TooLong` or `Empty` if not.
+    /// Checks that there are instructions and not more than `longest`, or else returns `TooLong` or `Empty`.
     ///
     /// `count` is the number of instructions.
     fn check_count(&self, count: usize, longest: u32) -> Result<(), AsmFault>

@@ -1,4 +1,4 @@
--- Names are free: a program with other names that mean the same is assembled to the same warrior.
+-- Names are free: a program with other names that have the same meanings is assembled to the same warrior.
 use Rattle.std.proofs.Common.{◌≡◌, refl, ◌∙◌, ap, ℕ, ◌+◌, pos, ◌&&◌, ◌||◌, true, false, List, [], ◌∷◌, length, nat_lt, is_some, Option, Some, None, Result, Ok}
 use Rattle.std.specs.Prelude.{not, filter, option_map, ◌-ℤ◌}
 use Rattle.mars_cell.specs.declared.instruction.Modifier.{Modifier}

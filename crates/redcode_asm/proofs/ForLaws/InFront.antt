@@ -1,4 +1,4 @@
--- An instruction in front of a program moves nothing.
+-- An instruction in front of a program leaves the cells of the program unchanged.
 use Rattle.std.proofs.Common.{◌≡◌, ◌≢◌, ◌∙◌, ℕ, ◌+◌, ◌==◌, pos, ℤ, Bool, true, false, cond, List, [], ◌∷◌, map, Option, Some, None, Ok, refl, ap, sym, arith, codes}
 use Rattle.std.specs.Prelude.{filter, option_map, ◌-ℤ◌}
 use Rattle.std.specs.List.{list_any}
@@ -11,7 +11,7 @@ use Rattle.redcode_text.specs.Lines.{Line, Predefined, name_at, is_instruction, 
 use Rattle.redcode_asm.specs.Assembly.{Placed, at_line, at_token, cell_from, cell_of, cells_of, index_after, instructions, known_value, label_among, modifier_span, name_value, opcode_of, opcode_span, placed, placed_from, replaced, split_modifier, value_or}
 use Rattle.redcode_asm.specs.Laws.{with_line_in_front}
 
--- A line whose index is 1 greater.
+-- The line `p` with an index that is 1 greater.
 abbrev moved : Placed → Placed
 moved p = record { index = p.index + 1; line = p.line }
 

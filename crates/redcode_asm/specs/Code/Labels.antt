@@ -11,7 +11,7 @@ Table = List (ℕ × ℕ)
 abbrev pub with_label : ℕ → Table → ℕ → Table
 with_label index table n = elim (is_some (lookup (nat_eq n) table)) [ true ↦ table | false ↦ table ++ (n, index) ∷ [] ]
 
--- The table with the labels of a line added, which has the index `index`.
+-- The table with the labels of a line added. The line has the index `index`.
 abbrev pub with_labels : ℕ → Table → List ℕ → Table
 with_labels index table [] = table
 with_labels index table (n ∷ ns) = with_labels index (with_label index table n) ns

@@ -15,7 +15,7 @@ lines_on names begin text (l ∷ ls) = elim (is_instruction names l.operation l.
   | false ↦ lines_on names begin (text ++ labels_text names l.labels) ls
 ]
 
--- The text with the labels of the instructions among the given lines.
+-- The text with the labels of the instructions among the given lines, without labels after the last instruction.
 abbrev pub labels_on : List (List ℕ) → ℕ → List ℕ → List Line → List ℕ
 labels_on names begin text [] = take begin text
 labels_on names begin text (l ∷ ls) = elim (is_instruction names l.operation l.rest) [

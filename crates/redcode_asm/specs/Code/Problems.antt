@@ -7,12 +7,12 @@ use Rattle.redcode_asm.specs.declared.fault.AsmProblem.{AsmProblem}
 use Rattle.redcode_asm.specs.declared.fault.AsmTokenProblem.{AsmTokenProblem}
 use Rattle.redcode_asm.specs.declared.fault.AsmProblem.TheVariants.{Text, OutOfMemory}
 
--- The error `e`, which has the given problem, is the defined error, or memory ran out.
+-- The error `e`, which has the given problem, is the error of `defined`, or memory ran out.
 abbrev pub Fails : {X : Type 0} → AsmProblem → AsmTokenProblem → Result X AsmTokenProblem → Type 0
 Fails OutOfMemory e defined = ⊤
 Fails problem e defined = defined ≡ Err e
 
--- The result, mapped by `f`, is the defined result, or memory ran out.
+-- The given result, mapped by `f`, is `defined`, or memory ran out.
 abbrev pub Gives : {X Y : Type 0} → (Y → X) → Result Y AsmTokenProblem → Result X AsmTokenProblem → Type 0
 Gives f (Ok y) defined = defined ≡ Ok (f y)
 Gives f (Err e) defined = Fails e.problem e defined

@@ -21,7 +21,7 @@ free_names = (
   record { opcode = refl; modifier = refl; org = refl; end = refl; value = λ n. refl },
 )
 
--- An opcode may not be replaced by a label or by another opcode. The same holds for a modifier, END and a predefined name.
+-- An opcode, a modifier, ORG, END and a predefined name may not be replaced by a name with another meaning.
 pub names_that_say_something : (SaysTheSame ps (codes "mov") (codes "loop") → ⊥) × (SaysTheSame ps (codes "mov") (codes "add") → ⊥)
     × (SaysTheSame ps (codes "ab") (codes "ba") → ⊥) × (SaysTheSame ps (codes "end") (codes "loop") → ⊥) × (SaysTheSame ps (codes "org") (codes "end") → ⊥)
     × (SaysTheSame ps (codes "ROUNDS") (codes "WARRIORS") → ⊥) × (SaysTheSame ps (codes "CURLINE") (codes "loop") → ⊥)

@@ -18,13 +18,13 @@ lines source = source_lines (parameters 8000) 1 2 source
 abbrev row : ℕ → ℕ → ℕ → CellLine
 row line begin end = record { line = line; begin = begin; end = end }
 
--- These lines, with labels whose names are `names`.
+-- The lines `rows`, with labels whose names are `names`.
 abbrev are : List CellLine → List (List ℕ) → Result CellLines AsmFault
 are rows names = Ok (record { lines = rows; labels = flat_map (λ name. name ++ 0 ∷ []) names })
 
--- A line in a FOR loop yields one line per iteration, with its `&` joins done. The labels of an ORG and labels on lines of
--- their own belong to the next instruction, and are dropped after the last one. An EQU name that is used as an operation
--- yields one line for each line of its definition, and the first one has the labels.
+-- A line in a FOR loop yields one line per iteration, with its `&` joins replaced. The labels of an ORG and labels on
+-- lines of their own belong to the next instruction, or to none after the last instruction. An EQU name that is used as
+-- an operation yields one line for each line of its definition, the first with the labels before the name.
 pub lines_of_instructions :
     (lines (codes ";name x\ni FOR 2\nx&i DAT i, 0\nROF\n") ≡ are (row 3 0 4 ∷ row 3 4 8 ∷ []) (codes "x01" ∷ codes "x02" ∷ []))
     × (lines (codes "a ORG 1\n\nb:\nc: D NOP\nNOP\nlast") ≡ are (row 4 0 8 ∷ row 5 8 8 ∷ []) (codes "a" ∷ codes "b" ∷ codes "c" ∷ codes "D" ∷ []))

@@ -9,12 +9,12 @@ use Rattle.redcode_text.specs.Expression.{value_of, tree_within}
 use Rattle.redcode_asm.specs.Assembly.{assembly}
 use Rattle.redcode_asm.specs.Examples.Warriors.{parameters, text}
 
--- The bytes of the token of the error.
+-- The bytes of the token of the error in a source with the lines `ls`.
 abbrev pub token : List (List ℕ) → Option Span
 unfolding assembly
 token ls = elim (assembly (parameters 8000) 2 3 (text ls)) [ Ok w ↦ None | Err e ↦ e.token ]
 
--- The text of the token of the error.
+-- The text of the token of the error in a source with the lines `ls`.
 abbrev pub word : List (List ℕ) → Option (List ℕ)
 word ls = option_map (λ span. take (span.to - span.from) (drop span.from (text ls))) (token ls)
 

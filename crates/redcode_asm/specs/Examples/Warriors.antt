@@ -62,7 +62,7 @@ pub names_are_predefined : listed 80 (assembly others 2 9 (text (codes "DAT CORE
 unfolding assembly expansion value_of tree_within digits default_modifier op_of modifier_of
 names_are_predefined = refl
 
--- Unknown operations and modifiers, and missing operands.
+-- Unknown operations and modifiers, missing, empty and third operands, and expressions without a value.
 pub row_operations :
     (assembled (codes "JMP" ∷ []) ≡ fault 1 Operand)
     × (assembled (codes "STP 1, 2" ∷ []) ≡ fault 1 Operation)
@@ -81,7 +81,8 @@ pub row_operations :
 unfolding assembly expansion value_of tree_within digits default_modifier op_of modifier_of
 row_operations = (refl, refl, refl, refl, refl, refl, refl, refl, refl, refl, refl, refl, refl, refl)
 
--- Labels are relative to their instruction, and an EQU name may be used before its definition.
+-- The value of a label is relative to the instruction that uses it. An operand may use an EQU name before its
+-- definition.
 pub row_names :
     (assembled (codes "FOR 0" ∷ codes "this is prose" ∷ codes "ROF" ∷ codes "i FOR 2" ∷ codes "x&i DAT i, 0" ∷ codes "ROF" ∷ codes "DAT x02, x01" ∷ []) ≡ Ok (0, codes "DAT.F $1, $0" ∷ codes "DAT.F $2, $0" ∷ codes "DAT.F $-1, $-2" ∷ []))
     × (assembled (codes "FOR 0" ∷ codes "this is prose" ∷ codes "ROF" ∷ codes "i FOR 2" ∷ codes "x&i DAT i, 0" ∷ codes "DAT x02, x01" ∷ []) ≡ fault 4 (Text UnclosedFor))
@@ -122,7 +123,7 @@ pub row_order :
 unfolding assembly expansion value_of tree_within digits default_modifier op_of modifier_of
 row_order = (refl, refl, refl, refl, refl, refl, refl, refl)
 
--- An assert holds if its value is not 0. It may use EQU names that are defined after it, and every assert must hold.
+-- An assert holds if its value is not 0. An assert may use EQU names that are defined after it, and each must hold.
 pub asserts_are_checked :
     (assembled (codes ";assert 2" ∷ codes ";assert -1" ∷ codes ";assert x" ∷ codes "NOP" ∷ codes "x EQU 1" ∷ []) ≡ Ok (0, codes "NOP.F $0, $0" ∷ []))
     × (assembled (codes ";assert 1" ∷ codes ";assert x-1" ∷ codes "NOP" ∷ codes "x EQU 1" ∷ []) ≡ fault 2 AssertFailed)
