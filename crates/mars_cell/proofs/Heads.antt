@@ -1,7 +1,7 @@
 -- The header of a load file, line after line.
--- `read_header` cites `header_made` through `using`, without a file of answers. So if a must-fail edit moves one of its steps,
--- the goal of a clause fails. For this, the lemma has all its variables explicit, and its premises are the clauses of the steps
--- word for word.
+-- `read_header` cites `header_made` through `using`, without a file of answers. So if a must-fail edit moves a step of
+-- `read_header`, the goal of a clause fails. For this, the lemma has all its variables explicit, and its premises are
+-- the clauses of the steps word for word.
 use Rattle.std.proofs.Common.{◌≡◌, refl, ℕ, zero, suc, ◌<◌, true, List, [], ◌∷◌, drop, Some, Result, Ok, Err, ap, arith}
 use Rattle.std.specs.Prelude.{codes, option_and_then, option_map, slice_get, IsUtf8, IsAscii, MatchResult}
 use Rattle.std.specs.List.{list_all}

@@ -1,4 +1,4 @@
--- The line of a cell: `OP[.MODIFIER] [mode]number , [mode]number`.
+-- How the line of a cell is read, `OP[.MODIFIER] [mode]number , [mode]number`, and the default modifiers.
 use Rattle.std.specs.Prelude.{ℕ, ℤ, ◌==◌, List, [], ◌∷◌, length, Option, None, Some, option_map, unwrap_or, if◌then◌else◌, codes}
 use Rattle.std.specs.Str.{bytes_eq}
 use Rattle.mars_cell.specs.declared.instruction.Op.{Op}
@@ -76,8 +76,8 @@ default_modifier op.Jmn a b = modifier.B
 default_modifier op.Djn a b = modifier.B
 default_modifier op.Spl a b = modifier.B
 
--- The cell that the parts `ps` of a whole line describe, if they do. They were written for a core of `written` cells and are read
--- for a core of `m` cells.
+-- The cell that the parts `ps` of a whole line describe, if they describe a cell. The parts were written for a core of
+-- `written` cells and are read for a core of `m` cells.
 unfoldable pub cell_of : ℕ → ℕ → List (List ℕ) → Option Cell
 cell_of written m ps = do
   head ← op_at ps
@@ -87,7 +87,7 @@ cell_of written m ps = do
   b ← operand_at written m after
   if length b.2 == 0 then Some (record { op = head.0; modifier = unwrap_or suffix.0 (default_modifier head.0 a.0 b.0); a_mode = a.0; a = a.1; b_mode = b.0; b = b.1 }) else None
 
--- The cell that a text without a comment describes, in a core of `m` cells. The text was written for this core, so each number is
--- taken modulo `m`.
+-- The cell that `text`, which has no comment, describes in a core of `m` cells. The text counts as written for this
+-- core, so each number is taken modulo `m`.
 abbrev pub read_cell : ℕ → List ℕ → Option Cell
 read_cell m text = cell_of m m (parts text)

@@ -25,7 +25,7 @@ pub record HeaderValue : Type 0 where
 abbrev pub no_header : ℕ → HeaderValue
 no_header m = record { written = m; name = codes "Unknown"; author = codes "Anonymous" }
 
--- The bytes after `word`, if `bytes` begins with it.
+-- The bytes after `word`, if `bytes` begins with `word`.
 abbrev pub after_prefix : List ℕ → List ℕ → Option (List ℕ)
 after_prefix word bytes = if bytes_eq (take (length word) bytes) word then Some (drop (length word) bytes) else None
 

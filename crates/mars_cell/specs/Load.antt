@@ -1,4 +1,4 @@
--- Load files, of version 1 and of version 2.
+-- How load files of version 1 and of version 2 are read.
 use Rattle.std.specs.Prelude.{◌≡◌, ⊤, ℕ, ◌+◌, ℤ, pos, negsuc, Bool, false, not, ◌==◌, nat_lt, List, [], ◌∷◌, length, drop, Option, None, Some, option_map, unwrap_or, Result, Ok, Err, if◌then◌else◌, codes}
 use Rattle.std.specs.Int.RustNames.{unsigned_abs}
 use Rattle.std.specs.List.{take_while, flat_map, last_or}
@@ -24,7 +24,7 @@ lines_of (b ∷ bs) = if b == 10 then [] ∷ lines_of bs else onto_first b (line
 abbrev pub before_comment : List ℕ → List ℕ
 before_comment l = take_while (λ b. not (b == 59)) l
 
--- The number that the parts form, if there is only one part.
+-- The number that the only part forms, if there is exactly one part and it is a number.
 unfoldable pub only_number : List (List ℕ) → Option ℤ
 only_number [] = None
 only_number (p ∷ []) = parse_number p
@@ -98,7 +98,7 @@ cells_of ss = flat_map cell_in ss
 abbrev pub start_of : List Statement → ℤ
 start_of ss = unwrap_or (option_or (last_or None (flat_map origin_in ss)) (last_or None (flat_map end_in ss))) (pos 0)
 
--- An integer is an index below the length `len`.
+-- The given integer is at least 0 and below `len`.
 abbrev pub is_index : ℤ → ℕ → Bool
 is_index (pos n) len = nat_lt n len
 is_index (negsuc n) len = false
@@ -125,7 +125,7 @@ load m longest bytes =
     if has_version bytes then (header_of (lines_of bytes) >>= λ h. body h m longest 4 (drop 3 (lines_of bytes)))
     else body (no_header m) m longest 1 (lines_of bytes)
 
--- The result of reading is the defined warrior or the defined error, unless an allocation failed.
+-- The result of reading is `defined`, unless an allocation failed.
 abbrev pub Loads : Result WarriorValue LoadFault → Result WarriorValue LoadFault → Type 0
 Loads (Ok w) defined = defined ≡ Ok w
 Loads (Err fault.OutOfMemory) defined = ⊤

@@ -1,4 +1,4 @@
--- Reading numbers.
+-- How numbers are read, and how they become numbers below the size of a core.
 use Rattle.std.specs.Prelude.{ℕ, ℤ, pos, ◌-ℤ◌, neg_ℤ, Bool, true, false, ◌&&◌, ◌==◌, ◌/◌, nat_lt, nat_le, List, [], ◌∷◌, length, Option, None, Some, option_map, if◌then◌else◌}
 use Rattle.std.specs.Char.{is_ascii_digit}
 use Rattle.std.specs.Int.{int_rem_euclid}
@@ -11,7 +11,7 @@ unfoldable pub split_sign : List ℕ → Bool × List ℕ
 split_sign [] = (false, [])
 split_sign (b ∷ bs) = if b == 45 then (true, bs) else if b == 43 then (false, bs) else (false, b ∷ bs)
 
--- The value of 1 to 18 digits.
+-- The value of `word`, if it is 1 to 18 digits.
 unfoldable pub parse_digits : List ℕ → Option ℕ
 parse_digits word =
     if nat_lt 0 (length word) && (nat_le (length word) 18 && list_all is_ascii_digit word) then Some (digits_value 10 word) else None
@@ -20,7 +20,7 @@ parse_digits word =
 abbrev pub signed : Bool → ℕ → ℤ
 signed is_negative n = if is_negative then neg_ℤ (pos n) else pos n
 
--- The value of an optional sign and 1 to 18 digits.
+-- The value of `word`, if it is 1 to 18 digits, which a sign may precede.
 unfoldable pub parse_number : List ℕ → Option ℤ
 parse_number word = let (is_negative, digits) = split_sign word in option_map (signed is_negative) (parse_digits digits)
 

@@ -2,7 +2,7 @@
 use Rattle.std.specs.Prelude.{ℕ, Bool, false, not, ◌&&◌, ◌||◌, ◌==◌, nat_lt, List, [], ◌∷◌, if◌then◌else◌}
 use Rattle.std.specs.Char.{is_ascii_alphanumeric}
 
--- Whitespace within a line: every byte up to 32 except LF.
+-- Whitespace within a line: every byte of at most 32, except for LF.
 abbrev pub is_blank : ℕ → Bool
 is_blank b = nat_lt b 33 && not (b == 10)
 

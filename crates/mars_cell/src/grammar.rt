@@ -9,7 +9,7 @@ use crate::numbers::{Sizes, by_value, read_number};
 use crate::parts::LineParts;
 use crate::words::{read_mode, read_modifier, read_op};
 
-/// Returns the modifier of an instruction that names none, by the defaults of the ICWS'94 draft; NOP has F.
+/// Returns the modifier of an instruction that names none, by the ICWS'94 draft. NOP has F, and SNE is like SEQ.
 #[tactic(auto, unfolding(crate::specs::Grammar::default_modifier))]
 pub fn default_modifier(op: Op, a_mode: Mode, b_mode: Mode) -> Modifier
     ensures { result ≡ default_modifier op a_mode b_mode }
@@ -25,7 +25,7 @@ pub fn default_modifier(op: Op, a_mode: Mode, b_mode: Mode) -> Modifier
     }
 }
 
-// Each `take_` function below reads one part from the front of `line` and returns its value and the rest of the line.
+// Each `take_` function below returns what it reads at the front of `line`, and the rest of the line.
 
 #[tactic(auto, unfolding(crate::specs::Grammar::op_at))]
 fn take_op<'a>(line: LineParts<'a>) -> Option<(Op, LineParts<'a>)>

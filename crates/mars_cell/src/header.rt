@@ -1,4 +1,4 @@
-//! The header of a load file: the core size that it was written for, and the names.
+//! The header of a load file: the core size that the file was written for, and the names.
 ghost use Rattle.std.specs.Prelude.{◌≡◌, ◌+◌, ◌<◌, drop, option_and_then, option_map, slice_get, IfOk, IfSome};
 ghost use Rattle.std.specs.List.{list_all};
 ghost use Rattle.std.specs.Result.{result_map_both};
@@ -88,7 +88,7 @@ fn read_name(text: &[u8]) -> Option<&str>
     str::from_utf8(text).ok()
 }
 
-/// Takes the first line, which states the core size.
+/// Takes the first line, which states the core size, and returns the core size.
 fn take_size(lines: &mut Lines<'_>) -> Option<u32>
     ensures value { result ≡ option_and_then size_in (slice_get (lines_of lines.old.rest.now) 0) }
     ensures some { IfSome result (λ size. 0 < size) }

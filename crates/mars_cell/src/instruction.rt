@@ -1,4 +1,4 @@
-//! The parts of an instruction, and the cell that holds one.
+//! The parts of an instruction, and the cell that holds an instruction.
 
 /// An opcode of the ICWS'94 draft, or SNE or NOP of pMARS. SEQ is pMARS's name of the draft's CMP.
 #[derive(Clone, Copy, Debug, PartialEq, Eq)]

@@ -64,7 +64,7 @@ fn is_start(number: i64, length: usize) -> bool
     0 <= number && number.unsigned_abs() < length as u64
 }
 
-/// Makes the warrior from a header, its cells and its start. Fails only if an allocation fails.
+/// Makes the warrior with the names of `header`, `cells` and `start`. Fails only if an allocation fails.
 fn named_warrior(
     alloc: Global,
     header: Header<'_>,
@@ -131,8 +131,8 @@ fn read_body(
 /// author `Anonymous`.
 ///
 /// Every other line up to END is empty, `ORG` and the start, `END` with or without a start, or a cell as `read_cell`
-/// reads it; a `;` begins a comment. The start is the number of the last ORG, else of END, else 0. A number of a
-/// cell is read by its value in the core that it was written for, which is at most half that core's size away from 0.
+/// reads it; a `;` begins a comment. The start is the number of the last ORG, else of END, else 0. A number of a cell
+/// is read by its value in the core that the file was written for: at most half of that core's size away from 0.
 ///
 /// All numbers of the warrior are below the core size.
 ///

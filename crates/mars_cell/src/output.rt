@@ -14,7 +14,7 @@ use thiserror::Error;
 #[error("cannot write")]
 pub struct WriteFault;
 
-/// Writes the whole text. On an error, what was written is a proper prefix of it. Does not allocate.
+/// Writes the whole text. On an error, a proper prefix of `text` was written. Does not allocate.
 pub fn write_text<W: Write>(writer: &mut W, text: &[u8]) -> Result<(), WriteFault>
     ensures ok { OnOk result (Appends (W.contents writer.old) (W.contents writer.new) text.now) }
     ensures err { OnErr result (CutShort (W.contents writer.old) (W.contents writer.new) text.now) }
@@ -34,7 +34,7 @@ pub fn write_text<W: Write>(writer: &mut W, text: &[u8]) -> Result<(), WriteFaul
 /// characters, five spaces, two names of at most 60 bytes, ` by ` and an LF.
 pub const LINE: usize = 210;
 
-/// A line of output, or a part of one.
+/// A line of output, or a part of a line.
 pub type Line = ArrayString<LINE>;
 
 /// Appends `number` in decimal.

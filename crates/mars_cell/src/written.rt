@@ -10,7 +10,7 @@ use crate::warriors::Warrior;
 use itoa::Buffer;
 use std::alloc::{AllocError, Global};
 
-// If one of the functions below fails, the text keeps its bytes and may have a part of the new lines after them.
+// If one of the `push_` functions fails, the text keeps its bytes and may have a part of the new lines after them.
 
 /// Appends a line of `word` and `rest` to `text`.
 fn push_line(text: &mut Vec<u8>, word: &[u8], rest: &[u8]) -> Result<(), AllocError>

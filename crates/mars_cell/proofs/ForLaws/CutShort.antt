@@ -8,21 +8,21 @@ use Rattle.std.specs.List.{flat_map}
 use Rattle.std.specs.Io.KnownBytes.{Appends}
 use Rattle.mars_cell.specs.Output.{CutShort}
 
--- If a proper prefix of `x` was written, then a proper prefix of `x ++ y` was.
+-- If a proper prefix of `x` was written, a proper prefix of `x ++ y` was written.
 pub CutShort-front : (a b : Option (List ℕ)) (x y : List ℕ) → CutShort a b x → CutShort a b (x ++ y)
 CutShort-front a b x y cut =
     let n = cut.0 in
     let same : take n (x ++ y) ≡ take n x = take-append-le n x y (omega (arith, cut.1)) in
     (n, (omega (arith, cut.1, length-append x y)), rw same cut.2)
 
--- If `x` was written and then a proper prefix of `y`, then a proper prefix of `x ++ y` was.
+-- If `x` was written and then a proper prefix of `y`, a proper prefix of `x ++ y` was written.
 pub CutShort-back : (a b c : Option (List ℕ)) (x y : List ℕ) → Appends a b x → CutShort b c y → CutShort a c (x ++ y)
 CutShort-back a b c x y before cut =
     let n = cut.0 in
     let same : take (length x + n) (x ++ y) ≡ x ++ take n y = take-append-add x y n in
     (length x + n, (omega (arith, cut.1, length-append x y)), rw same (Appends-trans a b c x (take n y) before cut.2))
 
--- If `x` was written and then a proper prefix of `y`, then a proper prefix of `x ++ (y ++ z)` was.
+-- If `x` was written and then a proper prefix of `y`, a proper prefix of `x ++ (y ++ z)` was written.
 pub CutShort-after : (a b c : Option (List ℕ)) (x y z : List ℕ) → Appends a b x → CutShort b c y → CutShort a c (x ++ (y ++ z))
 CutShort-after a b c x y z before cut = CutShort-back a b c x (y ++ z) before (CutShort-front b c y z cut)
 

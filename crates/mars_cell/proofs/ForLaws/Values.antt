@@ -1,4 +1,4 @@
--- Numbers by value.
+-- Lemmas on numbers and cells that are read by value.
 -- A file of version 1 counts as written for the core that reads it, so both versions share one grammar; at equal sizes values are
 -- plain residues (`value_is_residue`).
 use Rattle.std.proofs.Common.{◌≡◌, refl, ℕ, ℤ, pos, negsuc, ◌/◌, ◌<◌, ◌≤◌, true, false, ◌∙◌, ap, nat_le, arith}

@@ -226,7 +226,7 @@ statement_of-origin m size n small =
 
 -- ---- The header
 
--- A core size is read back: it does not begin with 0.
+-- A core size is read back, because its digits do not begin with 0.
 no_zero_first : (ds : List ℕ) → 48 < get_or ds 0 0 → starts_with nat_eq ds (codes "0") ≡ false
 no_zero_first [] h = absurd (omega arith)
 no_zero_first (d ∷ ds) h = let other : nat_eq 48 d ≡ false = grind arith in rw other refl
@@ -243,7 +243,7 @@ unfolding size_of
 size_in-decimal m some most =
     rw (no_zero_first (decimal m) (first_decimal m some (omega arith)), parse_digits-decimal m most, le-leb 1 m some, le-leb m max_core_size most) refl
 
--- A name is read back: its bytes are printable.
+-- A name is read back, because its bytes are printable.
 within : (b : ℕ) → 32 ≤ b → b ≤ 126 → is_within 32 126 b ≡ true
 within b low high = grind arith
 

@@ -11,7 +11,7 @@ use Rattle.mars_cell.specs.Cells.{FitsCore}
 use Rattle.mars_cell.specs.Header.{HeaderValue}
 use Rattle.mars_cell.specs.Load.{line_statement}
 
--- The specified header of a header that was read.
+-- The header of the specification that the code's header `h` represents.
 abbrev pub header_value : Header → HeaderValue
 header_value h = record { written = h.written; name = h.name.now; author = h.author.now }
 
@@ -50,7 +50,7 @@ load_from written m k s (l ∷ ls) = elim (line_statement written m l) [
   ]
 ]
 
--- The result of reading is the defined listing or the number of the defined invalid line, unless an allocation failed.
+-- The result of reading is the listing or the number of the invalid line that `read` has, unless an allocation failed.
 abbrev pub ReadsListing : Result ReadListing LoadFault → Result Listing ℕ → Type 0
 ReadsListing (Ok r) read = read ≡ Ok (listing r)
 ReadsListing (Err fault.OutOfMemory) read = ⊤

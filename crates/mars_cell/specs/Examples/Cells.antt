@@ -1,4 +1,4 @@
--- Examples: the text of a cell, and what is read as a cell.
+-- Examples: numbers and cells as texts, what is read as a number, a word or a cell, and the default modifiers.
 use Rattle.std.specs.Prelude.{◌≡◌, ℕ, pos, neg_ℤ, None, Some, codes, refl}
 use Rattle.std.specs.Fmt.{digits}
 use Rattle.mars_cell.specs.declared.instruction.Cell.{Cell}
@@ -43,8 +43,8 @@ pub numbers_are_written :
 unfolding digits
 numbers_are_written = (refl, refl, refl, refl, refl, refl, refl)
 
--- A number that was written for a core of 8 cells is from -3 to 4, for one of 7 cells from -3 to 3. Its value is taken modulo the
--- size of the core that reads it.
+-- A number that was written for a core of 8 cells has a value from -3 to 4, and for a core of 7 cells from -3 to 3. Its
+-- value is taken modulo the size of the core that reads it.
 pub numbers_by_value :
     (by_value 8 8000 (pos 7) ≡ 7999)
     × (by_value 8 8000 (neg_ℤ (pos 9)) ≡ 7999)

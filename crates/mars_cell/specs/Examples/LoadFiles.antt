@@ -1,4 +1,4 @@
--- Examples: load files.
+-- Examples: load files that are read and written, their errors and lines, and texts that are cut short.
 use Rattle.std.specs.Prelude.{◌≡◌, ◌<◌, ℕ, zero, suc, List, [], ◌∷◌, ◌++◌, replicate, Some, Ok, Err, codes, refl, slice_index_or}
 use Rattle.std.proofs.Common.{ap, arith}
 use Rattle.std.specs.Fmt.{digits}

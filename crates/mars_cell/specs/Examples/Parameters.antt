@@ -1,4 +1,4 @@
--- Examples: parameters and programs that are accepted, and the errors of others.
+-- Examples: parameters and programs that are accepted, the errors of others, and the fields of a cell.
 use Rattle.std.specs.Prelude.{◌≡◌, ℕ, List, [], ◌∷◌, Ok, Err, refl}
 use Rattle.std.proofs.lemmas.Bool.{le-leb}
 use Rattle.mars_cell.specs.declared.instruction.Field.TheVariants.{ANumber, BNumber}
@@ -72,7 +72,7 @@ parameters_in_range p is = rw (
   le-leb p.distance p.core_size is.distance_most,
 ) refl
 
--- If several parameters are out of range, the error is that of the first.
+-- If several parameters are out of range, the error belongs to the first of them.
 pub first_fault_of_parameters :
     Refused (of_sizes 0 0 0 0 0 0 0) CoreSize
     × Refused (of_sizes 8 0 0 0 0 0 0) Processes
