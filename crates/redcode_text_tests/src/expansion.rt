@@ -152,7 +152,7 @@ fn copies(alloc: Global, text: &[u8], count: usize) -> Result<Vec<u8>, Fail> {
     Ok(made)
 }
 
-/// Checks that copies of a text have this error.
+/// Checks that the source of `count` copies of a text has the error `fault`, or none.
 fn check_copies(
     rt: &impl Abort,
     alloc: Global,
@@ -292,7 +292,7 @@ fn an_assert_ends_at_a_comment(rt: HostRuntime) -> Result<(), Fail> {
     Ok(())
 }
 
-/// No name has a value.
+/// Values of names: no name has a value.
 struct NoNames;
 
 impl Env for NoNames {

@@ -2,7 +2,7 @@
 use redcode_text::{Env, ExprFault, Sign, TextFault, TextProblem, Token, TokenKind, eval};
 use std::test::Fail;
 
-/// The name 0 has the value 5, and no other name has a value.
+/// Values of names: the name 0 has the value 5, and no other name has a value.
 struct OneName;
 
 impl Env for OneName {

@@ -1,4 +1,4 @@
-//! The tokens of texts: known tokens, errors, joins and counters.
+//! The tokens of texts: known tokens and their bytes, errors, joins and counters.
 use crate::expansion::NAMES;
 use redcode_text::{
     LineTokens, NameTable, Program, Sign, Span, TextFault, TextProblem, Token, TokenKind, expand,
@@ -28,7 +28,7 @@ fn problem_of(alloc: Global, text: &[u8]) -> Option<TextProblem> {
     Some(scan(alloc, text).err()?.problem)
 }
 
-/// Checks that each text has this error.
+/// Checks that each text has the error `problem`.
 fn check_problems(rt: &impl Abort, alloc: Global, texts: &[&[u8]], problem: TextProblem) {
     for text in texts {
         assert_eq!(rt; problem_of(alloc, text), Some(problem), "in {text:?}");
@@ -101,7 +101,7 @@ const JOINS: &[u8] = b"j FOR 12\nFOR 3\ni FOR 1\nDAT x&i x&i&j &i 5&i j\nROF\nRO
 /// A join to `x`, which isn't a counter, in the same three loops as in `JOINS`.
 const NO_COUNTER: &[u8] = b"j FOR 12\nFOR 3\ni FOR 1\nDAT &i&x\nROF\nROF\nROF\n";
 
-/// Checks that a token is this name.
+/// Checks that a token is the name `name`.
 fn check_name(rt: &impl Abort, names: &NameTable, token: &Token, name: &[u8]) {
     let found = match token.kind {
         TokenKind::Name(index) => names.name(index),

@@ -1,4 +1,4 @@
-//! The errors of sources, with their lines.
+//! The errors of sources, with their lines and tokens.
 use super::{
     COPIES, LOOPS, NAMES, at, check_faults, check_no_faults, copies, fault_of, joined, located,
 };
@@ -68,7 +68,7 @@ fn the_first_fault_of_a_line(rt: HostRuntime) {
     check_faults(&rt, rt.alloc(), FIRST_FAULTS);
 }
 
-/// The token of each error: `from` up to, but excluding, `to`.
+/// Sources, each with the token of its error: from the first offset up to, but excluding, the second.
 const TOKENS_OF_FAULTS: &[(&[u8], usize, usize)] = &[
     (b"a \xC8\xC8", 2, 3),
     (b"NOP a==?=", 7, 8),

@@ -53,7 +53,7 @@ fn tokens_beyond_limits(rt: HostRuntime) -> Result<(), Fail> {
     Ok(())
 }
 
-/// Checks that `count` nested loops around the given lines have this error.
+/// Checks that `count` nested loops around the lines `within` have the error `fault`, or none.
 fn check_loops(
     rt: &impl Abort,
     alloc: Global,
@@ -161,8 +161,8 @@ fn as_long_as_names_may_be(rt: HostRuntime) -> Result<(), Fail> {
     Ok(())
 }
 
-/// Returns `count` EQU names, each defined as the previous one, a line that uses the last one as its operation, and a
-/// DAT that uses it as its operand.
+/// Returns `count` EQU names, each defined as the previous one, a line that uses the last name as its operation, and a
+/// DAT that has the last name as its operand.
 fn chain(alloc: Global, count: usize) -> Result<Vec<u8>, Fail> {
     let mut source = Vec::from_slice(alloc, b"e1 EQU DAT 5\n")?;
     for before in 1..count {
@@ -223,7 +223,7 @@ fn check_count(
     Ok(())
 }
 
-/// The same count of many tokens in several loops: its value may be the same, or differ because of CURLINE.
+/// Checks the same count of many tokens in several loops. Its value may be the same, or differ because of CURLINE.
 #[test]
 fn counts_that_are_met_again(rt: HostRuntime) -> Result<(), Fail> {
     let alloc = rt.alloc();

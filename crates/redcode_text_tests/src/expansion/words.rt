@@ -16,8 +16,8 @@ fn long_lines(rt: HostRuntime) -> Result<(), Fail> {
     Ok(())
 }
 
-/// Returns a source with long words in a loop: its counter, a name with a join to the counter and one without, and a
-/// number.
+/// Returns a source with long words in a loop: its counter, a name with a join to the counter, a name without a join,
+/// and a number.
 fn long_words_in_loop(alloc: Global) -> Result<Vec<u8>, Fail> {
     let word = copies(alloc, b"x", 300)?;
     let zeros = copies(alloc, b"0", 300)?;
