@@ -1,4 +1,4 @@
-//! Sources and their warriors or errors: known values, and limits at their value and one beyond.
+//! Sources and their warriors, and functions that the modules of tests share.
 
 use mars_cell::{Params, Warrior};
 use redcode_asm::{AsmFault, AsmProblem, assemble, assemble_load};
@@ -29,7 +29,7 @@ fn short_warriors() -> Result<Params, Fail> {
     Ok(params)
 }
 
-/// Returns the load file of the warrior of a source that gives no name and author, without the lines of its header.
+/// Returns the load file of the warrior of a source that gives no name and no author, without the lines of the header.
 fn listing(alloc: Global, params: &Params, source: &[u8]) -> Result<String, Fail> {
     let file = assemble_load(alloc, source, params, 2, 3)?;
     let text = str::from_utf8(&file).ok().ok_or("text")?;
@@ -43,7 +43,7 @@ fn fault_of(alloc: Global, params: &Params, source: &[u8]) -> Option<AsmFault> {
     assemble(alloc, source, params, 2, 3).err()
 }
 
-/// Returns the line of the error of a source, and the error.
+/// Returns the line of the error of a source, and the error, if it has one.
 fn problem_of(alloc: Global, params: &Params, source: &[u8]) -> Option<(usize, AsmProblem)> {
     let fault = fault_of(alloc, params, source)?;
     Some((fault.line, fault.problem))

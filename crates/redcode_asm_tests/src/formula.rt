@@ -14,7 +14,7 @@ fn fault_of(alloc: Global, text: &[u8]) -> Option<FormulaFault> {
     Formula::new(alloc, text).err()
 }
 
-/// Returns the points that a formula gives.
+/// Returns the value of the formula `text`, or the error of its value.
 fn score(
     alloc: Global,
     text: &str,
@@ -27,7 +27,7 @@ fn score(
     Ok(score)
 }
 
-/// Formulas, numbers of warriors and survivors, and the points.
+/// Formulas, numbers of warriors and survivors, and the value or its error.
 const SCORES: [(&str, i64, i64, Result<i64, ExprFault>); 7] = [
     ("(W*W-1)/S", 2, 1, Ok(3)),
     ("(W*W-1)/S", 2, 2, Ok(1)),

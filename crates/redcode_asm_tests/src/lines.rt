@@ -1,4 +1,4 @@
-//! The line of each instruction in a source.
+//! The line and the labels of each instruction in a source.
 
 use mars_cell::Params;
 use redcode_asm::{AsmFault, AsmProblem, assemble_with_lines};

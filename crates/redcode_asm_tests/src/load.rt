@@ -15,7 +15,7 @@ fn of_core(core_size: u32) -> Result<Params, Fail> {
     Ok(params)
 }
 
-/// Returns whether this is the load file of a source, for the given numbers of rounds and warriors.
+/// Returns whether `text` is the load file of a source, for the given numbers of rounds and warriors.
 fn is_file_of(
     alloc: Global,
     source: &[u8],

@@ -1,4 +1,4 @@
-//! Errors and their order for every prefix of a source, and how errors are displayed.
+//! Errors of sources: their order, their tokens, the error of every prefix of a source, and how errors are displayed.
 use super::{
     Beginnings, COPIES, Faulty, LOOPS, SYNTAX, UNKNOWN, check_faults, check_listing, core_of,
     fault_of, problem_of, short_warriors,
