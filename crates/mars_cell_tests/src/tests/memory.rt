@@ -1,5 +1,5 @@
 //! Calls whose allocations fail. dev/checks/memory lets each allocation of a test fail in turn. Each test must pass
-//! whichever one fails, since a second try has memory.
+//! whichever allocation fails, since a second try has memory.
 ghost use Rattle.std.specs.Prelude.{All, IfOk};
 ghost use Rattle.mars_cell.specs.Cells.{FitsCore};
 

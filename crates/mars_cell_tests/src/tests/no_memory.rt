@@ -12,7 +12,7 @@ use mars_cell::{
 use std::alloc::Global;
 use std::test::Fail;
 
-/// Allocates once. In some runs this is the first allocation that fails.
+/// Allocates once. In some runs, this allocation is the first that fails.
 fn ask(alloc: Global) {
     let _asked: Result<Vec<u64>, _> = Vec::with_capacity(alloc, 1);
 }
@@ -42,7 +42,7 @@ fn parameters(rt: HostRuntime) -> Result<(), Fail> {
     Ok(())
 }
 
-/// Returns `len` cells that do nothing.
+/// Returns `len` empty cells, or `None` if they can't be allocated.
 fn idle(alloc: Global, len: usize) -> Option<Vec<Cell>> {
     let mut cells = Vec::with_capacity(alloc, len).ok()?;
     for _ in 0..len {
@@ -61,8 +61,8 @@ fn ann(alloc: Global) -> Option<String>
     }
 }
 
-/// Returns a warrior by Ann, or the error of making it; `ask` is called just before. Returns `None` if the parts of the
-/// warrior can't be allocated.
+/// Calls `ask` and returns a warrior by Ann, or the error of making it. Returns `None` if the parts of the warrior
+/// can't be allocated.
 fn anns(alloc: Global, len: usize, start: u32) -> Option<Result<Warrior, WarriorFault>> {
     let (Some(name), Some(author), Some(cells)) = (ann(alloc), ann(alloc), idle(alloc, len)) else {
         return None;
