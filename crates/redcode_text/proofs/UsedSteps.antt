@@ -84,7 +84,7 @@ module _ (ordinary : List Token → Step) (ls : List (List Token)) (at : ℕ) (l
       ∙ ap (λ r. r >>= λ a. unless_ended a (each_line ordinary (drop (at + 1) ls))) (sym done)
       ∙ next h found is
 
-  -- END ends the lines.
+  -- After a line with END was read, no other line is read.
   pub line-ends : (a : Reading) → at < length ls → get_or ls at [] ≡ line → each_line ordinary (drop at ls) st ≡ whole → read_one ordinary line st ≡ Ok a → a.ended ≡ true → whole ≡ Ok a
   line-ends a h found is done ends =
       sym (next h found is)

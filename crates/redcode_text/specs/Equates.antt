@@ -71,7 +71,7 @@ abbrev pub each_replaced : List Equate → Option Replacing → Replacing
 each_replaced equates deeper r [] = Ok r
 each_replaced equates deeper r (t ∷ ts) = replaced_token deeper r t (token_lines equates t.kind) >>= λ s. each_replaced equates deeper s ts
 
--- The function that replaces EQU names in a definition, in which replacements may nest to the given depth.
+-- The function that replaces EQU names in a definition, if replacements may nest to the given depth, or none for 0.
 abbrev pub replacing : ℕ → List Equate → Option Replacing
 replacing zero equates = None
 replacing (suc depth) equates = Some (each_replaced equates (replacing depth equates))
@@ -83,6 +83,6 @@ each_replaced_at_line equates r [] = Ok r
 each_replaced_at_line equates r (t ∷ ts) =
     at_line t.line (replaced_token (replacing depth_limit equates) r t (token_lines equates t.kind)) >>= λ s. each_replaced_at_line equates s ts
 
--- The tokens with each EQU name replaced.
+-- The tokens `ts` with each EQU name replaced.
 abbrev pub substitution : List Equate → List Token → Result (List Token) TextFault
 substitution equates ts = each_replaced_at_line equates (record { tokens = []; count = 0 }) ts >>= λ r. Ok r.tokens

@@ -90,11 +90,11 @@ misfit p (t ∷ ts) = elim (next_state p t.kind) [ Ok q ↦ misfit q ts | Err e 
 
 -- ---- Values
 
--- 1 for true, 0 for false.
+-- 1 if `b` is true, and 0 if `b` is false.
 abbrev pub truth : Bool → ℤ
 truth b = if b then pos 1 else pos 0
 
--- Every number except 0 counts as true.
+-- The number `z` counts as true if it is not 0.
 abbrev pub is_true : ℤ → Bool
 is_true z = not (int_eq z (pos 0))
 
@@ -240,8 +240,8 @@ abbrev pub found_or : Option Span → Option Span → Option Span
 found_or (Some s) other = Some s
 found_or None other = other
 
--- The bytes of the token at which the expression `ts` has the given error. For `Unknown` this is the first name without
--- a value. For `DivideByZero` and `Range` it is the first token. Otherwise it is the token that cannot continue the
+-- The bytes of the token at which the expression `ts` has the given error: the first name without a value for
+-- `Unknown`, the first token for `DivideByZero` and `Range`, and otherwise the token that cannot continue the
 -- expression, or the last one if the expression ends too early. An expression without tokens has its error at the token
 -- `before`.
 abbrev pub fault_span : (ℕ → Option ℤ) → Option Span → List Token → ExprFault → Option Span

@@ -53,7 +53,7 @@ pub record Reading : Type 0 where
   pub asserts : List Assert
   pub ended : Bool
 
--- A step reads a part of a source: it returns everything read including that part, or an error.
+-- A step that reads a part of a source, and returns everything read including that part, or an error.
 abbrev pub Step : Type 0
 Step = Reading → Result Reading TextTokenProblem
 

@@ -47,15 +47,15 @@ abbrev pub colon_len : List ℕ → ℕ
 colon_len [] = 0
 colon_len (b ∷ bs) = elim (b == colon) [ true ↦ 1 | false ↦ 0 ]
 
--- The offset after a colon at the offset `at`, or `at` if there is none.
+-- The offset in `bytes` after a colon at the offset `at`, or `at` if there is none.
 abbrev pub past_colon : List ℕ → ℕ → ℕ
 past_colon bytes at = at + colon_len (drop at bytes)
 
--- The offset of the first word of the line `bytes`, which may be empty.
+-- The offset of the first word, which may be empty, of the line `bytes`.
 abbrev pub first_word_at : List ℕ → ℕ
 first_word_at bytes = past_blanks bytes 0
 
--- The offset of the second word of the line `bytes`, which may be empty. A colon may separate it from the first word.
+-- The offset of the second word, which may be empty, of the line `bytes`. A colon may separate the two words.
 abbrev pub second_word_at : List ℕ → ℕ
 second_word_at bytes = past_blanks bytes (past_colon bytes (past_blanks bytes (past_word bytes (first_word_at bytes))))
 
@@ -108,11 +108,11 @@ loop_word row = elim (line_kind row.bytes) [ ForLine at ↦ word_span row at | _
 
 -- ---- Directives
 
--- A line without the whitespace at its start.
+-- The line `bytes` without the whitespace at its start.
 abbrev pub without_blanks : List ℕ → List ℕ
 without_blanks bytes = drop (blank_len bytes) bytes
 
--- The line has nothing but a comment.
+-- The line `bytes` has only a comment, which whitespace may precede.
 abbrev pub is_comment : List ℕ → Bool
 is_comment bytes = starts_with nat_eq (without_blanks bytes) (semicolon ∷ [])
 
@@ -120,11 +120,11 @@ is_comment bytes = starts_with nat_eq (without_blanks bytes) (semicolon ∷ [])
 abbrev pub has_directive : List ℕ → List ℕ → Bool
 has_directive word bytes = starts_with nat_eq (str_to_ascii_lowercase (without_blanks bytes)) (semicolon ∷ word)
 
--- The offset of the text after the word of a directive and its `;`.
+-- The offset in the line `bytes` after the directive that consists of `;` and `word`.
 abbrev pub directive_text_at : List ℕ → List ℕ → ℕ
 directive_text_at word bytes = blank_len bytes + length word + 1
 
--- The text after the word of a directive.
+-- The text in the line `bytes` after the directive that consists of `;` and `word`.
 abbrev pub directive_text : List ℕ → List ℕ → List ℕ
 directive_text word bytes = drop (directive_text_at word bytes) bytes
 

@@ -37,7 +37,7 @@ abbrev pub at_line : {A : Type 0} → ℕ → Result A TextTokenProblem → Resu
 at_line n (Ok x) = Ok x
 at_line n (Err e) = Err (record { line = n; problem = e.problem; token = e.token })
 
--- A result whose error loses its line number.
+-- A result without the line number of its error.
 abbrev pub without_line : {A : Type 0} → Result A TextFault → Result A TextTokenProblem
 without_line (Ok x) = Ok x
 without_line (Err e) = Err (record { problem = e.problem; token = e.token })

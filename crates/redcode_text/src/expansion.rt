@@ -31,7 +31,7 @@ fn program_of(reading: Reading) -> Program
         asserts,
         ..
     } = reading;
-    // Dropped by a call, because dropping it in this body is expensive to prove.
+    // The labels are dropped by a call, because dropping them in this body is expensive to prove.
     drop(labels);
     Program {
         names: names.into_table(),
@@ -59,7 +59,7 @@ fn read_from_rows(
     match read_all(alloc, names, rows, &mut reading) {
         Ok(()) => Ok(reading),
         Err(fault) => {
-            // Dropped by one call, because dropping each field in this body is expensive to prove.
+            // The reading is dropped by one call, because dropping each field in this body is expensive to prove.
             drop(reading);
             Err(fault)
         }

@@ -27,7 +27,7 @@ pub enum ExprFault {
     Depth,
 }
 
-/// An error in a line. It is displayed as its number and name; `Expression` is followed by the error of the expression.
+/// An error in a line. It is displayed as its number and name, then the error in `Expression`.
 #[derive(Clone, Copy, Debug, PartialEq, Eq, Error)]
 pub enum TextProblem {
     /// A byte of 128 or more outside a comment.
@@ -45,7 +45,7 @@ pub enum TextProblem {
     /// A count that isn't a number from 0 to 10,000.
     #[error("5 BadCount")]
     BadCount,
-    /// A name in a count that isn't predefined after EQU names were replaced.
+    /// A name in a count that is neither predefined nor an EQU name.
     #[error("6 LabelInCount")]
     LabelInCount,
     /// A label or EQU name that is in use already.

@@ -36,8 +36,8 @@ pub fn trees_have_shapes()
 
 /// The error of a shape belongs to the first token after which no expression is possible.
 ///
-/// The error is `Depth` for a unary operator or an open parenthesis if an operand is possible in its place, and `Syntax`
-/// for any other token. If no token is misplaced, the tokens end too early, which is `Syntax`.
+/// The error is `Depth` for a unary operator or an open parenthesis if an operand is possible in its place, and
+/// `Syntax` for any other token. If no token is misplaced, the tokens end too early, which is `Syntax`.
 pub fn misshapen_at_first()
     ensures { MisshapenAtFirst }
 {}

@@ -72,8 +72,7 @@ fn read_token(alloc: Global, names: &mut SourceNames, bytes: &[u8]) -> Result<Sp
     read_sign(bytes)
 }
 
-/// Returns the number of bytes that an error at the start of `bytes` concerns: all bytes of the word there, or else
-/// one.
+/// Returns how many bytes an error at the start of `bytes` concerns: all bytes of the word there, or else one.
 fn unread_len(bytes: &[u8]) -> usize
     requires { 1 ≤ length bytes.now }
     ensures value { result ≡ unread_len bytes.now }

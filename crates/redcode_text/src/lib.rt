@@ -13,7 +13,7 @@
 //!     lexer              bytes -> tokens, with joins and counters replaced
 //!     reader/ordinary    labels, operation, rest; the lines of an operation that is an EQU name (reader/used_lines)
 //! reader             everything that has been read so far, within `limits`; the kind of each name
-//! expansion          the part of it that is needed later: a `program`
+//! expansion          the part of everything read that is needed later, a `program`
 //! equates            later, for each operand: EQU names -> their tokens
 //! expression         tokens -> a value
 //! ```
@@ -30,9 +30,9 @@
 //!
 //! The crates above this one may use:
 //!
-//! - `expand` returns the program of a source, or its first error with its line and its token, as `specs/Expansion`
-//!   defines it.
-//! - The methods of `Program` return its parts. It has at most 65,536 lines, and its name and author are printable.
+//! - `expand` returns the program of a source, or the first error with its line and its token, as `specs/Expansion`
+//!   defines them.
+//! - The methods of `Program` return its parts: at most 65,536 lines, a printable name and author, and asserts.
 //! - `Program::substitute` replaces each EQU name among tokens and returns at most 65,536 tokens, or the first error, as
 //!   `specs/Equates` defines it.
 //! - `PredefinedNames` has the values of the predefined names, `PredefinedNames::value_at` returns one of them, and
@@ -40,10 +40,10 @@
 //! - `is_instruction` returns whether a line is an instruction, and `is_keyword` whether an operation is a given word.
 //! - `scan` returns the tokens and the names of a text of one line, or its first error, as `specs/Tokens` defines them.
 //! - `check_shape` checks whether tokens have the shape of an expression, and `eval` returns the value of an expression
-//!   for given values of names, or its first error, as `specs/Expression` defines it; `fault_span` returns the bytes of
-//!   the token at which it has that error, and `first_span` those of the first token. They don't allocate.
+//!   for given values of names, or its first error, as `specs/Expression` defines them; `fault_span` returns the bytes
+//!   of the token of the error, and `first_span` the bytes of the first token. None of these four calls allocates.
 //!
-//! Functions that allocate return `OutOfMemory` if an allocation fails. When that happens isn't specified.
+//! Functions that allocate return `OutOfMemory` if an allocation fails. When an allocation fails isn't specified.
 #![tactic(auto)]
 
 mod characters;

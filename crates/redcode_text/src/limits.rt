@@ -1,9 +1,9 @@
 //! The limits of a source and of an expression.
 
-/// The maximum number of lines that are read; lines of a loop count once per iteration, and EQU lines again when used.
+/// The maximum number of lines that are read: lines of a loop once per iteration, and lines that replace an EQU name.
 pub const MAX_LINES: usize = 65_536;
 
-/// The maximum number of tokens that are read; tokens of a loop count once per iteration, and of EQU lines when used.
+/// The maximum number of tokens that are read in the lines that `MAX_LINES` counts.
 pub const MAX_TOKENS: usize = 65_536;
 
 /// The maximum number of open loops.

@@ -52,8 +52,7 @@ pub fn read_rows<'r, 'a>(rows: &'r [SourceRow<'a>]) -> &'r [SourceRow<'a>]
     rows
 }
 
-/// Returns the end of the items from the row `first` on. `ends` has the end of the items after each row from `first`
-/// on.
+/// Returns where the items from the row `first` on end. `ends` has where the items after each row from `first` on end.
 pub fn end_from(rows: &[SourceRow<'_>], ends: &[usize], first: usize) -> usize
     requires within { first ≤ length rows.now }
     requires same_length { length ends.now ≡ length rows.now }

@@ -74,7 +74,7 @@ pub struct Token {
     /// The line number, from 1 for the first line of the file. In the lines of a program, a token that comes from EQU has
     /// the number of the line that uses the name.
     pub line: usize,
-    /// The token has the bytes of the source from `from` up to, but excluding, `to`.
+    /// The offset of the token's first byte in the source. The token has the bytes up to, but excluding, `to`.
     pub from: usize,
     pub to: usize,
 }

@@ -42,8 +42,7 @@ pub record State : Type 0 where
   pub value : ℤ
   pub after : Bool
 
--- The state with the stack `stack` that expects an operand after the unary operators `signs`. Its value `v` is not
--- used.
+-- The state that expects an operand after the unary operators `signs`. The value `v` of the state is not used.
 abbrev pub wants : ℤ → List Waiting → List TokenKind → State
 wants v stack signs = record { stack = stack; signs = signs; value = v; after = false }
 

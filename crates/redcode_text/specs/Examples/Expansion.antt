@@ -122,8 +122,8 @@ pub row_equates :
 unfolding expansion value_of tree_within digits
 row_equates = (refl, refl, refl, refl, refl, refl, refl, refl)
 
--- The words of a line decide its kind, even if the token of a word is the number of a counter. Only as the first word
--- is ROF the end of a loop.
+-- The words of a line decide its kind, even if the token of a word is the number of a counter. ROF ends a loop only as
+-- the first word.
 pub row_words :
     (lines (codes "EQU FOR 1" ∷ codes "x EQU 5" ∷ codes "x" ∷ codes "ROF" ∷ []) ≡ Ok (line 3 [] [] (N 5 ∷ []) ∷ []))
     × (lines (codes "i FOR 1" ∷ codes "MOV.i 5&i, i" ∷ codes "ROF" ∷ []) ≡ Ok (line 2 [] (codes "MOV") (Mark (token.Sign Dot) ∷ N 1 ∷ N 501 ∷ comma ∷ N 1 ∷ []) ∷ []))

@@ -42,8 +42,7 @@ pub row_values :
 unfolding value_of tree_within
 row_values = (refl, refl, refl, refl, refl, refl, refl, refl)
 
--- A sum with a remainder as its operand, two comparisons in a row, each comparison with both results, and a
--- conjunction.
+-- A sum with a remainder in it, two comparisons in a row, each comparison with both results, and a conjunction.
 pub levels_and_comparisons :
     (eval (n 7 ∷ s Plus ∷ n 3 ∷ s Percent ∷ n 2 ∷ []) ≡ Ok (pos 8))
     × (eval (n 1 ∷ s Equal ∷ n 2 ∷ s Less ∷ n 1 ∷ []) ≡ Ok (pos 1))
@@ -98,8 +97,7 @@ row_limits = (refl, refl, refl, refl, refl)
 abbrev at : ℕ → ℕ → Option Span
 at from to = Some (record { from = from; to = to })
 
--- The bytes of the token at which the expression `text` has the error `fault`. The token before it has the bytes from
--- 90 up to, but excluding, 91.
+-- The bytes of the token at which the expression `text` has the error `fault`. The token before it is the byte 90.
 abbrev place : List ℕ → ExprFault → Option Span
 place text fault = elim (scanned text) [ Ok f ↦ fault_span names (at 90 91) f.tokens fault | Err e ↦ None ]
 

@@ -14,8 +14,7 @@ use std::marker::Model;
 /// An entry of the stack: it waits for the rest of the expression.
 #[derive(Clone, Copy)]
 enum Pending {
-    /// An open parenthesis, with the indices of the unary operators before it: from the first up to, excluding, the
-    /// second.
+    /// An open parenthesis, with the first index of the unary operators before it, and the index after the last one.
     Open(usize, usize),
     /// A value, and the operator that waits for its right operand.
     Value(i64, Sign),

@@ -14,7 +14,8 @@ pub struct OpenLoop {
     pub round: u32,
 }
 
-/// Returns the iteration of the innermost of `loops`, innermost last and at most 32, whose counter is `name`, if any.
+/// Returns the iteration of the innermost loop whose counter is `name`, if there is one. `loops` has at most 32 loops,
+/// innermost last.
 pub fn find_round(names: &NameTable, loops: &[OpenLoop], name: &[u8]) -> Option<u32>
     ensures { result ≡ round_of (open_loops names.now loops.now) name.now }
 {

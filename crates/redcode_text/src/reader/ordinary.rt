@@ -117,7 +117,7 @@ fn add_labelled(lines: &mut Vec<Line>, labels: &mut NameSet, line: Line) -> Resu
     ensures len { OnOk result (vec_len lines.new ≡ vec_len lines.old + 1) }
     ensures err { OnErr result (vec_len lines.new ≡ vec_len lines.old) }
 {
-    // Reserved first, so that the set gets no label without its line if memory runs out.
+    // Capacity is reserved first, so that the set gets no label without its line if memory runs out.
     lines.reserve(1)?;
     labels.insert_all(&line.labels)?;
     lines.push_reserved(line);

@@ -24,8 +24,7 @@ fn before_line(before: &[Token], at: usize) -> &[Token]
     if at == 0 { before } else { &[] }
 }
 
-/// Returns the last of the lines that replace an EQU name. `lines` has the last line of the definition, if there is
-/// one.
+/// Returns the last of the lines that replace an EQU name. `lines` has the last line of the definition, if any.
 fn last_line(
     alloc: Global,
     before: &[Token],

@@ -89,8 +89,8 @@ fn trimmed(text: &[u8]) -> &[u8]
     &front[..trimmed_len(front)]
 }
 
-/// Returns the value of `;name` or `;author`: the printable form of the first 60 bytes, or fewer, of `trimmed`, which
-/// has whitespace at neither end.
+/// Returns the value of `;name` or `;author`: the printable form of at most the first 60 bytes of `trimmed`, which has
+/// whitespace at neither end.
 pub fn directive_value(alloc: Global, trimmed: &[u8]) -> Result<String, TextTokenProblem>
     ensures value { Gives (λ value. string_bytes value) result (Ok (printed_value trimmed.now)) }
     ensures printed { IfOk result (λ value. IsPrinted (string_bytes value)) }

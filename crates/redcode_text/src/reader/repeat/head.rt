@@ -142,8 +142,7 @@ impl Reading {
         }
     }
 
-    /// Returns the number of iterations, from the tokens of the count, which follow the word FOR with the bytes
-    /// `before`.
+    /// Returns the number of iterations for the tokens of a count, which follow the word FOR with the bytes `before`.
     #[tactic(auto, using(crate::proofs::Failing::fails_bare))]
     fn count_of(
         &self,
