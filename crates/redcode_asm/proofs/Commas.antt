@@ -12,7 +12,7 @@ abbrev pub prepend : List Token → List (List Token) → List (List Token)
 prepend ts [] = ts ∷ []
 prepend ts (p ∷ ps) = (ts ++ p) ∷ ps
 
--- The parts from the token `t` on, if `b` is true for a comma and `ps` are the parts after `t`.
+-- The parts from the token `t` on. `b` is true if `t` is a comma, and `ps` are the parts after `t`.
 abbrev parts_by : Bool → Token → List (List Token) → List (List Token)
 parts_by b t ps = elim b [ true ↦ [] ∷ ps | false ↦ onto_first t ps ]
 

@@ -264,7 +264,7 @@ abbrev pub not_empty : List Placed → Result (Unit {0}) AsmFault
 not_empty [] = Err (record { line = 0; problem = Empty; token = None })
 not_empty (p ∷ rest) = Ok tt
 
--- The instructions `is` are at most `longest`, or else TooLong, and at least one, or else Empty.
+-- The error TooLong, if the instructions `is` are more than `longest`, or the error Empty, if there are none.
 abbrev pub length_checked : ℕ → List Placed → Result (Unit {0}) AsmFault
 length_checked longest is = none_past (drop longest is) >>= λ _. not_empty is
 

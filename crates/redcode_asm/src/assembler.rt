@@ -77,7 +77,7 @@ pub fn assemble(
     let predefined = predefined_names(params, rounds, warriors);
     let program = read_program(alloc, source, &predefined)?;
     let warrior = program_warrior(alloc, &program, &predefined, params);
-    // Dropped by a call, because dropping each of its fields in this body is expensive to prove.
+    // The program is dropped by a call, because dropping each of its fields in this body is expensive to prove.
     drop(program);
     warrior
 }

@@ -23,7 +23,7 @@ fn check_value(value: i64, tokens: &[Token]) -> Result<(), AsmTokenProblem>
     }
 }
 
-/// Checks the expression of an assert.
+/// Checks the expression of an assert, in which `names` has the values of names.
 fn check_tokens<E: Env>(names: &E, tokens: &[Token]) -> Result<(), AsmTokenProblem>
     ensures { result ≡ tokens_hold (E.value_of names.now) tokens.now }
 {
@@ -52,7 +52,7 @@ impl<'a> Source<'a> {
         }
     }
 
-    /// Checks asserts in order.
+    /// Checks asserts in order, up to the first error.
     fn check_each(&self, alloc: Global, asserts: &[Assert]) -> Result<(), AsmFault>
         ensures { IsResult (λ done. done) result
             (asserts_hold (predefined_of self.now.predefined.now) self.now.program.now (map assert_of asserts.now)) }
@@ -63,7 +63,7 @@ impl<'a> Source<'a> {
         Ok(())
     }
 
-    /// Checks all asserts of the source in order.
+    /// Checks all asserts of the source in order, up to the first error.
     pub fn check_asserts(&self, alloc: Global) -> Result<(), AsmFault>
         ensures { IsResult (λ done. done) result
             (asserts_hold (predefined_of self.now.predefined.now) self.now.program.now self.now.program.now.asserts) }

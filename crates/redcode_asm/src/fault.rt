@@ -6,7 +6,7 @@ use redcode_text::{ExprFault, Span, TextFault, TextProblem};
 use std::alloc::{AllocError, AllocFailed};
 use thiserror::Error;
 
-/// An error in a line of a source. It is displayed as its number and name, and the error of `Text` or `Expression`.
+/// An error in a line of a source. It is displayed as its number and name, then the error in `Text` or `Expression`.
 #[derive(Clone, Copy, Debug, PartialEq, Eq, Error)]
 pub enum AsmProblem {
     /// The text can't be read.
@@ -116,7 +116,7 @@ impl AsmFault {
     }
 }
 
-/// The reason why a text isn't a formula. It is displayed as its number and name, and the error of `Expression`.
+/// The reason why a text isn't a formula. It is displayed as its number and name, then the error in `Expression`.
 #[derive(Clone, Copy, Debug, PartialEq, Eq, Error)]
 pub enum FormulaFault {
     /// The text isn't an expression in W and S.

@@ -31,7 +31,7 @@ fn opcode_span(line: &Line) -> Option<Span>
     }
 }
 
-/// Returns the opcode of a line.
+/// Returns the opcode of a line, or an error with the token of the unknown operation.
 pub fn line_opcode(names: &NameTable, line: &Line) -> Result<Op, AsmTokenProblem>
     ensures { let l = line_of line.now in result ≡ at_token (opcode_span l) (opcode_of names.now l.operation) }
 {
@@ -135,7 +135,7 @@ fn line_operands(operation: Operation, tokens: &[Token]) -> Result<Operands<'_>,
     }
 }
 
-/// Assembles a cell from its operation and the tokens of the operands.
+/// Assembles a cell from its operation and the tokens of the operands, whose EQU names are replaced.
 pub fn make_cell<E: Env>(
     operation: Operation,
     tokens: &[Token],

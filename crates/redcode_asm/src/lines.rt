@@ -134,7 +134,7 @@ pub fn assemble_with_lines(
     let predefined = predefined_names(params, rounds, warriors);
     let program = read_program(alloc, source, &predefined)?;
     let made = program_with_lines(alloc, &program, &predefined, params);
-    // Dropped by a call, because dropping each of its fields in this body is expensive to prove.
+    // The program is dropped by a call, because dropping each of its fields in this body is expensive to prove.
     drop(program);
     made
 }

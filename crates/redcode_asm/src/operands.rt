@@ -111,7 +111,7 @@ pub fn split_operands(op: Op, tokens: &[Token]) -> Result<Operands<'_>, AsmProbl
     }
 }
 
-/// Returns the first comma, and the tokens after it.
+/// Returns the first comma, if there is one, and the tokens after it.
 fn next_comma(tokens: &[Token]) -> Option<(Token, &[Token])>
     ensures { MatchOption result (commas tokens.now ≡ []) (λ r. commas tokens.now ≡ r.0 ∷ commas r.1.now) }
 {

@@ -88,7 +88,7 @@ impl Model for Labels {
 }
 
 impl Labels {
-    /// Adds a label, unless it is in the table already.
+    /// Adds a label with the index `index`, unless the label is in the table already.
     fn add(&mut self, label: usize, index: u32) -> Result<(), AllocError>
         ensures { OnOk result (self.new ≡ with_label index self.old label) }
     {
@@ -98,7 +98,7 @@ impl Labels {
         Ok(())
     }
 
-    /// Adds the labels of a line.
+    /// Adds the labels of a line with the index `index`.
     fn add_each(&mut self, labels: &[usize], index: u32) -> Result<(), AllocError>
         ensures { OnOk result (self.new ≡ with_labels index self.old labels.now) }
     {

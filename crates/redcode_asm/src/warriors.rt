@@ -13,7 +13,7 @@ use mars_cell::{Cell, Params, Warrior};
 use redcode_text::{PredefinedNames, Program};
 use std::alloc::Global;
 
-/// Builds the warrior with these cells, and with the name and the author of a program.
+/// Builds the warrior with `cells` and `start`, and with the name and the author of a program.
 fn named_warrior(
     alloc: Global,
     program: &Program,
@@ -81,7 +81,7 @@ pub fn program_warrior<'p>(
         predefined,
     };
     let warrior = source.warrior(alloc, params);
-    // Dropped by a call, because dropping it in this body is expensive to prove.
+    // The labels are dropped by a call, because dropping them in this body is expensive to prove.
     drop(labels);
     warrior
 }

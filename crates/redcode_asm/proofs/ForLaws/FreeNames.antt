@@ -17,7 +17,7 @@ use Rattle.redcode_asm.specs.Assembly.{Placed, asserts_hold, as_start, at_line, 
 use Rattle.redcode_asm.specs.Laws.{SaysTheSame}
 
 module _ (ps : Predefined) (s : ProgramValue) (names : List (List ℕ)) (same : (n : ℕ) → SaysTheSame ps (name_at s.names n) (name_at names n)) where
-  -- The program with the other names.
+  -- The program `s` with the other names `names`.
   abbrev other : ProgramValue
   other = record s { names = names }
 

@@ -81,8 +81,7 @@ pub row_operations :
 unfolding assembly expansion value_of tree_within digits default_modifier op_of modifier_of
 row_operations = (refl, refl, refl, refl, refl, refl, refl, refl, refl, refl, refl, refl, refl, refl)
 
--- The value of a label is relative to the instruction that uses it. An operand may use an EQU name before its
--- definition.
+-- A label's value is relative to the instruction that uses it. An operand may use an EQU name before its definition.
 pub row_names :
     (assembled (codes "FOR 0" ∷ codes "this is prose" ∷ codes "ROF" ∷ codes "i FOR 2" ∷ codes "x&i DAT i, 0" ∷ codes "ROF" ∷ codes "DAT x02, x01" ∷ []) ≡ Ok (0, codes "DAT.F $1, $0" ∷ codes "DAT.F $2, $0" ∷ codes "DAT.F $-1, $-2" ∷ []))
     × (assembled (codes "FOR 0" ∷ codes "this is prose" ∷ codes "ROF" ∷ codes "i FOR 2" ∷ codes "x&i DAT i, 0" ∷ codes "DAT x02, x01" ∷ []) ≡ fault 4 (Text UnclosedFor))
@@ -123,7 +122,7 @@ pub row_order :
 unfolding assembly expansion value_of tree_within digits default_modifier op_of modifier_of
 row_order = (refl, refl, refl, refl, refl, refl, refl, refl)
 
--- An assert holds if its value is not 0. An assert may use EQU names that are defined after it, and each must hold.
+-- An assert holds if its value is not 0, and every assert must hold. EQU names may be defined after an assert.
 pub asserts_are_checked :
     (assembled (codes ";assert 2" ∷ codes ";assert -1" ∷ codes ";assert x" ∷ codes "NOP" ∷ codes "x EQU 1" ∷ []) ≡ Ok (0, codes "NOP.F $0, $0" ∷ []))
     × (assembled (codes ";assert 1" ∷ codes ";assert x-1" ∷ codes "NOP" ∷ codes "x EQU 1" ∷ []) ≡ fault 2 AssertFailed)
