@@ -43,19 +43,19 @@ unfoldable pub size_of : List ℕ → Option ℕ
 size_of digits =
     if starts_with nat_eq digits (codes "0") then None else option_and_then (λ n. if is_within 1 max_core_size n then Some n else None) (parse_digits digits)
 
--- The text as a name, if it has at most 60 bytes, each a printable ASCII character.
+-- `text` as a name, if it has at most 60 bytes, each a printable ASCII character.
 unfoldable pub name_of : List ℕ → Option (List ℕ)
 name_of text = if nat_le (length text) max_name_len && list_all (is_within 32 126) text then Some text else None
 
--- The core size in the first line, which is `;load 2 ` and the size.
+-- The core size in `line`, the first line, which is `;load 2 ` and the size.
 abbrev pub size_in : List ℕ → Option ℕ
 size_in line = option_and_then size_of (after_prefix (codes ";load 2 ") line)
 
--- The name in the second or third line, which is `word` and the name.
+-- The name in `line`, the second or third line, which is `word` and the name.
 abbrev pub name_in : List ℕ → List ℕ → Option (List ℕ)
 name_in word line = option_and_then name_of (after_prefix word line)
 
--- The header of a file of version 2, which is its first three lines, or the first error.
+-- The header of a file of version 2, which is the first three of its lines `lines`, or the first error.
 unfoldable pub header_of : List (List ℕ) → Result HeaderValue LoadFault
 header_of lines = do
   written ← ok_or (option_and_then size_in (slice_get lines 0)) fault.Version

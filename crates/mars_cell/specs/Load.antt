@@ -15,7 +15,7 @@ use Rattle.mars_cell.specs.Grammar.{cell_of}
 use Rattle.mars_cell.specs.Header.{HeaderValue, ◌>>=◌, header_of, no_header, has_version}
 use Rattle.mars_cell.specs.Warriors.{WarriorValue}
 
--- The lines of a list of bytes, without their LF; the last line may have none.
+-- The lines of a list of bytes, without their LF; the last line may have no LF.
 unfoldable pub lines_of : List ℕ → List (List ℕ)
 lines_of [] = []
 lines_of (b ∷ bs) = if b == 10 then [] ∷ lines_of bs else onto_first b (lines_of bs)

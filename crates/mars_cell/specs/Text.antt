@@ -4,8 +4,8 @@ use Rattle.mars_cell.specs.declared.instruction.Mode.{Mode}
 use Rattle.mars_cell.specs.declared.instruction.Cell.{Cell}
 use Rattle.mars_cell.specs.Words.{op_name, modifier_name, mode_name}
 
--- The text of a number `n` in a core of `m` cells. If `n` is at most half of `m`, it is printed as it is, or else as
--- the negative number that refers to the same cell.
+-- The text of a number `n` in a core of `m` cells. If `n` is at most half of `m`, it is printed as it is, and otherwise
+-- as the negative number that refers to the same cell.
 abbrev pub number_text : ℕ → ℕ → List ℕ
 number_text m n = if nat_le n (m / 2) then decimal n else codes "-" ++ decimal (m - n)
 

@@ -2,7 +2,7 @@
 //!
 //! # Guarantees
 //!
-//! The crates above may rely on these. The definitions are in `specs/`.
+//! The crates above may rely on the items of this list, whose definitions are in `specs/`.
 //!
 //! - Every parameter of a `Params` is in its range. A `Warrior` has at least one cell and starts at one of its cells;
 //!   its name and its author's have at most 60 printable ASCII characters.
