@@ -1,4 +1,4 @@
--- What a comment line adds.
+-- The effect of a comment line is given by its meaning, which the code finds.
 use Rattle.std.proofs.Common.{◌≡◌, ℕ, ◌+◌, List, ◌∷◌, ◌&&◌, drop, Bool, true, false, cond, nat_eq, Some, None, Result, Ok, refl, ap, sym, ◌∙◌, arith}
 use Rattle.std.specs.Prelude.{codes}
 use Rattle.std.specs.List.{starts_with}

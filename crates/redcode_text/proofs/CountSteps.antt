@@ -1,4 +1,4 @@
--- A count, computed from the values of the names in its tokens.
+-- A count without labels is computed from the values of the names in its tokens.
 use Rattle.std.proofs.Common.{◌≡◌, ◌∙◌, ℕ, List, None, Option, Some, Result, Err, ap, sym}
 use Rattle.std.specs.Prelude.{ℤ}
 use Rattle.redcode_text.specs.declared.fault.TextProblem.TheVariants.{LabelInCount}

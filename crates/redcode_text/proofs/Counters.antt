@@ -1,4 +1,4 @@
--- Counters, as indices into the names.
+-- Counters are indices into the names, and new names leave the open loops unchanged.
 use Rattle.std.proofs.Common.{◌≡◌, ◌∙◌, ℕ, ◌-◌, ◌<◌, suc, List, [], ◌∷◌, length, map, reverse, Option, Some, None, option_map, refl, ap, subst, sym, arith}
 use Rattle.std.proofs.lemmas.List.{get_or-reverse, length-reverse}
 use Rattle.redcode_text.specs.Code.Counters.{AreThere, IsThere, open_loop, open_loops}

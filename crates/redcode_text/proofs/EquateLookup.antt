@@ -1,4 +1,4 @@
--- An EQU name is found among the entries of the map in which it is stored.
+-- EQU names are found in the map in which they are stored, inserted into it, and extended by lines.
 use Rattle.std.proofs.Common.{◌≡◌, ◌∙◌, sym, ℕ, List, [], ◌∷◌, ◌++◌, ap, Option, None, Some, option_map, map, Bool, true, false, cond, nat_eq, refl}
 use Rattle.std.specs.Map.{lookup}
 use Rattle.indexmap.specs.IndexMap.{insert_entry}
@@ -25,7 +25,7 @@ module _ {T : Type 0} (f : T → List (List Token)) where
   inserted true k v e es more none rest = cc
   inserted false k v e es more none rest = ap (λ l. record { name = e.0; lines = f e.1 } ∷ l) (rest none)
 
-  -- Inserting a new EQU name with a line appends the name and the line.
+  -- Inserting a new EQU name with its lines appends the name and the lines.
   pub insert-equate : (k : ℕ) (v : T) (es : List (ℕ × T)) → equate_lines (equates es) k ≡ None → equates (insert_entry nat_eq es k v) ≡ equates es ++ record { name = k; lines = f v } ∷ []
   insert-equate k v [] none = refl
   insert-equate k v (e ∷ es) none = inserted (nat_eq k e.0) k v e es (insert_entry nat_eq es k v) none (insert-equate k v es)

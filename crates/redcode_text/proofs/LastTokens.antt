@@ -1,4 +1,4 @@
--- The bytes of the last token.
+-- The token at the last index gives the bytes of the last token.
 use Rattle.std.proofs.Common.{◌≡◌, ◌∙◌, suc, ◌-◌, ◌<◌, List, length, take, Option, Some, ap, sym, arith}
 use Rattle.std.specs.Prelude.{slice_get}
 use Rattle.std.proofs.Math.Seq.{take-length}

@@ -1,4 +1,4 @@
--- The state of the code, and the state with lists of unary operators.
+-- The evaluations on the code's state and on the state with lists of unary operators have the same result.
 use Rattle.std.proofs.Common.{◌≡◌, ℕ, suc, ◌+◌, ◌-◌, ◌<◌, ◌≤◌, List, [], ◌∷◌, ◌++◌, length, drop, take, get_or, slice_range, Bool, true, false, cond, leb, ℤ, Option, Result, Ok, Err, refl, ap, sym, ◌∙◌, arith, add-one, take-suc, length-drop, get_or-drop}
 use Rattle.std.proofs.lemmas.List.{map-append}
 use Rattle.std.proofs.Math.Seq.{drop-cons}
@@ -99,7 +99,7 @@ bind-along : {A B : Type 0} (r : Result A ExprFault) (f g : A → Result B ExprF
 bind-along (Ok x) f g h = h x refl
 bind-along (Err e) f g h = refl
 
--- Both evaluations have the same result.
+-- Both evaluations have the same result from the state `r` on, to which the state `p` of the shape corresponds.
 pub linked : (names : ℕ → Option ℤ) (ts rest : List Token) (n : ℕ) (r : Progress) (p : ShapeState) → drop n ts ≡ rest → Corresponds n r p → shape p (kinds rest) ≡ Ok tt → run names (seen ts n r) (kinds rest) ≡ run_on names ts n r rest
 linked names ts [] n r p e st h =
     ap (λ y. y >>= λ x. Ok x.0) (reduced-seen ts 5 r.stack r.value)

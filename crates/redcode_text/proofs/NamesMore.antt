@@ -1,4 +1,4 @@
--- A name in a table to which names are added.
+-- A name and its index in a table to which names are added.
 use Rattle.std.proofs.Common.{◌≡◌, ℕ, zero, suc, ◌+◌, ◌<◌, List, [], ◌∷◌, ◌++◌, length, Bool, true, false, not, ◌||◌, cond, if◌then◌else◌, refl, ap, sym, append-nil, arith}
 use Rattle.std.proofs.lemmas.List.{length-append}
 use Rattle.std.proofs.lemmas.List.Sums.{prefix_len-le-length}

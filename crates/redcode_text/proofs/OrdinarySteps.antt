@@ -1,4 +1,4 @@
--- An ordinary line, in terms of its parts.
+-- The effect of an ordinary line or its error, in terms of its parts.
 use Rattle.std.proofs.Common.{◌≡◌, ℕ, zero, suc, ◌-◌, List, Option, None, Some, Result, Ok, refl, ap, ◌∙◌, arith}
 use Rattle.redcode_text.specs.Results.{◌>>=◌}
 use Rattle.redcode_text.specs.declared.fault.TextTokenProblem.{TextTokenProblem}

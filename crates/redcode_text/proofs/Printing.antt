@@ -1,4 +1,4 @@
--- The text of a directive is printable.
+-- The printable form of a text of at most 60 bytes is printed.
 use Rattle.std.proofs.Common.{◌≡◌, ℕ, ◌≤◌, List, [], ◌∷◌, length, map, Bool, true, false, ◌&&◌, nat_le, Result, Ok, Err, String, Global, ap, refl, string_bytes, subst, arith}
 use Rattle.std.proofs.lemmas.List.{length-map}
 use Rattle.std.proofs.lemmas.List.Elements.{All-cons, All-nil}

@@ -1,4 +1,4 @@
--- Replacement of names, one level deeper.
+-- An EQU name is replaced by the line of its definition, in which names are replaced one level deeper.
 use Rattle.std.proofs.Common.{◌≡◌, ℕ, zero, suc, ◌-◌, List, Ok, refl, arith}
 use Rattle.redcode_text.specs.declared.token.Token.{Token}
 use Rattle.redcode_text.specs.Equates.{Equate, Replaced, one_line, one_more, replaced_name, replacing, each_replaced}

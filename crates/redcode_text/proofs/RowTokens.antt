@@ -1,4 +1,4 @@
--- The tokens of a row, as the code reads them.
+-- The tokens of a row are the tokens of its bytes before a comment, as the code reads them.
 use Rattle.std.proofs.Common.{◌≡◌, ℕ, suc, ◌+◌, ◌-◌, List, [], ◌∷◌, length, drop, take, Bool, true, false, not, ◌==◌, cond, Result, Ok, refl, ap, sym, ◌∙◌, arith, subst}
 use Rattle.std.specs.List.{prefix_len}
 use Rattle.redcode_text.specs.Results.{◌>>=◌}

@@ -1,4 +1,4 @@
--- The loop that evaluates an expression.
+-- The steps of the loop that evaluates an expression, from its start to the end, and the room on the stack.
 use Rattle.std.proofs.Common.{◌≡◌, ℕ, ◌+◌, ◌<◌, ◌≤◌, List, [], ◌∷◌, length, drop, get_or, slice_range, slice_get, false, ℤ, pos, Option, Some, Ok, Err, IfSome, refl, ap, sym, subst, ◌∙◌, arith, add-one, length-drop}
 use Rattle.std.proofs.Math.Seq.{drop-cons}
 use Rattle.std.proofs.lemmas.Option.{slice_get-get_or}
@@ -20,7 +20,7 @@ use Rattle.redcode_text.proofs.Evaluates.{evaluates}
 blank : Token
 blank = record { kind = Number (pos 0); line = 0; from = 0; to = 0 }
 
--- The token at the index `n`.
+-- The token of `ts` at the index `n`, and the tokens from the index `n` on.
 pub record At (ts : List Token) (n : ℕ) : Type 0 where
   pub token : Token
   pub found : slice_get ts n ≡ Some token

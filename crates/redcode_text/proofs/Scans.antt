@@ -1,4 +1,4 @@
--- Tokens, one at a time.
+-- The scan of a text, one token at a time.
 use Rattle.std.proofs.Common.{◌≡◌, ℕ, zero, suc, ◌+◌, ◌-◌, ◌<◌, ◌≤◌, List, [], ◌∷◌, length, drop, take, drop-drop, subst, get_or, Bool, true, false, not, ◌&&◌, cond, Some, None, Option, Result, Ok, Err, refl, ap, sym, ◌∙◌, arith, nat_lt}
 use Rattle.std.proofs.Math.Seq.{drop-cons}
 use Rattle.std.proofs.lemmas.Bool.Decides.{nat_tests}

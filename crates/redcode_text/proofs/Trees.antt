@@ -1,4 +1,4 @@
--- Operators have at most five levels.
+-- The precedence of an operator, and of the root of a tree, is at most 5.
 use Rattle.std.proofs.Common.{◌≤◌, arith}
 use Rattle.redcode_text.specs.declared.token.Sign.{Sign}
 use Rattle.redcode_text.specs.declared.token.Sign.TheVariants.{Star}

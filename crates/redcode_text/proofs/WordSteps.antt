@@ -1,4 +1,4 @@
--- Words, one byte at a time.
+-- The length of a word, one byte at a time, and the bytes of a word are ASCII.
 use Rattle.std.proofs.Common.{◌≡◌, ℕ, ◌+◌, ◌<◌, List, [], ◌∷◌, length, drop, Bool, true, false, refl, ap, ◌∙◌, arith, length-drop, drop-drop, ◌≤◌, take, IsAscii, add-one}
 use Rattle.std.proofs.lemmas.Bool.Decides.{nat_tests}
 use Rattle.std.proofs.lemmas.Str.Ascii.{IsAscii-nil, IsAscii-cons}

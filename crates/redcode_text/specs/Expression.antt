@@ -1,4 +1,4 @@
--- The shape and the value of an expression.
+-- The shape and the value of an expression, and the tokens at which errors of expressions arise.
 use Rattle.std.specs.Prelude.{ℕ, ◌+◌, ◌-◌, ◌^◌, List, [], ◌∷◌, Bool, true, false, not, ◌&&◌, ◌||◌, ℤ, pos, negsuc, ◌+ℤ◌, ◌-ℤ◌, ◌*ℤ◌, neg_ℤ, int_lt, int_div, int_rem, Option, Some, None, Result, Ok, Err, if◌then◌else◌, zero, suc, length, nat_lt, nat_le, ◌==◌, map, is_none, option_map}
 use Rattle.std.specs.List.{find}
 use Rattle.std.specs.Ordering.{int_eq}

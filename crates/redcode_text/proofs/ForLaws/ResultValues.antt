@@ -1,4 +1,4 @@
--- Properties of a result, if it is a value.
+-- Properties of a result's value, also after two steps and after the header of a loop.
 use Rattle.std.proofs.Common.{◌+◌, ◌-◌, ℕ, false, List, length, drop, Option, Result, Ok, Err}
 use Rattle.std.specs.Prelude.{⊤}
 use Rattle.redcode_text.specs.Results.{◌>>=◌}
