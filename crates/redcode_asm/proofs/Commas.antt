@@ -1,4 +1,4 @@
--- Tokens up to the first comma.
+-- The parts of tokens at commas, and the operands or the error that the parts give.
 use Rattle.std.proofs.Common.{◌≡◌, List, [], ◌∷◌, ◌++◌, length, Bool, true, false, refl, ap, ◌∙◌, ◌==◌, ◌||◌, if◌then◌else◌, Result, Err, arith}
 use Rattle.std.specs.List.{list_any, onto_first}
 use Rattle.mars_cell.specs.declared.instruction.Op.{Op}

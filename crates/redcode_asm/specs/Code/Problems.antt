@@ -1,4 +1,4 @@
--- The relations of `Outcomes` for an error without a line.
+-- The relations of `Outcomes` for an error without a line, and what is reported for an error.
 use Rattle.std.specs.Prelude.{◌≡◌, ⊤, ℕ, Option, None, Result, Ok, Err}
 use Rattle.redcode_text.specs.declared.fault.TextProblem.{TextProblem}
 use Rattle.redcode_text.specs.declared.fault.TextProblem.TheVariants as text
