@@ -79,7 +79,7 @@ parse_number_digits minus p ds e some few all = rw (e, lt-ltb 0 (length ds) some
 few_digits : (n : ℕ) → n < 2 ^ 32 → length (decimal n) ≤ 18
 few_digits n h = length-decimal-le 18 n (omega arith) (omega arith) (omega arith)
 
--- The decimal text of a number is read as the number.
+-- The decimal text of a number below 2^32 is read as the number.
 pub decimal_read : (n : ℕ) → n < 2 ^ 32 → parse_number (decimal n) ≡ Some (signed false n)
 decimal_read n small =
     let d = numeral n (omega arith) in
