@@ -1,4 +1,4 @@
--- If the first of two steps fails, both together fail with the same error, and errors with their tokens and lines.
+-- If the first of two steps fails, both together fail with the same error, also after the error gets its token or line.
 use Rattle.std.proofs.Common.{◌≡◌, ◌∙◌, ℕ, Option, Result, Ok, Err, ap, refl, sym, subst}
 use Rattle.redcode_text.specs.Results.{◌>>=◌}
 use Rattle.redcode_text.specs.declared.fault.TextFault.{TextFault}

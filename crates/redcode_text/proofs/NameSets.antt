@@ -59,7 +59,7 @@ any-map : {X Y : Type 0} (p : Y → Bool) (f : X → Y) (xs : List X) → list_a
 any-map p f [] = refl
 any-map p f (x ∷ xs) = ap (λ b. p (f x) || b) (any-map p f xs)
 
--- The set has the labels of the lines, as they are defined.
+-- A name is in the set of labels exactly if it is a label of the lines, as `is_label` defines it.
 pub label_known : (names : List ℕ) (lines : List line.Line) (n : ℕ) → AreLabels (λ l. l.labels.items) names lines → has names n ≡ list_any (λ l. list_any (λ m. m == n) l.labels) (map line_of lines)
 label_known names lines n known = known n ∙ any-map (λ l. list_any (λ m. m == n) l.labels) line_of lines
 

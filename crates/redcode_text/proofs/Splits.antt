@@ -11,7 +11,7 @@ use Rattle.redcode_text.specs.Expression.{precedence, Tree, Numeral, Named, Pare
 use Rattle.redcode_text.specs.Trees.{spelling, rank, is_prefix, IsLevelled}
 use Rattle.redcode_text.proofs.Trees.{rank-≤5}
 
--- The split of tokens with `xs` put before them.
+-- The given split of tokens, if there is one, with the tokens `xs` put before the first token.
 abbrev prepended : List TokenKind → Option OperatorSplit → Option OperatorSplit
 prepended xs (Some p) = Some (record { before = xs ++ p.before; sign = p.sign; after = p.after })
 prepended xs None = None

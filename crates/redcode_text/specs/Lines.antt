@@ -284,7 +284,7 @@ operation_lines st (Some n) = equate_lines st.equates n
 operation_lines st None = None
 
 -- The step that reads the line `p` with the number `number`. If its operation is an EQU name, the given lines of the
--- definition replace it. `deeper` reads each of these lines; without `deeper` they are nested too deep.
+-- definition replace the name. `deeper` reads each of these lines; without `deeper` they are nested too deep.
 abbrev pub parts_read : Option (List Token → Step) → ℕ → Parts → Option (List (List Token)) → Step
 parts_read deeper number p None st = Ok (line_added number (record p { rest = on_line number p.rest }) st)
 parts_read None number p (Some lines) st = Err (problem_at p.operation_span EquDepth)

@@ -77,8 +77,8 @@ fn read_source(alloc: Global, bytes: &[u8], names: &PredefinedNames) -> Result<R
     read_from_rows(alloc, read_rows(&rows), names)
 }
 
-/// Reads a source from its first `;redcode` line on, or all of it if there is none, up to END. Expands FOR loops, and
-/// EQU names that are used as operations.
+/// Reads a source from its first `;redcode` line on, or the whole source if it has none, up to END. Expands FOR loops,
+/// and EQU names that are used as operations.
 ///
 /// Unless names collide (`NameTable`), the running time is linear in the number of bytes that are read, where a line of
 /// a loop counts once per iteration, and in the number of replacements in counts. Each count has at most 65,536

@@ -76,7 +76,7 @@ pub fn end_from(rows: &[SourceRow<'_>], ends: &[usize], first: usize) -> usize
     }
 }
 
-/// Returns, for each row, the index of the ROF that ends the items after it, or the number of rows if none ends them.
+/// Returns, for each row, the index of the ROF that ends the items after the row, or the number of rows without a ROF.
 pub fn ends_of(alloc: Global, rows: &[SourceRow<'_>]) -> Result<Vec<usize>, AllocError>
     ensures ends { IfOk result (λ ends. AreEnds rows.now ends.items) }
     ensures len { IfOk result (λ ends. vec_len ends ≡ length rows.now) }

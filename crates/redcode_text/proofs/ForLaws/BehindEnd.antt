@@ -76,7 +76,7 @@ module _ (rest : List SourceRow) (none : list_any begins_redcode rest ≡ false)
 
 -- ---- Trees
 
--- The items `more` begin like the first items, up to the end of these or to their first unpaired FOR or ROF.
+-- The items `more` begin like the first items, up to the end of the first items or to their first unpaired FOR or ROF.
 Begins : Items → Items → Type 0
 Begins Nothing more = ⊤
 Begins (Plain row rest) more = (others : Items) × (more ≡ Plain row others) × Begins rest others

@@ -123,7 +123,7 @@ tokens-keep ps RofLine row (t ∷ ts) st p = ordinary-keeps ps row.number 32 (t 
 tokens-keep ps (ForLine at) row (t ∷ ts) st p = ordinary-keeps ps row.number 32 (t ∷ ts) st p
 tokens-keep ps OtherLine row (t ∷ ts) st p = ordinary-keeps ps row.number 32 (t ∷ ts) st p
 
--- A text that replaces another one, unless it is empty, is printable if both are.
+-- A text that replaces an old text, unless the text is empty, gives a printable text if both texts are printable.
 given-printed : (text old : List ℕ) → IsPrinted text → IsPrinted old → IsPrinted (unless_empty text old)
 given-printed [] old t o = o
 given-printed (b ∷ bs) old t o = t

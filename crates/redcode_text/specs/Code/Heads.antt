@@ -4,6 +4,6 @@ use Rattle.redcode_text.specs.declared.reader.repeat.head.Head as code
 use Rattle.redcode_text.specs.Expansion.{Head}
 use Rattle.redcode_text.specs.Lines.{Reading, name_at}
 
--- The header that `h` represents. `st` was read up to and including it.
+-- The header that `h` represents. `st` is everything read up to and including the header.
 abbrev pub head_of : Reading → code.Head → Head
 head_of st h = record { counter = option_map (name_at st.names) h.counter; count = h.count; reading = st }

@@ -19,6 +19,6 @@ pub record EndsAt (rows : List code.SourceRow) (i j : ℕ) : Type 0 where
   pub at_end : here_from rows j ≡ Nothing
   pub waiting : (paired_from rows i).waiting ≡ (paired_from rows j).waiting
 
--- For each row, `ends` has the row at which the items after it end.
+-- For each row `i`, `ends` has the index of the row that ends the items from row `i` + 1 on, or the number of rows.
 abbrev pub AreEnds : List code.SourceRow → List ℕ → Type 0
 AreEnds rows ends = (i : ℕ) → i < length rows → EndsAt rows (i + 1) (slice_index ends i)

@@ -11,7 +11,7 @@ use crate::token::{Sign, Token, TokenKind};
 use arrayvec::ArrayVec;
 use std::marker::Model;
 
-/// An entry of the stack: it waits for the rest of the expression.
+/// An entry of the stack, which waits for the rest of the expression.
 #[derive(Clone, Copy)]
 enum Pending {
     /// An open parenthesis, with the first index of the unary operators before it, and the index after the last one.

@@ -122,7 +122,7 @@ fn join_word(alloc: Global, names: &SourceNames, word: &[u8]) -> Result<Vec<u8>,
     Ok(joined)
 }
 
-/// Returns the token of a word as it is written in the source.
+/// Returns the token of `word`, which is given as in the source, with its joins.
 pub fn read_word(
     alloc: Global,
     names: &mut SourceNames,

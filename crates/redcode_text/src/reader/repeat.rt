@@ -100,7 +100,7 @@ fn read_rof_row(alloc: Global, row: SourceRow<'_>, reading: &mut Reading) -> Res
     }
 }
 
-/// Counts the line of a FOR without its ROF, or of a ROF without its FOR, and returns its error `problem`.
+/// Counts the line of a FOR without its ROF, or of a ROF without its FOR, and returns the error `problem`.
 fn refuse_unpaired(
     row: SourceRow<'_>,
     problem: TextProblem,

@@ -9,7 +9,7 @@ use Rattle.redcode_text.specs.Expression.{kinds, unary}
 use Rattle.redcode_text.specs.Code.Climbing.{signed}
 use Rattle.redcode_text.proofs.expression.evaluation.+apply_signs.Goals as goal
 
--- A run of unary operators is applied as its first one to the value of the others.
+-- Applying a run of unary operators applies the first operator to the value of the other operators.
 signed-first : (run : List Token) (d : Token) (s : Sign) (v w : ℤ) → 1 ≤ length run → (get_or run 0 d).kind ≡ token.Sign s → signed (kinds (take (length run - 1) (drop 1 run))) v ≡ Ok w → signed (kinds run) v ≡ unary s w
 signed-first [] d s v w h k e = absurd (omega arith)
 signed-first (x ∷ run) d s v w h k e =
