@@ -158,7 +158,7 @@ built names [] before index begin text at =
     (refl, ap (λ all. firsts names all (index + 0)) (append-nil before) ∙ ap (firsts names before) count ∙ at.finished)
 built names (l ∷ ls) before index begin text at = built_by (is_instruction names l.operation l.rest) names l ls (built names ls) before index begin text at
 
--- The lines and labels of a program are those that the code builds.
+-- The lines and labels of a program are the lines and labels that the code builds.
 pub lines_are : (source : ProgramValue)
     → program_lines source ≡ record { lines = lines_on source.names 0 [] source.lines; labels = labels_on source.names 0 [] source.lines }
 lines_are source =

@@ -26,7 +26,7 @@ pub struct CellLine {
     pub end: u64,
 }
 
-// If one of these functions runs out of memory, a part of the new values may have been appended.
+// If one of the `push_` functions runs out of memory, a part of the new values may have been appended.
 
 /// Appends the names of labels to a text, with a zero byte after each.
 fn push_labels(names: &NameTable, labels: &[usize], text: &mut Vec<u8>) -> Result<(), AllocError>
