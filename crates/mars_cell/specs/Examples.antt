@@ -1,4 +1,4 @@
--- Examples. The check computes each of them.
+-- Examples of the specification, each of which the check computes.
 pub mod Cells
 pub mod LoadFiles
 pub mod Parameters
