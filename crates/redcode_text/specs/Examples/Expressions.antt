@@ -42,9 +42,12 @@ pub row_values :
 unfolding value_of tree_within
 row_values = (refl, refl, refl, refl, refl, refl, refl, refl)
 
--- A sum with a remainder in it, two comparisons in a row, each comparison with both results, and a conjunction.
+-- A sum with a remainder in it, a comparison with a sum in it, a conjunction with a comparison in it, two comparisons in a
+-- row, each comparison with both results, and a conjunction of true values.
 pub levels_and_comparisons :
     (eval (n 7 ∷ s Plus ∷ n 3 ∷ s Percent ∷ n 2 ∷ []) ≡ Ok (pos 8))
+    × (eval (n 4 ∷ s Equal ∷ n 2 ∷ s Plus ∷ n 2 ∷ []) ≡ Ok (pos 1))
+    × (eval (n 0 ∷ s And ∷ n 0 ∷ s Equal ∷ n 0 ∷ []) ≡ Ok (pos 0))
     × (eval (n 1 ∷ s Equal ∷ n 2 ∷ s Less ∷ n 1 ∷ []) ≡ Ok (pos 1))
     × (eval (n 2 ∷ s LessEqual ∷ n 2 ∷ []) ≡ Ok (pos 1))
     × (eval (n 3 ∷ s LessEqual ∷ n 2 ∷ []) ≡ Ok (pos 0))
@@ -57,7 +60,7 @@ pub levels_and_comparisons :
     × (eval (n 1 ∷ s NotEqual ∷ n 1 ∷ []) ≡ Ok (pos 0))
     × (eval (s Minus ∷ n 1 ∷ s And ∷ n 1 ∷ []) ≡ Ok (pos 1))
 unfolding value_of tree_within
-levels_and_comparisons = (refl, refl, refl, refl, refl, refl, refl, refl, refl, refl, refl, refl)
+levels_and_comparisons = (refl, refl, refl, refl, refl, refl, refl, refl, refl, refl, refl, refl, refl, refl)
 
 -- The smallest and the largest value. Both operands of || and && are evaluated. Errors of the shape come first.
 pub values_are_checked :
