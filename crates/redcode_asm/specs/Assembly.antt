@@ -83,7 +83,7 @@ instructions source = filter (λ p. is_instruction source.names p.line.operation
 -- The index of the first line that has the label `n`.
 abbrev pub label_among : List Placed → ℕ → Option ℕ
 label_among [] n = None
-label_among (p ∷ ps) n = elim (list_any (λ m. m == n) p.line.labels) [ true ↦ Some p.index | false ↦ label_among ps n ]
+label_among (p ∷ lines) n = elim (list_any (λ m. m == n) p.line.labels) [ true ↦ Some p.index | false ↦ label_among lines n ]
 
 -- The first value, or `other` if there is none.
 abbrev pub value_or : Option ℤ → Option ℤ → Option ℤ
@@ -292,9 +292,9 @@ end_operand ps source count p (t ∷ ts) = start_at ps source count p (t ∷ ts)
 abbrev pub end_start : Predefined → ProgramValue → ℕ → Placed → Result ℕ AsmTokenProblem
 end_start ps source count p = replaced source p.line.rest >>= end_operand ps source count p
 
--- The last of the lines `ps` for which `keeps` is true. Here `ps` is not the list of predefined names.
+-- The last of the lines for which `keeps` is true.
 abbrev pub last_where : (Line → Bool) → List Placed → Option Placed
-last_where keeps ps = last_or None (filter (λ p. keeps p.line) ps)
+last_where keeps lines = last_or None (filter (λ p. keeps p.line) lines)
 
 -- The start, from the last ORG and the last END, if they exist. ORG has precedence over END. Without both, the start is
 -- 0.
