@@ -80,14 +80,18 @@ fn check_taken(rt: &impl Abort, alloc: Global, words: &[&str]) -> Result<(), Fai
 }
 
 const DEFAULT_LIMITS: &[Played] = &[
-    // The limits are the core size, so an offset of half the core is not folded.
+    // The limits are the core size, so neither a read nor a write at half the core is folded.
     (
         &["-e", "imp.load"],
-        b"edit 0 MOV.I $4000, $4000\nedit 4000 NOP.F $1, $1\nstep\nlist 4000 1\n",
+        b"edit 0 MOV.I $4000, $1\nedit 4000 NOP.F $1, $1\nstep\nlist 1 1\nedit 2 MOV.I $7999, $4000\nstep\nstep\nlist 4002 1\n",
         b"turn 0 cycle 0 next 0 alive 1 at 1/1
 turn 0 cycle 0 next 0 alive 1 at 2/2
 turn 1 cycle 1 next 0 alive 1 at 3/3
-4000 NOP.F $1, $1
+1 NOP.F $1, $1
+turn 1 cycle 1 next 0 alive 1 at 4/4
+turn 2 cycle 2 next 0 alive 1 at 5/5
+turn 3 cycle 3 next 0 alive 1 at 6/6
+4002 NOP.F $1, $1
 ",
     ),
     // The history keeps 200,000 places beside the last one.
