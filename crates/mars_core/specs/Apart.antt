@@ -10,23 +10,23 @@ use Rattle.mars_core.specs.Touched.{touched_in_turn}
 abbrev pub GoesOn : ℕ → State → Type 0
 GoesOn n s = (k : ℕ) → k < n → is_over_of (after_turns k s) ≡ false
 
--- The addresses of the cells that the warrior reads or writes in the next `n` turns.
+-- The addresses of the cells that `warrior` reads or writes in the next `n` turns.
 abbrev pub touched_in : ℕ → ℕ → State → List ℕ
 touched_in warrior zero s = []
 touched_in warrior (suc n) s =
     if is_over_of s then [] else (if s.next == warrior then touched_in_turn s else []) ++ touched_in warrior n (turn_of s)
 
--- All cells that the warrior reads or writes in the next `n` turns are in `part`.
+-- All cells that `warrior` reads or writes in the next `n` turns are in `part`.
 abbrev pub StaysWithin : (ℕ → Bool) → ℕ → ℕ → State → Type 0
 StaysWithin part warrior n s = AllPass part (touched_in warrior n s)
 
--- In the next `n` turns, the other warriors change no cell of `part`.
+-- In the next `n` turns, the warriors other than `warrior` change no cell of `part`.
 abbrev pub OthersLeaveUnchanged : (ℕ → Bool) → ℕ → ℕ → State → Type 0
 OthersLeaveUnchanged part warrior n s =
     (k : ℕ) → k < n → let t = after_turns k s in is_over_of t ≡ false → t.next ≢ warrior →
     (address : ℕ) → part address ≡ true → cell_at (turn_of t).core address ≡ cell_at t.core address
 
--- The number of turns that the warrior has among the next `n`.
+-- The number of turns that `warrior` has among the next `n`.
 abbrev pub own_turns : ℕ → ℕ → State → ℕ
 own_turns warrior zero s = 0
 own_turns warrior (suc n) s = if is_over_of s then 0 else (if s.next == warrior then 1 else 0) + own_turns warrior n (turn_of s)

@@ -30,8 +30,8 @@ abbrev pub core_words : List Cell → List ℕ
 core_words [] = []
 core_words (c ∷ cells) = tags_word c ∷ c.a ∷ c.b ∷ core_words cells
 
--- The two words of each death: the warrior, and the number of turns that all warriors had executed by then, including the fatal
--- one if it died in a turn.
+-- The two words of each death: the warrior, and the number of turns that all warriors had executed by then, including
+-- the fatal turn if the warrior died in a turn.
 abbrev pub death_words : List Death → List ℕ
 death_words [] = []
 death_words (d ∷ deaths) = d.warrior ∷ d.turns ∷ death_words deaths
@@ -61,7 +61,7 @@ field_words s =
 unfoldable pub head_of : State → List ℕ
 head_of s = field_words s ++ padded 16 (lengths_of s.queues) ++ padded 32 (death_words s.deaths)
 
--- The parameters in the words of a header.
+-- The parameters in the words of the header `head`.
 abbrev pub params_in : List ℕ → Parameters
 params_in head = record {
   core_size = slice_index_or head 2 0;
@@ -83,7 +83,8 @@ pub record Spells (s : State) (words : List ℕ) : Type 0 where
   pub valid : IsValid s
   pub block : words ≡ block_of s ++ drop (length (block_of s)) words
 
--- The header, the process counts, the cells and the processes of the block of `s`.
+-- `head'`, `counts'`, `cells'` and `processes'` are the header, the process counts, the words of the cells and the
+-- addresses of the processes in the block of `s`.
 pub record AreParts (s : State) (head' counts' cells' processes' : List ℕ) : Type 0 where
   pub head : head' ≡ head_of s
   pub counts : counts' ≡ lengths_of s.queues

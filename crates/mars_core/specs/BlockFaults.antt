@@ -17,15 +17,15 @@ use Rattle.mars_core.specs.declared.deaths.Death.{Death}
 abbrev pub head_in : List ℕ → List ℕ
 head_in words = take head_words words
 
--- The word of the header at an index from 0.
+-- The word of the header at the index `place`, counted from 0, or 0 if the header has no such word.
 abbrev pub word_in : List ℕ → ℕ → ℕ
 word_in words place = slice_index_or (head_in words) place 0
 
--- The number of words that the cells take.
+-- The number of words of all cells, by the core size in the header.
 abbrev pub cell_words_in : List ℕ → ℕ
 cell_words_in words = 3 * (params_in (head_in words)).core_size
 
--- The number of processes of each warrior.
+-- The number of processes of each warrior, as the header gives it.
 abbrev pub counts_in : List ℕ → List ℕ
 counts_in words = take (word_in words 9) (drop 16 (head_in words))
 
@@ -37,15 +37,15 @@ cells_in words = take (cell_words_in words) (drop head_words words)
 abbrev pub processes_in : List ℕ → List ℕ
 processes_in words = take (sum (counts_in words)) (drop (cell_words_in words) (drop head_words words))
 
--- In `words`, the words of all cells, the three words at the address are not those of a cell that fits the core, and all words before them
--- belong to cells that do.
+-- In `words`, the words of all cells, the three words at `address` are not those of a cell that fits a core of
+-- `core_size` cells, and all words before them are those of cells that fit it.
 pub record IsFirstWrongCell (core_size : ℕ) (words : List ℕ) (address : ℕ) : Type 0 where
   pub before : (cells : List Cell) × All (FitsCore core_size) cells × (core_words cells ≡ take (3 * address) words)
   pub wrong : (c : Cell) → FitsCore core_size c → cell_words c ≢ slice_index_or words (3 * address) 0
       ∷ slice_index_or words (3 * address + 1) 0 ∷ slice_index_or words (3 * address + 2) 0 ∷ []
 
--- The warrior has too many processes or a process outside the core, and no warrior before it has. `counts` are the numbers of processes of
--- all warriors, and `words` the addresses of these processes.
+-- `warrior` is the first warrior that has too many processes or a process outside the core. `counts` are the numbers of
+-- processes of all warriors, and `words` the addresses of these processes.
 pub record IsFirstWrongQueue (p : Parameters) (counts words : List ℕ) (warrior : ℕ) : Type 0 where
   pub before : (queues : List (List ℕ)) × All (IsQueue p.core_size p.processes) queues × (lengths_of queues ≡ take warrior counts)
       × (concat queues ≡ take (sum (take warrior counts)) words)
@@ -55,7 +55,7 @@ pub record IsFirstWrongQueue (p : Parameters) (counts words : List ℕ) (warrior
 abbrev pub AreQueues : List ℕ → List (List ℕ) → Type 0
 AreQueues words queues = (lengths_of queues ≡ counts_in words) × (concat queues ≡ processes_in words)
 
--- The words have this error. `OutOfMemory` says nothing about them.
+-- `words` have the given error. `OutOfMemory` says nothing about `words`.
 abbrev pub IsWrong : List ℕ → BlockFault → Type 0
 IsWrong words Short = (length words < head_words) ⊎ (length words < head_words + cell_words_in words + sum (counts_in words))
 IsWrong words Mark = word_in words 0 ≢ block_mark

@@ -1,4 +1,5 @@
--- Examples, as theorems: the check computes what the definitions result in. This file has the terms in which they are written.
+-- Examples, as theorems: the check computes what the definitions result in. This file has the terms in which the
+-- examples are written.
 pub mod Edits
 pub mod Apart
 pub mod Reach
@@ -62,7 +63,7 @@ sizes m p r w = record { core_size = m; processes = p; cycles = 10; read_limit =
 abbrev pub of_eight : Parameters
 of_eight = sizes 8 8 8 8
 
--- A core of eight cells that begins with the given cells.
+-- A core of eight cells that begins with `cells`.
 abbrev pub eight : List Cell → List Cell
 eight cells = take 8 (cells ++ replicate 8 empty_cell)
 
@@ -86,7 +87,8 @@ lone_dead p core = record (lone p core []) { turns = 1; deaths = record { warrio
 abbrev pub change : ℕ → Cell → Cell → CellChange
 change address before after = record { address = address; before = before; after = after }
 
--- The turn of `s` results in `t`, with these writes, and queues these addresses; its record leads back and forth again.
+-- The turn of `s` results in `t`, makes `writes` and queues `addresses`; the record of the turn leads back to `s` and
+-- forth to `t`.
 pub record IsTurn (s t : State) (writes : List CellChange) (addresses : List ℕ) : Type 0 where
   pub state : turn_of s ≡ t
   pub changes : (turn_record s).cells.items ≡ writes
@@ -94,7 +96,7 @@ pub record IsTurn (s t : State) (writes : List CellChange) (addresses : List ℕ
   pub back : reverted (turn_record s) t ≡ s
   pub forth : applied (turn_record s) s ≡ t
 
--- The edit of `s` results in `t`; its record leads back and forth again.
+-- The edit `e` of `s` results in `t`; the record of the edit leads back to `s` and forth to `t`.
 pub record IsEdit (s : State) (e : Edit) (t : State) : Type 0 where
   pub state : edited s e ≡ t
   pub back : reverted (edit_record s e) t ≡ s

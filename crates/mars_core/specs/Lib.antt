@@ -21,7 +21,7 @@ pub mod Marks
 pub mod Search
 pub mod Moments
 pub mod Ancestors
--- Definitions that only laws use.
+-- Definitions that only laws use, the laws, the examples, and how the code represents the definitions.
 pub mod Moved
 pub mod Reach
 pub mod Apart

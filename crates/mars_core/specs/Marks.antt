@@ -12,7 +12,7 @@ pub record Marks : Type 0 where
   pub written : List Bool
   pub touched : List Bool
 
--- The lists of each kind, from a list with the three marks of each cell.
+-- The marks as one list for each kind, from a list with the three marks of each cell.
 abbrev pub marks_of : List Mark → Marks
 marks_of marks = record {
   executed = map (λ (m : Mark). m.executed) marks;
@@ -20,17 +20,17 @@ marks_of marks = record {
   touched = map (λ (m : Mark). m.touched) marks;
 }
 
--- The marks of one kind after the marks of the cells at these addresses are set.
+-- The marks of one kind after those of the cells at the given addresses are set.
 abbrev pub marked : List ℕ → List Bool → List Bool
 marked [] marks = marks
 marked (a ∷ addresses) marks = marked addresses (slice_set marks a true)
 
--- The addresses of these writes.
+-- The addresses of the writes `changes`, in order.
 abbrev pub written_at : List CellChange → List ℕ
 written_at changes = map (λ (change : CellChange). change.address) changes
 
--- The marks after the next turn, which sets those of the cell that it executes, of the cells that it writes, and of the cells that it
--- touches.
+-- The marks after the next turn of `s`: the cell that it executes is marked as executed, the cells that it writes as
+-- written, and the cells that it touches as touched.
 abbrev pub marks_after : State → Marks → Marks
 marks_after s marks = record {
   executed = marked (front_of (queue_of s.queues s.next) ∷ []) marks.executed;

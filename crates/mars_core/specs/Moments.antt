@@ -12,12 +12,12 @@ use Rattle.mars_core.specs.declared.battle.moments.Moment.{Moment}
 use Rattle.mars_core.specs.declared.past.Past.{Past}
 use Rattle.mars_core.specs.declared.search.Condition.{Condition}
 
--- The number of cells that the warrior owns.
+-- The number of cells that `warrior` owns, where `pasts` are the pasts of all cells.
 abbrev pub owned_by : List Past → ℕ → ℕ
 owned_by pasts warrior = length (filter (λ (past : Past). past.owner == warrior) pasts)
 
--- The moment of the state `s`, after a step of which `found` turns met the conditions. Its lists have an entry for each of the maximum
--- number of warriors.
+-- The moment of the state `s`, after a step of which `found` turns met the conditions. Each list of the moment has
+-- `max_warriors` entries.
 abbrev pub moment_of : State → List Past → ℕ → Moment
 moment_of s pasts found = record {
   turns = s.turns;
@@ -26,7 +26,7 @@ moment_of s pasts found = record {
   processes = padded max_warriors (lengths_of s.queues);
 }
 
--- The moments after 1 to `n` steps, each of `step` turns, or of as many as are left.
+-- The moments after 1 to `n` steps from `s` on, each of `step` turns, or of as many as are left in the battle.
 abbrev pub moments_after : ℕ → ℕ → List Condition → State → List Past → List Moment
 moments_after zero step conditions s pasts = []
 moments_after (suc n) step conditions s pasts =

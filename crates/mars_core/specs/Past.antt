@@ -14,12 +14,12 @@ use Rattle.mars_core.specs.Turn.{front_of, turn_of}
 use Rattle.mars_core.specs.declared.machine.copy.CellCopy.{CellCopy}
 use Rattle.mars_core.specs.declared.past.Past.{Past}
 
--- The past of the cell at an address.
+-- The past of the cell at `address`.
 abbrev pub past_at : List Past → ℕ → Past
 past_at pasts address = slice_index_or pasts address (record { owner = 0; turn = 0; origin = 0 })
 
--- The next turn changes the cell at the address: the cell is another one afterwards. Several writes are one change, and a write of the same
--- cell is none.
+-- The next turn of `s` changes the cell at `address`: a different cell is there afterwards. Several writes are one
+-- change, and writes that leave an equal cell are none.
 abbrev pub changes : State → ℕ → Bool
 changes s address = not (are_equal_cells (cell_at s.core address) (cell_at (turn_of s).core address))
 
@@ -44,13 +44,14 @@ copy_by p core pc =
 abbrev pub copy_in_turn : State → Option CellCopy
 copy_in_turn s = copy_by s.params s.core (front_of (queue_of s.queues s.next))
 
--- The address from which the cell at an address comes: if the copy writes this cell, the address that is copied, otherwise its own.
+-- The address from which the cell at `address` comes: the address that is copied if the copy writes at `address`,
+-- otherwise `address`.
 abbrev pub comes_from : Option CellCopy → ℕ → ℕ
 comes_from None address = address
 comes_from (Some copy) address = if copy.to == address then copy.from else address
 
--- The past of the cell at an address after the next turn. A change makes the warrior of the turn the owner; a copy has the origin of the
--- cell that is copied.
+-- The past of the cell at `address` after the next turn of `s`. If the turn changes the cell, its warrior becomes the
+-- owner. If the turn copies a cell to `address`, the origin is that of the copied cell.
 abbrev pub past_after : State → List Past → ℕ → Past
 past_after s pasts address =
     let before = past_at pasts address in

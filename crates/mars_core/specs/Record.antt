@@ -25,7 +25,7 @@ rewritten (change ∷ changes) core = rewritten changes (slice_set core change.a
 abbrev pub without_last : {X : Type 0} → ℕ → List X → List X
 without_last n xs = take (length xs - n) xs
 
--- The warrior whose queue the work changes.
+-- The warrior whose queue the work changes, if there is one.
 abbrev pub warrior_of : Work → Option ℕ
 warrior_of (work.Turn w address) = Some w
 warrior_of work.SetCell = None
@@ -33,7 +33,7 @@ warrior_of (work.MoveProcess w i from to) = Some w
 warrior_of (work.KillProcess w i address) = Some w
 warrior_of (work.Spawn w address) = Some w
 
--- The queue before the work, from the queue after it; a turn queued `queued` addresses.
+-- The queue before the work, from `queue` after it. A turn queued as many addresses as `queued`.
 abbrev pub queue_before : Work → ℕ → List ℕ → List ℕ
 queue_before (work.Turn w address) queued queue = address ∷ without_last queued queue
 queue_before work.SetCell queued queue = queue
@@ -41,7 +41,7 @@ queue_before (work.MoveProcess w i from to) queued queue = slice_set queue i fro
 queue_before (work.KillProcess w i address) queued queue = insert queue i address
 queue_before (work.Spawn w address) queued queue = without_last 1 queue
 
--- The queue after the work, from the queue before it; a turn queued the addresses `queued`.
+-- The queue after the work, from `queue` before it. A turn queued the addresses `queued`.
 abbrev pub queue_after_work : Work → List ℕ → List ℕ → List ℕ
 queue_after_work (work.Turn w address) queued queue = drop 1 queue ++ queued
 queue_after_work work.SetCell queued queue = queue
@@ -49,12 +49,12 @@ queue_after_work (work.MoveProcess w i from to) queued queue = slice_set queue i
 queue_after_work (work.KillProcess w i address) queued queue = remove queue i
 queue_after_work (work.Spawn w address) queued queue = queue ++ address ∷ []
 
--- The queues in which the warrior's queue, if there is a warrior, is replaced by `f` of it.
+-- `queues` after `f` is applied to the queue of the warrior, if there is a warrior.
 abbrev pub with_queue : Option ℕ → (List ℕ → List ℕ) → List (List ℕ) → List (List ℕ)
 with_queue None f queues = queues
 with_queue (Some w) f queues = slice_set queues w (f (queue_of queues w))
 
--- The deaths, followed by the death of the warrior after `turns` turns, if there is a warrior and `died`.
+-- `deaths`, followed by the death of the warrior after `turns` turns, if there is a warrior and `died`.
 abbrev pub deaths_after : Option ℕ → Bool → ℕ → List Death → List Death
 deaths_after None died turns deaths = deaths
 deaths_after (Some w) died turns deaths = with_death died w turns deaths

@@ -15,18 +15,19 @@ use Rattle.mars_core.specs.declared.search.Number.TheVariants.{Warrior, Queued, 
 use Rattle.mars_core.specs.declared.search.Way.{Way}
 use Rattle.mars_core.specs.declared.search.Way.TheVariants.{Executes, Changes, Reads}
 
--- The turn of the state `s` writes the cell at the address.
+-- The turn of the state `s` writes the cell at `address`.
 abbrev pub writes : State → ℕ → Bool
 writes s address = list_any (λ (write : CellChange). write.address == address) (turn_record s).cells.items
 
--- The turn of the state `s` uses the cell at the address in this way. A cell that it writes is not read, even if the write changes nothing.
+-- The turn of the state `s` uses the cell at `address` in the given way. A cell that the turn writes is not read, even
+-- if the write changes nothing.
 abbrev pub uses : Way → State → ℕ → Bool
 uses Executes s address = front_of (queue_of s.queues s.next) == address
 uses Changes s address = changes s address
 uses Reads s address = list_any (λ touched. touched == address) (touched_in_turn s) && not (writes s address)
 
--- A number of the turn of the state `s`, or of the cell at the address, which the turn uses. The owner, the turn and the origin of the cell
--- are those before the turn.
+-- A number of the turn of the state `s`, or of the cell at `address`, which the turn uses. The owner, the turn, the
+-- origin and the opcode of the cell are those before the turn; the new opcode is that after the turn.
 abbrev pub number_of : Number → State → List Past → ℕ → ℕ
 number_of Warrior s pasts address = s.next
 number_of Queued s pasts address = length (turn_record s).queued.items
@@ -38,13 +39,13 @@ number_of Origin s pasts address = (past_at pasts address).origin
 number_of Opcode s pasts address = op_index (cell_at s.core address).op
 number_of NewOpcode s pasts address = op_index (cell_at (turn_of s).core address).op
 
--- The number is in the range from `first` to `last`, both included. If `last` is less than `first`, the range wraps around: it has the
--- numbers from `first` on and those up to `last`.
+-- `number` is in the range from `first` to `last`, both included. If `last` is less than `first`, the range wraps
+-- around: it has the numbers from `first` on and those up to `last`.
 abbrev pub is_within : ℕ → ℕ → ℕ → Bool
 is_within first last number =
     if nat_le first last then nat_le first number && nat_le number last else nat_le first number || nat_le number last
 
--- The condition holds for the cell at the address, which the turn of the state `s` uses.
+-- `condition` holds for the cell at `address`, which the turn of the state `s` uses.
 abbrev pub holds : State → List Past → ℕ → Condition → Bool
 holds s pasts address condition = is_within condition.first condition.last (number_of condition.number s pasts address)
 
@@ -55,28 +56,28 @@ is_same Changes Changes = true
 is_same Reads Reads = true
 is_same _ _ = false
 
--- Any of the conditions is on this way of using a cell.
+-- At least one of `conditions` is on `way`, a way of using a cell.
 abbrev pub are_on : Way → List Condition → Bool
 are_on way conditions = list_any (λ (condition : Condition). is_same way condition.way) conditions
 
--- The conditions on this way of using a cell.
+-- Those of `conditions` that are on `way`, a way of using a cell.
 abbrev pub on : Way → List Condition → List Condition
 on way conditions = filter (λ (condition : Condition). is_same way condition.way) conditions
 
--- The turn uses a cell in this way for which all conditions on this way hold.
+-- The turn of the state `s` uses a cell in the way `way`, and all of `conditions` on this way hold for it.
 abbrev pub one_meets : Way → List Condition → State → List Past → Bool
 one_meets way conditions s pasts =
     list_any (λ address. uses way s address && list_all (holds s pasts address) (on way conditions)) (range_with_len 0 s.params.core_size)
 
--- The turn meets all conditions: for each way on which there are conditions, it uses a cell for which they hold. So all conditions
--- on the same way are about the same cell.
+-- The turn of the state `s` meets all conditions: for each way on which there are conditions, it uses a cell for which
+-- they hold. So all conditions on the same way are about the same cell.
 abbrev pub meets : List Condition → State → List Past → Bool
 meets conditions s pasts =
     (not (are_on Executes conditions) || one_meets Executes conditions s pasts)
     && (not (are_on Changes conditions) || one_meets Changes conditions s pasts)
     && (not (are_on Reads conditions) || one_meets Reads conditions s pasts)
 
--- The row for the turn of the state `s`, if it meets the conditions: its number, its warrior, how many processes it queues, the address
+-- What a search finds of the turn of the state `s`: its number, its warrior, how many processes it queues, the address
 -- that it executes, and the past of the cell there before the turn.
 abbrev pub found_turn : State → List Past → Found
 found_turn s pasts =
@@ -96,6 +97,6 @@ found_in conditions (suc n) s pasts =
     if is_over_of s then []
     else (if meets conditions s pasts then found_turn s pasts ∷ [] else []) ++ found_in conditions n (turn_of s) (pasts_after s pasts)
 
--- The rows, of which the first are replaced by `found`. Items of `found` beyond the number of rows are left out.
+-- `rows`, of which the first are replaced by the items of `found`. Items beyond the number of rows are left out.
 abbrev pub filled : {X : Type 0} → List X → List X → List X
 filled found rows = take (length rows) found ++ drop (length found) rows

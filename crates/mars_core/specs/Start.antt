@@ -16,7 +16,7 @@ abbrev pub addresses_from : ℕ → ℕ → ℕ → List ℕ
 addresses_from m s zero = []
 addresses_from m s (suc n) = (s % m) ∷ addresses_from m (s + 1) n
 
--- The address of each cell of each warrior, loaded at its starting position.
+-- The address of each cell of each warrior, loaded at its starting position in `starts`, in a core of `m` cells.
 abbrev pub loaded_addresses : ℕ → List WarriorValue → List ℕ → List ℕ
 loaded_addresses m [] starts = []
 loaded_addresses m (w ∷ warriors) [] = []
@@ -44,7 +44,7 @@ abbrev pub fields_inside : ℕ → List WarriorValue → Bool
 fields_inside m [] = true
 fields_inside m (w ∷ warriors) = list_all (is_inside m) w.cells && fields_inside m warriors
 
--- The first error for which the battle cannot start.
+-- The first error for which the battle cannot start, if there is one.
 abbrev pub start_fault : Parameters → List WarriorValue → List ℕ → Option BattleFault
 start_fault p warriors starts =
     if length warriors == 0 then Some NoWarrior
@@ -54,12 +54,12 @@ start_fault p warriors starts =
     else if not (fields_inside p.core_size warriors) then Some FieldOutside
     else None
 
--- The core of `m` cells with the cells loaded from `address` on, modulo `m`.
+-- `core`, a core of `m` cells, with the cells of a warrior loaded from `address` on, modulo `m`.
 abbrev pub with_warrior : ℕ → ℕ → List Cell → List Cell → List Cell
 with_warrior m address [] core = core
 with_warrior m address (cell ∷ cells) core = with_warrior m (address + 1) cells (slice_set core (address % m) cell)
 
--- The core with each warrior loaded at its starting position.
+-- `core`, a core of `m` cells, with each warrior loaded at its starting position.
 abbrev pub with_warriors : ℕ → List WarriorValue → List ℕ → List Cell → List Cell
 with_warriors m [] starts core = core
 with_warriors m (w ∷ warriors) [] core = core

@@ -9,16 +9,17 @@ use Rattle.mars_core.specs.Addresses.{address_after, fold}
 use Rattle.mars_core.specs.Operand.{pointed_address, evaluated}
 use Rattle.mars_core.specs.Turn.{front_of}
 
--- The addresses to which the number `n` of an indirect mode leads, for reading and for writing; none for the other modes. A field of both
--- cells is read, and the field of the second may be decremented or incremented.
+-- The addresses to which the number `n` of the instruction at `pc` leads, for reading and for writing, if `mode` is
+-- indirect; none for the other modes. The same field of both cells is read, and that of the second may be decremented
+-- or incremented.
 abbrev pub pointed_addresses : Parameters → ℕ → Mode → ℕ → List ℕ
 pointed_addresses p pc Immediate n = []
 pointed_addresses p pc Direct n = []
 pointed_addresses p pc mode n = address_after p.core_size pc (fold p.core_size p.read_limit n) ∷ pointed_address p pc n ∷ []
 
--- The addresses of the cells that the execution of the instruction at `pc` reads or writes: the instruction itself; for each operand the
--- cells by which it is indirect and the cell that is copied; and the B-target. All of them are listed, even if the opcode does not use the
--- copies or writes nothing.
+-- The addresses of the cells that the execution of the instruction at `pc` reads or writes: the instruction itself; for
+-- each operand the cells by which it is indirect and the cell that is copied; and the B-target. All these cells are
+-- listed, even if the opcode does not use the copies or writes nothing.
 unfoldable pub touched : Parameters → List Cell → ℕ → List ℕ
 touched p core pc =
     let m = p.core_size in

@@ -11,14 +11,14 @@ use arrayvec::ArrayVec;
 pub const MAX_WARRIORS: usize = 16;
 
 /// The death of a warrior, given by its index. `turns` is the number of turns that all warriors had executed by then,
-/// including the one that killed it if it died in a turn.
+/// including the fatal turn if the warrior died in a turn.
 #[derive(Clone, Copy, Debug, PartialEq, Eq, Default)]
 pub struct Death {
     pub warrior: u32,
     pub turns: u32,
 }
 
-/// Appends the death of a warrior if `died`.
+/// Appends the death of `warrior` after `turns` turns if `died`.
 #[inline(always)]
 pub fn note_death(deaths: &mut ArrayVec<Death, MAX_WARRIORS>, died: bool, warrior: u32, turns: u32)
     requires { died ≡ true → array_vec_len deaths.old < max_warriors }
@@ -29,7 +29,7 @@ pub fn note_death(deaths: &mut ArrayVec<Death, MAX_WARRIORS>, died: bool, warrio
     }
 }
 
-/// Appends a death. It is marked as cold, so that the code of turns without a death is contiguous.
+/// Appends a death. The function is marked as cold, so that the code of turns without a death is contiguous.
 #[cold]
 #[inline(never)]
 pub fn add_death(deaths: &mut ArrayVec<Death, MAX_WARRIORS>, death: Death)

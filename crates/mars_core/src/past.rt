@@ -19,13 +19,13 @@ use crate::packed::PackedCell;
 pub struct Past {
     /// The warrior that changed the cell last.
     pub owner: u32,
-    /// The number of the turn that changed it last, from 1.
+    /// The number of the turn that changed the cell last, from 1.
     pub turn: u32,
     /// The address at which the instruction of the cell was at first.
     pub origin: u32,
 }
 
-/// Gives the cell that a copy writes the origin of the cell that it copies.
+/// Sets the origin of the cell that a copy writes to the origin of the copied cell.
 #[inline(always)]
 pub fn note_copy(pasts: &mut [Past], copy: Option<CellCopy>)
     requires inside { IfSome copy (λ (one : Copied). one.from < length pasts.old × one.to < length pasts.old) }
@@ -38,7 +38,7 @@ pub fn note_copy(pasts: &mut [Past], copy: Option<CellCopy>)
     }
 }
 
-/// Returns the cell at an address before the writes that led to the core.
+/// Returns the cell that was at `address` before `writes`, which led to `core`.
 #[inline(always)]
 pub fn cell_before(core: &[PackedCell], writes: &[CellChange], address: u32) -> PackedCell
     requires inside { address < length core.now }
@@ -52,7 +52,7 @@ pub fn cell_before(core: &[PackedCell], writes: &[CellChange], address: u32) -> 
     cell_at(core, address)
 }
 
-/// Returns whether the cell at an address differs from the cell before the writes that led to the core.
+/// Returns whether the cell at `address` differs from the cell there before `writes`, which led to `core`.
 #[inline(always)]
 pub fn is_changed(core: &[PackedCell], writes: &[CellChange], address: u32) -> bool
     requires inside { address < length core.now }
@@ -61,7 +61,7 @@ pub fn is_changed(core: &[PackedCell], writes: &[CellChange], address: u32) -> b
     !cell_before(core, writes, address).equals(cell_at(core, address))
 }
 
-/// Notes the owner and the turn of each cell that differs from the cell before the writes that led to the core.
+/// Sets the owner and the turn of each cell that differs from the cell before `writes`, which led to `core`.
 #[inline(always)]
 pub fn note_changes(
     pasts: &mut [Past],

@@ -55,7 +55,7 @@ impl Continuation {
     }
 }
 
-/// The addresses that a queue accepted, and whether the queue is empty after that.
+/// The addresses that a queue accepted, and whether the queue is then empty.
 #[derive(Clone, Copy)]
 pub struct Accepted {
     pub queued: Continuation,
@@ -163,7 +163,7 @@ impl ProcessQueue {
         self.ring.try_push_back(address).is_ok()
     }
 
-    /// Appends the addresses for which there is capacity, and returns them.
+    /// Appends the addresses for which there is capacity, and returns them with whether the queue is then empty.
     #[inline(always)]
     #[tactic(auto, using(crate::proofs::Live::filled_by_one, crate::proofs::Live::filled_by_two))]
     pub fn accept(&mut self, continuation: Continuation) -> Accepted
@@ -213,7 +213,7 @@ impl ProcessQueue {
         self.push(address);
     }
 
-    /// Returns a copy with memory of its own.
+    /// Returns a copy with memory of its own. Fails if the allocation fails.
     pub fn copy(&self, alloc: Global) -> Result<ProcessQueue, AllocError>
         ensures { IfOk result (λ queue. queue ≡ self.now) }
     {
@@ -271,7 +271,7 @@ fn filled(queued: Continuation) -> Accepted
     }
 }
 
-/// Returns copies of the queues, each with memory of its own.
+/// Returns copies of the queues, each with memory of its own. Fails if an allocation fails.
 pub fn copy_queues(alloc: Global, queues: &[ProcessQueue]) -> Result<Vec<ProcessQueue>, AllocError>
     ensures { IfOk result (λ copies. copies.items ≡ queues.now) }
 {
@@ -283,7 +283,7 @@ pub fn copy_queues(alloc: Global, queues: &[ProcessQueue]) -> Result<Vec<Process
     Ok(copies)
 }
 
-/// Copies each queue over the one with the same index, without allocating.
+/// Copies each queue over the target with the same index, without allocating.
 pub fn copy_queues_over(queues: &[ProcessQueue], targets: &mut [ProcessQueue])
     requires count { length queues.now ≡ length targets.old }
     requires limits { (m : ℕ) × All (λ (q : Contents). q.limit ≡ m) queues.now × All (λ (q : Contents). q.limit ≡ m) targets.old }

@@ -28,8 +28,8 @@ pub enum Work {
 
 /// The record of one turn or edit.
 ///
-/// It has the kind of work, each write of a cell in the order of execution, the addresses that a turn actually queued,
-/// the next warrior before and after, whether a cycle was completed, and whether the warrior died.
+/// A record has the kind of work, each write of a cell in the order of execution, the addresses that a turn actually
+/// queued, the next warrior before and after, whether a cycle was completed, and whether the warrior died.
 #[derive(Debug, Drop)]
 pub struct Atom {
     pub work: Work,
@@ -75,7 +75,7 @@ pub fn turns_of(work: Work) -> u32
     }
 }
 
-/// Returns the number of completed cycles that the work added.
+/// Returns the number of completed cycles that a work adds: 1 if `added`, else 0.
 pub fn cycles_of(added: bool) -> u32
     ensures { result ≡ spec_cycles_of added }
 {

@@ -22,7 +22,7 @@ use arrayvec::ArrayVec;
 pub enum Way {
     /// The turn executes the cell.
     Executes,
-    /// The cell is another one after the turn.
+    /// The turn changes the cell: a different cell is there afterwards.
     Changes,
     /// The turn touches the cell and does not write it.
     Reads,
@@ -73,7 +73,7 @@ pub struct Found {
     pub queued: u32,
     /// The address of the cell that the turn executed.
     pub address: u32,
-    /// The past of that cell before the turn.
+    /// The past of the executed cell before the turn.
     pub past: Past,
 }
 
@@ -182,7 +182,7 @@ fn one_meets(way: Way, conditions: &[Condition], seen: Seen<'_>, used: &[u32]) -
     false
 }
 
-/// Returns whether a cell was written.
+/// Returns whether any of `writes` is at `address`.
 fn is_written(writes: &[CellChange], address: u32) -> bool
     ensures { result ≡ list_any (λ (write : Change). write.address == address) writes.now }
 {
@@ -210,7 +210,7 @@ fn changed(seen: Seen<'_>) -> ArrayVec<u32, 3>
     addresses
 }
 
-/// Returns the addresses of the cells that a turn read: those that it touched and did not write.
+/// Returns the addresses of the cells that a turn read: those in `touched` that the turn did not write.
 fn read(seen: Seen<'_>, touched: &[u32]) -> ArrayVec<u32, MAX_TOUCHED>
     requires few { length touched.now ≤ 8 }
     requires inside { All (λ address. address < length seen.core.now) touched.now }

@@ -3,10 +3,10 @@ use Rattle.std.specs.Prelude.{ℕ, ◌+◌, ◌-◌, ◌%◌, Bool, List}
 use Rattle.std.specs.List.{list_any}
 use Rattle.mars_core.specs.Start.{is_in}
 
--- The distance from one address forward to another, in a core of `m` cells.
+-- The distance from the address `from` forward to the address `to`, in a core of `m` cells.
 unfoldable pub distance : ℕ → ℕ → ℕ → ℕ
 distance m from to = (to + (m - from % m)) % m
 
--- The two lists have an address in common.
+-- The lists `xs` and `ys` have an address in common.
 unfoldable pub share : List ℕ → List ℕ → Bool
 share xs ys = list_any (λ x. is_in ys x) xs

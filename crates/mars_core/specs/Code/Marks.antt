@@ -9,7 +9,7 @@ use Rattle.mars_core.specs.Touched.{touched}
 use Rattle.mars_core.specs.Turn.{execution_of}
 use Rattle.mars_core.specs.Code.Operands.{writes_field}
 
--- The marks after those of each kind are set at the addresses for this kind.
+-- `marks` after those of each kind are set at the addresses for this kind: `executed`, `written` and `touched`.
 abbrev pub with_marks : List ℕ → List ℕ → List ℕ → Marks → Marks
 with_marks executed written touched marks = record {
   executed = marked executed marks.executed;
@@ -17,7 +17,7 @@ with_marks executed written touched marks = record {
   touched = marked touched marks.touched;
 }
 
--- The address of the cell of which the evaluation of the mode writes a field; none if it writes none.
+-- The address of the cell of which the evaluation of `mode` writes a field; an empty list if it writes no field.
 abbrev pub pointed_writes : Parameters → ℕ → Mode → ℕ → List ℕ
 pointed_writes p pc mode n = if writes_field mode then pointed_address p pc n ∷ [] else []
 

@@ -14,6 +14,6 @@ pub record IsSeen (s : State) (core : List Cell) (atom : Atom) : Type 0 where
   pub atom_is : atom ≡ turn_record s
   pub size : length core ≡ s.params.core_size
 
--- The addresses are those of the cells that the turn of the state `s` uses in this way.
+-- `addresses` are those of the cells that the turn of the state `s` uses in the way `way`.
 abbrev pub AreUsed : Way → State → List ℕ → Type 0
 AreUsed way s addresses = (address : ℕ) → address < s.params.core_size → is_in addresses address ≡ uses way s address

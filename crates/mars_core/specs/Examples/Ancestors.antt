@@ -8,7 +8,7 @@ use Rattle.mars_core.specs.Ancestors.{Lineage, lineage}
 use Rattle.mars_core.specs.State.{State}
 use Rattle.mars_core.specs.Examples.{the_machine, battle_of, cell_of, eight, lone, lone_after, of_eight, sizes}
 
--- `SPL $0`, then `JMP $0`. The process that splits continues at the jump, where it stays; the new one splits again.
+-- `SPL $0`, then `JMP $0`. The process that splits continues at the jump, where it stays; the new process splits again.
 abbrev splitting : List Cell
 splitting = eight (cell_of Spl B Direct 0 Direct 0 ∷ cell_of Jmp B Direct 0 Direct 0 ∷ [])
 
@@ -41,7 +41,7 @@ pub no_birth_in_a_full_queue : lineage 1 (lone (sizes 8 1 8 8) splitting (0 ∷ 
 unfolding the_machine
 no_birth_in_a_full_queue = refl
 
--- In turn 1 the process at the front dies, at a DAT. The process with place 1 moves up and splits in turn 2.
+-- In turn 1 the process at the front dies, at a DAT. The process at place 1 of the queue moves up and splits in turn 2.
 pub processes_move_up_after_a_death : lineage 2 (lone of_eight splitting (7 ∷ 0 ∷ [])) 0 1 ≡ descent (2 ∷ []) 1
 unfolding the_machine
 processes_move_up_after_a_death = refl

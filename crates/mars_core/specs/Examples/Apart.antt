@@ -32,7 +32,7 @@ dwarf =
 abbrev usual : Parameters
 usual = record { core_size = 8000; processes = 8000; cycles = 80000; read_limit = 8000; write_limit = 8000; max_length = 100; distance = 100 }
 
--- The imp's cells, which are followed by the dwarf's.
+-- The 200 cells of the imp, which come before the cells of the dwarf.
 abbrev imp_part : List Cell
 imp_part = imp ∷ replicate 199 empty_cell
 
@@ -51,7 +51,7 @@ lone_imp = lone usual (imp_part ++ replicate 7800 empty_cell) (0 ∷ [])
 abbrev lone_dwarf : State
 lone_dwarf = lone usual (replicate 200 empty_cell ++ dwarf_part) (200 ∷ [])
 
--- A warrior with these cells, which starts at the first one.
+-- A warrior with `cells`, which starts at the first cell.
 abbrev warrior : List Cell → WarriorValue
 warrior cells = record { name = []; author = []; cells = cells; start = 0 }
 
@@ -113,7 +113,7 @@ each_fights_as_alone law valid valid_imp valid_dwarf =
       law owner 1 200 fight lone_dwarf valid valid_dwarf refl cycle each_starts_as_alone.1 each_keeps_to_its_own,
     )
 
--- Computing the battles confirms this.
+-- Computing the battles confirms that after 100 turns of its own each warrior is as in a battle of its own.
 pub each_is_as_alone :
     ((after_turns 200 fight).queues ≡ (100 ∷ []) ∷ (201 ∷ []) ∷ [])
     × ((after_turns 100 lone_imp).queues ≡ (100 ∷ []) ∷ [])
@@ -123,7 +123,7 @@ pub each_is_as_alone :
 unfolding the_machine
 each_is_as_alone = (refl, refl, refl, refl, refl)
 
--- `SNE.I $0, $4` changes nothing.
+-- A battle whose first warrior executes `SNE.I $0, $4`, which changes nothing.
 abbrev reading : State
 reading = battle_of of_eight (eight (cell_of Sne I Direct 0 Direct 4 ∷ [])) ((0 ∷ []) ∷ (4 ∷ []) ∷ [])
 

@@ -1,4 +1,4 @@
--- Words that are not a block, by what is wrong with them.
+-- Words that are not a block, by their error, and words without such an error.
 use Rattle.std.specs.Prelude.{◌-◌, ℕ, List, [], ◌∷◌, ◌++◌, length, refl}
 use Rattle.std.proofs.Common.{arith, inl, inr, replicate}
 use Rattle.mars_cell.specs.Cells.{empty_cell}
@@ -8,7 +8,7 @@ use Rattle.mars_core.specs.BlockFaults.{IsFirstWrongCell, IsFirstWrongQueue, IsW
 use Rattle.mars_core.specs.Examples.{of_eight}
 use Rattle.mars_core.specs.declared.battle.block.BlockFault.TheVariants as fault
 
--- A header that begins with these words.
+-- A header that begins with `first` and continues with zeros.
 abbrev header : List ℕ → List ℕ
 header first = first ++ replicate (64 - length first) 0
 

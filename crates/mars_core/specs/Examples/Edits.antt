@@ -95,8 +95,8 @@ pub cell_is_set : IsEdit (queue (0 ∷ [])) (SetCell 1 (cell_of Nop F Direct 7 D
 unfolding the_machine
 cell_is_set = record { state = refl; back = refl; forth = refl }
 
--- An error of the address comes before an error of the cell's numbers or of the warrior, and an error of the warrior before an error of its
--- process.
+-- An error of the address comes before an error of the cell's numbers or of the warrior, and an error of the warrior
+-- before an error of the process.
 pub first_fault_of_an_edit :
     (edit_fault (queue (0 ∷ [])) (SetCell 8 (numbers 8 8)) ≡ Some Address)
     × (edit_fault (queue (0 ∷ [])) (SetCell 7 (numbers 8 0)) ≡ Some FieldOutside)

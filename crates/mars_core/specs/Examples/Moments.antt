@@ -9,12 +9,13 @@ use Rattle.mars_core.specs.Examples.{the_machine}
 use Rattle.mars_core.specs.Examples.Pasts.{all_loaded}
 use Rattle.mars_core.specs.Examples.Searches.{two_imps, where_}
 
--- The cells that each warrior owns: the second owns `second` cells. The `others` have the owner 9, which stands for no warrior.
+-- The number of cells of each owner: the second warrior owns `second` cells, and `others` cells have the owner 9, which
+-- stands for no warrior.
 abbrev owned : ℕ → ℕ → List ℕ
 owned second others = 0 ∷ second ∷ replicate 7 0 ++ others ∷ replicate 6 0
 
--- Two imps in turn, in steps of three turns. The turns of the second one are 2, 4 and 6, and in each it copies itself to a new cell. The
--- first one runs after it and changes nothing.
+-- Two imps, in steps of three turns. The second imp has turns 2, 4 and 6, and copies itself to a new cell in each. The
+-- first imp follows the second imp and changes nothing.
 pub moments_are_after_each_step : moments_after 2 3 (where_ Executes Warrior 1 1 ∷ []) two_imps all_loaded
     ≡ record { turns = 3; found = 1; cells = owned 1 7; processes = 1 ∷ 1 ∷ replicate 14 0 }
     ∷ record { turns = 6; found = 2; cells = owned 3 5; processes = 1 ∷ 1 ∷ replicate 14 0 } ∷ []

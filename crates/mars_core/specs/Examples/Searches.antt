@@ -19,7 +19,7 @@ use Rattle.mars_core.specs.Examples.Pasts.{all_loaded, loaded, past}
 abbrev pub where_ : Way → Number → ℕ → ℕ → Condition
 where_ way number first last = record { way = way; number = number; first = first; last = last }
 
--- A turn of the warrior that executed the address and queued one process.
+-- What a search finds of a turn of `warrior` that executed `address` and queued one process.
 abbrev found : ℕ → ℕ → ℕ → Past → Found
 found turn warrior address before = record { turn = turn; warrior = warrior; queued = 1; address = address; past = before }
 
@@ -27,8 +27,8 @@ found turn warrior address before = record { turn = turn; warrior = warrior; que
 pub ranges_go_around : (is_within 6 1 7 ≡ true) × (is_within 6 1 1 ≡ true) × (is_within 6 1 3 ≡ false) × (is_within 3 3 3 ≡ true)
 ranges_go_around = (refl, refl, refl, refl)
 
--- Two imps in turn. The second one executes copies of the first, also in its first turn, which is turn 2: its own cell was overwritten with
--- an equal one.
+-- Two imps in turn. The second imp executes copies of the first, also in its first turn, which is turn 2: its own cell
+-- was overwritten with an equal cell.
 abbrev pub two_imps : State
 two_imps = battle_of of_eight (eight (imp ∷ imp ∷ [])) ((0 ∷ []) ∷ (1 ∷ []) ∷ [])
 
@@ -38,7 +38,7 @@ pub copies_are_found_where_they_are_executed : (found_in (where_ Executes Origin
 unfolding the_machine copy_by pasts_after
 copies_are_found_where_they_are_executed = (refl, refl)
 
--- `MOV.I $0, >1` changes two cells: the one that it increments, and the one that becomes a MOV. No cell is both.
+-- `MOV.I $0, >1` changes two cells: the cell that it increments, and the cell that becomes a MOV. No cell is both.
 abbrev two_changes : State
 two_changes = lone of_eight (eight (cell_of Mov I Direct 0 BPostincrement 1 ∷ numbers 0 3 ∷ [])) (0 ∷ [])
 
@@ -49,7 +49,7 @@ pub conditions_on_a_way_are_about_one_cell : (meets (where_ Changes Address 1 1 
 unfolding the_machine copy_by pasts_after
 conditions_on_a_way_are_about_one_cell = (refl, refl, refl, refl)
 
--- The turn touches cell 1 and writes it, so it does not read it.
+-- The turn touches and writes cell 1, so cell 1 is not read.
 pub written_cells_are_not_read : (meets (where_ Reads Address 1 1 ∷ []) two_changes all_loaded ≡ false) × (meets (where_ Reads Address 0 0 ∷ []) two_changes all_loaded ≡ true)
 unfolding the_machine copy_by pasts_after
 written_cells_are_not_read = (refl, refl)
@@ -60,7 +60,7 @@ pub splits_are_found : found_in (where_ Executes Queued 2 2 ∷ []) 1 (lone of_e
 unfolding the_machine copy_by pasts_after
 splits_are_found = refl
 
--- `ADD.AB #1, $0` changes itself: the turn is found with the past of the cell before it.
+-- `ADD.AB #1, $0` changes itself: the turn is found with the past that the cell had before this turn.
 pub a_past_is_that_before_the_turn : found_in (where_ Changes Address 0 0 ∷ []) 2 (lone of_eight (eight (cell_of Add Ab Immediate 1 Direct 0 ∷ cell_of Jmp B Direct 7 Direct 0 ∷ [])) (0 ∷ [])) all_loaded
     ≡ found 1 0 0 (loaded 0) ∷ []
 unfolding the_machine copy_by pasts_after

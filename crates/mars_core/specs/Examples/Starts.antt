@@ -11,7 +11,7 @@ use Rattle.mars_core.specs.Start.{start_fault, start_state}
 use Rattle.mars_core.specs.Examples.{the_machine, cell_of, numbers, sizes, of_eight, battle_of}
 use Rattle.mars_core.specs.declared.battle.start.BattleFault.TheVariants.{NoWarrior, TooMany, Overlap, StartOutside, FieldOutside}
 
--- A warrior with these cells, which starts at the cell with index `start`.
+-- A warrior with `cells`, which starts at the cell with index `start`.
 abbrev warrior : List Cell → ℕ → WarriorValue
 warrior cells start = record { name = []; author = []; cells = cells; start = start }
 
@@ -21,7 +21,8 @@ nop a = cell_of Nop F Direct a Direct 0
 abbrev jmp : ℕ → Cell
 jmp a = cell_of Jmp B Direct a Direct 0
 
--- Three warriors. The first of them extends past the end of the core and starts at its second cell.
+-- Three warriors. The first starts at its second cell, and extends past the end of the core if it is loaded at address
+-- 7.
 abbrev three : List WarriorValue
 three = warrior (nop 1 ∷ nop 2 ∷ []) 1 ∷ warrior (jmp 1 ∷ jmp 2 ∷ jmp 3 ∷ []) 2 ∷ warrior (numbers 4 4 ∷ []) 0 ∷ []
 
@@ -38,7 +39,7 @@ pub they_overlap_by_one_cell : start_fault of_eight three (7 ∷ 3 ∷ 5 ∷ [])
 unfolding the_machine
 they_overlap_by_one_cell = refl
 
--- Overlap is checked past the end of the core, and before the starting positions are.
+-- Overlap is checked past the end of the core, and before the starting positions are checked.
 pub overlap_comes_before_a_start_outside : start_fault of_eight (warrior (nop 0 ∷ []) 0 ∷ warrior (nop 0 ∷ []) 0 ∷ []) (0 ∷ 8 ∷ []) ≡ Some Overlap
 unfolding the_machine
 overlap_comes_before_a_start_outside = refl

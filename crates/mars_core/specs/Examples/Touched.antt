@@ -1,4 +1,4 @@
--- The cells that instructions read and write, in the order in which they do.
+-- The cells that instructions read and write, in the order in which `touched` lists them, and the marks of a turn.
 use Rattle.std.specs.Prelude.{◌≡◌, List, [], ◌∷◌, ◌++◌, false, true, refl}
 use Rattle.std.proofs.Common.{replicate}
 use Rattle.mars_cell.specs.declared.instruction.Cell.{Cell}

@@ -12,7 +12,7 @@ use Rattle.mars_core.specs.Examples.{battle_of, eight, numbers, of_eight}
 abbrev two : State
 two = battle_of of_eight (eight []) ((0 ∷ []) ∷ (4 ∷ []) ∷ [])
 
--- Two warriors with these processes.
+-- Two warriors with the processes `one` and `other`.
 abbrev with_queues : List ℕ → List ℕ → State
 with_queues one other = record two { queues = one ∷ other ∷ [] }
 
@@ -20,7 +20,7 @@ with_queues one other = record two { queues = one ∷ other ∷ [] }
 abbrev death_of : ℕ → Death
 death_of warrior = record { warrior = warrior; turns = 1 }
 
--- Two dead warriors, after these turns, in the second cycle.
+-- Two dead warriors, after `turns` turns, in the second cycle.
 abbrev both_dead : ℕ → State
 both_dead turns = record (with_queues [] []) { cycle = 1; turns = turns; deaths = death_of 0 ∷ death_of 1 ∷ [] }
 

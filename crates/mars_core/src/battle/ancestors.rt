@@ -19,7 +19,7 @@ pub struct Ancestors {
     pub first: u32,
 }
 
-/// Why the ancestors of a process are not returned.
+/// The reason why the ancestors of a process are not returned.
 #[derive(Clone, Copy, Debug, PartialEq, Eq)]
 pub enum AncestorsFault {
     OutOfMemory,
@@ -37,11 +37,11 @@ struct OwnTurn {
 }
 
 impl Battle {
-    /// Finds the turns in which a process and its ancestors were born. The process is given by its warrior and its place in
-    /// the queue after `turns` turns, or at the end of the battle if that comes before.
+    /// Finds the turns in which a process and its ancestors were born. The process is given by its warrior and its
+    /// place in the queue after `turns` turns, or at the end of the battle if fewer turns are left.
     ///
-    /// The turns are written to the front of `births`, the last one first, as far as there are places. The turns are
-    /// executed on a copy.
+    /// The numbers of these turns are written to the front of `births`, the last one first, as far as there are places.
+    /// The battle itself is not changed: a copy executes the `turns` turns.
     ///
     /// # Errors
     ///
@@ -76,7 +76,7 @@ impl Battle {
         Ok(trace_back(&own, place, births))
     }
 
-    /// Executes `turns` turns, or as many as are left, and returns the turns of the warrior among them.
+    /// Executes `turns` turns, or as many as are left, and returns those of `warrior`.
     fn own_turns(
         &mut self,
         alloc: Global,
@@ -99,7 +99,7 @@ impl Battle {
         Ok(own)
     }
 
-    /// Executes a turn of a battle that is not over, and returns it if it is a turn of the warrior.
+    /// Executes a turn of a battle that is not over, and returns the turn if it is a turn of `warrior`.
     fn own_turn(&mut self, warrior: u32) -> Option<OwnTurn>
         requires running { is_over_of self.old ≡ false }
         ensures turn { result ≡ (if self.old.next == warrior then Some (spec_own_turn self.old warrior) else None) }
@@ -117,7 +117,7 @@ impl Battle {
 }
 
 /// Traces a process back over the turns `own` of its warrior, from its place in the queue after them. Writes the turns
-/// in which the process and its ancestors were born.
+/// in which the process and its ancestors were born to the front of `births`, the last one first.
 fn trace_back(own: &[OwnTurn], place: u32, births: &mut [u32]) -> Ancestors
     requires few { length own.now < 2 ^ 32 }
     ensures count { result.count ≡ length (traced_back own.now (record { births = []; place = place })).births }

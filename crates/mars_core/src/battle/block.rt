@@ -38,8 +38,8 @@ pub const HEAD_WORDS: usize = 64;
 /// The first word of a block: the bytes M, A, R and 1, the version of the layout. M is the lowest byte.
 pub const BLOCK_MARK: u32 = 22_167_885;
 
-/// The reason why words are not the block of a battle. It is displayed as its number and name. [`Battle::read_block`]
-/// states the order in which the errors are checked.
+/// The reason why words are not the block of a battle, displayed as its number and name. [`Battle::read_block`] states
+/// the order in which the errors are checked.
 #[derive(Clone, Copy, Debug, PartialEq, Eq, Error)]
 pub enum BlockFault {
     /// There are fewer words than the header needs, or fewer than the block needs.
@@ -54,12 +54,11 @@ pub enum BlockFault {
     /// The number of warriors is not from 1 to 16.
     #[error("4 Warriors")]
     Warriors,
-    /// The cell at this address has an opcode, modifier or mode that does not exist, or a number outside the core. It
-    /// is the first such cell.
+    /// The cell at this address is the first with an opcode, modifier or mode that does not exist, or with a number
+    /// outside the core.
     #[error("5 Cell")]
     Cell(u32),
-    /// The warrior with this index has more processes than the limit, or a process outside the core. It is the first
-    /// such warrior.
+    /// The warrior with this index is the first with more processes than the limit, or with a process outside the core.
     #[error("6 Queue")]
     Queue(u32),
     /// The deaths do not name each warrior without a process exactly once, and no other warrior.
@@ -69,7 +68,7 @@ pub enum BlockFault {
     #[error("8 Clock")]
     Clock,
     /// A header word that follows from the others is wrong: the length of the block, whether the battle is over, or an
-    /// unused zero.
+    /// unused word, which must be 0.
     #[error("9 Head")]
     Head,
     /// An allocation failed.
@@ -85,7 +84,7 @@ pub fn max_words(params: &Params, warriors: usize) -> usize
     HEAD_WORDS + 3 * params.core_size() as usize + warriors * params.processes() as usize
 }
 
-/// Writes a list to the front of `places`, and zeros to the rest.
+/// Writes `list` to the front of `places`, and zeros to the rest.
 pub fn put_padded(list: &[u32], places: &mut [u32])
     requires { length list.now ≤ length places.old }
     ensures { places.new ≡ padded (length places.old) list.now }
@@ -175,7 +174,7 @@ impl Battle {
     ///
     /// # Errors
     ///
-    /// `specs/BlockFaults` states what each error says of the words. They are checked in this order: `Short` (the
+    /// `specs/BlockFaults` states what each error says of the words. The errors are checked in this order: `Short` (the
     /// header), `Mark`, `Parameters`, `Warriors`, `Short` (the rest), `Deaths` (more than 16), `Cell`, `Queue`,
     /// `Deaths`, `Clock` and `Head`. `OutOfMemory` replaces any error that would have been found after the allocation.
     pub fn read_block(alloc: Global, words: &[u32]) -> Result<Battle, BlockFault>
@@ -212,7 +211,7 @@ fn are_same(some: &[u32], others: &[u32]) -> bool
     some == others
 }
 
-/// Returns the battle of the parts of a block. It does not check the header words that follow from the others.
+/// Returns the battle of the parts of a block. The header words that follow from the others are not checked.
 fn battle_of(alloc: Global, parts: &Parts<'_>) -> Result<Battle, BlockFault>
     requires head { length parts.now.head.now ≡ head_words }
     requires cells { length parts.now.cells.now ≡ 3 * (params_in parts.now.head.now).core_size }
@@ -255,7 +254,7 @@ fn battle_of(alloc: Global, parts: &Parts<'_>) -> Result<Battle, BlockFault>
     }
 }
 
-/// Returns the battle in this state, if the state is valid.
+/// Returns the battle with these parts, or an error if the deaths or the clock do not agree with the queues.
 fn resumed(
     params: Params,
     core: Vec<PackedCell>,

@@ -26,7 +26,7 @@ use thiserror::Error;
 /// truncated. A process is given by its place in its warrior's queue; place 0 is the front.
 #[derive(Clone, Copy, Debug, PartialEq, Eq)]
 pub enum Edit {
-    /// Writes the cell at the address.
+    /// Writes a cell: the address, the cell.
     SetCell(u64, Cell),
     /// Moves a process: the warrior, the place in its queue, the new address.
     MoveProcess(u64, u64, u64),
@@ -36,8 +36,8 @@ pub enum Edit {
     Spawn(u64, u64),
 }
 
-/// The reason why an edit is rejected, which is the first that applies, in the order of the numbers. It is displayed as
-/// its number and name.
+/// The reason why an edit is rejected: the first error that applies, in the order of the numbers. Displayed as its
+/// number and name.
 #[derive(Clone, Copy, Debug, PartialEq, Eq, Error)]
 pub enum EditFault {
     /// The address is not in the core.
@@ -257,7 +257,7 @@ fn cell_fault(core_size: u32, cell: Cell) -> Option<EditFault>
     }
 }
 
-/// Returns the clock after a process was removed from a queue; it advances if its warrior died.
+/// Returns the clock after a process was removed from a queue. If its warrior `died`, the clock advances.
 fn clock_after_kill(queues: &[ProcessQueue], clock: Clock, died: bool) -> Clock
     requires few { length queues.now ≤ max_warriors }
     requires cycle { clock.cycle ≤ max_cycles }

@@ -25,8 +25,8 @@ impl Battle {
     /// Executes `turns` turns, or as many as are left, keeps the past of each cell, and searches for the turns that
     /// meet all conditions. Does not fail or allocate. `pasts` has an entry for each cell.
     ///
-    /// Returns the number of turns that meet all conditions. They are written to the front of `found`, as far as there
-    /// are places.
+    /// Returns the number of turns that meet all conditions. These turns are written to the front of `found`, as far as
+    /// there are places.
     pub fn follow(
         &mut self,
         turns: u32,
@@ -113,7 +113,7 @@ fn touched_for(
     }
 }
 
-/// Writes a value to the place with this index, if there is one.
+/// Writes `value` to the place with this index, if there is such a place.
 pub fn put<T: Copy>(places: &mut [T], index: u32, value: T)
     ensures { places.new ≡ slice_set places.old index value }
 {

@@ -35,7 +35,7 @@ impl Battle {
         }
     }
 
-    /// Executes a turn of a battle that is not over, marks what it does, and returns whether two processes were queued.
+    /// Executes a turn of a battle that is not over, sets its marks, and returns whether two processes were queued.
     #[inline(always)]
     fn marked_turn<const LIMITED: bool, const CALLER: u8>(&mut self, marks: &mut [Mark]) -> bool
         requires valid { IsValid self.old }

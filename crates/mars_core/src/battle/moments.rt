@@ -29,8 +29,8 @@ pub struct Moment {
 }
 
 impl Battle {
-    /// For each of the moments, executes `step` turns, or as many as are left, as [`Battle::follow`] does, and writes the
-    /// moment after them. Does not fail or allocate.
+    /// Executes `step` turns for each moment, or as many as are left, as [`Battle::follow`] does, and writes the moment
+    /// after these turns. Does not fail or allocate.
     pub fn moments(
         &mut self,
         step: u32,
@@ -49,7 +49,7 @@ impl Battle {
         }
     }
 
-    /// Returns the battle at this moment, with the number of turns that were found.
+    /// Returns the present moment; `found` is the number of turns since the previous moment that meet the conditions.
     fn moment(&self, pasts: &[Past], found: u32) -> Moment
         requires size { length pasts.now ≡ self.now.params.core_size }
         ensures { result ≡ moment_of self.now pasts.now found }

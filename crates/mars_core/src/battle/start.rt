@@ -21,8 +21,8 @@ use mars_cell::{Cell, Params, Warrior};
 use std::alloc::{AllocError, Global};
 use thiserror::Error;
 
-/// The reason why a battle can't start, which is the first that applies, in the order of the numbers. It is displayed
-/// as its number and name.
+/// The reason why a battle can't start: the first error that applies, in the order of the numbers. Displayed as its
+/// number and name.
 #[derive(Clone, Copy, Debug, PartialEq, Eq, Error)]
 pub enum BattleFault {
     /// There is no warrior.
@@ -31,7 +31,7 @@ pub enum BattleFault {
     /// There are more than 16 warriors.
     #[error("2 TooMany")]
     TooMany,
-    /// Two loaded cells have the same address. They may belong to one warrior if it is longer than the core.
+    /// Two loaded cells have the same address. Both may belong to one warrior if the warrior is longer than the core.
     #[error("3 Overlap")]
     Overlap,
     /// A warrior's starting position is not an address in the core.
@@ -46,8 +46,8 @@ pub enum BattleFault {
 }
 
 impl Battle {
-    /// Starts a battle of 1 to 16 warriors, each loaded at its address in `starts` and with one process at its own
-    /// start.
+    /// Starts a battle of 1 to 16 warriors, each loaded at its address in `starts`, with one process at the cell with
+    /// which the warrior starts.
     ///
     /// # Errors
     ///
@@ -85,7 +85,8 @@ impl Battle {
         })
     }
 
-    /// Starts a new battle of equally many warriors with the same parameters in this one's memory. Does not allocate.
+    /// Starts a new battle of equally many warriors with the same parameters, in the memory of this battle. Does not
+    /// allocate.
     ///
     /// # Errors
     ///
@@ -195,8 +196,8 @@ pub fn reload(core: &mut [PackedCell], params: &Params, warriors: &[Warrior], st
     load_warriors(core, params.core_size(), warriors, starts);
 }
 
-/// Empties cells: the first half by a recursive call, and the rest as a copy of it, since copying many cells costs less
-/// than writing each.
+/// Empties cells: the first half by a recursive call, and the rest as a copy of that half, since copying many cells
+/// costs less than writing each.
 fn clear(cells: &mut [PackedCell])
     ensures { cells.new ≡ replicate (length cells.old) empty_cell }
 {
@@ -210,7 +211,7 @@ fn clear(cells: &mut [PackedCell])
     others.copy_from_slice(&first[..copied]);
 }
 
-/// Loads each warrior at its starting position.
+/// Loads each warrior at its starting position in `starts`.
 #[tactic(auto, using(crate::proofs::StartState::inside_at))]
 fn load_warriors(core: &mut [PackedCell], core_size: u32, warriors: &[Warrior], starts: &[u32])
     requires core { IsCore core_size core.old }
@@ -226,7 +227,7 @@ fn load_warriors(core: &mut [PackedCell], core_size: u32, warriors: &[Warrior], 
     }
 }
 
-/// Loads cells from `start` on.
+/// Loads cells from `start` on, modulo the size of the core.
 #[tactic(auto, using(crate::proofs::Words::Back::fits_largest))]
 fn load_cells(core: &mut [PackedCell], core_size: u32, start: u32, cells: &[Cell])
     requires core { IsCore core_size core.old }

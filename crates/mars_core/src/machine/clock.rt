@@ -40,8 +40,8 @@ pub fn clock_after_turn(queues: &[ProcessQueue], clock: Clock) -> Clock
     advanced(queues, clock, next)
 }
 
-/// Returns the clock moved to the first live warrior from `from` on; if there is none, to the first live warrior of the
-/// next cycle.
+/// Returns the clock moved to the first live warrior from `from` on, or else to the first live warrior of the next
+/// cycle. If no warrior lives, the clock is unchanged.
 #[tactic(auto, unfolding(crate::specs::State::advanced))]
 pub fn advanced(queues: &[ProcessQueue], clock: Clock, from: usize) -> Clock
     requires few { length queues.now ≤ max_warriors }
@@ -63,7 +63,7 @@ pub fn advanced(queues: &[ProcessQueue], clock: Clock, from: usize) -> Clock
     }
 }
 
-/// Returns the index of the first queue from `from` on that is not empty.
+/// Returns the index of the first queue from `from` on that is not empty, if there is one.
 #[tactic(auto, using(crate::proofs::Live::queues_live_next, crate::proofs::Live::queues_live_here))]
 pub fn least_live(queues: &[ProcessQueue], from: usize) -> Option<usize>
     ensures value { result ≡ live_from (addresses_of queues.now) from }

@@ -13,14 +13,14 @@ use crate::machine::execution::Operands;
 use crate::machine::places::writes_a_field;
 use mars_cell::{Cell, Mode, Params};
 
-/// What a warrior did with a cell.
+/// What the marked turns did with a cell.
 #[derive(Clone, Copy, Debug)]
 pub struct Mark {
-    /// Whether it executed an instruction there.
+    /// Whether a turn executed the cell.
     pub executed: bool,
-    /// Whether it wrote the cell.
+    /// Whether a turn wrote the cell.
     pub written: bool,
-    /// Whether it executed, read or wrote the cell.
+    /// Whether a turn executed, read or wrote the cell.
     pub touched: bool,
 }
 
@@ -83,7 +83,7 @@ fn mark_pointed<const LIMITED: bool>(
     );
 }
 
-/// Marks a cell that was touched, and maybe written.
+/// Marks a cell as touched, and also as written if `written`.
 #[inline(always)]
 fn mark_target(marks: &mut [Mark], address: u32, written: bool)
     requires { address < length marks.old }

@@ -90,7 +90,7 @@ fn direct<const LIMITED: bool>(params: &Params, core: &[PackedCell], pc: u32, nu
     )
 }
 
-/// Evaluates an indirect operand: the folded number leads to a cell, whose field is added to it.
+/// Evaluates an indirect operand: the folded number leads to a cell, whose field is added before the sum is folded.
 #[inline(always)]
 #[tactic(auto, using(crate::proofs::Folding::through), unfolding(crate::specs::Operand::indirect_operand, crate::specs::Operand::direct_operand))]
 fn indirect<const LIMITED: bool>(
@@ -187,8 +187,9 @@ pub fn pointed<const LIMITED: bool>(params: &Params, pc: u32, number: u32) -> u3
     address_after(core_size, pc, pointer)
 }
 
-/// Returns the address of an indirect operand, from the folded sum `pointer` if there are limits, otherwise from the address
-/// `through` of the pointing cell and the `number` in it, which takes one addition.
+/// Returns the address of an indirect operand. With limits, it is `pointer` cells after `pc`, where `pointer` is the
+/// folded sum. Without limits, it is `number` cells after the cell at `through`, which has this number; this takes one
+/// addition.
 #[inline(always)]
 fn address_through<const LIMITED: bool>(
     core_size: u32,

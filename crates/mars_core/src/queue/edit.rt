@@ -18,8 +18,8 @@ impl ProcessQueue {
         }
     }
 
-    /// Removes the process at `place` and returns its address. Other processes are moved in memory only if it is
-    /// neither at the front nor at the end.
+    /// Removes the process at `place` and returns its address. Other processes are moved in memory only if `place` is
+    /// neither the front nor the end.
     pub fn remove(&mut self, place: usize) -> u32
         requires { place < length self.old.addresses }
         ensures address { result ≡ slice_index self.old.addresses place }

@@ -57,7 +57,7 @@ fn renew(queue: &mut ProcessQueue, work: Work, queued: &[u32])
     }
 }
 
-/// Appends the death of the work's warrior if `died`.
+/// Appends the death of the work's warrior after `turns` turns, if there is a warrior and `died`.
 pub fn note_recorded_death(
     deaths: &mut ArrayVec<Death, MAX_WARRIORS>,
     work: Work,

@@ -1,4 +1,4 @@
-//! Cells as words, three for each cell.
+//! Cells as words, three for each cell, and opcodes, modifiers and modes by their numbers.
 ghost use Rattle.std.specs.Prelude.{◌≡◌, ◌≢◌, ◌*◌, ◌≤◌, ◌∷◌, [], length, IfErr, IfNone, IfOk, IfSome, List};
 ghost use Rattle.mars_cell.specs.Cells.{FitsCore, mode_index, modifier_index, op_index};
 ghost use Rattle.mars_cell.specs.declared.instruction.Cell.{Cell as CellValue};
@@ -117,7 +117,7 @@ fn cell_of(core_size: u32, tags: u32, a: u32, b: u32) -> Option<Cell>
     Some(Cell { a, b, ..cell })
 }
 
-/// Writes the words of the cells.
+/// Writes the three words of each cell to `words`.
 pub fn write_cells(cells: &[PackedCell], words: &mut [u32])
     requires { length words.old ≡ 3 * length cells.now }
     ensures { words.new ≡ core_words cells.now }
@@ -130,7 +130,7 @@ pub fn write_cells(cells: &[PackedCell], words: &mut [u32])
     }
 }
 
-/// Reads the cells of a core.
+/// Returns the cells with these words, or the error of the first cell that does not fit a core of `core_size` cells.
 #[tactic(auto, using(crate::proofs::Words::Back::fits_largest))]
 pub fn read_cells(
     alloc: Global,

@@ -19,7 +19,7 @@ pub fn death_words(deaths: &[Death]) -> ArrayVec<u32, 32>
     words
 }
 
-/// Reads `count` deaths, or returns `None` if `count` exceeds the maximum number of warriors.
+/// Reads `count` deaths from `words`, or returns `None` if `count` exceeds the maximum number of warriors.
 pub fn read_deaths(words: &[u32], count: u32) -> Option<ArrayVec<Death, MAX_WARRIORS>>
     requires { length words.now ≡ 32 }
     ensures count { IfSome result (λ deaths. length deaths.items ≡ count) }

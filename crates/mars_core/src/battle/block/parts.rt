@@ -1,4 +1,4 @@
-//! The positions of the parts of a block in its words.
+//! The parts of a block, by the lengths in its header, and the parameters in its header.
 ghost use Rattle.std.specs.Prelude.{◌≡◌, ◌++◌, ◌*◌, ◌≤◌, ℕ, IfErr, IfOk, List, length, sum, take};
 ghost use Rattle.mars_cell.specs.Parameters.{AreInRange};
 ghost use Rattle.mars_core.specs.Limits.{max_warriors};

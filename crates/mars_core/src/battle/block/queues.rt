@@ -41,7 +41,7 @@ pub fn processes_of(queues: &[ProcessQueue]) -> usize
     count
 }
 
-/// Writes the addresses of all queues to the front of `words`.
+/// Writes the addresses of all processes to the front of `words`, queue by queue.
 pub fn write_queues(queues: &[ProcessQueue], words: &mut [u32])
     requires room { sum (lengths_of (addresses_of queues.now)) ≤ length words.old }
     ensures { words.new ≡ concat (addresses_of queues.now) ++ drop (sum (lengths_of (addresses_of queues.now))) words.old }
@@ -54,7 +54,7 @@ pub fn write_queues(queues: &[ProcessQueue], words: &mut [u32])
     }
 }
 
-/// Reads the queues: `counts` has the length of each, `words` their addresses.
+/// Reads the queues: `counts` has the number of processes in each queue, `words` the addresses of all processes.
 pub fn read_queues(
     alloc: Global,
     params: &Params,
@@ -90,7 +90,7 @@ pub fn read_queues(
     Ok(queues)
 }
 
-/// Returns whether these are the processes of a valid queue.
+/// Returns whether `addresses` are the processes of a valid queue.
 fn is_queue(params: &Params, addresses: &[u32]) -> bool
     ensures yes { result ≡ true → IsQueue params.now.core_size params.now.processes addresses.now }
     ensures no { IsQueue params.now.core_size params.now.processes addresses.now → result ≡ true }

@@ -25,8 +25,8 @@ pub fn has_overlap(core_size: u32, warriors: &[Warrior], starts: &[u32]) -> bool
     false
 }
 
-/// Returns whether two of the warrior's cells have the same address, or one of them has an address of the other
-/// warriors' cells.
+/// Returns whether two cells of the warrior have the same address, or a cell of the warrior has the address of a cell
+/// of another warrior.
 #[tactic(auto, using(crate::proofs::Overlaps::row_has_duplicate))]
 fn clashes(
     core_size: u32,
@@ -44,7 +44,7 @@ fn clashes(
         || meets_others(core_size, warrior, start, others, starts)
 }
 
-/// Returns whether one of the warrior's cells has an address of the other warriors' cells.
+/// Returns whether a cell of the warrior has the address of a cell of another warrior.
 fn meets_others(
     core_size: u32,
     warrior: &Warrior,

@@ -17,7 +17,7 @@ pub fn takes_whole_cells(modifier: Modifier) -> bool
     matches!(modifier, Modifier::I)
 }
 
-/// Returns the target with the result of the opcode in the B-field of each pair.
+/// Returns the target with the result of the opcode in the second field of each pair.
 #[inline(always)]
 pub fn with_pairs(
     core_size: u32,
@@ -72,7 +72,7 @@ pub fn new_number(core_size: u32, op: Op, x: u32, y: u32) -> u32
     }
 }
 
-/// Returns whether the operands are equal: all pairs of fields, or the whole cells with the modifier I.
+/// Returns whether the operands are equal: the two numbers of each pair, or the whole cells with the modifier I.
 #[inline(always)]
 #[tactic(auto, unfolding(crate::specs::Effect::are_equal))]
 pub fn are_equal(core_size: u32, modifier: Modifier, a: PackedCell, b: PackedCell) -> bool
