@@ -77,7 +77,7 @@ module _ (s : State) where
       let first = none_or (address_fault s.params.core_size a) (warrior_fault s w) second.0 in
       record { address_in = address_in a first.0; warrior = warrior_in w first.1; alive = alive_is w second.1; room = room_is w third.1 }
 
-  -- The index of a warrior and the place of a process are small numbers.
+  -- The index of a warrior and the place of a process are below 65536.
   pub small_warrior : IsValid s → (w : ℕ) → w < length s.queues → w < 65536
   small_warrior v w h = omega (arith, v.few)
 

@@ -95,7 +95,7 @@ pub lead_to_valid : (s t : State) (atom : Atom) → Leads s atom t → IsValid t
 lead_to_valid s t atom (inl l) = rw l.state_is (turn_valid s l.valid l.running)
 lead_to_valid s t atom (inr l) = rw l.state_is (edit_valid s l.edit l.valid l.accepted)
 
--- The battle that the code has after it applied a record.
+-- The battle that the code has after it applied a record is the state that `applied` defines.
 pub applied_state : (p : Parameters) (core : List Cell) (qs : List Queue) (next cycle turns : ℕ) (deaths : List Death) (atom : Atom)
     (core' : List Cell) (qs' : List Queue) (cycles' turns' : ℕ) (deaths' : List Death)
     → core' ≡ rewritten atom.cells.items core

@@ -51,7 +51,7 @@ length-block_of s v =
     let front = length-append (head_of s) (core_words s.core) in
     omega (arith, all, front, length-head_of s v, length-core_words s.core, length-concat s.queues)
 
--- The length of a block fits 32 bits.
+-- The length of a block is at most 4194368, so it fits 32 bits.
 pub few_words : (s : State) → IsValid s → 64 + 3 * length s.core + sum (lengths_of s.queues) ≤ 4194368
 few_words s v =
     let each : sum (lengths_of s.queues) ≤ length s.queues * 65536 = rw (sum-map (λ (q : List ℕ). length q) s.queues) (sum_by-le (λ (q : List ℕ). length q) 65536 s.queues (λ k d h. omega (arith, (v.queues k d h).room, v.params.processes_most))) in
@@ -63,7 +63,7 @@ room_words s v =
     let each : sum (lengths_of s.queues) ≤ length s.queues * s.params.processes = rw (sum-map (λ (q : List ℕ). length q) s.queues) (sum_by-le (λ (q : List ℕ). length q) s.params.processes s.queues (λ k d h. (v.queues k d h).room)) in
     omega (arith, each, v.core.size)
 
--- The first words of the header of a state's block.
+-- The first sixteen words of the header of a state's block.
 pub fields_are : (s : State) (words core processes cycles reads writes longest distance warriors turns cycle next over deaths : ℕ) → words ≡ words_of s → core ≡ s.params.core_size → processes ≡ s.params.processes → cycles ≡ s.params.cycles
     → reads ≡ s.params.read_limit → writes ≡ s.params.write_limit → longest ≡ s.params.max_length → distance ≡ s.params.distance → warriors ≡ length s.queues → turns ≡ s.turns → cycle ≡ s.cycle → next ≡ s.next
     → over ≡ (if is_over_of s then 1 else 0) → deaths ≡ length s.deaths
@@ -71,7 +71,7 @@ pub fields_are : (s : State) (words core processes cycles reads writes longest d
 unfolding field_words
 fields_are s words core processes cycles reads writes longest distance warriors turns cycle next over deaths e1 e2 e3 e4 e5 e6 e7 e8 e9 e10 e11 e12 e13 e14 = cc
 
--- The parts of words that begin with a state's block.
+-- Words that begin with a state's block are the parts of this block, followed by the other words.
 split_words : (s : State) (words : List ℕ) → Spells s words → words ≡ head_of s ++ (core_words s.core ++ (concat s.queues ++ drop (length (block_of s)) words))
 unfolding block_of
 split_words s words sp =
@@ -99,7 +99,7 @@ spelled_long s words sp =
     let all = ap length sp.block ∙ length-append (block_of s) (drop (length (block_of s)) words) in
     omega (arith, all, length-block_of s sp.valid)
 
--- The fields of a header.
+-- The fields of the header of a state's block.
 pub head_mark : (s : State) → get_or (head_of s) 0 0 ≡ 22167885
 unfolding head_of field_words
 head_mark s = refl
@@ -130,7 +130,7 @@ head_deaths s n v e =
     ap (take (2 * n)) (drop_at front (padded 32 (death_words s.deaths)) 32 long)
     ∙ take_at (death_words s.deaths) _ (2 * n) (length-death_words s.deaths ∙ ap (λ (k : ℕ). 2 * k) (sym e))
 
--- Three lists of words, appended.
+-- The first three parts of words, appended, are the front of these words.
 pub pieces : (words : List ℕ) (n m k : ℕ) (h o a p b : List ℕ) → h ≡ take n words → o ≡ drop n words → a ≡ take m o → p ≡ drop m o → b ≡ take k p → n + m + k ≤ length words
     → take (length (h ++ a ++ b)) words ≡ h ++ a ++ b
 pieces words n m k h o a p b e f g i j r =
@@ -145,7 +145,7 @@ pub head_deaths_count : (s : State) → get_or (head_of s) 14 0 ≡ length s.dea
 unfolding head_of field_words
 head_deaths_count s = refl
 
--- The parts of a valid state.
+-- A state is valid if its parts fit each other.
 pub valid_parts : (params : Parameters) (core : List Cell) (queues these those : List Queue) (clock : Clock) (turns cycles : ℕ) (deaths others : List Death) → AreInRange params → IsCore params.core_size core → 1 ≤ length queues → length queues ≤ max_warriors
     → All (IsQueue params.core_size params.processes) (addresses_of queues) → these ≡ queues → those ≡ queues → others ≡ deaths → cycles ≡ params.cycles → AreDeaths (addresses_of these) others → IsClock cycles (addresses_of those) clock turns
     → IsValid (state_of params core queues clock.next clock.cycle turns deaths)

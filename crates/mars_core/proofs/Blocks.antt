@@ -1,4 +1,4 @@
--- Loops that write and read the words of a block, one element at a time.
+-- The steps of loops that write and read the words of a block: one cell, death or queue at a time.
 use Rattle.std.proofs.Common.{◌≡◌, ◌≢◌, ℕ, zero, suc, ◌+◌, ◌*◌, ◌-◌, ◌<◌, ◌≤◌, List, [], ◌∷◌, ◌++◌, length, take, drop, get_or, set, refl, ap, sym, ◌∙◌, subst, arith, append_assoc, length-drop, length-append, length-take-le, add-one, drop-drop, drop_at, take_at, take-add, append-nil, Option, None, Some, All}
 use Rattle.std.proofs.lemmas.List.{length-map, take_more, take-map, map-append}
 use Rattle.std.proofs.lemmas.List.Sums.{sum_by-cons, sum_by_push, sum_by_more, sum_by-take-le}
@@ -21,7 +21,7 @@ pub core_words-append : (xs ys : List Cell) → core_words (xs ++ ys) ≡ core_w
 core_words-append [] ys = refl
 core_words-append (c ∷ xs) ys = ap (λ (l : List ℕ). tags_word c ∷ c.a ∷ c.b ∷ l) (core_words-append xs ys)
 
--- The words of one more cell.
+-- The words of the first `i + 1` cells are those of the first `i` cells and of one more cell.
 core_words_next : (cells : List Cell) (i : ℕ) (d : Cell) → i < length cells → core_words (take (suc i) cells) ≡ core_words (take i cells) ++ cell_words (get_or cells i d)
 core_words_next [] i d h = absurd (omega arith)
 core_words_next (c ∷ cells) zero d h = refl
@@ -30,7 +30,7 @@ core_words_next (c ∷ cells) (suc i) d h = ap (λ (l : List ℕ). tags_word c �
 pub core_words_more : (cells : List Cell) (i : ℕ) (d : Cell) → i < length cells → core_words (take (i + 1) cells) ≡ core_words (take i cells) ++ cell_words (get_or cells i d)
 core_words_more cells i d h = rw (add-one i) (core_words_next cells i d h)
 
--- Three words are written after the first ones.
+-- Three words are written after the first `n` words.
 three_next : (xs ys : List ℕ) (n t a b : ℕ) → length xs ≡ n → 3 ≤ length ys → set (set (set (xs ++ ys) n t) (suc n) a) (suc (suc n)) b ≡ xs ++ t ∷ a ∷ b ∷ drop 3 ys
 three_next [] [] n t a b e h = absurd (omega arith)
 three_next [] (x ∷ []) n t a b e h = absurd (omega arith)
@@ -62,7 +62,7 @@ cell_written cells i d words before h n e =
     ∙ sym (append_assoc front (cell_words (get_or cells i d)) (drop (3 * (i + 1)) before))
     ∙ ap (λ (l : List ℕ). l ++ drop (3 * (i + 1)) before) (sym (core_words_more cells i d h))
 
--- The first words, extended by three words.
+-- The first `n + 3` words are the first `n` words and three more words.
 take_three : (words : List ℕ) (n : ℕ) → n + 2 < length words → take (n + 3) words ≡ take n words ++ get_or words n 0 ∷ get_or words (n + 1) 0 ∷ get_or words (n + 2) 0 ∷ []
 take_three words n h =
     let one : take (n + 1) words ≡ take n words ++ get_or words n 0 ∷ [] = take_more words n 0 (omega arith) in
@@ -75,7 +75,7 @@ take_three words n h =
     ∙ append_assoc (take n words ++ get_or words n 0 ∷ []) (get_or words (n + 1) 0 ∷ []) (get_or words (n + 2) 0 ∷ [])
     ∙ append_assoc (take n words) (get_or words n 0 ∷ []) (get_or words (n + 1) 0 ∷ get_or words (n + 2) 0 ∷ [])
 
--- The words of one more cell are read.
+-- After the words of one more cell, the cells that were read have all words up to there.
 pub cell_read : (cells : List Cell) (c : Cell) (words : List ℕ) (i : ℕ) → core_words cells ≡ take (3 * i) words → cell_words c ≡ get_or words (3 * i) 0 ∷ get_or words (3 * i + 1) 0 ∷ get_or words (3 * i + 2) 0 ∷ [] → 3 * i + 2 < length words
     → core_words (cells ++ c ∷ []) ≡ take (3 * (i + 1)) words
 cell_read cells c words i e f h =
@@ -85,7 +85,7 @@ cell_read cells c words i e f h =
     ∙ sym (take_three words (3 * i) h)
     ∙ ap (λ (k : ℕ). take k words) (omega arith)
 
--- The words of the cell at an index.
+-- The words of the cell at the index `i`.
 tags_at : (cells : List Cell) (i : ℕ) (d : Cell) → i < length cells → get_or (core_words cells) (3 * i) 0 ≡ tags_word (get_or cells i d)
 tags_at [] i d h = absurd (omega arith)
 tags_at (c ∷ cells) zero d h = refl
@@ -107,7 +107,7 @@ b_at (c ∷ cells) (suc i) d h = ap (λ (k : ℕ). get_or (core_words (c ∷ cel
   three_more : (i : ℕ) → 3 * suc i + 2 ≡ suc (suc (suc (3 * i + 2)))
   three_more i = omega arith
 
--- If three words are not those of a cell, the words are not those of a core.
+-- If three words are not those of a cell that fits the core, the words are not those of a core.
 pub no_cell : (size : ℕ) (words : List ℕ) (i : ℕ) → i < size → ((c : Cell) → FitsCore size c → cell_words c ≢ get_or words (3 * i) 0 ∷ get_or words (3 * i + 1) 0 ∷ get_or words (3 * i + 2) 0 ∷ [])
     → (cells : List Cell) → IsCore size cells → core_words cells ≢ words
 no_cell size words i h none cells core e =
@@ -128,7 +128,7 @@ pub death_words-append : (xs ys : List Death) → death_words (xs ++ ys) ≡ dea
 death_words-append [] ys = refl
 death_words-append (d ∷ xs) ys = ap (λ (l : List ℕ). d.warrior ∷ d.turns ∷ l) (death_words-append xs ys)
 
--- The words of one more death.
+-- The words of the first `i + 1` deaths are those of the first `i` deaths and of one more death.
 pub death_words_more : (deaths : List Death) (i : ℕ) (d : Death) → i < length deaths → death_words (take (i + 1) deaths) ≡ death_words (take i deaths) ++ (get_or deaths i d).warrior ∷ (get_or deaths i d).turns ∷ []
 death_words_more deaths i d h =
     ap death_words (take_more deaths i d h) ∙ death_words-append (take i deaths) (get_or deaths i d ∷ [])
@@ -142,7 +142,7 @@ take_two words n h =
     ∙ ap (λ (l : List ℕ). l ++ get_or words (n + 1) 0 ∷ []) one
     ∙ append_assoc (take n words) (get_or words n 0 ∷ []) (get_or words (n + 1) 0 ∷ [])
 
--- The words of one more death are read.
+-- After the words of one more death, the deaths that were read have all words up to there.
 pub death_read : (deaths : List Death) (d : Death) (words : List ℕ) (i : ℕ) → death_words deaths ≡ take (2 * i) words → d.warrior ≡ get_or words (2 * i) 0 → d.turns ≡ get_or words (2 * i + 1) 0 → 2 * i + 1 < length words
     → death_words (deaths ++ d ∷ []) ≡ take (2 * (i + 1)) words
 death_read deaths d words i e w t h =
@@ -153,7 +153,7 @@ death_read deaths d words i e w t h =
     ∙ sym (take_two words (2 * i) h)
     ∙ ap (λ (k : ℕ). take k words) (omega arith)
 
--- The processes of one more queue.
+-- The first `i + 1` queues have as many processes as the first `i` queues and one more queue.
 pub processes_more : (queues : List Queue) (i : ℕ) (q : Queue) → i < length queues → q ≡ get_or queues i q → sum (lengths_of (addresses_of (take (i + 1) queues))) ≡ sum (lengths_of (addresses_of (take i queues))) + length q.addresses
 processes_more queues i q h e =
     let one : take (i + 1) queues ≡ take i queues ++ q ∷ [] = take_more queues i q h ∙ ap (λ (x : Queue). take i queues ++ x ∷ []) (sym e) in
@@ -226,7 +226,7 @@ some_survive ((x ∷ q) ∷ queues) k h =
     let first : survivors_of ((x ∷ q) ∷ queues) ≡ 1 + survivors_of queues = sum_by-cons (λ (q : List ℕ). if is_empty q then 0 else 1) (x ∷ q) queues in
     omega (arith, first)
 
--- The processes of the next queue are read.
+-- After the processes of the next queue, the queues that were read have all counts and processes up to there.
 pub queue_read : (queues : List Queue) (q : Queue) (counts words : List ℕ) (i place : ℕ) → lengths_of (addresses_of queues) ≡ take i counts → concat (addresses_of queues) ≡ take place words → i < length counts → q.addresses ≡ take (place + get_or counts i 0 - place) (drop place words)
     → place + get_or counts i 0 ≤ length words
     → (lengths_of (addresses_of (queues ++ q ∷ [])) ≡ take (i + 1) counts) × (concat (addresses_of (queues ++ q ∷ [])) ≡ take (place + get_or counts i 0) words)
@@ -238,11 +238,11 @@ queue_read queues q counts words i place l w h e r =
       ap concat all ∙ concat_push (addresses_of queues) q.addresses ∙ ap (λ (m : List ℕ). m ++ q.addresses) w ∙ ap (λ (m : List ℕ). take place words ++ m) (e ∙ ap (λ (m : ℕ). take m (drop place words)) (omega arith)) ∙ sym (take-add place n words),
     )
 
--- The sum of the counts so far and the next one.
+-- The sum of the first `i + 1` counts is the sum of the first `i` counts and the next count.
 pub counts_more : (counts : List ℕ) (i : ℕ) → i < length counts → sum (take (i + 1) counts) ≡ sum (take i counts) + get_or counts i 0
 counts_more counts i h = sum_by_more (λ (x : ℕ). x) counts i 0 h
 
--- The processes of one queue among those of all queues.
+-- The processes of the queue at the index `i`, among those of all queues.
 concat_at : (queues : List (List ℕ)) (i : ℕ) → i < length queues → take (length (get_or queues i [])) (drop (sum (lengths_of (take i queues))) (concat queues)) ≡ get_or queues i []
 concat_at [] i h = absurd (omega arith)
 concat_at (q ∷ queues) zero h = take_at q (concat queues) (length q) refl
@@ -253,7 +253,7 @@ concat_at (q ∷ queues) (suc i) h =
     ap (λ (n : ℕ). drop n (q ++ concat queues)) e ∙ sym (drop-drop s (length q) (q ++ concat queues)) ∙ ap (drop s) (drop_at q (concat queues) (length q) refl) in
     ap (take (length (get_or queues i []))) d ∙ concat_at queues i (omega arith)
 
--- If the processes of one queue are not those of a valid queue, the processes are not those of valid queues.
+-- If the processes of one queue are not those of a valid queue, all processes are not those of valid queues.
 pub no_queue : (size processes : ℕ) (counts words : List ℕ) (i place : ℕ) → i < length counts → place ≡ sum (take i counts) → (IsQueue size processes (take (place + get_or counts i 0 - place) (drop place words)) → ⊥)
     → (queues : List (List ℕ)) → All (IsQueue size processes) queues → lengths_of queues ≡ counts → concat queues ≢ words
 no_queue size processes counts words i place h p refused queues all l w =

@@ -18,7 +18,7 @@ pub use Rattle.mars_core.proofs.Restored.{record_reverted}
 pub use Rattle.mars_core.proofs.Rewritten.{record_applied}
 pub use Rattle.mars_core.proofs.Turns.{turn_valid}
 
--- The number grows by one or stays.
+-- The number `after` is `before` or one more.
 abbrev pub OneMore : ℕ → ℕ → Type 0
 OneMore before after = (before ≤ after) × (after ≤ before + 1)
 
@@ -45,7 +45,7 @@ pub shape-turn_of : (s : State) → SameShape (turn_of s) s
 unfolding turn_of executed
 shape-turn_of s = record { params = refl; warriors = length-set s.queues s.next _ }
 
--- The turns, the cycle and the shape of the state after a kill.
+-- The turns, the cycle and the shape of the state after a warrior was left with the queue `q`.
 turns-left_of : (s : State) (w : ℕ) (q : List ℕ) → (left_of s w q).turns ≡ s.turns
 turns-left_of s w [] = refl
 turns-left_of s w (x ∷ q) = refl

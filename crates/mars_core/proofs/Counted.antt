@@ -54,7 +54,7 @@ one_place (suc w) (suc n) h =
     let rest = total_same (λ k. at_place (suc w) (suc k)) (at_place w) n (λ k l. beside w k) ∙ one_place w n (omega arith) in
     omega (arith, earlier w, rest)
 
--- The deaths of all warriors together are all deaths.
+-- The numbers of deaths of all warriors add up to the number of deaths.
 all_deaths : (ds : List Death) (n : ℕ) → All (λ (d : Death). d.warrior < n) ds → total (times_died ds) n ≡ length ds
 all_deaths [] n h = total_none n
 all_deaths (d ∷ ds) n h =
@@ -64,7 +64,7 @@ all_deaths (d ∷ ds) n h =
     let both = total_both (at_place d.warrior) (times_died ds) n in
     omega (arith, first, rest, apart, both)
 
--- The empty queues and the other queues are all queues.
+-- The number of empty queues and the number of other queues add up to the number of queues.
 all_queues : (qs : List (List ℕ)) → total (λ k. cond (is_empty (get_or qs k [])) 1 0) (length qs) + survivors_of qs ≡ length qs
 all_queues [] = refl
 all_queues ([] ∷ qs) =

@@ -57,7 +57,7 @@ module _ (p : Parameters) (core : List Cell) (qs : List Queue) (next cycle turns
   pub queue_at : queue_of (addresses_of qs) w ≡ q.addresses
   queue_at = addresses_at qs w q inside ∙ ap (λ (q : Queue). q.addresses) (sym q_is)
 
-  -- The limit of each queue is the process limit of the battle.
+  -- The limit of the warrior's queue is the process limit of the battle.
   pub limit_is : All (λ (q : Queue). q.limit ≡ p.processes) qs → q.limit ≡ p.processes
   limit_is all = ap (λ (q : Queue). q.limit) q_is ∙ All-get_or (λ (q : Queue). q.limit ≡ p.processes) qs w q inside all
 

@@ -124,7 +124,7 @@ one_more_process s v over =
     rw (get_or-set_same s.queues s.next (queue_after s.params s.core (queue_of s.queues s.next)) [] v.clock.next)
     (one_longer s.params s.core (queue_of s.queues s.next) (next_lives s v over))
 
--- So far, each warrior has had a turn in each cycle.
+-- In each completed cycle, and up to now in this cycle, each warrior has had its turn.
 abbrev pub HasAllTurns : State → Type 0
 HasAllTurns s = s.turns ≡ s.cycle * length s.queues + s.next
 

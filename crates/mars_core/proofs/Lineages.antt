@@ -17,7 +17,7 @@ use Rattle.mars_core.proofs.Searches.{filled-none, filled-push, given_if}
 abbrev pub itself : ℕ → Lineage
 itself place = record { births = []; place = place }
 
--- The turns of the warrior are all that the lineage depends on.
+-- The lineage of a process depends only on the turns of its warrior.
 pub lineage-own_turns : (n : ℕ) (s : State) (warrior place : ℕ) → lineage n s warrior place ≡ traced_back (own_turns n s warrior) (itself place)
 lineage-own_turns zero s warrior place = refl
 lineage-own_turns (suc n) s warrior place =
@@ -33,7 +33,7 @@ lineage-own_turns (suc n) s warrior place =
           ]
     ]
 
--- Of `turns` turns from the state `first` on, `made` are executed, and those of the warrior are kept.
+-- Of `turns` turns from the state `first` on, `made` are executed, and those of the warrior are kept in `own`.
 pub record AreKept (turns : ℕ) (first : State) (warrior made : ℕ) (s : State) (own : List OwnTurn) : Type 0 where
   pub few : length own ≤ made
   pub own_are : own_turns turns first warrior ≡ own ++ own_turns (turns - made) s warrior
@@ -56,7 +56,7 @@ module _ (turns : ℕ) (first : State) (warrior : ℕ) where
   }
 
   module _ (made : ℕ) (s : State) (own : List OwnTurn) (k : AreKept turns first warrior made s own) where
-    -- All turns are executed, or the battle is over.
+    -- If all turns are executed, or the battle is over, all turns of the warrior are kept.
     pub all_kept : (turns - made ≡ 0) ⊎ (is_over_of s ≡ true) → (own ≡ own_turns turns first warrior) × (s ≡ after_turns turns first)
     all_kept (inl none) = (
       sym (k.own_are ∙ rw none (append-nil own)),
@@ -93,7 +93,8 @@ traced_back-append : (earlier later : List OwnTurn) (l : Lineage) → traced_bac
 traced_back-append [] later l = refl
 traced_back-append (own ∷ earlier) later l = ap (traced own.turn own.waiting) (traced_back-append earlier later l)
 
--- The process is traced back over the turns from the index `i` on: to this place, with these births, which are in the rows.
+-- Traced back over the turns from `i` on, the process leads to the place `first`, with `count` births, which are in
+-- `rows`.
 pub record IsTraced (own : List OwnTurn) (place : ℕ) (rows_first : List ℕ) (i first count : ℕ) (rows : List ℕ) : Type 0 where
   pub births : List ℕ
   pub rest : traced_back own (itself place) ≡ traced_back (take i own) (record { births = births; place = first })

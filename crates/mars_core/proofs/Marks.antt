@@ -25,7 +25,7 @@ use Rattle.mars_core.proofs.Steps.{evaluated_written}
 marks_are : (d e f x y z : List Bool) → d ≡ x → e ≡ y → f ≡ z → ◌≡◌ {A = Marks} (record { executed = d; written = e; touched = f }) (record { executed = x; written = y; touched = z })
 marks_are d e f x y z p q r = rw (p, q, r) refl
 
--- The cell at `a` has the mark `m` after it had another.
+-- The mark of the cell at `a` is replaced by the mark `m`.
 module _ (marks : List Mark) (a : ℕ) (m d : Mark) where
   set_is : (kind : Mark → Bool) → kind m ≡ true → map kind (set marks a m) ≡ set (map kind marks) a true
   set_is kind e = map-set kind marks a m ∙ ap (λ b. set (map kind marks) a b) e
@@ -68,7 +68,7 @@ operands_at p core pc i =
     ∙ ap (λ l. l ++ written_at b.changes) (evaluated_at p core pc i.a_mode i.a)
     ∙ ap (λ l. pointed_writes p pc i.a_mode i.a ++ l) (evaluated_at p a.core pc i.b_mode i.b)
 
--- The writes after that of the B-target, if there is one.
+-- The addresses of the writes, followed by that of the B-target if it was written.
 pub target_at : (w : Bool) (before more after : List CellChange) (to : ℕ) → written_at more ≡ to ∷ [] → (if w then before ++ more else before) ≡ after → written_at after ≡ written_at before ++ (if w then to ∷ [] else [])
 target_at true before more after to one e =
     ap written_at (sym e) ∙ map-append (λ (change : CellChange). change.address) before more ∙ ap (λ l. written_at before ++ l) one

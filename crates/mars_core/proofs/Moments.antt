@@ -23,7 +23,7 @@ pub record AreCounted (pasts : List Past) (i : ℕ) (cells : List ℕ) : Type 0 
   pub size : length cells ≡ 16
   pub counted : (w : ℕ) → w < 16 → get_or cells w 0 ≡ owned_by (take i pasts) w
 
--- No cell is counted yet.
+-- Before the first past, all counts are 0.
 pub none_counted : (pasts : List Past) → AreCounted pasts 0 (replicate 16 0)
 none_counted pasts = record { size = refl; counted = λ w below. get_or-replicate 16 w 0 0 below }
 
@@ -75,7 +75,7 @@ all_counted pasts i cells c all =
     let below : w < 16 = subst (λ n. w < n) c.size inside in
     c.counted w below ∙ ap (λ l. owned_by l w) (take_all i pasts all) ∙ sym (get_or-map-range_with_len (owned_by pasts) 0 16 w w 0 below (omega arith)))
 
--- Turns are followed one after another.
+-- Following `a + b` turns is following `a` turns and then `b` turns.
 pub followed_both : (a b : ℕ) (s : State) (pasts : List Past) → followed (a + b) s pasts ≡ followed b (after_turns a s) (followed a s pasts)
 followed_both zero b s pasts = ap (λ n. followed n s pasts) (omega arith)
 followed_both (suc a) b s pasts =
@@ -97,11 +97,11 @@ length-followed (suc n) s pasts =
       | false ↦ length-followed n (turn_of s) (pasts_after s pasts) ∙ length-pasts_after s pasts
     ]
 
--- The turns of one step and of those after it.
+-- The number of turns in `k + 1` steps is that in one step and in `k` steps.
 turns_left : (k step : ℕ) → suc k * step ≡ step + k * step
 turns_left k step = suc-mul k step ∙ add_comm (k * step) step
 
--- From the state `first` on, `made` of `n` steps are made, and their moments are in the rows.
+-- From the state `first` on, `made` of `n` steps are made, and their moments are the first of `rows`.
 pub record AreMade (n step : ℕ) (conditions : List Condition) (first : State) (pasts_first : List Past)
     (made : ℕ) (s : State) (pasts : List Past) (rows : List Moment) : Type 0 where
   pub size : length pasts ≡ s.params.core_size

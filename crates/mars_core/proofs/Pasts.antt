@@ -27,14 +27,14 @@ rest : (writes : List CellChange) (core : List Cell) (i : ℕ) (w : CellChange) 
 rest writes core i w inside is =
     ap (λ l. restored l core) (drop-cons writes i w inside) ∙ rw (is, add-one) refl
 
--- The cell at the address of the first write, before it.
+-- The cell at the address of the write at the index `i`, before this write.
 pub first_write : (writes : List CellChange) (core : List Cell) (i a : ℕ) (w : CellChange) → i < length writes → get_or writes i w ≡ w
     → w.address ≡ a → a < length core → cell_at (restored (drop i writes) core) a ≡ w.before
 first_write writes core i a w inside is here there =
     ap (λ l. cell_at l a) (rest writes core i w inside is ∙ ap (λ x. set (restored (drop (i + 1) writes) core) x w.before) here)
     ∙ get_or-set_same (restored (drop (i + 1) writes) core) a w.before empty_cell (rw length-restored there)
 
--- The cell at another address, before the write.
+-- A cell at another address, before the write at the index `i`.
 pub other_write : (writes : List CellChange) (core : List Cell) (i a : ℕ) (w : CellChange) → i < length writes → get_or writes i w ≡ w
     → w.address ≢ a → cell_at (restored (drop i writes) core) a ≡ cell_at (restored (drop (i + 1) writes) core) a
 other_write writes core i a w inside is other =
@@ -52,7 +52,7 @@ changed_by owner turn past = record { owner = owner; turn = turn; origin = past.
 same_cell : (x : Cell) → are_equal_cells x x ≡ true
 same_cell x = (equal_cells_same x x).1 refl
 
--- A test of equality succeeds exactly if the test of the definition does.
+-- A test that succeeds exactly for equal cells has the result of the definition.
 pub equal_test : (test : Bool) (x y : Cell) → (test ≡ true ↔ (x ≡ y)) → are_equal_cells x y ≡ test
 equal_test true x y same = (equal_cells_same x y).1 (same.0 refl)
 equal_test false x y same =
@@ -75,7 +75,7 @@ written_if_differs (w ∷ writes) core a d there e =
           (suc found.0, omega (arith, found.1), found.2)
     ] refl
 
--- The pasts after the changes by the writes before the index `i` are noted; `old` are the pasts from before all of them.
+-- The pasts after the changes by the writes before the index `i` are noted; `old` are the pasts before all writes.
 pub record AreNoted (owner turn : ℕ) (writes : List CellChange) (core : List Cell) (old : List Past) (i : ℕ) (pasts : List Past) : Type 0 where
   pub size : length pasts ≡ length old
   pub origins : (a : ℕ) → a < length old → (past_at pasts a).origin ≡ (past_at old a).origin
@@ -177,7 +177,7 @@ module _ (s : State) where
       changed a (rw size_copied there)
       ∙ rw (test, copied_is, owner_is, turn_is) (joined (changes s a) s.next (s.turns + 1) (past_at old (comes_from (copy_in_turn s) a)).origin (past_at old a)))
 
--- The first of the turns that are left.
+-- Following the turns that are left begins with the next turn.
 pub followed-turn : (n k : ℕ) (s : State) (pasts : List Past) → n ≡ k + 1 → is_over_of s ≡ false → followed n s pasts ≡ followed k (turn_of s) (pasts_after s pasts)
 followed-turn n k s pasts e running = ap (λ m. followed m s pasts) e ∙ rw (add-one, running) refl
 

@@ -1,4 +1,4 @@
--- A record changes the queue of its warrior.
+-- The queue of the warrior that a record names, among the queues of all warriors, and how it is changed.
 use Rattle.std.proofs.Common.{◌≡◌, ℕ, ◌<◌, List, length, get_or, set, All, ap, sym, ◌∙◌, subst, Option, Some}
 use Rattle.std.proofs.lemmas.List.{length-map}
 use Rattle.std.proofs.lemmas.List.Elements.{All-get_or}

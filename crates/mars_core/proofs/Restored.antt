@@ -1,4 +1,4 @@
--- Reverting the record of a turn gives the state before it.
+-- Reverting a record gives the state that the record leads from.
 use Rattle.std.proofs.Common.{◌≡◌, ◌≢◌, ℕ, zero, suc, ◌+◌, ◌-◌, ◌<◌, List, [], ◌∷◌, ◌++◌, length, get_or, set, take, drop, inl, inr, refl, ap, ◌∙◌, arith, Bool, true, false, cond, Option, Some, None}
 use Rattle.std.specs.Prelude.{◌==◌, not, insert, remove}
 use Rattle.std.proofs.lemmas.List.{length-append, get_or-set_same, take-append-le, take_all}
@@ -185,7 +185,7 @@ module _ (s : State) (v : IsValid s) where
       (ap (without_last 1) queue_is ∙ without_last-append q (a ∷ [])) in
       rw (queues_is, no_turn, no_cycle)
 
-  -- Reverting a kill that left the warrior `w` with the queue `q`.
+  -- Reverting a kill that left the warrior `w` with the queue `q` gives the state before the kill.
   left_back : (w i : ℕ) (q : List ℕ) → insert q i (get_or (queue_of s.queues w) i 0) ≡ queue_of s.queues w → w < length s.queues → reverted (killing s w i q) (left_of s w q) ≡ s
   unfolding reverted
   left_back w i [] e h =

@@ -1,8 +1,8 @@
--- What follows, for the code that reverts a record, from the fact that the record leads to the present state.
--- `revert` requires that the record leads here from some state, a pair that the caller provides, and results in every such state
--- (`record_determines_predecessor` states that there is one). The facts that the code needs are stated by cases on the work (`CanRestore`) and
--- derived from `Leads` once. A queue is changed by a function of one queue (`with_queue`), so that all kinds of work are indexed
--- alike.
+-- What follows, for the code that reverts a record, from the fact that the record leads to the present state. `revert`
+-- requires that the record leads here from some state, a pair that the caller provides, and results in every such state
+-- (`record_determines_predecessor` states that there is only one). The facts that the code needs are stated by cases on
+-- the work (`CanRestore`) and derived from `Leads` once. A queue is changed by a function of one queue (`with_queue`),
+-- so that all kinds of work are indexed alike.
 use Rattle.std.proofs.Common.{◌≡◌, ℕ, ◌+◌, ◌-◌, ◌<◌, ◌≤◌, List, [], ◌∷◌, length, set, drop, inl, inr, sym, subst, arith, false, cond, Option, Some, None}
 use Rattle.std.specs.Prelude.{◌==◌, not, remove}
 use Rattle.std.proofs.lemmas.List.{length-set, length-append, length-drop}
@@ -145,7 +145,7 @@ pub led_valid : (s t : State) (atom : Atom) → Leads s atom t → IsValid s
 led_valid s t atom (inl l) = l.valid
 led_valid s t atom (inr l) = l.valid
 
--- The battle that the code has after it reverted a record.
+-- The battle that the code has after it reverted a record is the state that `reverted` defines.
 pub reverted_state : (p : Parameters) (core : List Cell) (qs : List Queue) (next cycle turns : ℕ) (deaths : List Death) (atom : Atom)
     (core' : List Cell) (qs' : List Queue) (cycles' turns' : ℕ) (deaths' : List Death)
     → core' ≡ restored atom.cells.items core

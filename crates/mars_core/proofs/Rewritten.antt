@@ -1,4 +1,4 @@
--- Applying a record gives the state that it was recorded with.
+-- Applying a record gives the state that the record leads to.
 use Rattle.std.proofs.Common.{◌≡◌, ℕ, ◌+◌, List, [], ◌∷◌, ◌++◌, set, inl, inr, refl, ap, ◌∙◌, arith, Option, Some, None}
 use Rattle.std.specs.Prelude.{◌==◌, not, remove}
 use Rattle.std.proofs.lemmas.Bool.Decides.{nat_tests}

@@ -39,7 +39,7 @@ alike true c there back = sym (there refl)
 alike false true there back = back refl
 alike false false there back = refl
 
--- One of the addresses below `m` is used and passes the test exactly if one of the used ones passes it.
+-- An address below `m` that is used passes the test exactly if one of the addresses in `used` passes it.
 pub any_used : (m : ℕ) (used : List ℕ) (is_used test : ℕ → Bool) → All (λ a. a < m) used → ((a : ℕ) → a < m → is_in used a ≡ is_used a)
     → list_any (λ a. is_used a && test a) (range_with_len 0 m) ≡ list_any test used
 any_used m used is_used test inside are =
@@ -61,7 +61,7 @@ any_used m used is_used test inside are =
     list_any_at (λ x. is_used x && test x) (range_with_len 0 m) a 0 (rw length-range_with_len below)
     (ap (λ x. is_used x && test x) at ∙ and_from (is_used a) (test a) used_is found.4))
 
--- A turn meets the conditions by one of the cells that it uses.
+-- A turn meets the conditions on a way by one of the cells that it uses in this way.
 pub met_by : (way : Way) (conditions : List Condition) (s : State) (pasts : List Past) (used : List ℕ)
     → All (λ a. a < s.params.core_size) used → AreUsed way s used
     → one_meets way conditions s pasts ≡ list_any (λ a. list_all (holds s pasts a) (on way conditions)) used
@@ -121,7 +121,8 @@ differs_changes s core atom a seen =
     ap (λ c. not (are_equal_cells (cell_at c a) (cell_at core a))) (seen_before s core atom seen)
     ∙ ap (λ c. not (are_equal_cells (cell_at s.core a) (cell_at c a))) seen.core_is
 
--- What the code has after the turn of the state `s`, which makes it the state `made`, whose core is `core`.
+-- The code has seen the turn of the state `s` if it has the record of the turn and the core of the state `made` after
+-- it.
 pub turn_seen : (s made : State) (core : List Cell) (atom : Atom) → made ≡ turn_of s → atom ≡ turn_record s → core ≡ made.core
     → IsValid made → IsSeen s core atom
 turn_seen s made core atom after recorded core_is valid =

@@ -1,5 +1,4 @@
--- A battle as a block of 32-bit words: a header of 64 words, then three words for each cell of the core, then one word for each
--- process.
+-- A battle as a block of 32-bit words: a header of 64 words, three words for each cell, and one word for each process.
 use Rattle.std.specs.Prelude.{◌≡◌, ℕ, ◌+◌, ◌*◌, ◌-◌, if◌then◌else◌, List, [], ◌∷◌, ◌++◌, length, map, sum, drop, replicate, slice_index_or}
 use Rattle.std.specs.List.{concat}
 use Rattle.mars_cell.specs.declared.instruction.Cell.{Cell}
@@ -73,7 +72,7 @@ params_in head = record {
   distance = slice_index_or head 8 0;
 }
 
--- The block of the state `s`: the header, the cells, and the addresses of all processes, queue by queue, the front of each queue
+-- The block of the state `s`: the header, the cells, and the addresses of all processes, queue by queue, each front
 -- first.
 unfoldable pub block_of : State → List ℕ
 block_of s = head_of s ++ core_words s.core ++ concat s.queues

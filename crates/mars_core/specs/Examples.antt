@@ -1,5 +1,4 @@
--- Examples, as theorems: the check computes what the definitions result in. This file has the terms in which the
--- examples are written.
+-- Examples, as theorems: the check computes what the definitions result in. This file has the terms of the examples.
 pub mod Edits
 pub mod Apart
 pub mod Reach
@@ -87,8 +86,7 @@ lone_dead p core = record (lone p core []) { turns = 1; deaths = record { warrio
 abbrev pub change : ℕ → Cell → Cell → CellChange
 change address before after = record { address = address; before = before; after = after }
 
--- The turn of `s` results in `t`, makes `writes` and queues `addresses`; the record of the turn leads back to `s` and
--- forth to `t`.
+-- The turn of `s` results in `t`, makes `writes` and queues `addresses`; its record leads from `s` to `t` and back.
 pub record IsTurn (s t : State) (writes : List CellChange) (addresses : List ℕ) : Type 0 where
   pub state : turn_of s ≡ t
   pub changes : (turn_record s).cells.items ≡ writes
@@ -96,7 +94,7 @@ pub record IsTurn (s t : State) (writes : List CellChange) (addresses : List ℕ
   pub back : reverted (turn_record s) t ≡ s
   pub forth : applied (turn_record s) s ≡ t
 
--- The edit `e` of `s` results in `t`; the record of the edit leads back to `s` and forth to `t`.
+-- The edit `e` of `s` results in `t`; its record leads from `s` to `t` and back.
 pub record IsEdit (s : State) (e : Edit) (t : State) : Type 0 where
   pub state : edited s e ≡ t
   pub back : reverted (edit_record s e) t ≡ s

@@ -1,4 +1,4 @@
--- A battle at moments after equal steps of turns: how many cells and processes each warrior has, and how many turns of the step meet
+-- A battle after equal steps of turns: the cells and processes of each warrior, and how many turns of a step meet
 -- conditions.
 use Rattle.std.specs.Prelude.{ℕ, zero, suc, ◌==◌, List, [], ◌∷◌, length, map, filter}
 use Rattle.std.specs.List.{range_with_len}
@@ -16,8 +16,8 @@ use Rattle.mars_core.specs.declared.search.Condition.{Condition}
 abbrev pub owned_by : List Past → ℕ → ℕ
 owned_by pasts warrior = length (filter (λ (past : Past). past.owner == warrior) pasts)
 
--- The moment of the state `s`, after a step of which `found` turns met the conditions. Each list of the moment has
--- `max_warriors` entries.
+-- The moment of the state `s`, after a step of which `found` turns met the conditions. Each list has `max_warriors`
+-- entries.
 abbrev pub moment_of : State → List Past → ℕ → Moment
 moment_of s pasts found = record {
   turns = s.turns;

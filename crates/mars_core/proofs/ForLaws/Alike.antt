@@ -36,7 +36,7 @@ pub record Corresponds (p : Parameters) (there : ℕ → ℕ) (Near : ℕ → Ty
   pub start : pc < p.core_size
   pub start_there : pc' < p.core_size
 
--- The near cells are the same in both cores.
+-- The near cells are the same in both cores, at corresponding addresses.
 pub record Alike (m : ℕ) (there : ℕ → ℕ) (Near : ℕ → Type 0) (core core' : List Cell) : Type 0 where
   pub size : length core ≡ m
   pub size_there : length core' ≡ m
@@ -47,7 +47,7 @@ abbrev pub changed_there : (ℕ → ℕ) → CellChange → CellChange
 changed_there there change = record change { address = there change.address }
 
 module _ (p : Parameters) (there : ℕ → ℕ) (Near : ℕ → Type 0) (pc pc' : ℕ) (k : Corresponds p there Near pc pc') where
-  -- The same was written in both cores, only at near addresses.
+  -- The same cells were written in both cores, only at near addresses.
   pub record AlikeWritten (w w' : WrittenCore) : Type 0 where
     pub cores : Alike p.core_size there Near w.core w'.core
     pub changes : w'.changes ≡ map (changed_there there) w.changes

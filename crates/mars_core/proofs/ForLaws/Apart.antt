@@ -1,7 +1,7 @@
--- A warrior that keeps to a part of the core in which the other warriors change no cell fights alike in all battles. `fights_alike` follows
--- the turns of the first battle, and passes its recursive call to a lemma that follows the turns of the second (`meets`). That lemma skips
--- the turns of the other warriors until both battles are at a turn of the warrior. So neither the clocks nor the numbers of warriors have
--- to be the same.
+-- A warrior that keeps to a part of the core in which the other warriors change no cell fights alike in all battles.
+-- `fights_alike` follows the turns of the first battle, and passes its recursive call to a lemma that follows the turns
+-- of the second (`meets`). `meets` skips the turns of the other warriors until both battles are at a turn of the
+-- warrior. So the clocks and the numbers of warriors may differ.
 use Rattle.std.proofs.Common.{◌≡◌, ◌≢◌, ℕ, zero, suc, ◌+◌, ◌<◌, Bool, true, false, cond, List, [], length, All, refl, ap, sym, ◌∙◌, subst, arith, inl, inr}
 use Rattle.std.specs.Prelude.{◌==◌, if◌then◌else◌}
 use Rattle.std.specs.List.{AllPass}
@@ -56,7 +56,7 @@ core_then s = refl
 agrees_back : (part : ℕ → Bool) (w v : ℕ) (s t : State) → AgreesOn part w s v t → AgreesOn part v t w s
 agrees_back part w v s t g = record { params = sym g.params; processes = sym g.processes; cells = λ a h. sym (g.cells a h) }
 
--- The warrior has a turn in both battles.
+-- After a turn of the warrior in both battles, both agree again on the warrior and the part.
 pub own_turn : (part : ℕ → Bool) (s t : State) → IsValid s → IsValid t → AgreesOn part s.next s t.next t → AllPass part (touched_in_turn s) → AgreesOn part s.next (turn_of s) t.next (turn_of t)
 own_turn part s t v u g keeps =
     let p = s.params in
@@ -74,7 +74,7 @@ own_turn part s t v u g keeps =
           );
     }
 
--- Another warrior has a turn in the first battle.
+-- After a turn of another warrior in the first battle, both battles still agree on the warrior and the part.
 pub other_turn : (part : ℕ → Bool) (w v : ℕ) (s t : State) → w ≢ s.next → AgreesOn part w s v t → ((a : ℕ) → part a ≡ true → cell_at (turn_of s).core a ≡ cell_at s.core a) → AgreesOn part w (turn_of s) v t
 other_turn part w v s t other g left = record {
   params = (shape-turn_of s).params ∙ g.params;
@@ -125,7 +125,7 @@ pub other_counts : (w next n : ℕ) → next ≢ w → cond (next == w) 1 0 + n 
 other_counts w next n other = rw (other_eq next w (λ e. other (sym e))) (omega arith)
 
 module _ (part : ℕ → Bool) (w v : ℕ) where
-  -- Another warrior has a turn in the second battle.
+  -- After a turn of another warrior in the second battle, both battles still agree on the warrior and the part.
   other_there : (s t : State) → t.next ≢ v → AgreesOn part w s v t → ((a : ℕ) → part a ≡ true → cell_at (turn_of t).core a ≡ cell_at t.core a) → AgreesOn part w s v (turn_of t)
   other_there s t other g left =
       agrees_back part v w (turn_of t) s (other_turn part v w t s (λ same. other (sym same)) (agrees_back part w v s t g) left)
@@ -192,7 +192,7 @@ module _ (part : ℕ → Bool) (w v : ℕ) where
         ]
       ] refl turns
 
--- If each warrior keeps to its own cells, no other warrior changes one of them.
+-- If each warrior keeps to its own cells, no warrior changes a cell of another.
 pub own_cells_left : (owner : ℕ → ℕ) (n : ℕ) (s : State) → IsValid s → ((w : ℕ) → w < length s.queues → StaysWithin (λ a. owner a == w) w n s) → (w : ℕ) → OthersLeaveUnchanged (λ a. owner a == w) w n s
 own_cells_left owner n s valid keeps w k h over other a mine =
     let t = after_turns k s in

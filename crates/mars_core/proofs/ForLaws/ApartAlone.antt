@@ -37,8 +37,8 @@ turn_steps s v over on =
     let alive = (running s.params.cycles (turn_of s).cycle (turn_of s).queues after.some on).alive in
     clock_steps (executed s).queues (clock_of s) _ _ refl refl alive
 
--- The warrior in the battle of its own is not ahead: it has had one more turn only if the warrior has had its turn in the present
--- cycle.
+-- The battle `t` of the warrior without opponents is not ahead of `s`: it has completed one more cycle than `s` only if
+-- the warrior has had its turn in the present cycle of `s`.
 abbrev IsNotAhead : ℕ → State → State → Type 0
 IsNotAhead w s t = is_over_of s ≡ false → (s.next ≤ w → t.cycle ≤ s.cycle) × (t.cycle ≤ s.cycle + 1)
 

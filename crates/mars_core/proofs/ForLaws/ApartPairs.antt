@@ -41,7 +41,7 @@ other_next qs clock live two h =
           rw (live_from_end qs (clock.next + 1) last, live_from_here qs 0 first (live _ first)) (omega (arith, two, last, h))
     ]
 
--- The other warrior is next.
+-- After a turn of one of two warriors, the other is next.
 by_turns : (s : State) → IsValid s → length s.queues ≡ 2 → is_over_of s ≡ false → is_over_of (turn_of s) ≡ false → (turn_of s).next ≡ 1 - s.next
 unfolding turn_of executed
 by_turns s v two over on =

@@ -76,8 +76,8 @@ module _ (p : Parameters) (r : AreInRange p) (k : ℕ) (h : k < p.core_size) whe
       let alike = with_warriors_alike ws starts _ _ blank_alike in
       one_core p r k h core _ _ alike (moved_alike p r k h core alike.size)
 
-  -- All addresses are in the core. The lemmas below state that the loaded addresses are shifted, too, and that two of them are equal
-  -- exactly if they were before.
+  -- All addresses are in the core. The lemmas below state that the loaded addresses are shifted, too, and that two of
+  -- them are equal exactly if the addresses were equal before the shift.
   abbrev AreInside : List ℕ → Type 0
   AreInside xs = All (λ a. a < m) xs
 

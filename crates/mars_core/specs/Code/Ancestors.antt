@@ -9,8 +9,7 @@ use Rattle.mars_core.specs.declared.battle.ancestors.OwnTurn.{OwnTurn}
 abbrev pub own_turn : State → ℕ → OwnTurn
 own_turn s warrior = record { turn = s.turns + 1; waiting = length (drop 1 (queue_of s.queues warrior)) }
 
--- What the code keeps of the turns of `warrior` among the next `n`, or among those up to the end of the battle if fewer
--- are left.
+-- What the code keeps of the turns of `warrior` among the next `n`, or among all that are left if there are fewer.
 abbrev pub own_turns : ℕ → State → ℕ → List OwnTurn
 own_turns zero s warrior = []
 own_turns (suc n) s warrior =

@@ -14,8 +14,7 @@ IsCellFault core_size words (fault.Cell address) = IsFirstWrongCell core_size wo
 IsCellFault core_size words fault.OutOfMemory = ⊤
 IsCellFault core_size words other = ⊥
 
--- The error is that of the first wrong queue, or out of memory. `counts` are the lengths of the queues, and `words` the
--- addresses.
+-- The error is that of the first wrong queue, or out of memory. `counts` has the lengths, and `words` the addresses.
 abbrev pub IsQueueFault : Parameters → List ℕ → List ℕ → BlockFault → Type 0
 IsQueueFault p counts words (fault.Queue warrior) = IsFirstWrongQueue p counts words warrior
 IsQueueFault p counts words fault.OutOfMemory = ⊤

@@ -9,8 +9,8 @@ use Rattle.mars_core.specs.Examples.{the_machine}
 use Rattle.mars_core.specs.Examples.Pasts.{all_loaded}
 use Rattle.mars_core.specs.Examples.Searches.{two_imps, where_}
 
--- The number of cells of each owner: the second warrior owns `second` cells, and `others` cells have the owner 9, which
--- stands for no warrior.
+-- The numbers of cells that owners have: `second` of the second warrior, and `others` of 9, which stands for no
+-- warrior.
 abbrev owned : ℕ → ℕ → List ℕ
 owned second others = 0 ∷ second ∷ replicate 7 0 ++ others ∷ replicate 6 0
 

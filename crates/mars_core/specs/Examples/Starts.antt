@@ -21,8 +21,7 @@ nop a = cell_of Nop F Direct a Direct 0
 abbrev jmp : ℕ → Cell
 jmp a = cell_of Jmp B Direct a Direct 0
 
--- Three warriors. The first starts at its second cell, and extends past the end of the core if it is loaded at address
--- 7.
+-- Three warriors. The first starts at its second cell; loaded at address 7, it extends past the end of the core.
 abbrev three : List WarriorValue
 three = warrior (nop 1 ∷ nop 2 ∷ []) 1 ∷ warrior (jmp 1 ∷ jmp 2 ∷ jmp 3 ∷ []) 2 ∷ warrior (numbers 4 4 ∷ []) 0 ∷ []
 

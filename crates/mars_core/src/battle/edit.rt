@@ -36,8 +36,8 @@ pub enum Edit {
     Spawn(u64, u64),
 }
 
-/// The reason why an edit is rejected: the first error that applies, in the order of the numbers. Displayed as its
-/// number and name.
+/// The reason why an edit is rejected, displayed as its number and name: the first that applies, in order of the
+/// numbers.
 #[derive(Clone, Copy, Debug, PartialEq, Eq, Error)]
 pub enum EditFault {
     /// The address is not in the core.

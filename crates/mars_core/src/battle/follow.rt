@@ -53,8 +53,7 @@ impl Battle {
         count
     }
 
-    /// Executes a turn of a battle that is not over, keeps the past of each cell, and returns the turn if it meets all
-    /// conditions.
+    /// Executes a turn of a battle that is not over, keeps all pasts, and returns the turn if it meets all conditions.
     #[inline(always)]
     fn follow_turn(&mut self, pasts: &mut [Past], conditions: &[Condition]) -> Option<Found>
         requires running { is_over_of self.old ≡ false }

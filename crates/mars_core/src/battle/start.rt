@@ -21,8 +21,8 @@ use mars_cell::{Cell, Params, Warrior};
 use std::alloc::{AllocError, Global};
 use thiserror::Error;
 
-/// The reason why a battle can't start: the first error that applies, in the order of the numbers. Displayed as its
-/// number and name.
+/// The reason why a battle can't start, displayed as its number and name: the first that applies, in order of the
+/// numbers.
 #[derive(Clone, Copy, Debug, PartialEq, Eq, Error)]
 pub enum BattleFault {
     /// There is no warrior.
@@ -85,7 +85,7 @@ impl Battle {
         })
     }
 
-    /// Starts a new battle of equally many warriors with the same parameters, in the memory of this battle. Does not
+    /// Starts a new battle of equally many warriors, with the same parameters and in the same memory. Does not
     /// allocate.
     ///
     /// # Errors

@@ -187,9 +187,8 @@ pub fn pointed<const LIMITED: bool>(params: &Params, pc: u32, number: u32) -> u3
     address_after(core_size, pc, pointer)
 }
 
-/// Returns the address of an indirect operand. With limits, it is `pointer` cells after `pc`, where `pointer` is the
-/// folded sum. Without limits, it is `number` cells after the cell at `through`, which has this number; this takes one
-/// addition.
+/// Returns the address of an indirect operand: with limits, `pointer` cells after `pc`, where `pointer` is the folded
+/// sum; without limits, by one addition, `number` cells after `through`, the address of the cell with this number.
 #[inline(always)]
 fn address_through<const LIMITED: bool>(
     core_size: u32,

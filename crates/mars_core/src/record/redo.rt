@@ -24,8 +24,7 @@ pub fn rewrite_cells(core: &mut [PackedCell], changes: &[CellChange])
     }
 }
 
-/// Changes the queue of the work's warrior, if there is one, to what it is after the work, which queues the addresses
-/// in `queued`.
+/// Changes the queue of the work's warrior, if there is one, to what it is after the work, which queues `queued`.
 pub fn reapply_to_queue(queues: &mut [ProcessQueue], work: Work, queued: &[u32])
     requires { (limit : ℕ) × All (λ (q : Contents). q.limit ≡ limit) queues.old
         × HasQueue (spec_warrior_of work) (CanRequeue limit work (length queued.now)) (addresses_of queues.old) }

@@ -24,8 +24,7 @@ pub fn restore_cells(core: &mut [PackedCell], changes: &[CellChange])
     }
 }
 
-/// Changes the queue of the work's warrior, if there is one, to what it was before the work, which queued `queued`
-/// addresses.
+/// Undoes the work, which queued `queued` addresses, in the queue of its warrior, if there is one.
 pub fn restore_queue(queues: &mut [ProcessQueue], work: Work, queued: usize)
     requires { (limit : ℕ) × All (λ (q : Contents). q.limit ≡ limit) queues.old
         × HasQueue (spec_warrior_of work) (CanRestore limit work queued) (addresses_of queues.old) }

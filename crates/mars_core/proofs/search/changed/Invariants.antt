@@ -5,7 +5,7 @@ use Rattle.mars_core.specs.declared.machine.writes.CellChange.{CellChange}
 use Rattle.mars_core.proofs.Pasts.{differs}
 use Rattle.mars_core.proofs.search.changed.Given as goal
 
--- The addresses are those of the writes so far that changed the cell.
+-- The addresses are those of the writes so far whose cells the turn changed.
 abbrev pub invariant-loop-write : goal.invariant-loop-write
 invariant-loop-write l = record {
   few : length l.addresses.items ≤ l.write-index;

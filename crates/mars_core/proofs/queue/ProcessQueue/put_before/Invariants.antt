@@ -1,7 +1,7 @@
 use Rattle.std.proofs.Common.{◌≡◌, ◌-◌, ◌++◌, length, drop}
 use Rattle.mars_core.proofs.queue.ProcessQueue.put_before.Given as goal
 
--- The last processes are put before the queue.
+-- The last `i` processes are put before the queue.
 abbrev pub invariant-loop-i : goal.invariant-loop-i
 invariant-loop-i l = record {
   items : l.self-inside.ring.items ≡ drop (length l.addresses - l.i) l.addresses ++ l.fn.self.addresses;
