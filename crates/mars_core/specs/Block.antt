@@ -72,8 +72,8 @@ params_in head = record {
   distance = slice_index_or head 8 0;
 }
 
--- The block of the state `s`: the header, the cells, and the addresses of all processes, queue by queue, each front
--- first.
+-- The block of the state `s`: the header, the cells, and the addresses of all processes, queue by queue, from the
+-- front.
 unfoldable pub block_of : State → List ℕ
 block_of s = head_of s ++ core_words s.core ++ concat s.queues
 

@@ -1,5 +1,5 @@
--- A battle after equal steps of turns: the cells and processes of each warrior, and how many turns of a step meet
--- conditions.
+-- A battle after equal steps of turns: the cells and processes of each warrior, and the number of turns that were
+-- found.
 use Rattle.std.specs.Prelude.{ℕ, zero, suc, ◌==◌, List, [], ◌∷◌, length, map, filter}
 use Rattle.std.specs.List.{range_with_len}
 use Rattle.mars_core.specs.Block.{lengths_of, padded}
@@ -16,7 +16,7 @@ use Rattle.mars_core.specs.declared.search.Condition.{Condition}
 abbrev pub owned_by : List Past → ℕ → ℕ
 owned_by pasts warrior = length (filter (λ (past : Past). past.owner == warrior) pasts)
 
--- The moment of the state `s`, after a step of which `found` turns met the conditions. Each list has `max_warriors`
+-- The moment of the state `s`, after a step in which `found` turns met conditions. Each list has `max_warriors`
 -- entries.
 abbrev pub moment_of : State → List Past → ℕ → Moment
 moment_of s pasts found = record {

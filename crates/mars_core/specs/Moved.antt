@@ -1,5 +1,5 @@
--- A battle shifted in the core: each cell and each process is `k` cells further, which makes no difference to the
--- warriors.
+-- A battle shifted in the core: each cell and each process is `k` cells further. Laws state that this makes no
+-- difference to the warriors.
 use Rattle.std.specs.Prelude.{ℕ, ◌-◌, List, ◌++◌, map, take, drop}
 use Rattle.mars_cell.specs.declared.instruction.Cell.{Cell}
 use Rattle.mars_core.specs.State.{State}

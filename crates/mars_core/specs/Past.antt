@@ -44,8 +44,7 @@ copy_by p core pc =
 abbrev pub copy_in_turn : State → Option CellCopy
 copy_in_turn s = copy_by s.params s.core (front_of (queue_of s.queues s.next))
 
--- The address from which the cell at `address` comes: that of the copied cell if the copy writes there, otherwise
--- `address`.
+-- From where the cell at `address` comes: the address of the copied cell if the copy writes there, else `address`.
 abbrev pub comes_from : Option CellCopy → ℕ → ℕ
 comes_from None address = address
 comes_from (Some copy) address = if copy.to == address then copy.from else address

@@ -10,8 +10,7 @@ use Rattle.mars_core.specs.Operand.{pointed_address, evaluated}
 use Rattle.mars_core.specs.Turn.{front_of}
 
 -- The addresses to which the number `n` of the instruction at `pc` leads for reading and writing if `mode` is indirect,
--- and none for other modes. The same field of both cells is read, and in the second cell it may be decremented or
--- incremented.
+-- else none. The same field of both cells is read, and in the second cell it may be decremented or incremented.
 abbrev pub pointed_addresses : Parameters → ℕ → Mode → ℕ → List ℕ
 pointed_addresses p pc Immediate n = []
 pointed_addresses p pc Direct n = []

@@ -9,8 +9,7 @@ use Rattle.mars_core.specs.Examples.{the_machine}
 use Rattle.mars_core.specs.Examples.Pasts.{all_loaded}
 use Rattle.mars_core.specs.Examples.Searches.{two_imps, where_}
 
--- The numbers of cells that owners have: `second` of the second warrior, and `others` of 9, which stands for no
--- warrior.
+-- The numbers of cells by owner: `second` for the second warrior, and `others` for 9, which stands for no warrior.
 abbrev owned : ℕ → ℕ → List ℕ
 owned second others = 0 ∷ second ∷ replicate 7 0 ++ others ∷ replicate 6 0
 

@@ -36,8 +36,7 @@ pub enum Edit {
     Spawn(u64, u64),
 }
 
-/// The reason why an edit is rejected, displayed as its number and name: the first that applies, in order of the
-/// numbers.
+/// The reason why an edit is rejected, displayed as its number and name: the first that applies, in this order.
 #[derive(Clone, Copy, Debug, PartialEq, Eq, Error)]
 pub enum EditFault {
     /// The address is not in the core.

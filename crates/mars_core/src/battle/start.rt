@@ -21,8 +21,7 @@ use mars_cell::{Cell, Params, Warrior};
 use std::alloc::{AllocError, Global};
 use thiserror::Error;
 
-/// The reason why a battle can't start, displayed as its number and name: the first that applies, in order of the
-/// numbers.
+/// The reason why a battle can't start, displayed as its number and name: the first that applies, in this order.
 #[derive(Clone, Copy, Debug, PartialEq, Eq, Error)]
 pub enum BattleFault {
     /// There is no warrior.
@@ -85,8 +84,7 @@ impl Battle {
         })
     }
 
-    /// Starts a new battle of equally many warriors, with the same parameters and in the same memory. Does not
-    /// allocate.
+    /// Starts a new battle of equally many warriors in the same memory, with the same parameters. Does not allocate.
     ///
     /// # Errors
     ///
