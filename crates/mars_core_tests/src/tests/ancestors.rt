@@ -14,7 +14,7 @@ fn splitting(alloc: Global, processes: u32) -> Result<Battle, Fail> {
     lone_battle(alloc, sizes, &SPLITTING)
 }
 
-/// Returns the result of `ancestors` for a process after turns, with room for three births.
+/// Returns the result of `ancestors` for a process after `turns` turns, with room for three births.
 fn asked(
     alloc: Global,
     battle: &Battle,
@@ -43,8 +43,8 @@ const NO_SUCH_PROCESS: (Result<Ancestors, AncestorsFault>, [u32; 3]) = (
 #[test]
 fn births_are_found_back_to_the_first(rt: HostRuntime) -> Result<(), Fail> {
     let battle = splitting(rt.alloc(), 8)?;
-    // In the turns 1, 3 and 6, and so on, the process at address 0 splits: it continues at the jump, and the new
-    // process is at address 0.
+    // In turns 1, 3, 6 and 10, the process at address 0 splits: it continues at the jump, and the new process is at
+    // address 0.
     assert_eq!(&rt; asked(rt.alloc(), &battle, 0, 0, 0), found(0, 0, [9, 9, 9]));
     assert_eq!(&rt; asked(rt.alloc(), &battle, 3, 0, 0), found(0, 0, [9, 9, 9]));
     assert_eq!(&rt; asked(rt.alloc(), &battle, 3, 0, 1), found(1, 0, [1, 9, 9]));
@@ -81,7 +81,7 @@ fn turns_are_those_of_the_battle(rt: HostRuntime) -> Result<(), Fail> {
     // The second warrior's turns are 2, 4, 6 and 8: in turn 2 it splits, then its first process dies at a DAT.
     assert_eq!(&rt; asked(rt.alloc(), &battle, 4, 1, 0), found(1, 0, [2, 9, 9]));
     assert_eq!(&rt; asked(rt.alloc(), &battle, 6, 1, 1), found(2, 0, [6, 2, 9]));
-    // From turn 3 on the process that turn 2 queued second is the one with place 1.
+    // After turn 2, the process that this turn queued second is at place 1.
     make_turns(&mut battle, 2)?;
     check_clock(&rt, &battle, 0, 1, 2);
     assert_eq!(&rt; asked(rt.alloc(), &battle, 4, 1, 1), found(1, 1, [6, 9, 9]));

@@ -46,9 +46,9 @@ fn blocks_are_read_as_they_were_written(rt: HostRuntime) -> Result<(), Fail> {
     check_round_trip(&rt, rt.alloc(), &mut battle)
 }
 
-/// The battle has three warriors with one process each and a process limit of three, in a core of 8 cells, after 4
-/// turns. Each entry has the words that are changed in its block of 91 words, by index, and the error that results. Of
-/// two mistakes, the one that is checked first is reported.
+/// Words that are changed in a block, by their indices, and the error that results: of two mistakes, the one that is
+/// checked first. The block has 91 words. Its battle has three warriors with one process each and a process limit of
+/// three, in a core of 8 cells, after 4 turns.
 const ERRORS: &[(&[(usize, u32)], BlockFault)] = &[
     (&[(0, BLOCK_MARK + 1)], BlockFault::Mark),
     (&[(2, 0)], BlockFault::Parameters(ParamFault::CoreSize)),

@@ -11,7 +11,7 @@ use std::fmt::Display;
 use std::process::Abort;
 use std::test::Fail;
 
-/// Kills the only process of a warrior, and checks the clock after that.
+/// Kills the only process of a warrior, and checks the clock after the kill.
 fn check_kill(
     rt: &impl Abort,
     battle: &mut Battle,
@@ -48,7 +48,7 @@ fn three_warriors_and_kills(rt: HostRuntime) -> Result<(), Fail> {
     check_kills_to_the_end(&rt, rt.alloc())
 }
 
-/// Edits that are rejected for a warrior with 3 processes and a process limit of 3, in a core of 8 cells.
+/// Edits that are rejected in a battle of one warrior with 3 processes and a process limit of 3, in a core of 8 cells.
 const REFUSED_EDITS: &[(Edit, EditFault)] = &[
     (Edit::Spawn(0, 3), EditFault::QueueFull),
     (Edit::Spawn(4_294_967_296, 0), EditFault::NoSuchWarrior),
@@ -59,7 +59,7 @@ const REFUSED_EDITS: &[(Edit, EditFault)] = &[
     (Edit::MoveProcess(1, 0, 0), EditFault::NoSuchWarrior),
 ];
 
-/// Adds two processes, up to the process limit, then kills one and moves one.
+/// Adds two processes, up to the process limit, tries edits that are rejected, then kills a process and moves another.
 fn check_edits(rt: &impl Abort, battle: &mut Battle) -> Result<(), Fail> {
     make_edit(battle, Edit::Spawn(0, 1))?;
     make_edit(battle, Edit::Spawn(0, 2))?;

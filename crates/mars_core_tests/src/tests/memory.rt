@@ -1,5 +1,5 @@
 //! Calls whose allocations fail. dev/checks/memory lets each allocation of a test fail in turn. Each test must pass
-//! whichever one fails, since a second try has memory.
+//! whichever allocation fails, since a second try has memory.
 use super::{check_clock, check_same, params};
 use mars_cell::{Params, Warrior, read_cell};
 use mars_core::{Ancestors, AncestorsFault, Battle, BattleFault, BlockFault};
@@ -7,7 +7,7 @@ use std::alloc::Global;
 use std::process::Abort;
 use std::test::Fail;
 
-/// Returns warriors of one cell each in a core of 8 cells.
+/// Returns warriors of one cell each, for a core of 8 cells.
 pub fn one_cells(alloc: Global, texts: &[&str]) -> Option<Vec<Warrior>> {
     let mut warriors = Vec::new(alloc);
     for text in texts {

@@ -1,6 +1,6 @@
-//! Calls that do not allocate. Each test creates its objects, allocates again, and passes whether or not that
-//! allocation and all later ones fail; dev/checks/memory lets all allocations from each one on fail. If the objects
-//! themselves cannot be allocated, the test checks nothing.
+//! Calls that do not allocate. Each test creates its objects, allocates again, and passes whether or not this
+//! allocation and all later ones fail; dev/checks/memory runs the test with each allocation as the first to fail. If
+//! the objects themselves cannot be allocated, the test checks nothing.
 ghost use Rattle.std.specs.Prelude.{◌≡◌, IfSome};
 ghost use Rattle.mars_core.specs.Leads.{Leads};
 
@@ -17,7 +17,7 @@ fn ask(alloc: Global) {
     let _asked: Result<Vec<u64>, _> = Vec::with_capacity(alloc, 1);
 }
 
-/// A turn: the battle before it, its record, the battle after it, and a second copy of that.
+/// A turn: the battle before it, its record, the battle after it, and a second copy of the battle after it.
 #[derive(Drop)]
 struct Made {
     before: Battle,
@@ -26,7 +26,7 @@ struct Made {
     battle: Battle,
 }
 
-/// Returns the first turn of a battle.
+/// Returns the first turn of a battle, or `None` if an allocation fails.
 fn first_turn(alloc: Global, params: &Params) -> Option<Made>
     ensures { IfSome result (λ made. Leads made.before made.atom made.after × (made.battle ≡ made.after)) }
 {
@@ -73,7 +73,7 @@ const EDITS: &[(Edit, Option<EditFault>)] = &[
     (Edit::KillProcess(1, 0), None),
 ];
 
-/// Checks that the edits lead to the end of the battle.
+/// Checks the errors of the edits, and that the battle is over after them.
 fn check_edits(rt: &impl Abort, battle: &mut Battle) {
     for (edit, fault) in EDITS {
         assert_eq!(rt; battle.edit(*edit).err(), *fault);
@@ -94,7 +94,7 @@ fn edits_of_a_battle(rt: HostRuntime) -> Result<(), Fail> {
     Ok(())
 }
 
-/// Executes some turns, runs the battle to its end, tries a restart that is rejected, and plays another round.
+/// Executes three turns, runs the battle to its end, tries a restart that is rejected, and plays another round.
 fn check_rounds(rt: &impl Abort, battle: &mut Battle, warriors: &[Warrior]) -> Result<(), Fail> {
     battle.run(3);
     assert_eq!(rt; battle.turns(), 3);

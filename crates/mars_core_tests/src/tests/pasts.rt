@@ -57,8 +57,8 @@ fn imps_are_followed_and_found(rt: HostRuntime) -> Result<(), Fail> {
     }
     let count = battle.follow(6, &mut pasts, &conditions, &mut turns);
     assert_eq!(&rt; count, 3);
-    // In turn 2 the second imp executes the cell at which it was loaded, which is an equal copy of the first imp by
-    // then.
+    // In turn 2 the second imp executes the cell at which it was loaded, which is by then an equal copy of the first
+    // imp.
     assert_eq!(&rt;
         turns,
         [
@@ -91,8 +91,8 @@ fn moments_are_after_each_step(rt: HostRuntime) -> Result<(), Fail> {
     if pasts.len() != battle.params().core_size() as usize {
         return Err("core size".into());
     }
-    // The turns 2, 4, 6 and 8 are those of the second imp, and each changes a cell. The last step is cut off by the
-    // end.
+    // In the first step, the turns 2, 4 and 6 are those of the second imp, and each changes a cell. The last step ends
+    // early, with the battle.
     battle.moments(7, &mut pasts, &[is(Number::Warrior, 1)], &mut moments);
     assert_eq!(&rt; moments[0].turns, 7);
     assert_eq!(&rt;

@@ -11,7 +11,7 @@ use std::alloc::Global;
 use std::process::Abort;
 use std::test::Fail;
 
-/// Executes an edit, reverts it and applies it again.
+/// Executes an edit, reverts its record and applies the record again.
 fn edit_and_back(
     rt: &impl Abort,
     alloc: Global,
@@ -69,8 +69,8 @@ const EDITS: &[Edit] = &[
     Edit::KillProcess(1, 1),
 ];
 
-/// Executes an edit, reverts it and applies it again; checks whether it kills its warrior and whether it completes a
-/// cycle.
+/// Executes an edit, reverts it and applies it again. Checks that the edit kills its warrior if `died`, else not, and
+/// that it completes a cycle if `cycle_added`, else not.
 fn check_edit(
     rt: &impl Abort,
     alloc: Global,
@@ -106,7 +106,7 @@ fn edits_back_and_forth(rt: HostRuntime) -> Result<(), Fail> {
     Ok(())
 }
 
-/// A turn and an edit after it: the battles before, between and after them, and their records.
+/// A turn and an edit after it: the battles before, between and after both, and both records.
 #[derive(Drop)]
 struct Two {
     before: Battle,
@@ -159,7 +159,7 @@ fn apply_both(rt: &impl Abort, battle: &mut Battle, two: &Two)
     go_forth(rt, battle, &two.edit, &two.after);
 }
 
-/// Reverts four records and applies them again, the second of them twice.
+/// Reverts four records and applies them again; the second record is reverted and applied twice.
 fn four_back_and_forth(rt: &impl Abort, battle: &mut Battle, first: &Two, second: &Two)
     requires first_turn { Leads first.now.before first.now.turn first.now.between }
     requires first_edit { Leads first.now.between first.now.edit first.now.after }
@@ -198,7 +198,7 @@ fn queue_of(alloc: Global, battle: &Battle, warrior: usize) -> Result<Vec<u32>, 
 
 const FULL: &[(Edit, EditFault)] = &[(Edit::Spawn(0, 3), EditFault::QueueFull)];
 
-/// Kills a process in the middle of the queue, and reverts that.
+/// Kills a process in the middle of the queue, and reverts the kill.
 fn check_killed_process(rt: &impl Abort, alloc: Global, battle: &mut Battle) -> Result<(), Fail> {
     let three = battle.copy(alloc)?;
     let killed = edit_and_back(rt, alloc, battle, Edit::KillProcess(0, 1))?;
@@ -208,7 +208,7 @@ fn check_killed_process(rt: &impl Abort, alloc: Global, battle: &mut Battle) -> 
     Ok(())
 }
 
-/// Moves a process, executes a turn, kills the process at the front, and reverts all of that.
+/// Moves a process, executes a turn, kills the process at the front, and reverts all three.
 fn check_three_steps(rt: &impl Abort, alloc: Global, battle: &mut Battle) -> Result<(), Fail> {
     let three = battle.copy(alloc)?;
     let moved = edit_and_back(rt, alloc, battle, Edit::MoveProcess(0, 2, 5))?;
@@ -249,7 +249,7 @@ fn full_queue(alloc: Global, processes: u32, turns: u32) -> Result<Battle, Fail>
     Ok(battle)
 }
 
-/// Returns the addresses of a queue except for the one at `place`.
+/// Returns the addresses in the queue of warrior 0, except for the address at `place`.
 fn rest_of_queue(alloc: Global, battle: &Battle, place: usize) -> Result<Vec<u32>, Fail> {
     let mut rest = queue_of(alloc, battle, 0)?;
     if rest.len() <= place {
@@ -259,7 +259,7 @@ fn rest_of_queue(alloc: Global, battle: &Battle, place: usize) -> Result<Vec<u32
     Ok(rest)
 }
 
-/// Kills the process at a place of a full queue, reverts that and applies it again.
+/// Kills the process at `place` of a full queue, reverts the kill and applies it again.
 fn check_killed_at(
     rt: &impl Abort,
     alloc: Global,

@@ -69,7 +69,7 @@ fn runs_within_limits(rt: HostRuntime) -> Result<(), Fail> {
     check_run(&rt, rt.alloc(), &mut battle, turned.turns())
 }
 
-/// Runs a battle for one, two and more turns, and executes the turns of a copy one by one.
+/// Runs a battle for 1, 0, 2, 1000 and 1 turns, each time compared with a copy whose turns are executed one by one.
 fn check_turns(rt: &impl Abort, alloc: Global, battle: &mut Battle) -> Result<(), Fail> {
     let mut stepped = battle.copy(alloc)?;
     for turns in [1, 0, 2, 1000, 1] {

@@ -52,7 +52,7 @@ const RESTARTED: &[(u32, &str)] = &[
     (4, "DAT.F $0, $0"),
 ];
 
-/// Checks that a restart that is rejected changes nothing, and that the next one loads the warriors.
+/// Checks that a restart that is rejected changes nothing, and that the next restart loads the warriors.
 fn check_restarts(rt: &impl Abort, battle: &mut Battle, warriors: &[Warrior]) -> Result<(), Fail> {
     let outside = Err(BattleFault::StartOutside);
     check_restart(rt, battle, warriors, [0, 9], outside)?;
@@ -74,7 +74,7 @@ fn restarts(rt: HostRuntime) -> Result<(), Fail> {
     check_restarts(&rt, &mut battle, &warriors)
 }
 
-/// Returns a warrior with these cells that starts at the cell with index `start`.
+/// Returns a warrior of the cells `texts` that starts at the cell with index `start`.
 fn several_cells(alloc: Global, texts: &[&str], start: u32) -> Result<Warrior, Fail> {
     let mut cells = Vec::new(alloc);
     for text in texts {

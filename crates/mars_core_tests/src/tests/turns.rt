@@ -134,7 +134,7 @@ const FIELDS_BY_THEIR_MODIFIER: &[Case] = &[
         queue: &[],
         changes: 0,
     },
-    // The whole cell is copied, then only both numbers.
+    // MOV.I copies the whole cell, then MOV.F only both numbers.
     Case {
         sizes: OF_EIGHT,
         before: &[(0, "MOV.I $1, $2"), (1, "ADD.AB #1, <2")],

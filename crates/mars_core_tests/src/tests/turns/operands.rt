@@ -3,7 +3,7 @@ use super::{Case, check_all};
 use crate::tests::{OF_EIGHT, Sizes};
 use std::test::Fail;
 
-/// `$3` reads cell 7 and writes cell 3.
+/// A core of 8 cells in which `$3` reads cell 7 and writes cell 3, from cell 0.
 const READS_BACK: Sizes = (8, 8, 4, 8);
 
 const OPERANDS: &[Case] = &[
@@ -125,7 +125,7 @@ const LIMITS: &[Case] = &[
         queue: &[7],
         changes: 0,
     },
-    // Arithmetic uses the cell that is read. DJN tests the cell that is read, but decrements the one that is written.
+    // Arithmetic uses the cell that is read. DJN tests the cell that is read, but decrements the cell that is written.
     Case {
         sizes: READS_BACK,
         before: &[(0, "ADD.AB #1, $3"), (7, "DAT.F $0, $-3")],
@@ -187,7 +187,7 @@ const INDIRECT_OPERANDS: &[Case] = &[
         queue: &[5],
         changes: 1,
     },
-    // The predecrement changes the executing cell, which is written after that.
+    // The predecrement changes the executing cell, which is then written.
     Case {
         sizes: OF_EIGHT,
         before: &[(0, "ADD.AB #1, {0")],
