@@ -75,7 +75,7 @@ take_three words n h =
     ∙ append_assoc (take n words ++ get_or words n 0 ∷ []) (get_or words (n + 1) 0 ∷ []) (get_or words (n + 2) 0 ∷ [])
     ∙ append_assoc (take n words) (get_or words n 0 ∷ []) (get_or words (n + 1) 0 ∷ get_or words (n + 2) 0 ∷ [])
 
--- After the words of one more cell, the cells that were read have all words up to there.
+-- With one more cell read, the cells have the words of the first `i + 1` cells.
 pub cell_read : (cells : List Cell) (c : Cell) (words : List ℕ) (i : ℕ) → core_words cells ≡ take (3 * i) words → cell_words c ≡ get_or words (3 * i) 0 ∷ get_or words (3 * i + 1) 0 ∷ get_or words (3 * i + 2) 0 ∷ [] → 3 * i + 2 < length words
     → core_words (cells ++ c ∷ []) ≡ take (3 * (i + 1)) words
 cell_read cells c words i e f h =
@@ -142,7 +142,7 @@ take_two words n h =
     ∙ ap (λ (l : List ℕ). l ++ get_or words (n + 1) 0 ∷ []) one
     ∙ append_assoc (take n words) (get_or words n 0 ∷ []) (get_or words (n + 1) 0 ∷ [])
 
--- After the words of one more death, the deaths that were read have all words up to there.
+-- With one more death read, the deaths have the words of the first `i + 1` deaths.
 pub death_read : (deaths : List Death) (d : Death) (words : List ℕ) (i : ℕ) → death_words deaths ≡ take (2 * i) words → d.warrior ≡ get_or words (2 * i) 0 → d.turns ≡ get_or words (2 * i + 1) 0 → 2 * i + 1 < length words
     → death_words (deaths ++ d ∷ []) ≡ take (2 * (i + 1)) words
 death_read deaths d words i e w t h =
@@ -226,7 +226,7 @@ some_survive ((x ∷ q) ∷ queues) k h =
     let first : survivors_of ((x ∷ q) ∷ queues) ≡ 1 + survivors_of queues = sum_by-cons (λ (q : List ℕ). if is_empty q then 0 else 1) (x ∷ q) queues in
     omega (arith, first)
 
--- After the processes of the next queue, the queues that were read have all counts and processes up to there.
+-- With one more queue read, the queues have the counts and the processes of the first `i + 1` queues.
 pub queue_read : (queues : List Queue) (q : Queue) (counts words : List ℕ) (i place : ℕ) → lengths_of (addresses_of queues) ≡ take i counts → concat (addresses_of queues) ≡ take place words → i < length counts → q.addresses ≡ take (place + get_or counts i 0 - place) (drop place words)
     → place + get_or counts i 0 ≤ length words
     → (lengths_of (addresses_of (queues ++ q ∷ [])) ≡ take (i + 1) counts) × (concat (addresses_of (queues ++ q ∷ [])) ≡ take (place + get_or counts i 0) words)

@@ -1,6 +1,6 @@
--- Cells with the same address, by the distances between starting positions.
--- The definition states that an address occurs twice in the list of all loaded addresses; the code compares distances. The lemmas
--- are about residues, by cases on which of two is greater. `omega` proves each case, but uses an implication only if its premise
+-- Cells with the same address, by the distances between starting positions. The definition states that an address
+-- occurs twice in the list of all loaded addresses; the code compares distances. The lemmas are about residues, by
+-- cases on which of two residues is greater. `omega` proves each case, but uses an implication only if its premise
 -- follows, so `cases_lt` splits first.
 use Rattle.std.proofs.Common.{◌≡◌, ◌≢◌, ℕ, zero, suc, ◌+◌, ◌-◌, ◌<◌, ◌≤◌, ◌%◌, Bool, true, false, List, [], ◌∷◌, ◌++◌, length, drop, get_or, refl, ap, sym, ◌∙◌, arith, add-one, inl, inr}
 use Rattle.std.specs.Prelude.{◌||◌, ◌⊎◌, ◌==◌, nat_lt}

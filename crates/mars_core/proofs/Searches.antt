@@ -121,8 +121,7 @@ differs_changes s core atom a seen =
     ap (λ c. not (are_equal_cells (cell_at c a) (cell_at core a))) (seen_before s core atom seen)
     ∙ ap (λ c. not (are_equal_cells (cell_at s.core a) (cell_at c a))) seen.core_is
 
--- The code has seen the turn of the state `s` if it has the record of the turn and the core of the state `made` after
--- it.
+-- The code has seen the turn of the state `s` if it has the record of the turn and the core of the next state `made`.
 pub turn_seen : (s made : State) (core : List Cell) (atom : Atom) → made ≡ turn_of s → atom ≡ turn_record s → core ≡ made.core
     → IsValid made → IsSeen s core atom
 turn_seen s made core atom after recorded core_is valid =

@@ -1,5 +1,6 @@
--- Where a process comes from: the turns in which it and its ancestors were born. A turn removes the process at the front of a queue, and
--- queues up to two at its end: the first one is the same process, which continues, and the second one is born in this turn.
+-- Where a process comes from: the turns in which it and its ancestors were born. A turn removes the process at the
+-- front of a queue and queues up to two: first the same process, which continues, then a process that is born in the
+-- turn.
 use Rattle.std.specs.Prelude.{ℕ, zero, suc, ◌+◌, ◌<◌, ◌==◌, nat_lt, if◌then◌else◌, List, [], ◌∷◌, ◌++◌, length, drop}
 use Rattle.mars_core.specs.State.{State, queue_of, is_over_of}
 use Rattle.mars_core.specs.Turn.{after_turns, turn_of}

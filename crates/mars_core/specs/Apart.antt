@@ -1,5 +1,5 @@
--- A warrior apart from the others: it reads and writes only in its own part of the core, and no other warrior changes a cell
--- there. Laws state that the other warriors then have no influence on it.
+-- A warrior apart from the others: it reads and writes only in its own part of the core, and no other warrior changes a
+-- cell there. Laws state that the other warriors then have no influence on it.
 use Rattle.std.specs.Prelude.{◌≡◌, ◌≢◌, ℕ, zero, suc, ◌+◌, ◌<◌, ◌==◌, Bool, true, false, if◌then◌else◌, List, [], ◌++◌}
 use Rattle.std.specs.List.{AllPass}
 use Rattle.mars_core.specs.State.{State, cell_at, queue_of, is_over_of}
@@ -31,8 +31,8 @@ abbrev pub own_turns : ℕ → ℕ → State → ℕ
 own_turns warrior zero s = 0
 own_turns warrior (suc n) s = if is_over_of s then 0 else (if s.next == warrior then 1 else 0) + own_turns warrior n (turn_of s)
 
--- The warrior `warrior` of the battle `s` and the warrior `other` of the battle `t` have the same parameters, the same processes,
--- and the same cells in `part`.
+-- The warrior `warrior` of the battle `s` and the warrior `other` of the battle `t` have the same parameters, the same
+-- processes, and the same cells in `part`.
 pub record AgreesOn (part : ℕ → Bool) (warrior : ℕ) (s : State) (other : ℕ) (t : State) : Type 0 where
   pub params : s.params ≡ t.params
   pub processes : queue_of s.queues warrior ≡ queue_of t.queues other

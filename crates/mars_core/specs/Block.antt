@@ -47,8 +47,8 @@ lengths_of queues = map (λ (q : List ℕ). length q) queues
 abbrev pub words_of : State → ℕ
 words_of s = head_words + 3 * length s.core + sum (lengths_of s.queues)
 
--- The first sixteen words of the header: the mark, the length of the block, the parameters, the number of warriors, the turns,
--- the completed cycles, the next warrior, 1 if the battle is over, the number of deaths, and a word that is always 0.
+-- The first sixteen words of the header: the mark, the block's length, the parameters, the number of warriors, the
+-- turns, the completed cycles, the next warrior, 1 if the battle is over, else 0, the number of deaths, and 0.
 unfoldable pub field_words : State → List ℕ
 field_words s =
     block_mark ∷ words_of s
@@ -56,7 +56,7 @@ field_words s =
     ∷ s.params.max_length ∷ s.params.distance
     ∷ length s.queues ∷ s.turns ∷ s.cycle ∷ s.next ∷ (if is_over_of s then 1 else 0) ∷ length s.deaths ∷ 0 ∷ []
 
--- The header: the sixteen words of `field_words`, the number of processes of each warrior (16 words), and the deaths (32 words).
+-- The header: the words of `field_words`, the number of processes of each warrior (16 words), and the deaths (32).
 unfoldable pub head_of : State → List ℕ
 head_of s = field_words s ++ padded 16 (lengths_of s.queues) ++ padded 32 (death_words s.deaths)
 

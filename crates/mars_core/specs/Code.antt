@@ -1,4 +1,4 @@
--- How the code represents what the specification defines. Only internal functions, proofs and the value of a `PackedCell` use these definitions.
+-- How the code represents what the specification defines, for internal functions, proofs, and values of `PackedCell`.
 pub mod Operands
 pub mod Opcodes
 pub mod Turns

@@ -1,4 +1,4 @@
--- The marks of the cells that turns execute, write and touch. Each cell has three marks, which are set and never cleared.
+-- The marks of the cells that turns execute, write and touch. Each cell has three marks, which are never cleared.
 use Rattle.std.specs.Prelude.{ℕ, Bool, true, List, [], ◌∷◌, map, slice_set}
 use Rattle.mars_core.specs.State.{State, queue_of}
 use Rattle.mars_core.specs.Touched.{touched_in_turn}

@@ -23,14 +23,14 @@ past_at pasts address = slice_index_or pasts address (record { owner = 0; turn =
 abbrev pub changes : State → ℕ → Bool
 changes s address = not (are_equal_cells (cell_at s.core address) (cell_at (turn_of s).core address))
 
--- The instruction is MOV.I, which writes a copy of a whole cell. Every other instruction keeps the opcode, the modifier and the modes of
--- the cells that it writes.
+-- The instruction is MOV.I, which writes a copy of a whole cell. Every other instruction keeps the opcode, the modifier
+-- and the modes of the cells that it writes.
 abbrev pub copies : Op → Modifier → Bool
 copies Mov modifier = takes_whole_cells modifier
 copies _ modifier = false
 
--- The copy that the execution of the instruction at `pc` makes, if it makes one: from where its A-operand reads to where its
--- B-operand writes.
+-- The copy that the execution of the instruction at `pc` makes, if it makes one: from where its A-operand reads to
+-- where its B-operand writes.
 unfoldable pub copy_by : Parameters → List Cell → ℕ → Option CellCopy
 copy_by p core pc =
     let instruction = cell_at core pc in

@@ -1,6 +1,6 @@
--- What a record makes of a state: `reverted` goes back from the state that it leads to, `applied` goes forth from the state that
--- it leads from. By the laws, the results are the states that the record leads from and to, so no contract of `revert` or `apply`
--- depends on these definitions.
+-- What a record makes of a state: `reverted` goes back from the state that it leads to, `applied` goes forth from the
+-- state that it leads from. By the laws, the results are the states that the record leads from and to, so no contract
+-- of `revert` or `apply` depends on these definitions.
 use Rattle.std.specs.Prelude.{ℕ, ◌+◌, ◌-◌, Bool, if◌then◌else◌, List, [], ◌∷◌, ◌++◌, length, take, drop, insert, remove, Option, None, Some, slice_set}
 use Rattle.mars_cell.specs.declared.instruction.Cell.{Cell}
 use Rattle.mars_core.specs.State.{State, queue_of}

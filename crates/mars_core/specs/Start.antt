@@ -1,5 +1,5 @@
--- How a battle starts: warriors are loaded into a core of `DAT.F $0, $0` (sections 4 and 5 of the ICWS'94 draft), and the errors for which
--- it cannot start.
+-- How a battle starts: warriors are loaded into a core of `DAT.F $0, $0` (sections 4 and 5 of the ICWS'94 draft), and
+-- the errors for which it cannot start.
 use Rattle.std.specs.Prelude.{ℕ, zero, suc, ◌+◌, ◌%◌, Bool, true, false, ◌&&◌, ◌||◌, not, ◌==◌, nat_lt, if◌then◌else◌, List, [], ◌∷◌, ◌++◌, length, map, Option, None, Some, slice_set, replicate}
 use Rattle.std.specs.List.{list_all, list_any}
 use Rattle.mars_cell.specs.declared.instruction.Cell.{Cell}

@@ -11,8 +11,8 @@ use circular_buffer::HeapCircularBuffer;
 use std::alloc::{AllocError, Global};
 use std::marker::Model;
 
-/// The processes of a warrior, in the order of their turns. Memory for the maximum number of them is reserved when the
-/// queue is made.
+/// The processes of a warrior, in the order of their turns. Memory for the maximum number of processes is reserved when
+/// the queue is made.
 #[derive(Debug, Drop)]
 pub struct ProcessQueue {
     ring: HeapCircularBuffer<u32>,
@@ -135,7 +135,7 @@ impl ProcessQueue {
         let _ = self.ring.fill_from_slice(addresses);
     }
 
-    /// Puts processes before the others. There must be capacity for them.
+    /// Puts processes, for which there must be capacity, before the others.
     pub fn put_before(&mut self, addresses: &[u32])
         requires { length self.old.addresses + length addresses.now ≤ self.old.limit }
         ensures { self.new ≡ record { addresses = addresses.now ++ self.old.addresses; limit = self.old.limit } }
@@ -245,7 +245,7 @@ impl ProcessQueue {
         last.copy_from_slice(back);
     }
 
-    /// Copies this queue over another one of the same limit, without allocating.
+    /// Copies this queue over another queue of the same limit, without allocating.
     pub fn copy_over(&self, target: &mut ProcessQueue)
         requires { self.now.limit ≡ target.old.limit }
         ensures { target.new ≡ self.now }

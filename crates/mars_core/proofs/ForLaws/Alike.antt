@@ -1,6 +1,6 @@
 -- Instructions at two addresses, in cores that are alike wherever the first instruction touches a cell, do the same.
--- The proof follows an execution once, for a map of addresses, a set of near addresses, and conditions on both (`Corresponds`). A
--- shifted battle, and a core with other untouched cells, are two instances.
+-- The proof follows an execution once, for a map of addresses, a set of near addresses, and conditions on both
+-- (`Corresponds`). A shifted battle, and a core with other untouched cells, are two instances.
 use Rattle.std.proofs.Common.{◌≡◌, ℕ, ◌<◌, Bool, true, false, cond, List, [], ◌∷◌, length, map, set, refl, ap, sym, ◌∙◌, inl, inr, Option, None, Some, All}
 use Rattle.std.proofs.lemmas.Bool.{cases_eq}
 use Rattle.std.proofs.lemmas.List.{length-set, get_or-set_same, get_or-set_other, map-append}
@@ -26,8 +26,8 @@ use Rattle.mars_core.specs.declared.machine.writes.CellChange.{CellChange}
 use Rattle.mars_core.proofs.Folding.{after_none}
 use Rattle.mars_core.proofs.Listed.{listed, Parts, parts_of, map-listed}
 
--- Each address of the first core has an address `there` in the second. The map is injective on near addresses; all addresses that
--- the first instruction touches are near.
+-- Each address of the first core has an address `there` in the second. The map is injective on near addresses; all
+-- addresses that the first instruction touches are near.
 pub record Corresponds (p : Parameters) (there : ℕ → ℕ) (Near : ℕ → Type 0) (pc pc' : ℕ) : Type 0 where
   pub one : (a b : ℕ) → Near a → Near b → there a ≡ there b → a ≡ b
   pub inside : (a : ℕ) → Near a → a < p.core_size

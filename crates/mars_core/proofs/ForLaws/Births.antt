@@ -66,7 +66,7 @@ first_ancestors_are_there (suc n) warrior place s v inside =
           (first_ancestors_are_there n warrior place (turn_of s) (turn_valid s v e) there)
     ] refl inside
 
--- A birth in a turn after the next one.
+-- A split among the turns after the next turn is a split among the turns from the state `s` on.
 later_split : (s : State) (n warrior turn : ℕ) → is_over_of s ≡ false → (k : ℕ) × IsSplit (turn_of s) n warrior k turn → (k : ℕ) × IsSplit s (suc n) warrior k turn
 later_split s n warrior turn running (k, b) =
     let e : after_turns (suc k) s ≡ after_turns k (turn_of s) = after-turn (suc k) k s (omega arith) running in (

@@ -150,7 +150,7 @@ evaluated_length p w pc BPredecrement n = write_length _ BNumber w _
 evaluated_length p w pc APostincrement n = write_length _ ANumber w _
 evaluated_length p w pc BPostincrement n = write_length _ BNumber w _
 
--- The kind of each cell after one was copied to the address `to`.
+-- The kind of each cell after a cell was copied to the address `to`.
 copy_made : (w : WrittenCore) (core : List Cell) (from to x : ℕ) (cell : Cell) → to < length w.core
     → ((y : ℕ) → kind_at w.core y ≡ kind_at core y) → without_numbers cell ≡ kind_at core from
     → kind_at (after_effect w to (Some cell)).core x ≡ kind_at core (comes_from (Some (record { from = from; to = to })) x)
@@ -241,7 +241,7 @@ pub instructions_are_copies : InstructionsAreCopies
 instructions_are_copies n address s pasts v size own inside =
     kinds_followed n (kind_at s.core) s pasts v size (λ a below. ap (kind_at s.core) (sym (own a below))) address inside
 
--- Turn `j` after the next one is turn `j + 1`.
+-- Turn `j` after the next turn is turn `j + 1`.
 later : (s : State) (j : ℕ) → is_over_of s ≡ false → after_turns (suc j) s ≡ after_turns j (turn_of s)
 later s j running = rw running refl
 

@@ -29,7 +29,7 @@ wrapped m a k h l =
       | inr more ↦ inr (let back = mod-eq-sub-mod more ∙ mod-eq_of_lt {n = a + k - m} {m = m} (omega (arith, h, l)) in omega (arith, back, more))
     ]
 
--- The addresses that are appended to a mapped queue are the mapped ones.
+-- Mapping a queue after a turn is mapping the queue before the turn and the addresses that the turn queues.
 queued_there : (f : ℕ → ℕ) (limit : ℕ) (q queued : List ℕ) → drop 1 (map f q) ++ take (limit - length (drop 1 (map f q))) (map f queued) ≡ map f (drop 1 q ++ take (limit - length (drop 1 q)) queued)
 queued_there f limit [] queued = take-map f (limit - 0) queued
 queued_there f limit (x ∷ q) queued = rw (length-map q f, take-map f (limit - length q) queued, map-append f q (take (limit - length q) queued)) refl
@@ -53,7 +53,7 @@ module _ (p : Parameters) (r : AreInRange p) (k : ℕ) (h : k < p.core_size) whe
         | inr x ↦ elim (wrapped m b k n h) [ inl y ↦ absurd (omega (arith, x, y.0, y.1, e, l)) | inr y ↦ omega (arith, x, y, e) ]
       ]
 
-  -- Each address is the shifted address of another one.
+  -- Each address is the shifted address of some address.
   origin : (i : ℕ) → i < m → (a : ℕ) × (a < m) × (there a ≡ i)
   unfolding address_after
   origin i l =
@@ -130,7 +130,7 @@ module _ (p : Parameters) (r : AreInRange p) (k : ℕ) (h : k < p.core_size) whe
   front_moved [] n = absurd (n refl)
   front_moved (x ∷ q) n = refl
 
-  -- An instruction corresponds to the shifted one.
+  -- An instruction corresponds to the shifted instruction.
   pub corresponds : (pc : ℕ) → pc < m → Corresponds p there Near pc (address_after m pc k)
   corresponds pc l = record {
     one = one;

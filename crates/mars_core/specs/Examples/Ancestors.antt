@@ -15,7 +15,7 @@ splitting = eight (cell_of Spl B Direct 0 Direct 0 ∷ cell_of Jmp B Direct 0 Di
 abbrev descent : List ℕ → ℕ → Lineage
 descent births place = record { births = births; place = place }
 
--- Turn 1 splits, turn 2 jumps, and turn 3 splits again: the queue has the first process, its child, and the child of the child.
+-- Turn 1 splits, turn 2 jumps, and turn 3 splits: the queue has the first process, its child, and the child's child.
 abbrev splitting_alone : State
 splitting_alone = lone of_eight splitting (0 ∷ [])
 

@@ -1,5 +1,5 @@
--- An imp and a dwarf in an ordinary battle: for 200 turns neither touches a cell of the other, and each fights as it would
--- without an opponent.
+-- An imp and a dwarf in an ordinary battle: for 200 turns neither touches a cell of the other, and each fights as it
+-- would without an opponent.
 use Rattle.std.specs.Prelude.{◌≡◌, ℕ, zero, suc, ◌/◌, ◌<◌, ◌≤◌, ◌==◌, nat_lt, Bool, true, false, if◌then◌else◌, List, [], ◌∷◌, ◌++◌, take, drop, None, refl}
 use Rattle.std.proofs.Common.{replicate, sym, ◌∙◌}
 use Rattle.std.proofs.Math.Facts.{ltb_yes}

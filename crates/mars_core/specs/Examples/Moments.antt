@@ -1,4 +1,4 @@
--- Moments of a battle: the cells and processes of each warrior after every few turns, and how many of these turns meet a condition.
+-- Moments of a battle: cells and processes of each warrior after steps of turns, and how many turns meet a condition.
 use Rattle.std.specs.Prelude.{◌≡◌, ℕ, List, [], ◌∷◌, ◌++◌, refl}
 use Rattle.std.proofs.Common.{replicate}
 use Rattle.mars_core.specs.Moments.{moments_after}

@@ -25,13 +25,13 @@ pub immediate_operands_touch_the_instruction : touched limited (sixteen (cell_of
 unfolding the_machine
 immediate_operands_touch_the_instruction = refl
 
--- `MOV.I $4, $5` touches what the A-operand reads, what the B-operand reads, and the B-target; it does not touch the cell where
--- the A-operand would write.
+-- `MOV.I $4, $5` touches what the A-operand reads, what the B-operand reads, and the B-target; it does not touch the
+-- cell where the A-operand would write.
 pub direct_operands_touch_what_they_copy : touched limited (sixteen (cell_of Mov I Direct 4 Direct 5)) 2 ≡ 2 ∷ 0 ∷ 1 ∷ 7 ∷ []
 unfolding the_machine
 direct_operands_touch_what_they_copy = refl
 
--- `MOV.I *4, @5` touches the cells by which each operand is indirect, for reading and for writing, and those to which they lead.
+-- `MOV.I *4, @5` touches the cells by which each operand is indirect, in reading and writing, and the cells there.
 pub indirect_operands_touch_where_they_go : touched limited (sixteen (cell_of Mov I AIndirect 4 BIndirect 5)) 2 ≡ 2 ∷ 0 ∷ 6 ∷ 3 ∷ 1 ∷ 7 ∷ 4 ∷ 5 ∷ []
 unfolding the_machine
 indirect_operands_touch_where_they_go = refl
@@ -46,8 +46,8 @@ pub raised_number_leads_the_b_operand : touched of_eight (eight (cell_of Mov I B
 unfolding the_machine
 raised_number_leads_the_b_operand = refl
 
--- The turn of `MOV.I <1, $2` executes the cell 0, writes the cells 1 and 2, and also touches the cell 4, which it copies. The marks of the
--- cell 7 remain.
+-- The turn of `MOV.I <1, $2` executes the cell 0, writes the cells 1 and 2, and also touches the cell 4, which it
+-- copies. The marks of the cell 7 remain.
 pub marks_are_added : marks_after (lone of_eight (eight (cell_of Mov I BPredecrement 1 Direct 2 ∷ numbers 0 4 ∷ [])) (0 ∷ []))
     (record { executed = replicate 8 false; written = replicate 7 false ++ true ∷ []; touched = replicate 7 false ++ true ∷ [] })
     ≡ record {

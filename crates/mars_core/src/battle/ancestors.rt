@@ -32,7 +32,7 @@ pub enum AncestorsFault {
 struct OwnTurn {
     /// The number of the turn, from 1.
     turn: u32,
-    /// The number of processes of the warrior besides the one that the turn executes.
+    /// The number of processes of the warrior besides the process that the turn executes.
     waiting: u32,
 }
 
@@ -131,7 +131,7 @@ fn trace_back(own: &[OwnTurn], place: u32, births: &mut [u32]) -> Ancestors
         if first < turn.waiting {
             first += 1;
         } else {
-            // The first process that a turn queues is the one that it executed, which continues.
+            // The first process that a turn queues is the process that it executed, which continues.
             if first != turn.waiting {
                 put(births, count, turn.turn);
                 count += 1;

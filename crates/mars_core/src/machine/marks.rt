@@ -24,7 +24,7 @@ pub struct Mark {
     pub touched: bool,
 }
 
-/// Marks what the execution of an instruction at `pc` with these operands did.
+/// Marks the cells that the execution of an instruction at `pc` with these operands executed, wrote or touched.
 #[inline(always)]
 pub fn mark_turn<const LIMITED: bool>(
     params: &Params,

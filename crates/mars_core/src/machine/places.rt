@@ -21,7 +21,8 @@ pub struct Place {
     pub copy: PackedCell,
 }
 
-/// Evaluates the operand with a mode and a number of the instruction at `pc`. A predecrement or postincrement writes a cell.
+/// Evaluates the operand of the instruction at `pc` with a mode and a number, and writes the field that the mode
+/// writes.
 ///
 /// The constants `CALLER`, `GROUP` and `OPERAND` make an instance for each call (`execution`).
 #[inline(always)]

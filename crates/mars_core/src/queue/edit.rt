@@ -113,7 +113,7 @@ impl ProcessQueue {
         let _ = self.ring.pop_back();
     }
 
-    /// Removes the last `queued` processes, and inserts one at the front. There must be capacity for it.
+    /// Removes the last `queued` processes, and inserts a process at the front, for which there must be capacity.
     pub fn put_back(&mut self, queued: usize, address: u32)
         requires queued { queued ≤ length self.old.addresses }
         requires room { length self.old.addresses - queued < self.old.limit }
@@ -124,7 +124,7 @@ impl ProcessQueue {
         self.push_front(address);
     }
 
-    /// Removes the process at the front, and appends the addresses in `queued`. There must be capacity for them.
+    /// Removes the process at the front, and appends the addresses in `queued`, for which there must be capacity.
     pub fn take_round(&mut self, queued: &[u32])
         requires alive { 1 ≤ length self.old.addresses }
         requires room { length (drop 1 self.old.addresses) + length queued.now ≤ self.old.limit }

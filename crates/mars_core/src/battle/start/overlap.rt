@@ -79,7 +79,7 @@ fn rows_share(core_size: u32, start: u32, len: usize, other_start: u32, other_le
         || (distance(core_size, other_start, start) as usize) < other_len
 }
 
-/// Returns the distance from one address forward to another.
+/// Returns the distance from the address `from` forward to the address `to`.
 #[tactic(auto, unfolding(crate::specs::Code::Distances::distance))]
 fn distance(core_size: u32, from: u32, to: u32) -> u32
     requires { 1 ≤ core_size }
