@@ -200,7 +200,7 @@ has_duplicate-append (x ∷ xs) ys =
     rw (has_duplicate-append xs ys, list_any-append (λ y. x == y) xs ys)
     (regrouped (is_in xs x) (is_in ys x) (has_duplicate xs) (share xs ys) (has_duplicate ys))
 
--- A row has an address in common with some warriors if it has one with the first of them or with the others.
+-- A row has an address in common with some warriors exactly if it has one with the first or with the others.
 pub share_more : (m : ℕ) (row : List ℕ) (w : WarriorValue) (warriors : List WarriorValue) (s : ℕ) (starts : List ℕ)
     → share row (loaded_addresses m (w ∷ warriors) (s ∷ starts)) ≡ (share row (addresses_from m s (length w.cells)) || share row (loaded_addresses m warriors starts))
 share_more m row w warriors s starts = share-append row (addresses_from m s (length w.cells)) (loaded_addresses m warriors starts)

@@ -27,14 +27,14 @@ rest : (writes : List CellChange) (core : List Cell) (i : ℕ) (w : CellChange) 
 rest writes core i w inside is =
     ap (λ l. restored l core) (drop-cons writes i w inside) ∙ rw (is, add-one) refl
 
--- The cell at the address of the write at the index `i`, before this write.
+-- Before the write at the index `i`, the cell at its address is the previous cell of this write.
 pub first_write : (writes : List CellChange) (core : List Cell) (i a : ℕ) (w : CellChange) → i < length writes → get_or writes i w ≡ w
     → w.address ≡ a → a < length core → cell_at (restored (drop i writes) core) a ≡ w.before
 first_write writes core i a w inside is here there =
     ap (λ l. cell_at l a) (rest writes core i w inside is ∙ ap (λ x. set (restored (drop (i + 1) writes) core) x w.before) here)
     ∙ get_or-set_same (restored (drop (i + 1) writes) core) a w.before empty_cell (rw length-restored there)
 
--- A cell at another address, before the write at the index `i`.
+-- A cell at another address is the same before and after the write at the index `i`.
 pub other_write : (writes : List CellChange) (core : List Cell) (i a : ℕ) (w : CellChange) → i < length writes → get_or writes i w ≡ w
     → w.address ≢ a → cell_at (restored (drop i writes) core) a ≡ cell_at (restored (drop (i + 1) writes) core) a
 other_write writes core i a w inside is other =

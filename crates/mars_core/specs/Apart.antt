@@ -1,5 +1,5 @@
 -- A warrior apart from the others: it reads and writes only in its own part of the core, and no other warrior changes a
--- cell there. Laws state that the other warriors then have no influence on it.
+-- cell there. Laws state that the other warriors have no influence on such a warrior.
 use Rattle.std.specs.Prelude.{◌≡◌, ◌≢◌, ℕ, zero, suc, ◌+◌, ◌<◌, ◌==◌, Bool, true, false, if◌then◌else◌, List, [], ◌++◌}
 use Rattle.std.specs.List.{AllPass}
 use Rattle.mars_core.specs.State.{State, cell_at, queue_of, is_over_of}

@@ -1,4 +1,4 @@
--- The specification that a reader of the contracts has to trust, in reading order. `Examples` has examples of it.
+-- The specification that a reader of the contracts has to trust, in reading order, with examples in `Examples`.
 pub mod Limits
 pub mod Queue
 pub mod State

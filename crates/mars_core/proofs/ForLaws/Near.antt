@@ -1,5 +1,4 @@
--- What limits reach: writes and touched cells, near distances as folded pointers, and that cells out of reach do not
--- matter.
+-- What limits reach: writes, touched cells, and near distances as folded pointers. Cells out of reach do not matter.
 use Rattle.std.proofs.Common.{ap, ◌≡◌, ◌≢◌, ℕ, List, ◌∙◌, ◌+◌, ◌-◌, ◌/◌, ◌%◌, ◌<◌, ◌≤◌, Bool, true, false, All, refl, sym, subst, arith, inl, inr}
 use Rattle.std.specs.Prelude.{◌⊎◌, ◌↔◌, nat_lt, if◌then◌else◌}
 use Rattle.std.proofs.Math.Nat.{mod-eq_of_lt}

@@ -16,8 +16,7 @@ use Rattle.mars_core.proofs.Rewritten.{execution_replays}
 use Rattle.mars_core.proofs.TouchedInside.{front_inside, touched_inside}
 
 module _ (p : Parameters) (r : AreInRange p) (pc : ℕ) (start : pc < p.core_size) where
-  -- An instruction in two cores with the same cells wherever `Holds` is true, as for all cells touched in the first
-  -- core.
+  -- An instruction in two cores with the same cells wherever `Holds` is true: at least where it touches the first core.
   module _ (Holds : ℕ → Type 0) (core other : List Cell) (size : length core ≡ p.core_size) (size_there : length other ≡ p.core_size)
       (holds : All Holds (touched p core pc)) (same : (a : ℕ) → Holds a → cell_at core a ≡ cell_at other a) where
     abbrev pub Near : ℕ → Type 0

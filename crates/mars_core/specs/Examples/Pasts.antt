@@ -18,7 +18,7 @@ all_loaded = map loaded (range_with_len 0 8)
 abbrev pub past : ℕ → ℕ → ℕ → Past
 past owner turn origin = record { owner = owner; turn = turn; origin = origin }
 
--- Each imp is a copy of the imp before it, and so has the origin of the first.
+-- Each imp is a copy of the imp before it, and so has the origin of the first imp.
 pub copies_of_a_copy_have_its_origin : followed 3 (lone of_eight (eight (imp ∷ [])) (0 ∷ [])) all_loaded
     ≡ loaded 0 ∷ past 0 1 0 ∷ past 0 2 0 ∷ past 0 3 0 ∷ loaded 4 ∷ loaded 5 ∷ loaded 6 ∷ loaded 7 ∷ []
 unfolding the_machine copy_by pasts_after
