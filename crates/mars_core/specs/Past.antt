@@ -1,4 +1,4 @@
--- The past of each cell: the warrior and the turn that changed it last, and from where its instruction was copied.
+-- The past of each cell: the warrior and the turn that changed it last, and the origin of its instruction.
 use Rattle.std.specs.Prelude.{ℕ, zero, suc, ◌+◌, Bool, false, not, ◌==◌, if◌then◌else◌, List, [], length, map, Option, None, Some, slice_index_or}
 use Rattle.std.specs.List.{range_with_len}
 use Rattle.mars_cell.specs.declared.instruction.Cell.{Cell}

@@ -1,5 +1,4 @@
-//! The past of each cell: the warrior and the turn that changed it last, and from where its instruction was copied
-//! (`specs/Past`).
+//! The past of each cell: the warrior and the turn that changed it last, and its instruction's origin (`specs/Past`).
 ghost use Rattle.std.specs.Prelude.{◌≡◌, ◌<◌, All, IfSome, length, if◌then◌else◌, not, ℕ};
 ghost use Rattle.mars_core.specs.Effect.{are_equal_cells};
 ghost use Rattle.mars_core.specs.Past.{comes_from, past_at};
