@@ -152,8 +152,8 @@ pub valid_parts : (params : Parameters) (core : List Cell) (queues these those :
 valid_parts params core queues these those clock turns cycles deaths others r c some few qs e f g n d t =
     let many : length (addresses_of queues) ≡ length queues = length-map queues (λ (q : Queue). q.addresses) in
     let died : AreDeaths (addresses_of queues) deaths = subst (λ (l : List Death). AreDeaths (addresses_of queues) l) g (subst (λ (l : List Queue). AreDeaths (addresses_of l) others) e d) in
-    let told : IsClock params.cycles (addresses_of queues) clock turns = subst (λ (k : ℕ). IsClock k (addresses_of queues) clock turns) n (subst (λ (l : List Queue). IsClock cycles (addresses_of l) clock turns) f t) in
-    record { params = r; core = c; some = omega (arith, many, some); few = omega (arith, many, few); queues = qs; deaths = died; clock = told }
+    let clocked : IsClock params.cycles (addresses_of queues) clock turns = subst (λ (k : ℕ). IsClock k (addresses_of queues) clock turns) n (subst (λ (l : List Queue). IsClock cycles (addresses_of l) clock turns) f t) in
+    record { params = r; core = c; some = omega (arith, many, some); few = omega (arith, many, few); queues = qs; deaths = died; clock = clocked }
 
 -- Words that have the parts of a state's block spell that state.
 pub spelled : (s : State) (words head cells processes : List ℕ) → IsValid s → take (length (head ++ cells ++ processes)) words ≡ head ++ cells ++ processes → head ≡ head_of s → core_words s.core ≡ cells → concat s.queues ≡ processes → Spells s words

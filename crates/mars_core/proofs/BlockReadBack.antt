@@ -14,7 +14,7 @@ use Rattle.mars_cell.specs.Parameters.{Parameters}
 use Rattle.mars_core.specs.declared.deaths.Death.{Death}
 use Rattle.mars_core.specs.State.{State}
 use Rattle.mars_core.specs.Validity.{IsValid}
-use Rattle.mars_core.specs.Block.{tags_word, core_words, death_words, lengths_of, head_of, field_words, block_of, params_in, AreParts, Spells}
+use Rattle.mars_core.specs.Block.{tags_word, core_words, death_words, lengths_of, head_of, field_words, block_of, params_in, AreBlockParts, Spells}
 use Rattle.mars_core.proofs.BlockParts.{head_counts, head_deaths, head_params, head_warriors, head_deaths_count, spelled_head, spelled_cells, spelled_processes}
 
 ops : List Op
@@ -164,7 +164,7 @@ queues_same (p ∷ xs) (q ∷ ys) e f =
     ap (λ (z : List ℕ). z ∷ xs) same ∙ ap (λ (l : List (List ℕ)). q ∷ l) (queues_same xs ys (ap rest_of e) rest)
 
 -- The state that is read from the parts of a state's block is that state.
-pub state_read : (s : State) (params : Parameters) (core : List Cell) (queues : List (List ℕ)) (deaths : List Death) (head counts cells processes : List ℕ) → IsValid s → AreParts s head counts cells processes
+pub state_read : (s : State) (params : Parameters) (core : List Cell) (queues : List (List ℕ)) (deaths : List Death) (head counts cells processes : List ℕ) → IsValid s → AreBlockParts s head counts cells processes
     → params ≡ params_in head → core_words core ≡ cells → lengths_of queues ≡ counts → concat queues ≡ processes → death_words deaths ≡ take (2 * get_or head 14 0) (drop 32 head)
     → record { params = params; core = core; queues = queues; next = get_or head 12 0; cycle = get_or head 11 0; turns = get_or head 10 0; deaths = deaths } ≡ s
 unfolding head_of field_words
@@ -199,7 +199,7 @@ one_spelled s t words p q =
     sym (head_counts t (get_or head 9 0) q.valid wt) ∙ ap (λ (l : List ℕ). take (get_or head 9 0) (drop 16 l)) (sym ht ∙ hs) ∙ head_counts s (get_or head 9 0) p.valid ws in
     let n = 3 * length t.core in
     let m = sum (lengths_of t.queues) in
-    let parts : AreParts s head (lengths_of t.queues) (core_words t.core) (concat t.queues) = record {
+    let parts : AreBlockParts s head (lengths_of t.queues) (core_words t.core) (concat t.queues) = record {
       head = hs;
       counts = counts;
       cells = sym (spelled_cells t words n q refl) ∙ spelled_cells s words n p cells;

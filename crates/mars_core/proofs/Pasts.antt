@@ -1,5 +1,5 @@
 -- Cells before the writes of a turn, and the past of cells.
-use Rattle.std.proofs.Common.{◌≡◌, ◌≢◌, ◌↔◌, ℕ, zero, suc, ◌+◌, ◌<◌, ◌≤◌, ◌==◌, Option, Bool, true, false, not, if◌then◌else◌, List, [], ◌∷◌, length, get_or, set, drop, drop-cons, add-one, refl, ap, sym, ◌∙◌, arith}
+use Rattle.std.proofs.Common.{◌≡◌, ◌≢◌, ℕ, zero, suc, ◌+◌, ◌<◌, ◌≤◌, ◌==◌, Option, Bool, true, false, not, if◌then◌else◌, List, [], ◌∷◌, length, get_or, set, drop, drop-cons, add-one, refl, ap, sym, ◌∙◌, arith}
 use Rattle.std.proofs.lemmas.Bool.{eqb-true, eqb-false, true≢false}
 use Rattle.std.proofs.lemmas.List.FromFn.{fill_by_all, length-map-range_with_len}
 use Rattle.std.proofs.lemmas.List.{length-set, get_or_default, get_or-set_same, get_or-set_other}
@@ -51,15 +51,6 @@ changed_by owner turn past = record { owner = owner; turn = turn; origin = past.
 
 same_cell : (x : Cell) → are_equal_cells x x ≡ true
 same_cell x = (equal_cells_same x x).1 refl
-
--- A test that succeeds exactly for equal cells has the result of the definition.
-pub equal_test : (test : Bool) (x y : Cell) → (test ≡ true ↔ (x ≡ y)) → are_equal_cells x y ≡ test
-equal_test true x y same = (equal_cells_same x y).1 (same.0 refl)
-equal_test false x y same =
-    elim (are_equal_cells x y) as (λ b. are_equal_cells x y ≡ b → b ≡ false) [
-      | true ↦ λ e. sym (same.1 ((equal_cells_same x y).0 e))
-      | false ↦ λ e. refl
-    ] refl
 
 -- Only cells at the addresses of writes differ.
 pub written_if_differs : (writes : List CellChange) (core : List Cell) (a : ℕ) (d : CellChange) → a < length core → differs writes core a ≡ true

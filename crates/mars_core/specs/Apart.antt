@@ -27,9 +27,9 @@ OthersLeaveUnchanged part warrior n s =
     (address : ℕ) → part address ≡ true → cell_at (turn_of t).core address ≡ cell_at t.core address
 
 -- The number of turns that `warrior` has among the next `n`.
-abbrev pub own_turns : ℕ → ℕ → State → ℕ
-own_turns warrior zero s = 0
-own_turns warrior (suc n) s = if is_over_of s then 0 else (if s.next == warrior then 1 else 0) + own_turns warrior n (turn_of s)
+abbrev pub count_own_turns : ℕ → ℕ → State → ℕ
+count_own_turns warrior zero s = 0
+count_own_turns warrior (suc n) s = if is_over_of s then 0 else (if s.next == warrior then 1 else 0) + count_own_turns warrior n (turn_of s)
 
 -- The warrior `warrior` of the battle `s` and the warrior `other` of the battle `t` have the same parameters, the same
 -- processes, and the same cells in `part`.

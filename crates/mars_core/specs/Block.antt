@@ -84,7 +84,7 @@ pub record Spells (s : State) (words : List ℕ) : Type 0 where
 
 -- `head'`, `counts'`, `cells'` and `processes'` are the header, the process counts, the words of the cells and the
 -- addresses of the processes in the block of `s`.
-pub record AreParts (s : State) (head' counts' cells' processes' : List ℕ) : Type 0 where
+pub record AreBlockParts (s : State) (head' counts' cells' processes' : List ℕ) : Type 0 where
   pub head : head' ≡ head_of s
   pub counts : counts' ≡ lengths_of s.queues
   pub cells : cells' ≡ core_words s.core

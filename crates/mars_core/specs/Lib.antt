@@ -1,4 +1,5 @@
--- The specification that a reader of the contracts has to trust, in reading order, with examples in `Examples`.
+-- The specification of battles: turns, edits, records and searches, in reading order. It is part of the trusted base.
+-- `Laws` follows from it, and `Examples` has cases of it. Only internal functions and proofs use `Code`.
 pub mod Limits
 pub mod Queue
 pub mod State

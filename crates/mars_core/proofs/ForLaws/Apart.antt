@@ -14,7 +14,7 @@ use Rattle.mars_cell.specs.Parameters.{Parameters, AreInRange}
 use Rattle.mars_core.specs.State.{State, cell_at, queue_of, is_over_of}
 use Rattle.mars_core.specs.Turn.{front_of, front_execution, accepted, queue_after, executed, turn_of, after_turns}
 use Rattle.mars_core.specs.Touched.{touched, touched_in_turn}
-use Rattle.mars_core.specs.Apart.{touched_in, StaysWithin, OthersLeaveUnchanged, own_turns, AgreesOn}
+use Rattle.mars_core.specs.Apart.{touched_in, StaysWithin, OthersLeaveUnchanged, count_own_turns, AgreesOn}
 use Rattle.mars_core.specs.Validity.{IsCore, IsValid}
 use Rattle.mars_core.proofs.ForLaws.Alike.{AlikeExecution}
 use Rattle.mars_core.proofs.CallerLemmas.{shape-turn_of}
@@ -131,15 +131,15 @@ module _ (part : ℕ → Bool) (w v : ℕ) where
       agrees_back part v w (turn_of t) s (other_turn part v w t s (λ same. other (sym same)) (agrees_back part w v s t g) left)
 
   -- The warrior has no more turns in the second battle.
-  rest : (n : ℕ) (s t : State) → IsValid t → AgreesOn part w s v t → OthersLeaveUnchanged part v n t → own_turns v n t ≡ 0 → AgreesOn part w s v (after_turns n t)
+  rest : (n : ℕ) (s t : State) → IsValid t → AgreesOn part w s v t → OthersLeaveUnchanged part v n t → count_own_turns v n t ≡ 0 → AgreesOn part w s v (after_turns n t)
   rest zero s t u g left none = g
   rest (suc n) s t u g left none =
-      elim (is_over_of t) as (λ b. is_over_of t ≡ b → (if b then 0 else cond (t.next == v) 1 0 + own_turns v n (turn_of t)) ≡ 0 → AgreesOn part w s v (if b then t else after_turns n (turn_of t))) [
+      elim (is_over_of t) as (λ b. is_over_of t ≡ b → (if b then 0 else cond (t.next == v) 1 0 + count_own_turns v n (turn_of t)) ≡ 0 → AgreesOn part w s v (if b then t else after_turns n (turn_of t))) [
         | true ↦ λ e none. g
         | false ↦ λ e none. elim (cases_eq t.next v) [
-          | inl own ↦ absurd (let one = own_counts v t.next (own_turns v n (turn_of t)) own in omega (arith, one, none))
+          | inl own ↦ absurd (let one = own_counts v t.next (count_own_turns v n (turn_of t)) own in omega (arith, one, none))
           | inr other ↦ (
-              let same = other_counts v t.next (own_turns v n (turn_of t)) other in
+              let same = other_counts v t.next (count_own_turns v n (turn_of t)) other in
               let on = other_there s t other g (left_first part v n t e left other) in
               rest n s (turn_of t) (turn_valid t u e) on (left_later part v n t e left) (sym same ∙ none)
               )
@@ -148,23 +148,23 @@ module _ (part : ℕ → Bool) (w v : ℕ) where
 
   -- The warrior has its turn in the first battle, and the second battle is followed up to its turn there.
   meets : (m : ℕ) (s : State) → IsValid s → s.next ≡ w → AllPass part (touched_in_turn s)
-      → ((n : ℕ) (t : State) → IsValid t → AgreesOn part w (turn_of s) v t → OthersLeaveUnchanged part v n t → own_turns w m (turn_of s) ≡ own_turns v n t → AgreesOn part w (after_turns m (turn_of s)) v (after_turns n t))
-      → (n : ℕ) (t : State) → IsValid t → AgreesOn part w s v t → OthersLeaveUnchanged part v n t → suc (own_turns w m (turn_of s)) ≡ own_turns v n t
+      → ((n : ℕ) (t : State) → IsValid t → AgreesOn part w (turn_of s) v t → OthersLeaveUnchanged part v n t → count_own_turns w m (turn_of s) ≡ count_own_turns v n t → AgreesOn part w (after_turns m (turn_of s)) v (after_turns n t))
+      → (n : ℕ) (t : State) → IsValid t → AgreesOn part w s v t → OthersLeaveUnchanged part v n t → suc (count_own_turns w m (turn_of s)) ≡ count_own_turns v n t
       → AgreesOn part w (after_turns m (turn_of s)) v (after_turns n t)
   meets m s valid own keeps on zero t u g left turns = absurd (omega (arith, turns))
   meets m s valid own keeps on (suc n) t u g left turns =
-      elim (is_over_of t) as (λ b. is_over_of t ≡ b → suc (own_turns w m (turn_of s)) ≡ (if b then 0 else cond (t.next == v) 1 0 + own_turns v n (turn_of t)) → AgreesOn part w (after_turns m (turn_of s)) v (if b then t else after_turns n (turn_of t))) [
+      elim (is_over_of t) as (λ b. is_over_of t ≡ b → suc (count_own_turns w m (turn_of s)) ≡ (if b then 0 else cond (t.next == v) 1 0 + count_own_turns v n (turn_of t)) → AgreesOn part w (after_turns m (turn_of s)) v (if b then t else after_turns n (turn_of t))) [
         | true ↦ λ e turns. absurd (omega (arith, turns))
         | false ↦ λ e turns. elim (cases_eq t.next v) [
           | inl same ↦ (
-              let count = own_counts v t.next (own_turns v n (turn_of t)) same in
+              let count = own_counts v t.next (count_own_turns v n (turn_of t)) same in
               let here : AgreesOn part s.next s t.next t = subst (λ x. AgreesOn part x s t.next t) (sym own) (subst (λ y. AgreesOn part w s y t) (sym same) g) in
               let there = own_turn part s t valid u here keeps in
               let next : AgreesOn part w (turn_of s) v (turn_of t) = subst (λ x. AgreesOn part x (turn_of s) v (turn_of t)) own (subst (λ y. AgreesOn part s.next (turn_of s) y (turn_of t)) same there) in
               on n (turn_of t) (turn_valid t u e) next (left_later part v n t e left) (omega (arith, turns, count))
               )
           | inr other ↦ (
-              let same = other_counts v t.next (own_turns v n (turn_of t)) other in
+              let same = other_counts v t.next (count_own_turns v n (turn_of t)) other in
               let next = other_there s t other g (left_first part v n t e left other) in
               meets m s valid own keeps on n (turn_of t) (turn_valid t u e) next (left_later part v n t e left) (turns ∙ same)
               )
@@ -172,20 +172,20 @@ module _ (part : ℕ → Bool) (w v : ℕ) where
       ] refl turns
 
   -- After equally many turns of its own, the warrior is alike in both battles.
-  pub fights_alike : (m n : ℕ) (s t : State) → IsValid s → IsValid t → AgreesOn part w s v t → StaysWithin part w m s → OthersLeaveUnchanged part w m s → OthersLeaveUnchanged part v n t → own_turns w m s ≡ own_turns v n t → AgreesOn part w (after_turns m s) v (after_turns n t)
+  pub fights_alike : (m n : ℕ) (s t : State) → IsValid s → IsValid t → AgreesOn part w s v t → StaysWithin part w m s → OthersLeaveUnchanged part w m s → OthersLeaveUnchanged part v n t → count_own_turns w m s ≡ count_own_turns v n t → AgreesOn part w (after_turns m s) v (after_turns n t)
   fights_alike zero n s t valid u g keeps left left_there turns = rest n s t u g left_there (sym turns)
   fights_alike (suc m) n s t valid u g keeps left left_there turns =
-      elim (is_over_of s) as (λ b. is_over_of s ≡ b → (if b then 0 else cond (s.next == w) 1 0 + own_turns w m (turn_of s)) ≡ own_turns v n t → AgreesOn part w (if b then s else after_turns m (turn_of s)) v (after_turns n t)) [
+      elim (is_over_of s) as (λ b. is_over_of s ≡ b → (if b then 0 else cond (s.next == w) 1 0 + count_own_turns w m (turn_of s)) ≡ count_own_turns v n t → AgreesOn part w (if b then s else after_turns m (turn_of s)) v (after_turns n t)) [
         | true ↦ λ e turns. rest n s t u g left_there (sym turns)
         | false ↦ λ e turns. elim (cases_eq s.next w) [
           | inl own ↦ (
-              let count = own_counts w s.next (own_turns w m (turn_of s)) own in
+              let count = own_counts w s.next (count_own_turns w m (turn_of s)) own in
               meets m s valid own (keeps_first part w m s e keeps own)
               (λ n t u g left_there turns. fights_alike m n (turn_of s) t (turn_valid s valid e) u g (keeps_later part w m s e keeps) (left_later part w m s e left) left_there turns)
               n t u g left_there (sym count ∙ turns)
               )
           | inr other ↦ (
-              let same = other_counts w s.next (own_turns w m (turn_of s)) other in
+              let same = other_counts w s.next (count_own_turns w m (turn_of s)) other in
               let next = other_turn part w v s t (λ e. other (sym e)) g (left_first part w m s e left other) in
               fights_alike m n (turn_of s) t (turn_valid s valid e) u next (keeps_later part w m s e keeps) (left_later part w m s e left) left_there (sym same ∙ turns)
               )

@@ -12,7 +12,7 @@ use Rattle.mars_core.specs.State.{State, queue_of, is_empty, live_from, survivor
 use Rattle.mars_core.specs.Turn.{executed, turn_of, after_turns}
 use Rattle.mars_core.specs.Touched.{touched_in_turn}
 use Rattle.mars_core.specs.Start.{is_in}
-use Rattle.mars_core.specs.Apart.{StaysWithin, OthersLeaveUnchanged, own_turns, touched_in, AgreesOn}
+use Rattle.mars_core.specs.Apart.{StaysWithin, OthersLeaveUnchanged, count_own_turns, touched_in, AgreesOn}
 use Rattle.mars_core.specs.Validity.{IsValid}
 use Rattle.mars_core.specs.declared.machine.clock.Clock.{Clock}
 use Rattle.mars_core.proofs.ForLaws.Apart.{own_counts, other_counts, own_turn, other_turn, turn_first, left_first, left_later, keeps_first, keeps_later, own_cells_left}
@@ -88,13 +88,13 @@ module _ (part : ℕ → Bool) (w : ℕ) where
       let there = own_turn part s t v u here keeps in
       subst (λ x. AgreesOn part x (turn_of s) 0 (turn_of t)) own (subst (λ y. AgreesOn part s.next (turn_of s) y (turn_of t)) only there)
 
-  alone : (n : ℕ) (s t : State) → IsValid s → IsValid t → length t.queues ≡ 1 → IsNotAhead w s t → AgreesOn part w s 0 t → StaysWithin part w n s → OthersLeaveUnchanged part w n s → AgreesOn part w (after_turns n s) 0 (after_turns (own_turns w n s) t)
+  alone : (n : ℕ) (s t : State) → IsValid s → IsValid t → length t.queues ≡ 1 → IsNotAhead w s t → AgreesOn part w s 0 t → StaysWithin part w n s → OthersLeaveUnchanged part w n s → AgreesOn part w (after_turns n s) 0 (after_turns (count_own_turns w n s) t)
   alone zero s t v u one behind g keeps left = g
   alone (suc n) s t v u one behind g keeps left =
-      elim (is_over_of s) as (λ b. is_over_of s ≡ b → AgreesOn part w (if b then s else after_turns n (turn_of s)) 0 (after_turns (if b then 0 else cond (s.next == w) 1 0 + own_turns w n (turn_of s)) t)) [
+      elim (is_over_of s) as (λ b. is_over_of s ≡ b → AgreesOn part w (if b then s else after_turns n (turn_of s)) 0 (after_turns (if b then 0 else cond (s.next == w) 1 0 + count_own_turns w n (turn_of s)) t)) [
         | true ↦ λ e. g
         | false ↦ λ e. (
-            let j = own_turns w n (turn_of s) in
+            let j = count_own_turns w n (turn_of s) in
             let valid = turn_valid s v e in
             let later = keeps_later part w n s e keeps in
             let left_there = left_later part w n s e left in
@@ -116,13 +116,13 @@ module _ (part : ℕ → Bool) (w : ℕ) where
             )
       ] refl
 
-pub fights_alone : (part : ℕ → Bool) (w n : ℕ) (s t : State) → IsValid s → IsValid t → length t.queues ≡ 1 → t.cycle ≤ s.cycle → AgreesOn part w s 0 t → StaysWithin part w n s → OthersLeaveUnchanged part w n s → AgreesOn part w (after_turns n s) 0 (after_turns (own_turns w n s) t)
+pub fights_alone : (part : ℕ → Bool) (w n : ℕ) (s t : State) → IsValid s → IsValid t → length t.queues ≡ 1 → t.cycle ≤ s.cycle → AgreesOn part w s 0 t → StaysWithin part w n s → OthersLeaveUnchanged part w n s → AgreesOn part w (after_turns n s) 0 (after_turns (count_own_turns w n s) t)
 fights_alone part w n s t v u one early g keeps left = alone part w n s t v u one (λ e. (λ h. early, omega (arith, early))) g keeps left
 
 each_is_in : (xs : List ℕ) → AllPass (is_in xs) xs
 each_is_in xs k d h = or_at (list_any (λ y. get_or xs k d == y)) (λ y. get_or xs k d == y) refl (λ _ _. refl) xs k d h (same_eq (get_or xs k d))
 
-pub undisturbed_alone : (w n : ℕ) (s t : State) → IsValid s → IsValid t → length t.queues ≡ 1 → t.cycle ≤ s.cycle → AgreesOn (is_in (touched_in w n s)) w s 0 t → OthersLeaveUnchanged (is_in (touched_in w n s)) w n s → AgreesOn (is_in (touched_in w n s)) w (after_turns n s) 0 (after_turns (own_turns w n s) t)
+pub undisturbed_alone : (w n : ℕ) (s t : State) → IsValid s → IsValid t → length t.queues ≡ 1 → t.cycle ≤ s.cycle → AgreesOn (is_in (touched_in w n s)) w s 0 t → OthersLeaveUnchanged (is_in (touched_in w n s)) w n s → AgreesOn (is_in (touched_in w n s)) w (after_turns n s) 0 (after_turns (count_own_turns w n s) t)
 undisturbed_alone w n s t v u one early g left =
     fights_alone (is_in (touched_in w n s)) w n s t v u one early g (each_is_in (touched_in w n s)) left
 
@@ -136,7 +136,7 @@ absent_keeps part w (suc n) s v past =
       | false ↦ λ over. rw other (absent_keeps part w n (turn_of s) (turn_valid s v over) (omega (arith, past, (shape-turn_of s).warriors)))
     ] refl
 
-pub untouched_alone : (owner : ℕ → ℕ) (w n : ℕ) (s t : State) → IsValid s → IsValid t → length t.queues ≡ 1 → t.cycle ≤ s.cycle → AgreesOn (λ a. owner a == w) w s 0 t → ((v : ℕ) → v < length s.queues → StaysWithin (λ a. owner a == v) v n s) → AgreesOn (λ a. owner a == w) w (after_turns n s) 0 (after_turns (own_turns w n s) t)
+pub untouched_alone : (owner : ℕ → ℕ) (w n : ℕ) (s t : State) → IsValid s → IsValid t → length t.queues ≡ 1 → t.cycle ≤ s.cycle → AgreesOn (λ a. owner a == w) w s 0 t → ((v : ℕ) → v < length s.queues → StaysWithin (λ a. owner a == v) v n s) → AgreesOn (λ a. owner a == w) w (after_turns n s) 0 (after_turns (count_own_turns w n s) t)
 untouched_alone owner w n s t v u one early g keeps =
     let mine = elim (cases_lt w (length s.queues)) as (λ _. StaysWithin (λ a. owner a == w) w n s) [ inl known ↦ keeps w known | inr past ↦ absent_keeps (λ a. owner a == w) w n s v past ] in
     fights_alone (λ a. owner a == w) w n s t v u one early g mine (own_cells_left owner n s v keeps w)

@@ -5,7 +5,7 @@ use Rattle.std.proofs.lemmas.Bool.{cases_lt}
 use Rattle.std.proofs.lemmas.Bool.Decides.{nat_tests}
 use Rattle.mars_core.specs.State.{State, queue_of, survivors_of, is_over_of, ends, advanced, clock_of}
 use Rattle.mars_core.specs.Turn.{executed, turn_of, after_turns}
-use Rattle.mars_core.specs.Apart.{GoesOn, own_turns, StaysWithin, OthersLeaveUnchanged, AgreesOn}
+use Rattle.mars_core.specs.Apart.{GoesOn, count_own_turns, StaysWithin, OthersLeaveUnchanged, AgreesOn}
 use Rattle.mars_core.specs.Validity.{IsValid}
 use Rattle.mars_core.specs.declared.deaths.Death.{Death}
 use Rattle.mars_core.specs.declared.machine.clock.Clock.{Clock}
@@ -55,11 +55,11 @@ goes_on n s on k h =
     let over = on 0 (omega arith) in
     subst (λ t. is_over_of t ≡ false) (turn_first k s over) (on (suc k) (omega (arith, h)))
 
-one_turn : (w n : ℕ) (s : State) → is_over_of s ≡ false → own_turns w (suc n) s ≡ cond (s.next == w) 1 0 + own_turns w n (turn_of s)
+one_turn : (w n : ℕ) (s : State) → is_over_of s ≡ false → count_own_turns w (suc n) s ≡ cond (s.next == w) 1 0 + count_own_turns w n (turn_of s)
 one_turn w n s over = rw over refl
 
 -- Each of two warriors has equally many turns in all battles.
-pub turns_of_two : (w n : ℕ) (s t : State) → IsValid s → IsValid t → length s.queues ≡ 2 → length t.queues ≡ 2 → s.next ≡ t.next → GoesOn n s → GoesOn n t → own_turns w n s ≡ own_turns w n t
+pub turns_of_two : (w n : ℕ) (s t : State) → IsValid s → IsValid t → length s.queues ≡ 2 → length t.queues ≡ 2 → s.next ≡ t.next → GoesOn n s → GoesOn n t → count_own_turns w n s ≡ count_own_turns w n t
 turns_of_two w zero s t v u two two_there next on on_there = refl
 turns_of_two w (suc zero) s t v u two two_there next on on_there =
     one_turn w 0 s (on 0 (omega arith)) ∙ ap (λ i. cond (i == w) 1 0 + 0) next ∙ sym (one_turn w 0 t (on_there 0 (omega arith)))
@@ -73,8 +73,8 @@ turns_of_two w (suc (suc n)) s t v u two two_there next on on_there =
     let more =
     turns_of_two w (suc n) (turn_of s) (turn_of t) (turn_valid s v over) (turn_valid t u over_there)
     ((shape-turn_of s).warriors ∙ two) ((shape-turn_of t).warriors ∙ two_there) next_then later later_there in
-    let joined : cond (s.next == w) 1 0 + own_turns w (suc n) (turn_of s) ≡ cond (t.next == w) 1 0 + own_turns w (suc n) (turn_of t) =
-    ap (λ i. cond (i == w) 1 0 + own_turns w (suc n) (turn_of s)) next ∙ ap (λ i. cond (t.next == w) 1 0 + i) more in
+    let joined : cond (s.next == w) 1 0 + count_own_turns w (suc n) (turn_of s) ≡ cond (t.next == w) 1 0 + count_own_turns w (suc n) (turn_of t) =
+    ap (λ i. cond (i == w) 1 0 + count_own_turns w (suc n) (turn_of s)) next ∙ ap (λ i. cond (t.next == w) 1 0 + i) more in
     one_turn w (suc n) s over ∙ joined ∙ sym (one_turn w (suc n) t over_there)
 
 pub two_alike : (part : ℕ → Bool) (w n : ℕ) (s t : State) → IsValid s → IsValid t → length s.queues ≡ 2 → length t.queues ≡ 2 → s.next ≡ t.next → GoesOn n s → GoesOn n t → AgreesOn part w s w t → StaysWithin part w n s → OthersLeaveUnchanged part w n s → OthersLeaveUnchanged part w n t → AgreesOn part w (after_turns n s) w (after_turns n t)

@@ -17,7 +17,7 @@ use Rattle.mars_cell.specs.Warriors.{WarriorValue}
 use Rattle.mars_core.specs.Start.{start_fault, start_state}
 use Rattle.mars_core.specs.State.{State, cell_at}
 use Rattle.mars_core.specs.Turn.{after_turns}
-use Rattle.mars_core.specs.Apart.{GoesOn, StaysWithin, own_turns, touched_in, AgreesOn}
+use Rattle.mars_core.specs.Apart.{GoesOn, StaysWithin, count_own_turns, touched_in, AgreesOn}
 use Rattle.mars_core.specs.Laws.{DisjointRunAsIfAlone}
 use Rattle.mars_core.specs.Validity.{IsValid}
 use Rattle.mars_core.specs.Examples.{the_machine, cell_of, imp, of_eight, eight, battle_of, lone}
@@ -136,7 +136,7 @@ reading_is_touching keeps = true≢false (sym (keeps 2 0 (ltb_yes tt)))
 abbrev dying : State
 dying = lone of_eight (eight []) (0 ∷ [])
 
-pub the_dead_have_no_more_turns : (own_turns 0 3 dying ≡ 1) × (touched_in 0 3 dying ≡ 0 ∷ 0 ∷ 0 ∷ 0 ∷ [])
+pub the_dead_have_no_more_turns : (count_own_turns 0 3 dying ≡ 1) × (touched_in 0 3 dying ≡ 0 ∷ 0 ∷ 0 ∷ 0 ∷ [])
 unfolding the_machine
 the_dead_have_no_more_turns = (refl, refl)
 

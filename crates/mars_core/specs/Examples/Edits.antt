@@ -39,7 +39,7 @@ pub kill_of_the_last_warrior_adds_a_cycle : IsEdit (turn_of (turn_of three)) (Ki
 unfolding the_machine
 kill_of_the_last_warrior_adds_a_cycle = record { state = refl; back = refl; forth = refl }
 
-pub deaths_stand_in_their_order : IsEdit last_killed (KillProcess 0 0)
+pub deaths_are_in_order : IsEdit last_killed (KillProcess 0 0)
     (record (battle_of of_eight three.core ([] ∷ (2 ∷ []) ∷ [] ∷ [])) {
       next = 1;
       cycle = 1;
@@ -47,7 +47,7 @@ pub deaths_stand_in_their_order : IsEdit last_killed (KillProcess 0 0)
       deaths = record { warrior = 2; turns = 2 } ∷ record { warrior = 0; turns = 2 } ∷ [];
     })
 unfolding the_machine
-deaths_stand_in_their_order = record { state = refl; back = refl; forth = refl }
+deaths_are_in_order = record { state = refl; back = refl; forth = refl }
 
 -- A queue with a capacity of three.
 abbrev queue : List ℕ → State

@@ -7,7 +7,7 @@ ghost use Rattle.mars_core.specs.Limits.{max_warriors};
 ghost use Rattle.mars_core.specs.State.{State, is_over_of, state_of};
 ghost use Rattle.mars_core.specs.Validity.{IsCore, IsQueue, IsValid};
 ghost use Rattle.mars_core.specs.Queue.{Queue, addresses_of};
-ghost use Rattle.mars_core.specs.Block.{AreParts, Spells, block_of, core_words, field_words, head_of, head_words, lengths_of, padded, params_in};
+ghost use Rattle.mars_core.specs.Block.{AreBlockParts, Spells, block_of, core_words, field_words, head_of, head_words, lengths_of, padded, params_in};
 ghost use Rattle.mars_core.specs.BlockFaults.{IsWrong, cells_in, counts_in, head_in, processes_in};
 ghost use Rattle.mars_core.specs.Code.Blocks.{IsStateFault};
 
@@ -221,9 +221,9 @@ fn battle_of(alloc: Global, parts: &Parts<'_>) -> Result<Battle, BlockFault>
     ensures core { IfOk result (λ battle. core_words battle.core ≡ parts.now.cells.now) }
     ensures queues { IfOk result (λ battle. concat battle.queues ≡ parts.now.processes.now) }
     ensures battle { IfOk result (λ battle. (s : State) → IsValid s
-        → AreParts s parts.now.head.now parts.now.counts.now parts.now.cells.now parts.now.processes.now → battle ≡ s) }
+        → AreBlockParts s parts.now.head.now parts.now.counts.now parts.now.cells.now parts.now.processes.now → battle ≡ s) }
     ensures none { IfErr result (λ fault. fault ≢ BlockFault.OutOfMemory → (s : State) → IsValid s
-        → AreParts s parts.now.head.now parts.now.counts.now parts.now.cells.now parts.now.processes.now → ⊥) }
+        → AreBlockParts s parts.now.head.now parts.now.counts.now parts.now.cells.now parts.now.processes.now → ⊥) }
     ensures counts { IfOk result (λ battle. lengths_of battle.queues ≡ parts.now.counts.now) }
     ensures wrong { IfErr result (λ fault. (words : List ℕ) → parts.now.head.now ≡ head_in words → parts.now.counts.now ≡ counts_in words
         → parts.now.cells.now ≡ cells_in words → parts.now.processes.now ≡ processes_in words → IsWrong words fault) }

@@ -3,7 +3,7 @@ ghost use Rattle.std.specs.Prelude.{◌≡◌, ◌++◌, ◌*◌, ◌≤◌, ℕ
 ghost use Rattle.mars_cell.specs.Parameters.{AreInRange};
 ghost use Rattle.mars_core.specs.Limits.{max_warriors};
 ghost use Rattle.mars_core.specs.State.{State};
-ghost use Rattle.mars_core.specs.Block.{AreParts, Spells, head_words, params_in};
+ghost use Rattle.mars_core.specs.Block.{AreBlockParts, Spells, head_words, params_in};
 ghost use Rattle.mars_core.specs.BlockFaults.{IsWrong, cells_in, counts_in, head_in, processes_in};
 
 use crate::battle::block::{BLOCK_MARK, BlockFault, HEAD_WORDS};
@@ -33,7 +33,7 @@ pub fn parts_of(words: &[u32]) -> Result<Parts<'_>, BlockFault>
     ensures words { IfOk result (λ parts. take (length (parts.head.now ++ parts.cells.now ++ parts.processes.now)) words.now
         ≡ parts.head.now ++ parts.cells.now ++ parts.processes.now) }
     ensures parts { IfOk result (λ parts. (s : State) → Spells s words.now
-        → AreParts s parts.head.now parts.counts.now parts.cells.now parts.processes.now) }
+        → AreBlockParts s parts.head.now parts.counts.now parts.cells.now parts.processes.now) }
     ensures split { IfOk result (λ parts. (parts.head.now ≡ head_in words.now) × (parts.counts.now ≡ counts_in words.now)
         × (parts.cells.now ≡ cells_in words.now) × (parts.processes.now ≡ processes_in words.now)) }
     ensures none { IfErr result (λ fault. (s : State) → Spells s words.now → ⊥) }
