@@ -1,7 +1,7 @@
 //! Edits, copies of battles, and the texts of errors.
 
 use super::{
-    NOP, OUTSIDE, check_clock, check_queue, check_refused, lone_battle, make_edit, make_turns,
+    NOP, OUTSIDE, check_clock, check_queue, check_rejected, lone_battle, make_edit, make_turns,
     three_stay,
 };
 use mars_cell::ParamFault;
@@ -49,7 +49,7 @@ fn three_warriors_and_kills(rt: HostRuntime) -> Result<(), Fail> {
 }
 
 /// Edits that are rejected in a battle of one warrior with 3 processes and a process limit of 3, in a core of 8 cells.
-const REFUSED_EDITS: &[(Edit, EditFault)] = &[
+const REJECTED_EDITS: &[(Edit, EditFault)] = &[
     (Edit::Spawn(0, 3), EditFault::QueueFull),
     (Edit::Spawn(4_294_967_296, 0), EditFault::NoSuchWarrior),
     (Edit::Spawn(0, 8), EditFault::Address),
@@ -63,7 +63,7 @@ const REFUSED_EDITS: &[(Edit, EditFault)] = &[
 fn check_edits(rt: &impl Abort, battle: &mut Battle) -> Result<(), Fail> {
     make_edit(battle, Edit::Spawn(0, 1))?;
     make_edit(battle, Edit::Spawn(0, 2))?;
-    check_refused(rt, battle, REFUSED_EDITS);
+    check_rejected(rt, battle, REJECTED_EDITS);
     let atom = battle.edit(Edit::KillProcess(0, 1)).ok().ok_or("kill")?;
     assert!(rt; !atom.died);
     check_queue(rt, battle, 0, &[0, 2]);

@@ -3,7 +3,7 @@ ghost use Rattle.std.specs.Prelude.{◌≡◌, IfOk};
 ghost use Rattle.mars_core.specs.Leads.{Leads};
 
 use super::{
-    NOP, OF_EIGHT, STAY, battle_of, check_queue, check_refused, go_back, go_forth, lone_battle,
+    NOP, OF_EIGHT, STAY, battle_of, check_queue, check_rejected, go_back, go_forth, lone_battle,
     make_edit, make_turns, three_stay, turn, turn_and_back,
 };
 use mars_core::{Atom, Battle, Edit, EditFault};
@@ -230,7 +230,7 @@ fn a_queue_back_and_forth(rt: HostRuntime) -> Result<(), Fail> {
     check_edit(&rt, alloc, &mut battle, Edit::Spawn(0, 1), false, false)?;
     check_edit(&rt, alloc, &mut battle, Edit::Spawn(0, 2), false, false)?;
     check_queue(&rt, &battle, 0, &[0, 1, 2]);
-    check_refused(&rt, &mut battle, FULL);
+    check_rejected(&rt, &mut battle, FULL);
     check_queue(&rt, &battle, 0, &[0, 1, 2]);
     check_killed_process(&rt, alloc, &mut battle)?;
     check_three_steps(&rt, alloc, &mut battle)

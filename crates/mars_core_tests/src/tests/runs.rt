@@ -82,7 +82,7 @@ fn check_turns(rt: &impl Abort, alloc: Global, battle: &mut Battle) -> Result<()
 }
 
 #[test]
-fn so_many_turns(rt: HostRuntime) -> Result<(), Fail> {
+fn turns_with_and_without_limits(rt: HostRuntime) -> Result<(), Fail> {
     let cells = [
         (0, "MOV.I $3, $3"),
         (3, "SPL.B {2, >5"),

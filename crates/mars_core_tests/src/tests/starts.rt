@@ -3,7 +3,7 @@
 use super::memory::one_cells;
 use super::{
     NOP, OF_EIGHT, OUTSIDE, battle_of, cell, check_cells, check_clock, check_deaths, check_queue,
-    check_restart, laid_out, one_cell, params,
+    check_restart, battle_at, one_cell, params,
 };
 use mars_cell::{Cell, Params, Warrior};
 use mars_core::{Battle, BattleFault};
@@ -113,7 +113,7 @@ fn three_of_several(alloc: Global) -> Result<Battle, Fail> {
     for (texts, start) in SEVERAL {
         warriors.push(several_cells(alloc, texts, *start)?)?;
     }
-    laid_out(alloc, &params, &warriors, &[7, 2, 5])
+    battle_at(alloc, &params, &warriors, &[7, 2, 5])
 }
 
 #[test]
