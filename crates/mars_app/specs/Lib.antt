@@ -1,5 +1,5 @@
--- The definitions that a reader of the contracts must trust, in this order. `Laws` follows from them, and `Examples` has examples
--- of them.
+-- The specification of the program and its debugger, in reading order. It is part of the trusted base. `Laws` follows
+-- from it, and `Examples` has cases of it. Only internal functions and proofs use `Code`.
 pub mod Limits
 pub mod CommandLine
 pub mod Options
