@@ -1,4 +1,5 @@
--- The definitions that a reader of the contracts must trust, in this order, with laws that follow, and examples.
+-- The specification of the library for C, in reading order. It is part of the trusted base. `Laws` follows from it, and
+-- `Examples` has cases of it.
 pub mod Settings
 pub mod Cells
 pub mod Entrants
