@@ -1,4 +1,5 @@
--- The specification of matches and leagues, in this order; with its laws and examples. It is part of the trusted base.
+-- The specification of placements, matches, leagues and their results, in reading order. It is part of the trusted
+-- base. `Laws` follows from it, and `Examples` has cases of it. Only internal functions and proofs use `Code`.
 pub mod Placement
 pub mod Tables
 pub mod Battles
