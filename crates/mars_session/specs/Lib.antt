@@ -1,5 +1,5 @@
--- The definitions of the crate, in reading order. Contracts cite those before `Examples`, which has examples of them.
--- `Laws` follows from them, and only internal functions and proofs use `Code`.
+-- The specification of a session: its history, its commands and its tapes, in reading order. It is part of the trusted
+-- base. `Laws` follows from it, and `Examples` has cases of it. Only internal functions and proofs use `Code`.
 pub mod Limits
 pub mod History
 pub mod Retention
