@@ -1,4 +1,5 @@
--- The specification of the assembler and of score formulas, with laws and examples. It is part of the trusted base.
+-- The specification of the assembler and of score formulas, in reading order. It is part of the trusted base. `Laws`
+-- follows from it, and `Examples` has cases of it. Only internal functions and proofs use `Code`.
 pub mod Formula
 pub mod Assembly
 pub mod LoadFiles
