@@ -1,4 +1,5 @@
--- The specification of how a source is read, with laws and examples, in reading order. It is part of the trusted base.
+-- The specification of how a source is read, in reading order. It is part of the trusted base. `Laws` follows from it,
+-- and `Examples` has cases of it. Only internal functions and proofs use `Code`.
 pub mod Bytes
 pub mod Results
 pub mod Spans
