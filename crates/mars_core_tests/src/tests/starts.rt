@@ -2,8 +2,8 @@
 
 use super::memory::one_cells;
 use super::{
-    NOP, OF_EIGHT, OUTSIDE, battle_of, cell, check_cells, check_clock, check_deaths, check_queue,
-    check_restart, battle_at, one_cell, params,
+    NOP, OF_EIGHT, OUTSIDE, battle_at, battle_of, cell, check_cells, check_clock, check_deaths,
+    check_queue, check_restart, one_cell, params,
 };
 use mars_cell::{Cell, Params, Warrior};
 use mars_core::{Battle, BattleFault};
