@@ -56,7 +56,7 @@ $(PROGRAM) $(LIBRARY):
 	@echo "$@ is not built; prove and build it with make" >&2; exit 1
 
 $(WASM):
-	@echo "$@ is not built; install Debian's binaryen, then prove and build it with make" >&2; exit 1
+	@echo "$@ is not built; prove and build it with make, which says what it needs" >&2; exit 1
 
 site: $(SITE)
 
