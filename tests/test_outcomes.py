@@ -1,4 +1,4 @@
-"""Tests that outcomes agree with matches and battles, on any executor, and what is computed of them."""
+"""Tests outcomes: that they agree with matches and battles on any executor, and what is computed from them."""
 from __future__ import annotations
 
 import random
@@ -279,7 +279,9 @@ except KeyboardInterrupt:
 
 
 def test_shares() -> None:
-    """In each cycle the living warriors share, and the shares of a round add up to the number of warriors."""
+    """The warriors that live in a cycle share its reward, and the shares of a round in which one survives add up to the
+    number of warriors.
+    """
     outcomes = np.zeros((1, 3), OUTCOME)
     outcomes["cycles"] = [[1, 4, 10]]
     # Three share 2 cycles, two of them 3 more, and the last one has the other 5.
