@@ -1,7 +1,7 @@
 """The series of starting positions of pMARS: the seeds that select them.
 
 Both programs draw from the same generator. pMARS places the second of two warriors by a seed and then draws the next
-one; this kit draws first. So the generator makes pMARS's seed of this kit's seed by one draw.
+one; this kit draws first. So the seed of pMARS is that of this kit after one draw.
 """
 from __future__ import annotations
 

@@ -52,7 +52,7 @@ def is_warrior(made: NDArray[Any]) -> NDArray[np.bool_]:
 
 def shares(made: NDArray[Any], cycles: int) -> NDArray[np.float64]:
     """Returns the reward of each warrior of outcomes. The warriors that live in a cycle share W/`cycles`, where W is
-    the number of warriors in the lineup: in a round they get W together.
+    the number of warriors in the lineup. In a round in which one survives, all shares add up to W.
 
     - `made`: what `outcomes` returned
     - `cycles`: the cycle limit of its settings

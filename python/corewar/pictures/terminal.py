@@ -42,7 +42,9 @@ class Canvas:
 
 
 def canvas_of(core: int, columns: int, rows: int) -> Canvas:
-    """Returns the canvas with the fewest cells of a dot, and of two the one with larger dots, that fits."""
+    """Returns the canvas that fits and has the fewest cells in a dot; if both kinds of characters fit, half blocks, whose
+    dots are larger.
+    """
     cells, columns, rows = 1, max(1, columns), max(1, rows)
     while True:
         for wide, tall in (HALVES, BRAILLE):
