@@ -9,9 +9,9 @@ import { allOf, errorWords, sumOf } from "./host.js";
 /** @typedef {import("./host.js").MatchTerms} MatchTerms */
 /** @typedef {import("../engine/mars.js").Row} Row */
 /** @typedef {import("./host.js").Source} Source */
-/** @typedef {[number, number, Row, Row]} Result two sources, and their rows */
+/** @typedef {[number, number, Row, Row]} Result the indices of two sources, and their rows */
 /**
- * A league that outlives the page. `results` has the counts that `resultOf` reads, `took` milliseconds.
+ * A league that outlives the page. `results` has the counts that `resultOf` reads, and `took` is in milliseconds.
  * @typedef {{sources: Source[], names: string[], errors: string[], terms: MatchTerms, took: number,
  *   results: number[][]}} KeptLeague
  */
@@ -309,7 +309,8 @@ export class League {
 }
 
 /**
- * Returns a result of its counts: two sources; points, wins, ties and losses of the first one; points of the other one.
+ * Returns the result with these counts: the indices of two sources; points, wins, ties and losses of the first one;
+ * points of the other one.
  * @param {number[]} counts
  * @returns {Result}
  */

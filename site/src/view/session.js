@@ -157,7 +157,7 @@ export class Session extends Turns {
   }
 
   /**
-   * Shows why a warrior died, or no longer.
+   * Shows why a warrior died, or stops showing it if `chain` is null.
    * @param {Turns["chain"]} chain
    */
   explain(chain) {
