@@ -56,7 +56,7 @@ def python_bodies(text: str) -> Iterator[tuple[int, int, int]]:
     for node in ast.walk(ast.parse(text)):
         if isinstance(node, (ast.FunctionDef, ast.AsyncFunctionDef)):
             first, end = node.lineno, node.end_lineno or 0
-            body = node.body[ast.get_docstring(node) is not None :]
+            body = node.body if ast.get_docstring(node) is None else node.body[1:]
             yield first, end - first, end - body[0].lineno + 1 if body else 0
 
 

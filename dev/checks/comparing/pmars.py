@@ -111,17 +111,21 @@ def compare_pmars(definitions: Evaluator, dice: random.Random) -> Iterator[Compa
     core, longest = dice.choice([8, 12, 20, 41]), dice.choice([1, 2, 4])
     bounds = {"core_size": core, "processes": dice.choice([1, 2, 8]), "cycles": dice.choice([5, 30])}
     bounds |= {"read_limit": core, "write_limit": core, "max_length": longest, "distance": longest}
-    given = bounds, dice.randint(longest, core - longest), random_fighters(dice, core, longest, 2)
-    states = [definitions("mars_core.Start.start_state", bounds, tuple(given[2]), (0, given[1]))]
+    position, warriors = dice.randint(longest, core - longest), random_fighters(dice, core, longest, 2)
+    given = bounds, position, warriors
+    states = [definitions("mars_core.Start.start_state", bounds, tuple(warriors), (0, position))]
     while not (is_over := definitions("mars_core.State.is_over_of", states[-1])):
         if reads_itself_changed(definitions, states[-1]):
             break
         states.append(definitions("mars_core.Turn.turn_of", states[-1]))
     settings = {"core": core, "cycles": bounds["cycles"], "processes": bounds["processes"]}
-    texts = [bytes(definitions("mars_cell.Written.load_text", core, warrior)) for warrior in given[2]]
-    played = Round({**settings, "longest": longest, "distance": longest}, texts, given[1])
-    if len(states) - is_over > 1:
-        turns = dice.randrange(1, len(states) - is_over)
+    settings |= {"longest": longest, "distance": longest}
+    texts = [bytes(definitions("mars_cell.Written.load_text", core, warrior)) for warrior in warriors]
+    played = Round(settings, texts, position)
+    # The state in which the battle is over has no front of a queue that could be compared.
+    running = states[:-1] if is_over else states
+    if len(running) > 1:
+        turns = dice.randrange(1, len(running))
         state = states[turns]
         following = definitions("mars_core.Turn.front_of", state["queues"][state["next"]])
         yield Comparison("cores", (given, turns), (state["core"], following), played.core_after(turns))

@@ -50,6 +50,11 @@ def later(compute: Callable[[], Value]) -> Callable[[], Value]:
     return value
 
 
+def delayed(value: Value) -> Callable[[], Value]:
+    """Returns a function that returns the value."""
+    return lambda: value
+
+
 def one_by_one(function: Callable[..., Value], waits: tuple[bool, ...], given: tuple[Value, ...] = ()) -> Value:
     """Returns a function that takes one argument after the other, as values.
 
@@ -60,7 +65,7 @@ def one_by_one(function: Callable[..., Value], waits: tuple[bool, ...], given: t
         return function(*given)
 
     def take(value: Value) -> Value:
-        return one_by_one(function, waits, (*given, (lambda: value) if waits[len(given)] else value))
+        return one_by_one(function, waits, (*given, delayed(value) if waits[len(given)] else value))
 
     return take
 
@@ -69,14 +74,14 @@ def of_values(function: Callable[..., Value], waits: tuple[bool, ...]) -> Callab
     """Returns a function that takes all arguments as values; `waits` is as for `one_by_one`."""
     if not any(waits):
         return function
-    return lambda *values: function(*((lambda v=v: v) if wait else v for v, wait in zip(values, waits)))
+    return lambda *values: function(*(delayed(value) if wait else value for value, wait in zip(values, waits)))
 
 
 class Evaluator:
     """The definitions of a repository, as Python functions.
 
     - `top`: the folder of the repository
-    - `changes`: for files, by their paths from `top`, another text
+    - `changes`: texts that replace those of files, by the path of the file from `top`
     """
 
     def __init__(self, top: str, changes: Mapping[str, str] | None = None) -> None:
