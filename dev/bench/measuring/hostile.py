@@ -68,7 +68,7 @@ def cases() -> Iterator[tuple[str, str]]:
     yield "names: 60,000 joined names of 1 MB", filled("j FOR 6\ni FOR 10000\n", "x", "&j&i\nROF\nROF\n")
     yield "names: 63,000 whose hashes collide", in_loops("SQJe5jQU7MjTU0qoA8DjzLWtab&j&i", 7, 9000)
     yield "names: 65,535 labels", "".join(f"l{n}\n" for n in range(65535))
-    yield "names: 20,000 EQU names, used in turn", "".join(f"n{n} EQU {n}\n" for n in range(20000)) + "".join(
+    yield "names: 20,000 EQU names, each eighth used", "".join(f"n{n} EQU {n}\n" for n in range(20000)) + "".join(
         f"DAT n{n}\n" for n in range(0, 20000, 8)
     )
     yield "1 MB of parentheses", "DAT " + "(" * (MAX_FILE_SIZE - 4)
@@ -83,7 +83,7 @@ def measure(words: argparse.Namespace) -> None:
         resource.setrlimit(resource.RLIMIT_CPU, (words.seconds, words.seconds + 1))
         resource.setrlimit(resource.RLIMIT_AS, (words.megabytes * 1_000_000,) * 2)
 
-    print("| Source | bytes | seconds | MB | answer |\n|---|---|---|---|---|")
+    print("| Source | bytes | seconds | MB | result |\n|---|---|---|---|---|")
     with tempfile.TemporaryDirectory() as place:
         path = os.path.join(place, "hostile.red")
         for what, text in cases():
@@ -92,5 +92,5 @@ def measure(words: argparse.Namespace) -> None:
             assert os.path.getsize(path) <= MAX_FILE_SIZE, what
             done = run([program, "--load", "-s", "1048576", "-l", "65536", "-d", "65536", path], bound=bound)
             error = done.errors.decode().strip().removeprefix("mars: ").removeprefix(f"{path}: ")
-            answer = error or ("more time than that" if done.status == -signal.SIGXCPU else "assembled")
-            print(f"| {what} | {len(text):,} | {done.cpu:.2f} | {done.peak / 1e6:.0f} | {answer} |", flush=True)
+            result = error or ("over the limit of time" if done.status == -signal.SIGXCPU else "assembled")
+            print(f"| {what} | {len(text):,} | {done.cpu:.2f} | {done.peak / 1e6:.0f} | {result} |", flush=True)
