@@ -88,8 +88,8 @@ def test_the_ways_to_die(run: Run, tmp_path: Path) -> None:
 
 
 def test_losses_are_those_of_the_match(run: Run) -> None:
-    """For each warrior, `why` counts the losses and ties of the results of `fight`: in matches of two and three warriors,
-    and in one of a warrior against itself.
+    """For each warrior, `why` counts the losses and ties that `fight` prints: in matches of two and three warriors, and
+    in one of a warrior against itself.
     """
     for files in (["@silk", "@paper"], ["@vampire", "@dwarf", "@scanner"], ["@dwarf", "@dwarf"]):
         rows = run("fight", "-r", 9, *files).stdout.splitlines()[1:]

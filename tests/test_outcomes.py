@@ -38,7 +38,7 @@ def random_warriors(dice: random.Random, count: int) -> list[Warrior]:
 
 
 def test_outcomes_are_those_of_matches_and_battles() -> None:
-    """In random melees of 2 to 8, sums over rounds are rows of matches, and each round is that of its battle."""
+    """In random melees of 2 to 8, sums over rounds are rows of matches, and a round has what its battle has."""
     dice, died = random.Random(70), 0
     for _ in range(1000):
         warriors, count, rounds = random_warriors(dice, 10), dice.randint(2, 8), dice.randint(1, 3)
