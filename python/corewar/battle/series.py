@@ -21,8 +21,8 @@ PMARS_MODES = dict(zip("#$@<>*{}", (0, 1, 2, 3, 4, 0x82, 0x83, 0x84)))
 
 
 def seed_of_position(position: int, settings: Settings) -> int:
-    """Returns the seed of the series of `pmars -F POSITION` for two warriors. 0 stands for the minimum distance in each
-    round.
+    """Returns the seed of the series of `pmars -F POSITION` for two warriors. It is 0 if the position is the minimum
+    distance, which then is the position in each round.
     """
     return seed_after(position - settings.distance, -1)
 

@@ -42,8 +42,8 @@ class Canvas:
 
 
 def canvas_of(core: int, columns: int, rows: int) -> Canvas:
-    """Returns the canvas that fits and has the fewest cells in a dot; if both kinds of characters fit, half blocks, whose
-    dots are larger.
+    """Returns the canvas that fits and has the fewest cells in a dot. If both kinds of characters fit, half blocks are
+    taken, since their dots are larger.
     """
     cells, columns, rows = 1, max(1, columns), max(1, rows)
     while True:
