@@ -20,7 +20,7 @@ export class Session extends Turns {
   latest = null;
   /** @type {import("../words/battle.js").Known} */
   known = { names: [], core: 1, end: 0, deaths: [], addresses: new Map(), labels: new Map() };
-  /** The characters of a line of the debugger's replies, or 0 for any number. */
+  /** Returns how many characters fit in a line of the debugger's replies, or 0 if there is no limit. */
   width = () => 0;
   /**
    * What the errors of sources mean.
@@ -75,7 +75,7 @@ export class Session extends Turns {
   }
 
   /**
-   * Returns a future once it is made.
+   * Returns a battle or a future when it is opened, and counts it in `pending` until then.
    * @param {Promise<Opened>} made
    */
   async #opened(made) {
