@@ -72,7 +72,10 @@ def digits_value(radix: int, digits: List) -> int:
 
 
 def truncated(a: int, b: int) -> int:
-    return abs(a) // abs(b) * (1 if (a < 0) == (b < 0) else -1) if b else 0
+    if b == 0:
+        return 0
+    quotient = abs(a) // abs(b)
+    return quotient if (a < 0) == (b < 0) else -quotient
 
 
 # fmt: off

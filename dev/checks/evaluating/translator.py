@@ -76,7 +76,9 @@ class Resolver(Protocol):
 
 @dataclass(frozen=True)
 class Scope:
-    """The variables, each as Python, and those of them that are functions that compute the value."""
+    """The variables: `names` has the Python name of each, and `later` has those whose Python name is a function that
+    computes the value.
+    """
 
     names: Mapping[str, str]
     later: frozenset[str] = frozenset()
