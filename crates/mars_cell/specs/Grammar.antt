@@ -18,8 +18,8 @@ abbrev pub ◌>>=◌ : {A B : Type 0} → Option A → (A → Option B) → Opti
 None >>= f = None
 (Some x) >>= f = f x
 
--- Each definition whose name ends in `_at` reads its part at the front of a list of parts `p ∷ ps`, and returns its value with
--- the parts that follow.
+-- Each definition whose name ends in `_at` reads its part at the front of a list of parts `p ∷ ps`, and returns its
+-- value with the parts that follow; `comma_at` returns only these parts.
 
 unfoldable pub op_at : List (List ℕ) → Option (Op × List (List ℕ))
 op_at [] = None
