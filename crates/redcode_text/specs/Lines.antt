@@ -183,7 +183,7 @@ abbrev pub operations : List (List ℕ)
 operations =
     codes "dat" ∷ codes "mov" ∷ codes "add" ∷ codes "sub" ∷ codes "mul" ∷ codes "div" ∷ codes "mod" ∷ codes "jmp" ∷ codes "jmz" ∷ codes "jmn" ∷ codes "djn" ∷ codes "seq" ∷ codes "sne" ∷ codes "slt" ∷ codes "spl" ∷ codes "nop" ∷ codes "cmp" ∷ codes "org" ∷ codes "end" ∷ codes "equ" ∷ codes "for" ∷ codes "rof" ∷ codes "ldp" ∷ codes "stp" ∷ codes "pin" ∷ []
 
--- The name `n` is an EQU name or, in either case, one of the `operations`.
+-- The name `n` is an EQU name or, ignoring case, one of the `operations`.
 abbrev pub is_operation : Reading → ℕ → Bool
 is_operation st n = is_equate st n || list_any (str_eq_ignore_ascii_case (name_at st.names n)) operations
 
@@ -223,16 +223,16 @@ parts_within ps st (suc k) labels before (t ∷ ts) =
 abbrev pub parts_of : Predefined → Reading → List Token → Result Parts TextTokenProblem
 parts_of ps st ts = parts_within ps st (length ts) [] [] ts
 
--- There is an operation, and its name among `names` is `word`, in either case.
+-- There is an operation, and its name among `names` is `word`, ignoring case.
 abbrev pub is_keyword : List (List ℕ) → List ℕ → Option ℕ → Bool
 is_keyword names word (Some n) = str_eq_ignore_ascii_case (name_at names n) word
 is_keyword names word None = false
 
--- The operation is ORG, in either case.
+-- The operation is ORG, ignoring case.
 abbrev pub is_org : List (List ℕ) → Option ℕ → Bool
 is_org names operation = is_keyword names (codes "org") operation
 
--- The operation is END, in either case.
+-- The operation is END, ignoring case.
 abbrev pub is_end : List (List ℕ) → Option ℕ → Bool
 is_end names operation = is_keyword names (codes "end") operation
 

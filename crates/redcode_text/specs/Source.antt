@@ -59,7 +59,7 @@ first_word_at bytes = past_blanks bytes 0
 abbrev pub second_word_at : List ℕ → ℕ
 second_word_at bytes = past_blanks bytes (past_colon bytes (past_blanks bytes (past_word bytes (first_word_at bytes))))
 
--- The word at the offset `at` of `bytes` is `word`, in either case.
+-- The word at the offset `at` of `bytes` is `word`, ignoring case.
 abbrev pub has_word : List ℕ → List ℕ → ℕ → Bool
 has_word word bytes at = str_eq_ignore_ascii_case (take (word_len (drop at bytes)) (drop at bytes)) word
 
@@ -116,7 +116,7 @@ without_blanks bytes = drop (blank_len bytes) bytes
 abbrev pub is_comment : List ℕ → Bool
 is_comment bytes = starts_with nat_eq (without_blanks bytes) (semicolon ∷ [])
 
--- The line `bytes` is a comment that begins with `word`, in either case. `word` is given in lower case.
+-- The line `bytes` is a comment that begins with `word`, ignoring case. `word` is given in lower case.
 abbrev pub has_directive : List ℕ → List ℕ → Bool
 has_directive word bytes = starts_with nat_eq (str_to_ascii_lowercase (without_blanks bytes)) (semicolon ∷ word)
 
@@ -133,11 +133,11 @@ abbrev pub ends_word : List ℕ → Bool
 ends_word [] = true
 ends_word (b ∷ bs) = is_blank b
 
--- The line `bytes` is a comment that begins with `word`, in either case, and then has whitespace or ends.
+-- The line `bytes` is a comment that begins with `word`, ignoring case, and then has whitespace or ends.
 abbrev pub has_directive_word : List ℕ → List ℕ → Bool
 has_directive_word word bytes = has_directive word bytes && ends_word (directive_text word bytes)
 
--- The row begins with `;redcode`, in either case.
+-- The row begins with `;redcode`, ignoring case.
 abbrev pub begins_redcode : SourceRow → Bool
 begins_redcode row = has_directive (codes "redcode") row.bytes
 

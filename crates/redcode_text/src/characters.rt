@@ -57,7 +57,7 @@ pub fn begins_word(bytes: &[u8]) -> bool
     }
 }
 
-/// Returns whether two words are equal, in either case.
+/// Returns whether two words are equal, ignoring case.
 pub fn is_word(part: &[u8], word: &[u8]) -> bool
     ensures { result ≡ str_eq_ignore_ascii_case part.now word.now }
 {

@@ -72,7 +72,7 @@ impl NameTable {
         }
     }
 
-    /// Returns whether the name with this index is `word`, in either case.
+    /// Returns whether the name with this index is `word`, ignoring case.
     pub fn is_word(&self, index: usize, word: &[u8]) -> bool
         ensures { result ≡ str_eq_ignore_ascii_case (name_at self.now index) word.now }
     {

@@ -148,7 +148,7 @@ impl Program {
     }
 }
 
-/// Returns whether an operation, given as an index into the names, is `word`, in either case.
+/// Returns whether an operation, given as an index into the names, is `word`, ignoring case.
 pub fn is_keyword(names: &NameTable, word: &[u8], operation: Option<usize>) -> bool
     ensures { result ≡ is_keyword names.now word.now operation }
 {

@@ -53,21 +53,21 @@ pub struct Reading {
     ghost printed_author: { IsPrinted (string_bytes author) },
 }
 
-/// The words that are operations without being EQU names, in either case. LDP, STP and PIN belong to the P-space of
+/// The words that are operations without being EQU names, ignoring case. LDP, STP and PIN belong to the P-space of
 /// pMARS: they aren't opcodes here, but as in pMARS, they can't be labels.
 const OPERATIONS: [&str; 25] = [
     "dat", "mov", "add", "sub", "mul", "div", "mod", "jmp", "jmz", "jmn", "djn", "seq", "sne",
     "slt", "spl", "nop", "cmp", "org", "end", "equ", "for", "rof", "ldp", "stp", "pin",
 ];
 
-/// Returns whether a word is among `words`, in either case.
+/// Returns whether a word is among `words`, ignoring case.
 fn is_among(word: &[u8], words: &[&str]) -> bool
     ensures { result ≡ list_any (λ other. str_eq_ignore_ascii_case word.now other.now) words.now }
 {
     words.iter().any(|other| is_word(word, other.as_bytes()))
 }
 
-/// Returns whether a word is among `OPERATIONS`, in either case.
+/// Returns whether a word is among `OPERATIONS`, ignoring case.
 fn is_operation_word(name: &[u8]) -> bool
     ensures { result ≡ list_any (str_eq_ignore_ascii_case name.now) operations }
 {
@@ -187,7 +187,7 @@ impl Reading {
         names.value_at(0, self.names.table.name(name)).is_some()
     }
 
-    /// Returns whether a name is an EQU name or, in either case, one of `OPERATIONS`.
+    /// Returns whether a name is an EQU name or, ignoring case, one of `OPERATIONS`.
     pub fn is_operation(&self, name: usize) -> bool
         ensures { result ≡ is_operation (reading_of self.now) name }
     {

@@ -32,7 +32,7 @@ assert_at row at st =
     row_tokens row at st >>= λ r.
     Ok (record (r.1) { asserts = r.1.asserts ++ record { number = row.number; current_line = r.1.instructions; tokens = r.0 } ∷ [] })
 
--- The offset after `directive` in the line `bytes`, if the line begins with `directive` as a whole word, in either case
+-- The offset after `directive` in the line `bytes`, if the line begins with `directive` as a whole word, ignoring case
 -- and after any whitespace. `directive` is in lower case and includes the `;`.
 abbrev pub text_found : List ℕ → List ℕ → Option ℕ
 text_found directive bytes =

@@ -13,7 +13,7 @@ use crate::fault::{TextProblem, TextTokenProblem};
 use crate::limits::MAX_NAME;
 use std::alloc::Global;
 
-/// Returns whether a line begins, after whitespace, with `directive`, in either case. `directive` is in lower case.
+/// Returns whether a line begins, after whitespace, with `directive`, ignoring case. `directive` is in lower case.
 pub fn has_directive(directive: &[u8], bytes: &[u8]) -> bool
     requires { str_to_ascii_lowercase directive.now ≡ directive.now }
     ensures value { result ≡ starts_with nat_eq (str_to_ascii_lowercase (without_blanks bytes.now)) directive.now }

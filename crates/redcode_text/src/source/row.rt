@@ -62,7 +62,7 @@ fn second_word_at(bytes: &[u8]) -> usize
     past_blanks(bytes, past_colon(bytes, behind))
 }
 
-/// Returns whether the word at the offset `at` is `word`, in either case.
+/// Returns whether the word at the offset `at` is `word`, ignoring case.
 fn has_word(word: &[u8], bytes: &[u8], at: usize) -> bool
     requires { at ≤ length bytes.now }
     ensures { result ≡ has_word word.now bytes.now at }
