@@ -34,7 +34,7 @@ pub fn index_after(names: &NameTable, index: u32, line: &Line) -> u32
     }
 }
 
-/// Returns the last line whose operation is `word`, in either case.
+/// Returns the last line whose operation is `word`, ignoring case.
 pub fn last_line<'a>(names: &NameTable, lines: &'a [Line], word: &[u8]) -> Option<Place<'a>>
     requires { length lines.now ≤ limit }
     ensures { option_map placed_of result

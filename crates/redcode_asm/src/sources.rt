@@ -136,7 +136,7 @@ impl<'a> Source<'a> {
         }
     }
 
-    /// Returns the last line whose operation is `word`, in either case.
+    /// Returns the last line whose operation is `word`, ignoring case.
     pub fn last_line(&self, word: &[u8]) -> Option<Place<'a>>
         ensures { option_map placed_of result
             ≡ last_where (λ l. is_keyword self.now.program.now.names word.now l.operation) (placed self.now.program.now) }
