@@ -20,7 +20,7 @@ marks_of marks = record {
   touched = map (λ (m : Mark). m.touched) marks;
 }
 
--- The marks of one kind after those of the cells at the given addresses are set.
+-- The list `marks`, of one kind, after the marks of the cells at `addresses` are set.
 abbrev pub marked : List ℕ → List Bool → List Bool
 marked [] marks = marks
 marked (a ∷ addresses) marks = marked addresses (slice_set marks a true)

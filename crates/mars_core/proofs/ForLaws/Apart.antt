@@ -1,4 +1,5 @@
--- A warrior that keeps to a part of the core in which the other warriors change no cell fights alike in all battles.
+-- A warrior that keeps to a part of the core in which the other warriors change no cell fights alike in any two battles
+-- that agree on its processes and on this part.
 -- `fights_alike` follows the turns of the first battle, and passes its recursive call to a lemma that follows the turns
 -- of the second (`meets`). `meets` skips the turns of the other warriors until both battles are at a turn of the
 -- warrior. So the clocks and the numbers of warriors may differ.
@@ -130,7 +131,7 @@ module _ (part : ℕ → Bool) (w v : ℕ) where
   other_there s t other g left =
       agrees_back part v w (turn_of t) s (other_turn part v w t s (λ same. other (sym same)) (agrees_back part w v s t g) left)
 
-  -- The warrior has no more turns in the second battle.
+  -- If the warrior has no more turns in the second battle, both battles still agree after the rest of it.
   rest : (n : ℕ) (s t : State) → IsValid t → AgreesOn part w s v t → OthersLeaveUnchanged part v n t → count_own_turns v n t ≡ 0 → AgreesOn part w s v (after_turns n t)
   rest zero s t u g left none = g
   rest (suc n) s t u g left none =
