@@ -47,8 +47,8 @@ whole_history ks at len = record { before = before_of ks at; present = place_of 
 abbrev pub turns_at : List Snapshot → ℕ → ℕ
 turns_at ks i = (snapshot_at ks i).battle.turns
 
--- The first `len` copies are places, and `at` is the index of the present one. Turns never fall and rise by at most one
--- from place to place. All copies have the same shape, so that any copy can overwrite any other.
+-- The first `len` copies are places, and `at` is the index of the present one. The number of turns never falls from
+-- place to place, and rises by at most one. All copies have the same shape, so that any copy can overwrite any other.
 pub record IsWhole (ks : List Snapshot) (at len : ℕ) : Type 0 where
   pub present : at < len
   pub copies : len ≤ length ks
