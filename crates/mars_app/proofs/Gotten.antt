@@ -1,4 +1,4 @@
--- What the getters of `clap` read, as functions of the rows.
+-- What the getters of `clap` return, as functions of the text of an option.
 use Rattle.std.specs.Prelude.{◌≡◌, ℕ, ◌<◌, ◌≤◌, take, ◌^◌, Bool, true, false, ◌&&◌, map, option_map, nat_lt, List, [], ◌∷◌, length, Option, None, Some, Result, Ok, Err, codes, option_and_then, if◌then◌else◌}
 use Rattle.std.specs.Borrow.{Bor}
 use Rattle.std.specs.Char.{digit_value}
@@ -74,7 +74,7 @@ flag_read E (Some t) r none some = parsed r (some t refl)
     parsed (Some false) h = other _ (λ e. let bad : codes "true" ≡ codes "false" = sym ((bytes_eq-Decides t (codes "true")).0 e) ∙ h in cc)
     parsed None h = other _ (λ e. absurd (h.1.0 ((bytes_eq-Decides t (codes "true")).0 e)))
 
--- What `get_str` reads, as the texts to which its results refer.
+-- The text that `get_str` returns, or the text `other` if it returns none.
 pub text_or_none : (r : Option (Bor Text)) (other : Bor Text) (o : Option Text) → option_map (λ s. s.now) r ≡ o → (unwrap_or r other).now ≡ unwrap_or o other.now
 text_or_none (Some t) other o is = ap (λ given. unwrap_or given other.now) is
 text_or_none None other o is = ap (λ given. unwrap_or given other.now) is

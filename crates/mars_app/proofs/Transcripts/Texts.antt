@@ -26,6 +26,6 @@ module _ (f : ℕ → List ℕ) where
     | inr e ↦ ([], rw (e, append-nil) refl)
   ]
 
-  -- If the writer failed in the texts before text `i`, it failed in all texts.
+  -- If the writer failed within the texts before text `i`, it failed within the first `n` texts.
   pub texts_begun : (a b : Option (List ℕ)) (n i : ℕ) → CutShort a b (texts f i) → i < n → CutShort a b (texts f n)
   texts_begun a b n i cut inside = let r = texts-around n i inside in rw r.1 (CutShort-front a b (texts f i) (f i ++ r.0) cut)

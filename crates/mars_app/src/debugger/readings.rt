@@ -156,7 +156,7 @@ fn push_life(line: &mut Line, battle: &Battle, warrior: usize)
     }
 }
 
-/// Returns the line of a warrior.
+/// Returns a warrior's number with the number of its processes, or with the turn of its death.
 #[tactic(auto, unfolding(crate::specs::Debugger::Readings::warrior_text))]
 fn warrior_line(battle: &Battle, warrior: usize) -> Line
     ensures { result.bytes ≡ warrior_text battle.now warrior }
