@@ -64,7 +64,7 @@ pub enum BlockRefusal {
 pub struct MarsFault {
     /// Result of the call, as a number of `include/mars.h`.
     pub code: u32,
-    /// Number of the error, as the program prints it.
+    /// Number of the error, in the list of `include/mars.h` for `code`.
     pub number: u32,
     /// Number of a problem of the text, for an assembly; number of a parameter, for a block.
     pub problem: u32,
