@@ -1,4 +1,4 @@
-/** Arriving: the page shows what its address names, when it is loaded and when the user goes back. */
+/** Shows what the address of the page names, when the page is loaded and whenever the address changes. */
 import { MAX_WARRIORS } from "../model/layout.js";
 import { FORMULA } from "../model/settings.js";
 import { clamp, element, make } from "../view/dom.js";
@@ -18,7 +18,7 @@ export class Arrival {
     this.page = page;
   }
 
-  /** Begins with what the address names, or with the sources that are marked. */
+  /** Begins with what the address names, or with the marked sources if it names no battle. */
   async begin() {
     const { page } = this;
     addEventListener("popstate", () => this.#follow());
@@ -32,7 +32,7 @@ export class Arrival {
     this.#offerToDelete(damagedNames());
   }
 
-  /** @param {string[]} names of what is stored and damaged */
+  /** @param {string[]} names of the damaged entries in the browser's storage */
   #offerToDelete(names) {
     if (!names.length) return;
     this.page.complain(`Something that this browser had stored is damaged and was left out: ${names.join(", ")}. `);
@@ -77,7 +77,7 @@ export class Arrival {
    * Shows a battle of the browser's history again.
    * @param {import("../model/fight.js").Fight} fight
    * @param {import("./places.js").Battle} shown
-   * @param {boolean} isGuest whether its sources may not be in the list
+   * @param {boolean} isGuest whether its sources might be missing from the list
    */
   async #return(fight, shown, isGuest) {
     const { page } = this;
@@ -90,7 +90,7 @@ export class Arrival {
     }
   }
 
-  /** The sources that are marked, at most as many as can fight; if none is, the first source. */
+  /** The marked sources, at most as many as a match can have; the first source if none is marked. */
   get #marked() {
     const { fighters, all } = this.page.shelf;
     return fighters.length ? fighters.slice(0, MAX_WARRIORS) : [all[0]];

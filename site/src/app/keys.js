@@ -11,7 +11,7 @@ import { atCell } from "../view/breaks.js";
 
 /** By how much a key changes the speed of play. */
 const SPEED_FACTOR = 1.6;
-/** What uses keys itself: fields, but not the slider of time, and what keys open or scroll. */
+/** The elements that use keys themselves: fields except sliders, and elements that keys open or scroll. */
 const FIELDS = "input:not([type='range']), select, textarea, summary, :not(canvas)[tabindex='0'], .CodeMirror, dialog";
 
 /**
@@ -60,7 +60,7 @@ function keysOf({ session, theatre, another, round, edit }) {
 }
 
 /**
- * Pins a neighbour of the cell that is looked at, if the key is an arrow. Returns whether it is an arrow.
+ * Pins a neighbour of the cell that is looked at, if the key is an arrow. Returns whether the key is an arrow.
  * @param {Acts} acts
  * @param {string} key
  */

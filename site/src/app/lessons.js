@@ -12,7 +12,7 @@ import { number, pluralize } from "../words/battle.js";
  *
  * - `end`, `death`: the learner shows the last turn, or one in which a warrior dies
  * - `saved`: after edits of the learner no warrior dies
- * - `match`: the learner's warrior wins or survives a number of 100 rounds, with a maximum number of cells
+ * - `match`: the learner's warrior, of at most `cells` cells, wins or survives enough of 100 rounds
  * @typedef {object} Lesson
  * @property {string} id
  * @property {string} title
@@ -21,10 +21,10 @@ import { number, pluralize } from "../words/battle.js";
  * @property {"end" | "death" | "saved" | "match"} judge
  * @property {{wins?: number, survives?: number, cells?: number}} goal
  * @property {string[]} opponents names of examples
- * @property {Source[]} sources the opponents that are in the lesson
+ * @property {Source[]} sources the opponents whose sources the lesson contains
  * @property {string} start the source that the learner begins with, or ""
  */
-/** @typedef {{isDone: boolean, text: string, watch?: HTMLElement}} Verdict `watch` shows a round that was not won */
+/** @typedef {{isDone: boolean, text: string, watch?: HTMLElement}} Verdict `watch` is a button for a round not won */
 
 const ROUNDS = 100;
 const TERMS = { settings: HILLS["94nop"], seed: 1, rounds: ROUNDS, position: 0, formula: FORMULA };
@@ -35,7 +35,7 @@ export class Lessons {
    *   written: (name: string) => string | undefined, left: () => void}} host `written` returns the learner's text of
    *   a source; `left` is called when a lesson is closed
    * @param {Lesson[]} lessons
-   * @param {string[]} done the lessons that were done before
+   * @param {string[]} done the ids of the lessons that were done before
    * @param {(done: string[]) => void} keep
    */
   constructor(host, lessons, done, keep) {
@@ -43,7 +43,7 @@ export class Lessons {
     this.done = new Set(done);
     this.keep = keep;
     this.lessons = lessons;
-    /** The number of the lesson that is open, from 1, or 0. */
+    /** The number of the lesson that is open, from 1, or 0 if none is. */
     this.current = 0;
     this.#list();
   }
@@ -65,7 +65,7 @@ export class Lessons {
 
   /**
    * Shows a lesson beside its battle, or none.
-   * @param {number} number from 1, or 0
+   * @param {number} number from 1, or 0 for none
    */
   show(number) {
     const lesson = this.lessons[number - 1];
@@ -111,7 +111,7 @@ export class Lessons {
   }
 
   /**
-   * Keeps that a lesson is done, and offers the next one.
+   * Stores that a lesson is done, and offers the next one.
    * @param {Lesson} lesson
    * @param {HTMLElement} card
    */
@@ -133,7 +133,7 @@ export class Lessons {
   }
 
   /**
-   * Returns the learner's source for a lesson, or undefined before it is begun.
+   * Returns the learner's source for a lesson, or undefined if the lesson has not been begun.
    * @param {Lesson} lesson
    */
   #own({ id }) {

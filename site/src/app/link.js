@@ -13,15 +13,15 @@ import { DEFAULTS, FORMULA, HILLS, MAX_SOURCE_SIZE, RANGES, SETTINGS, hillOf } f
 
 /** The version of the form of links. */
 const VERSION = 1;
-/** The maximum number of characters of a name, and of edits; and the last turn that is read. */
+/** The maximum number of characters of a name, the maximum number of edits, and the last turn that is read. */
 const MAX_NAME_LENGTH = 100;
 const MAX_EDITS = 1000;
 const LAST_TURN = 1e9;
-/** The maximum number of bytes of a link that was inflated: what the sources of a match have at most. */
+/** The maximum number of bytes of an inflated link, which is the maximum size of all sources of a match. */
 const MAX_INFLATED = MAX_WARRIORS * MAX_SOURCE_SIZE;
 
 /**
- * Returns what a stream makes of bytes.
+ * Returns the output of a stream for some bytes.
  * @param {Uint8Array} bytes
  * @param {CompressionStream | DecompressionStream} stream
  */
@@ -69,7 +69,7 @@ export async function pack({ fight, turn, pinned }) {
 }
 
 /**
- * Returns a whole number of a stranger's link, or `fallback` if it has none.
+ * Returns a number of a link, or `fallback` if the link lacks it. Throws an Error if it is no integer in the range.
  * @param {unknown} value
  * @param {number} minimum
  * @param {number} maximum
@@ -84,7 +84,7 @@ function whole(value, minimum, maximum, fallback) {
 }
 
 /**
- * Reads settings: the name of a hill, or an object, in which a default may be missing.
+ * Reads settings: the name of a hill, or an object, whose missing settings have their defaults.
  * @param {unknown} given
  * @returns {Settings}
  */
@@ -112,7 +112,7 @@ function readSources(given) {
 }
 
 /**
- * Reads edits, each a turn and a text of `editText`.
+ * Reads at most MAX_EDITS edits, each a turn and a text of `editText`.
  * @param {unknown} given
  * @param {number} core
  */
@@ -125,7 +125,7 @@ function readEdits(given, core) {
 }
 
 /**
- * Returns what a text carries. Throws if it is damaged.
+ * Returns the JSON value of a text of `pack`. Throws an Error if the text is damaged or too long.
  * @param {string} text
  */
 async function inflate(text) {
@@ -158,7 +158,7 @@ async function firstOf(stream, maximum) {
 }
 
 /**
- * Returns the fight of a text, of which `selection` selects a part. Throws if it is damaged.
+ * Returns the fight of a text, or the part of it that `selection` selects. Throws an Error if the text is damaged.
  * @param {string} text
  * @param {Selection} selection
  * @returns {Promise<Shared>}
@@ -182,8 +182,8 @@ export async function unpack(text, selection = {}) {
 }
 
 /**
- * Returns what an address carries after its `#`: a fight as `f`, and a selection: `w=0,5` of its warriors, `r=3` its
- * round, `t=100` its turn, `s=7` its seed; and whether it has `embed`: then only the battle is shown.
+ * Returns what an address carries after its `#`: the text of a fight, `f`; a selection of its warriors, round, turn and
+ * seed, such as `w=0,5`, `r=3`, `t=100` and `s=7`; and whether it has `embed`, with which only the battle is shown.
  * @param {string} hash
  * @returns {{text: string, selection: Selection, isEmbedded: boolean}}
  */

@@ -1,4 +1,4 @@
-/** The page: its parts, and what they have to do with each other. */
+/** The page: its parts, and how they use each other. */
 import { MAX_WARRIORS } from "../model/layout.js";
 import { showSheet } from "../view/assist.js";
 import { Bench } from "../view/bench.js";
@@ -86,7 +86,7 @@ export class Page {
   }
 
   /**
-   * Returns what the bench, the league and lessons ask of the page.
+   * Returns the parts and functions of the page that the bench, the league and lessons use.
    * @returns {import("../view/host.js").Host}
    */
   #host() {
@@ -103,7 +103,7 @@ export class Page {
     };
   }
 
-  /** Returns what lessons ask of the page. */
+  /** Returns the functions of the page that only lessons use. */
   #learning() {
     return {
       written: (/** @type {string} */ name) => this.sources.written(name),
@@ -166,8 +166,8 @@ export class Page {
   }
 
   /**
-   * Shows in the editor whether the battle has its text, and the line that is executed next if the battle is stopped.
-   * A battle that is hidden does not play.
+   * Shows in the editor whether the battle has the editor's text and, if the battle is stopped, the line that is
+   * executed next. Stops a battle that is hidden.
    * @param {import("../view/turns.js").Change} change
    * @param {Side} side
    */
@@ -191,7 +191,7 @@ export class Page {
   }
 
   /**
-   * Fights a round of a match, the first one unless the terms say otherwise, and shows it. The fields show the terms.
+   * Fights and shows a round of a match, the first one unless `terms` has another. The fields show terms with settings.
    * @param {import("../model/fight.js").Source[]} warriors
    * @param {boolean} plays
    * @param {Partial<MatchTerms> & {round?: number}} terms
@@ -213,7 +213,7 @@ export class Page {
     }
   }
 
-  /** Fights the sources that are marked, or the one in the editor. */
+  /** Fights the sources that are marked, or the one in the editor if none is. */
   fightMarked() {
     this.views.show("battle");
     const { fighters, current } = this.shelf;
@@ -235,7 +235,7 @@ export class Page {
 
   /**
    * Shows another round of the match.
-   * @param {number} by
+   * @param {number} by the number of rounds to go forwards, or backwards if it is negative
    */
   round(by) {
     const { latest } = this.session;
@@ -254,7 +254,7 @@ export class Page {
   }
 
   /**
-   * Takes the terms of a battle that was opened as it is, and its sources as guests if they may not be in the list.
+   * Takes the terms of a battle that was opened as it is and, if `isGuest`, its sources, which the list might lack.
    * @param {import("../model/fight.js").Fight} fight
    * @param {boolean} isGuest
    * @param {MatchTerms | null} [newer] terms with which it has not been fought yet

@@ -1,4 +1,4 @@
-/** What the page is made of: the machine, the script of its workers, and its data; beside the page, or inside it. */
+/** What the page is made of: its data, and the machine and the script of its workers, beside the page or inside it. */
 import { remoteDesk } from "../worker/pool.js";
 import { bytesOf, through } from "./link.js";
 
@@ -6,7 +6,7 @@ import { bytesOf, through } from "./link.js";
 /** @typedef {import("../worker/pool.js").Parts} Parts */
 /** @typedef {{examples: Source[], lessons: import("./lessons.js").Lesson[], meanings: Record<string, string>}} Data */
 
-/** The page as it was loaded: a page that is saved is made of it. */
+/** The HTML of the page as it was loaded, of which a page in one file makes its copies. */
 const loaded = document.documentElement.outerHTML;
 const FIGHT = /(<script id="page-fight" type="text\/plain">)[^<]*(<\/script>)/;
 

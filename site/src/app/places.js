@@ -12,18 +12,18 @@ import { throttle } from "../view/dom.js";
  * @typedef {{fight?: Fight, turn?: number, pinned?: number | null, plays?: boolean} & Partial<KeptWithBattle>} Battle
  */
 /**
- * What else outlives the page: breakpoints, whether all rounds were fought, which gives the same results again, the
- * version with which the bench compares, and terms with which a hidden battle has not been fought yet.
+ * What else outlives the page: breakpoints; whether all rounds were fought, since fighting them again gives the same
+ * results; the version with which the bench compares; and terms with which a hidden battle has not been fought yet.
  * @typedef {{breaks: import("../battle/conditions.js").Condition[], hasRounds: boolean,
  *   base: import("../model/fight.js").Source | null,
  *   terms: import("../view/host.js").MatchTerms | null}} KeptWithBattle
  */
 
-/** The form of what is in the history, which outlives the version of the page. */
+/** The version of the form of entries of the history, which outlive this version of the page. */
 const FORM = 1;
 
 /**
- * Returns the place that an address names after its `#`, or null if it names another thing.
+ * Returns the place that the part of an address from `#` on names, or null if it names none.
  * @param {string} hash
  * @returns {ViewPlace | null}
  */
@@ -35,7 +35,7 @@ export function placeOf(hash) {
 export class Places {
   /** How many calls of `arrive` are running: meanwhile a battle that is shown makes no entry of the history. */
   #arriving = 0;
-  /** The address of the battle that is shown, and its terms and sources. */
+  /** The address of the battle that is shown, and what `#keyOf` returns for it. */
   #battle = "";
   #key = "";
   /** Writes soon what is shown: a page that is left can write no more. */
@@ -70,7 +70,7 @@ export class Places {
   }
 
   /**
-   * What the history has of this address.
+   * The battle in the present entry of the history, without any property if the entry has none.
    * @returns {Battle}
    */
   get written() {
@@ -78,7 +78,8 @@ export class Places {
   }
 
   /**
-   * Returns what a battle is recognised by, whatever its edits and the names of its sources are.
+   * Returns what a battle is recognised by: the lesson that is open, and the fight without its score formula, its edits
+   * and the names of its sources.
    * @param {Fight} fight
    */
   #keyOf({ settings, seed, round, rounds, position, warriors }) {
@@ -86,7 +87,7 @@ export class Places {
   }
 
   /**
-   * Returns whether the battle that is shown is a fight, whatever its edits are.
+   * Returns whether a fight is the one that is shown, whatever the edits of both are.
    * @param {Fight} fight
    */
   isShown(fight) {
@@ -101,7 +102,7 @@ export class Places {
     if (!this.#arriving) this.#write(this.#battle, true);
   }
 
-  /** The address that names the lesson that is open, or else the round. */
+  /** The address that names the lesson that is open, or else the round; "" for the first round. */
   get #named() {
     const [lesson, round] = [this.lesson(), this.session.fight?.round];
     return lesson ? `#learn/${lesson}` : round ? `#battle/${round}` : "";
@@ -117,7 +118,7 @@ export class Places {
   }
 
   /**
-   * Writes the address of the battle again: its lesson has been closed, or the link in the address could not be
+   * Writes the address of the battle again, after its lesson has been closed or if the link in the address could not be
    * opened.
    */
   rename() {
@@ -130,7 +131,7 @@ export class Places {
   /**
    * Writes an address with the battle that is shown.
    * @param {string} hash
-   * @param {boolean} isNew whether it is another entry of the history
+   * @param {boolean} isNew whether it becomes a new entry of the history
    */
   #write(hash, isNew) {
     const { fight, opened, turn, pinned, way } = this.session;
@@ -142,7 +143,7 @@ export class Places {
       if (isNew) history.pushState(state, "", address);
       else history.replaceState(state, "", address);
     } catch {
-      // Browsers limit how often that is done, and the size of a battle: then the address stays.
+      // Browsers limit how often entries are written, and their size. Beyond these limits the address stays.
     }
   }
 }

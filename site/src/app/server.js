@@ -1,5 +1,5 @@
 /**
- * The user's folder, if a server on this machine has one: sources are read from it and saved there, leagues run by it.
+ * The user's folder, if a server on this machine offers one. The server reads and saves sources there and runs leagues.
  */
 import { resultOf } from "../view/league.js";
 
@@ -13,9 +13,9 @@ import { resultOf } from "../view/league.js";
 /** @typedef {{name: string, fault: string}} LeftOut a file that was not read, and why */
 
 const META = document.querySelector("meta[name=corewar-server]");
-/** The name of the folder for what the browser keeps of it, or "". */
+/** The name of the folder in the keys under which the browser stores things for it, or "" if there is no server. */
 export const folderKey = META?.getAttribute("data-key") ?? "";
-/** Whether a server on this machine has the page: then its address has a secret in it. */
+/** Whether a server on this machine serves the page, whose address then contains a secret. */
 export const isServed = META !== null;
 
 export class Server {
@@ -34,7 +34,7 @@ export class Server {
     for (const { name, seen, isExample } of sources) if (!isExample) this.#seen.set(name, seen);
   }
 
-  /** Returns the server of this page, or null if it is only files. */
+  /** Returns the server of this page, or null if no server on this machine serves the page. */
   static async find() {
     const path = META?.getAttribute("content");
     if (!path) return null;
@@ -44,7 +44,7 @@ export class Server {
   }
 
   /**
-   * Saves a source. Returns null, or why it was not saved; `isOther`: because something else changed the file.
+   * Saves a source. Returns null, or why the source was not saved; `isOther`: whether something else changed the file.
    * @param {string} name
    * @param {string} text
    * @param {boolean} isForced whether a file that something else changed is overwritten
@@ -76,7 +76,8 @@ export class Server {
   }
 
   /**
-   * Returns the files that have changed since they were read. Those that are gone have no `seen`.
+   * Returns the files that are new or have changed since they were read, or none if the server does not answer. A file
+   * that is gone has "" as its `seen`.
    * @returns {Promise<KeptFile[]>}
    */
   async changed() {
@@ -99,7 +100,7 @@ export class Server {
   }
 
   /**
-   * Runs a league on the processors of this machine, with the results that are stored.
+   * Yields the results of a league in lists. The server runs the matches whose results it has not stored.
    * @param {Source[]} sources
    * @param {MatchTerms} terms
    * @returns {AsyncGenerator<Result[]>}

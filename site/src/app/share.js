@@ -12,7 +12,7 @@ const LOCAL = /^((.*\.)?localhost|127\..*|0\.0\.0\.0|\[::1\])$/;
 /** Whether others can open the address of this page: it is not on this machine, and has no secret in it. */
 const isPublic = !isServed && location.protocol.startsWith("http") && !LOCAL.test(location.hostname);
 const PRIVATE = "Only you can open this page: save it as a file, or put this text after the address of a public copy.";
-/** Some programs cut addresses that are longer. */
+/** The number of characters above which some programs truncate an address. */
 const MAX_LINK_LENGTH = 8000;
 
 /**
@@ -36,7 +36,7 @@ function embedCode(address, title) {
 }
 
 /**
- * Copies a text, which stays selected in the field if the browser does not allow that.
+ * Copies a text, which stays selected in the field if the browser does not allow copying.
  * @param {string} text
  */
 async function copy(text) {
@@ -75,7 +75,7 @@ export function listenToShare(session) {
   });
   onClick("copy", () => copy(typed("link", HTMLInputElement).value));
   onClick("copy-embed", async () => {
-    // Others can show the page in one file, where its address has no fight.
+    // If others cannot open this page, they can show the page in one file, which contains the fight.
     const address = isPublic ? `${location.href.split("#")[0]}#embed&f=${await shared(session)}` : `${file()}#embed`;
     await copy(embedCode(address, title()));
   });

@@ -42,7 +42,7 @@ export class Sources {
       else if (!shelf.find(example.name)) this.#addExample(example);
     }
     for (const [name, kept] of this.#kept) {
-      // Of a folder only what was not saved there is kept.
+      // If there is a folder, the browser keeps only texts that were not saved there.
       const isElsewhere = kept.kind === "lesson" || shelf.find(name) || (server && kept.text === kept.saved);
       // The source may be an example of another version, which the user has changed.
       if (!isElsewhere) shelf.add({ name, ...kept, kind: "own", saved: server ? "" : kept.saved });
@@ -83,7 +83,7 @@ export class Sources {
   }
 
   /**
-   * Stores what has changed of the sources. Returns whether the browser lets it.
+   * Stores the changes of the sources. Returns whether the browser allows that.
    * @returns {boolean}
    */
   keep() {
@@ -93,11 +93,11 @@ export class Sources {
       const text = entry.doc.getValue();
       const before = this.#kept.get(entry.name);
       const { saved, kind, made } = entry;
-      // What a link, a lesson or the kit has is found there again.
+      // An unchanged source of a link, a lesson or the kit is found there again.
       const isNeeded = text !== saved || (kind === "own" && !server);
       const isSame = before?.text === text && before.saved === saved && before.kind === kind;
       if (isNeeded ? isSame : !before) continue;
-      // Another window may have been faster.
+      // Another window may have stored this source meanwhile.
       const now = keptSource(entry.name);
       if (now && now.text !== before?.text) this.#takeOther(entry.name, now, before ?? null);
       isKept = this.#set(entry.name, isNeeded ? { text, saved, kind: entry.kind, made } : null) && isKept;
@@ -151,7 +151,7 @@ export class Sources {
       const { name, text, seen } = file;
       const entry = shelf.find(name);
       if (!entry) this.#addFile(name, text);
-      // What is gone from the folder is kept here.
+      // A source stays here if its file is gone from the folder.
       else if (!seen) entry.saved = "";
       else if (entry.doc.getValue() === entry.saved) {
         entry.saved = text;

@@ -1,6 +1,6 @@
 /**
- * What this browser keeps for each folder, if it lets the page do that: sources, the last league, and how the page was
- * left. What is damaged is left out.
+ * What this browser keeps for each folder, if it allows that: sources, the last league, and how the page was left.
+ * Damaged parts are left out.
  */
 import { MAX_FORMULA } from "../model/layout.js";
 import { RANGES, SETTINGS } from "../model/settings.js";
@@ -24,7 +24,7 @@ import { folderKey } from "./server.js";
  */
 
 const NAME = `corewar ${folderKey}`.trim();
-/** Each source has a key of its own, so that a window never writes over what another one has written. */
+/** The start of a source's key. Each source has its own key, so that two windows can change different sources. */
 const SOURCE = `${NAME}: `;
 /** The key of the league that was run last. */
 const LEAGUE = `${NAME}; league`;
@@ -64,7 +64,7 @@ const KEPT = {
 };
 
 /**
- * Returns whether a value is an object whose known parts are right.
+ * Returns whether a value is an object whose known parts are valid.
  * @param {any} value
  * @param {Record<string, Check>} checks
  */
@@ -86,14 +86,14 @@ const LEAGUE_PARTS = {
   results: (value) => Array.isArray(value) && value.every(areCounts),
 };
 
-/** Two sources, the first one before the other, and five counts; points may be negative. */
+/** Whether a value is a result: the indices of two sources, the lower one first, and five safe integers. */
 const areCounts = (/** @type {any} */ value) => {
   if (!Array.isArray(value) || value.length !== 7 || !value.every(Number.isSafeInteger)) return false;
   return 0 <= value[0] && value[0] < value[1];
 };
 
 /**
- * Returns whether a value is an object that has all parts, which are right.
+ * Returns whether a value is an object that has all known parts, each of them valid.
  * @param {any} value
  * @param {Record<string, Check>} checks
  */
@@ -185,7 +185,7 @@ function renew() {
 }
 
 /**
- * Stores a text, or removes it if it is null. Returns whether the browser lets the page do that.
+ * Stores a text under a key, or removes the key if the text is null. Returns whether the browser allows that.
  * @param {string} key
  * @param {string | null} text
  */
@@ -200,14 +200,14 @@ function set(key, text) {
 }
 
 /**
- * Keeps a source, or no longer keeps it. Returns whether the browser lets the page do that.
+ * Stores a source, or removes the stored one if `source` is null. Returns whether the browser allows that.
  * @param {string} name
  * @param {KeptSource | null} source
  */
 export const keepSource = (name, source) => set(SOURCE + name, source && JSON.stringify(source));
 
 /**
- * Keeps a league in place of the one before.
+ * Stores a league in place of the one before, or only removes that one if the new league is too large.
  * @param {KeptLeague} league
  */
 export function keepLeague(league) {
@@ -227,7 +227,7 @@ renew();
 export const stored = read();
 
 /**
- * Keeps what has changed. Returns whether the browser lets the page do that: it may forbid it, or be full.
+ * Stores changes. Returns whether the browser allows that: it may forbid storing, or its storage may be full.
  * @param {KeptPage} changes
  */
 export function keep(changes) {
@@ -267,7 +267,7 @@ export function keptSources() {
 export const damagedNames = () =>
   [...damaged].map((key) => (key === NAME ? "settings" : key === LEAGUE ? "league" : key.slice(SOURCE.length)));
 
-/** Deletes the damaged entries, and nothing else. */
+/** Deletes the damaged sources, a damaged league and the damaged parts of the settings. */
 export function deleteDamaged() {
   for (const key of damaged) set(key, key === NAME ? JSON.stringify(read()) : null);
 }

@@ -12,7 +12,7 @@ import { errorWords } from "../view/host.js";
 export const DEFAULT_TERMS = { settings: DEFAULTS, seed: 1, rounds: 100, position: 0, formula: FORMULA };
 /** The value of the list of hills while the settings are custom ones. */
 const OWN = "";
-/** The value of the line of that list which opens the dialog of custom settings. */
+/** In the list of hills, the value of the line that opens the dialog of custom settings. */
 const EDIT = "edit";
 
 export class Terms {
@@ -22,8 +22,8 @@ export class Terms {
 
   /**
    * @param {{pool: Pool, meanings: Record<string, string>}} host
-   * @param {(changes: Partial<MatchTerms>, isShown: boolean) => void} changed the user has changed terms; `isShown`:
-   *   the battle that is shown depends on them
+   * @param {(changes: Partial<MatchTerms>, isShown: boolean) => void} changed is called when the user changes terms;
+   *   `isShown`: whether the battle that is shown depends on them
    */
   constructor(host, changed) {
     this.hill = typed("hill", HTMLSelectElement);
@@ -36,7 +36,7 @@ export class Terms {
     this.changed = changed;
     this.host = host;
     this.hill.append(...Object.keys(HILLS).map((name) => make("option", { value: name }, name)));
-    // A list reports no choice of the line that it shows.
+    // A list reports no choice of the line that it already shows.
     this.hill.append(make("option", { value: OWN, hidden: true }, "custom"));
     this.hill.append(make("option", { value: EDIT }, "custom …"));
     element("terms").addEventListener("submit", (event) => event.preventDefault());

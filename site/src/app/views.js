@@ -13,7 +13,7 @@ export class Views {
 
   /**
    * @param {{session: Session, shelf: Shelf, theatre: Theatre, bench: Bench, league: League}} parts
-   * @param {(isShown: boolean) => void} changed the editor is shown, or no longer
+   * @param {(isShown: boolean) => void} changed is called when the editor is shown or hidden
    */
   constructor(parts, changed) {
     this.parts = parts;
@@ -52,7 +52,7 @@ export class Views {
   }
 
   /**
-   * Shows a part of the view if there is no room for all of it.
+   * Shows a tab, which is only a part of the page if there is no room for all of it.
    * @param {string} tab view, code or lesson
    */
   showTab(tab) {

@@ -7,8 +7,8 @@ import { BY_HAND } from "../model/cells.js";
 const MAX_CHANGES = 5;
 
 /**
- * Returns the last changes of a cell up to a turn, the latest first, and the turn of the next one; also the last
- * change by an edit, if no turn has changed the cell since.
+ * Returns the last changes of a cell by turns since its last edit and up to a turn, the latest first; the turn of the
+ * next change, or null; and the last edit, or null if there is none or a turn has changed the cell since.
  * @param {import("./history.js").History} history
  * @param {number} address
  * @param {number} turn

@@ -9,11 +9,11 @@ const { NUMBER_OWNER, NUMBER_WARRIOR, OPCODES, READS } = layout;
 /**
  * A condition on a turn, and on a cell that it uses.
  *
- * - `word`: `at`, `changes` or `reads`: the turn executes, changed or read the cell; `splits`, `ends` or `dies`: its
- *   warrior gained a process, lost one or died; `moves`: any turn. The last four are about the cell that it executed
- * - `cells`: the first and the last address of the cell, around the end of the core if the last one is smaller
+ * - `word`: with `at`, `changes` or `reads`, the turn executes, changes or reads the cell; with `splits`, `ends` or
+ *   `dies`, its warrior gains a process, loses one or dies; `moves` is any turn. The last four use the executed cell
+ * - `cells`: the first and the last address that the cell can have, around the end of the core if the last is smaller
  * - `of`: the warrior that changed the cell last, or that was loaded there
- * - `origin`: where its instruction was loaded, the first and the last address
+ * - `origin`: the first and the last address at which its instruction can have been loaded
  * - `was`, `becomes`: its opcode before the turn, and the different opcode that the turn gave it
  * - `by`: the warrior of the turn
  * - `and`: a condition that the same turn meets, too, with the same cell if the word is the same
@@ -157,12 +157,12 @@ export function hits(history, conditions, most) {
 }
 
 /**
- * Returns the place where a number of cycles is completed, or null if the battle ends before.
+ * Returns the first place at which a number of cycles is completed, or null if the battle ends before.
  * @param {History} history
  * @param {number} cycle
  */
 export function completed(history, cycle) {
-  // No turn and no edit leads back to an earlier cycle, so the place is found by halves.
+  // No turn and no edit leads back to an earlier cycle, so the place is found by bisection.
   let [low, high] = [0, history.end];
   if (history.place(high).battle.cycle < cycle) return null;
   while (low < high) {

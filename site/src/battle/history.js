@@ -23,7 +23,7 @@ import { EVENT } from "./story.js";
  * @typedef {Omit<import("../model/fight.js").Fight, "warriors" | "edits"> & {warriors: Warrior[]}} Match
  */
 
-/** The maximum number of steps between the moments of an overview, if edits do not cut them. */
+/** The maximum number of steps between the first and the last moment of an overview, if edits do not cut steps. */
 const STEPS = 600;
 /** The index of an origin that was not loaded. */
 const UNKNOWN = 0xffffffff;
@@ -99,7 +99,7 @@ export class History {
     return this.segments.flatMap(({ run }) => (run.edit ? { turn: run.first, edit: run.edit } : []));
   }
 
-  /** The deaths in order, with the owner of the cell and the turn that wrote it. */
+  /** The deaths in order, each with the cell on which the warrior died, its owner and the turn that wrote it. */
   get deaths() {
     return this.segments.flatMap(({ run, last }) => run.deaths.filter(({ turn }) => turn <= last));
   }
@@ -132,8 +132,8 @@ export class History {
   }
 
   /**
-   * Returns of which loaded cell a cell is a copy after a turn and the edits that follow it: an index of `loaded`, or
-   * UNKNOWN if it is a copy of none.
+   * Returns the origin of a cell after a turn and the edits that follow that turn: the index in `loaded` of the cell of
+   * which it is a copy, or UNKNOWN if it is a copy of none.
    * @param {number} address
    * @param {number} turn
    */
@@ -188,15 +188,15 @@ export class History {
   }
 
   /**
-   * Returns the first turn after a turn that changed a cell, or null. An edit counts as of the turn after which it is
-   * made.
+   * Returns the first turn later than `turn` that changed a cell, or null if there is none. An edit counts as a part of
+   * the turn after which it is made.
    * @param {number} address
    * @param {number} turn
    */
   nextChange(address, turn) {
     for (const { run, last } of this.segments) {
       if (run.first > turn && run.start.written(address) === run.first) return run.first;
-      // Each mark has the last change of the cell, so the change is before the first mark with a later one.
+      // Each mark has the cell's last change, so the wanted change is before the first mark with one after `turn`.
       const places = [...run.marks, run.ending];
       const index = places.findIndex((place) => place.written(address) > turn);
       if (index < 1) continue;

@@ -4,8 +4,8 @@ import { EVENTS } from "./records.js";
 
 /** @typedef {import("./place.js").Place} Place */
 /**
- * Moments: the turn of each; for each moment and warrior, one after another, cells and processes; and how many splits
- * and ends of processes there were since the moment before.
+ * Some moments: the turn of each; the numbers of cells and of processes that each warrior has, moment by moment; and
+ * the numbers of splits and of ends of processes since the moment before.
  * @typedef {{turns: number[], cells: number[], processes: number[], splits: number[], ends: number[]}} Overview
  */
 

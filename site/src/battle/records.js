@@ -31,7 +31,7 @@ export const EVENTS = {
 };
 
 /**
- * Returns the condition that a turn is one of a warrior.
+ * Returns the condition that a warrior makes the turn.
  * @param {number} warrior
  * @param {number} way how the turn uses the cell of the other conditions
  * @returns {ConditionRow}

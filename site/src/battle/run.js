@@ -16,8 +16,8 @@ const MAX_MARK_BYTES = 76 << 20;
 const TOO_LONG = `The battle is too long: the site shows at most ${MAX_TURNS.toLocaleString("en")} turns.`;
 
 /**
- * Returns at least as many turns as a battle has left, not many more if no warrior dies. Throws an error if it has too
- * many.
+ * Returns an upper bound of the number of turns that a battle has left, which is close if no warrior dies. Throws an
+ * error if the battle has more than MAX_TURNS turns.
  * @param {Mars} mars
  * @param {Place} place
  */
@@ -33,9 +33,10 @@ function mostTurns(mars, { battle }) {
 }
 
 /**
- * Returns the distance of marks in a run of a number of turns: a power of two by which they do not take too many bytes.
+ * Returns the distance between the marks of a run, in turns: the least power of two, from STRIDE on, with which the
+ * marks take at most MAX_MARK_BYTES, if a single one takes no more.
  * @param {Place} place
- * @param {number} turns
+ * @param {number} turns the number of turns of the run
  */
 function strideOf(place, turns) {
   const most = Math.max(1, Math.floor(MAX_MARK_BYTES / place.bytes));

@@ -16,7 +16,7 @@ import { by, deedOf, foundIn, isChanged } from "./records.js";
  * @property {number} count
  */
 
-/** The story of a battle of more warriors has only peaks, deaths and edits. */
+/** The story of a battle of more warriors has neither splits nor hits. */
 const MAX_STORY_WARRIORS = 4;
 
 /** @type {Event} */

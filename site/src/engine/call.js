@@ -122,7 +122,7 @@ export class Call {
   }
 
   /**
-   * Copies what a call has made of a battle and of its pasts out of the memory.
+   * Copies a battle and the pasts of its cells, as a call has left them, out of the memory.
    * @param {import("./machine.js").Followed} followed
    * @param {[bigint, bigint, number, bigint, bigint]} given what `followed` returned
    */

@@ -18,7 +18,7 @@ export function errorOf(code, details) {
 }
 
 /**
- * Returns the text of an error: after its line or its index, such as `line 2: 2 Operation`, if it has one.
+ * Returns the text of an error, after its line or its index if it has one, such as `line 2: 2 Operation`.
  * @param {Numbers} error
  */
 export function errorText(error) {

@@ -141,7 +141,7 @@ export class Machine {
   }
 
   /**
-   * Edits a battle in place. Throws a MarsError if the edit is refused; then the battle is unchanged.
+   * Edits a battle in place. Throws a MarsError if the edit is impossible; then the battle is unchanged.
    * @param {Battle} battle
    * @param {{kind: "cell" | "move" | "kill" | "add", warrior?: number, place?: number, address?: number,
    *   cell?: import("../model/cells.js").Cell}} edit
@@ -181,7 +181,7 @@ export class Machine {
   }
 
   /**
-   * Returns what `act` returns, and gives back the memory that it took. After a trap all calls are refused.
+   * Returns what `act` returns, and frees the memory that it allocated. After a trap every call throws an Error.
    * @template T
    * @param {(call: Call) => T} act
    * @returns {T}

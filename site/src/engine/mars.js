@@ -1,7 +1,7 @@
 /**
  * The proved machine, compiled to WebAssembly: the calls of mars.h over JavaScript's values.
  *
- * Nothing outlives a call: what a call takes of the module's memory it gives back. A battle is a value of the caller's.
+ * A call frees all memory that it allocates in the module, so nothing outlives it. A battle is a value of the caller's.
  */
 import { VERSION, MAX_WARRIORS, MarsLineup, MarsOutcome, MarsProgram, MarsRow } from "../model/layout.js";
 import { DEFAULTS, FORMULA } from "../model/settings.js";
@@ -32,7 +32,7 @@ export { MarsError } from "../model/errors.js";
 const encoder = new TextEncoder();
 /**
  * Returns the bytes of a name. The library rejects a name of more than 60 bytes or with a control character. It would
- * take a zero character as the end of the name, so that becomes a line feed here, which it rejects.
+ * take a zero character as the end of the name; here each zero character becomes a line feed, which it rejects.
  * @param {string} name
  */
 const nameBytes = (name) => encoder.encode(name.replaceAll("\0", "\n")).subarray(0, 64);
@@ -132,7 +132,7 @@ export class Mars extends Machine {
   }
 
   /**
-   * Returns the points of each survivor of a round with these numbers of warriors and survivors, 0 if there are none.
+   * Returns the points of each survivor of a round with these numbers of warriors and survivors; 0 without survivors.
    * @param {number} warriors
    * @param {number} survivors
    */

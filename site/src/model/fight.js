@@ -3,7 +3,7 @@ import { cellText, parseCell } from "./cells.js";
 
 /** @typedef {import("./cells.js").Cell} Cell */
 /** @typedef {import("./settings.js").Settings} Settings */
-/** @typedef {{name: string, text: string}} Source a source or a load file, by the name of its file */
+/** @typedef {{name: string, text: string}} Source a source or a load file, and the name of its file */
 /**
  * An edit of a battle. "cell" sets the cells from `address` to `last`; "add" adds a process at `address`. `place` is
  * the index of a process in its queue, 0 for the next one.

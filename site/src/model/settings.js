@@ -2,7 +2,7 @@
 import { MAX_CORE, MAX_CYCLES, MAX_PROCESSES } from "./layout.js";
 
 /**
- * Settings: sizes in cells, limits in numbers. A read or write limit of 0 is the core size.
+ * The settings of a match. A read or write limit of 0 stands for the core size.
  * @typedef {object} Settings
  * @property {number} core cells of the core, 1 to 1,048,576
  * @property {number} processes maximum number of processes of a warrior, 1 to 65,536
@@ -17,7 +17,7 @@ import { MAX_CORE, MAX_CYCLES, MAX_PROCESSES } from "./layout.js";
 export const FORMULA = "(W*W-1)/S";
 /** The maximum number of bytes of a source. */
 export const MAX_SOURCE_SIZE = 1_048_576;
-/** The maximum number of turns of a battle that is shown: it takes a few seconds to open. */
+/** The maximum number of turns of a battle that is shown. Such a long battle takes a few seconds to open. */
 export const MAX_TURNS = 16_000_000;
 
 /** @type {Settings} */
@@ -40,7 +40,7 @@ export const HILLS = {
 };
 
 /**
- * The least and the greatest value of each setting; where a value also depends on others, the machine checks that.
+ * The least and the greatest value of each setting. If other settings limit a value further, the machine checks that.
  * @type {Record<keyof Settings, {name: string, minimum: number, maximum: number}>}
  */
 export const RANGES = {

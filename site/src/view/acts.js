@@ -42,7 +42,7 @@ async function step(session, rest, sign) {
 }
 
 /**
- * Goes to where a condition holds, or without one, to a breakpoint.
+ * Goes to the nearest place where a condition holds, or where one of the breakpoints does if no condition is given.
  * @param {Session} session
  * @param {string} rest
  * @param {boolean} forward

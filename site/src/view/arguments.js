@@ -39,7 +39,7 @@ export function readNumber(text, what) {
 }
 
 /**
- * Returns a warrior by its number, its name or its file, or by how only its name begins; -1 if there is none.
+ * Returns the warrior whose number, name or file a text is, or else the only one whose name begins so; -1 if none is.
  * @param {Session} session
  * @param {string} text
  */
@@ -116,7 +116,7 @@ export function readCondition(session, text) {
 }
 
 /**
- * Returns whether an argument follows a condition's first word. The warrior of `dies of` is called `of`.
+ * Returns whether an argument follows a condition's first word. In `dies of`, `of` may be the name of a warrior.
  * @param {Session} session
  * @param {string} word
  * @param {string[]} rest
@@ -159,7 +159,7 @@ function readMore(session, word, rest) {
 }
 
 /**
- * Returns the warrior that as many words as possible name, which may contain `and`, and removes these words.
+ * Returns the warrior that as many of the first words as possible name, even if one is `and`. Removes these words.
  * @param {Session} session
  * @param {string[]} rest
  */
@@ -178,8 +178,8 @@ function readFirstWarrior(session, rest) {
  * Splits the rest of a line into the name of a warrior and some words after it.
  * @param {Session} session
  * @param {string} rest
- * @param {number} count
- * @param {string} expected what is said if there are fewer
+ * @param {number} count the number of words after the name
+ * @param {string} expected the message of the CommandError if there are fewer words
  */
 export function readWarriorAnd(session, rest, count, expected) {
   const words = rest.split(/\s+/);
@@ -188,7 +188,7 @@ export function readWarriorAnd(session, rest, count, expected) {
 }
 
 /**
- * Returns the index of a process of a warrior; the next one is 0.
+ * Returns the index of a process of a warrior; the next process has index 0.
  * @param {Session} session
  * @param {number} warrior
  * @param {string} text
@@ -225,7 +225,7 @@ export async function cellOf({ desk, known, opened, meanings }, text, address) {
   const names = text.match(LABEL) ?? [];
   const plain = [...new Set(names)].filter((name) => !name.includes(".") && addressOf(name) !== undefined);
   const equates = plain.map((name) => `${name} EQU (${Number(addressOf(name)) - address})`);
-  // No name of a source has a point.
+  // No name in a source contains a dot.
   const line = text.replace(LABEL, (name) => {
     const at = name.includes(".") ? addressOf(name) : undefined;
     return at === undefined ? name : `(${at - address})`;

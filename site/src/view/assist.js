@@ -15,7 +15,7 @@ const ACTS = { ...WORDS.opcodes, ...WORDS.directives };
 
 /**
  * Returns what a word can be completed to: modifiers after an opcode and a dot, names after an operation, otherwise
- * operations and EQU names. In the first column only labels begin.
+ * operations and EQU names.
  * @param {string} before the line up to the word
  * @param {string} word
  * @param {string} text the source
@@ -224,7 +224,7 @@ function placesIn(text, wanted) {
   return found;
 }
 
-/** Shows what opcodes, modifiers, modes and directives mean, beside the page. */
+/** Opens a sheet that says beside the page what opcodes, modes and other words mean, or closes it if it is open. */
 export function showSheet() {
   const sheet = typed("cheat", HTMLDialogElement);
   if (sheet.open) return sheet.close();

@@ -1,4 +1,4 @@
-/** In which order and portions many fights are fought: some from everywhere first. */
+/** The order and the batches in which many fights are fought: first some that are far apart. */
 
 /**
  * @template T

@@ -47,7 +47,7 @@ export class Bench {
   /** The source, terms and opponents that were fought last, as JSON. */
   #fought = "";
   #later = throttle(() => this.#draw(), 100);
-  /** Once the source was checked or other sources fight: fights again soon, or says that the source has an error. */
+  /** Called once the source was checked or other sources fight. Fights again soon, or says that the source is wrong. */
   checked = debounce(() => {
     if (this.isOpen && this.host.shelf.checker.isBroken) element("bench-note").textContent = STALE;
     else if (this.isOpen) this.fight();
@@ -129,7 +129,8 @@ export class Bench {
   }
 
   /**
-   * Returns what a row of the base is found by: a match is fought again if the opponent or the terms change.
+   * Returns the key of a row of the base. It has the opponent and the terms, so that a match is fought again if they
+   * change.
    * @param {Source} opponent
    */
   #key(opponent) {
@@ -173,8 +174,8 @@ export class Bench {
   }
 
   /**
-   * Fights a match with an opponent, and one of the version before unless its result is known. If another run has
-   * begun meanwhile, only the result of the version before is kept.
+   * Fights a match with an opponent, and one between the version before and that opponent unless its result is known.
+   * If another run has begun meanwhile, only the result of the version before is kept.
    * @param {Warrior} own
    * @param {{base: Base, warrior: Warrior} | null} before
    * @param {Source} opponent
@@ -281,7 +282,7 @@ export class Bench {
 }
 
 /**
- * Returns what the best outcome of a round is worth.
+ * Returns the points of the best outcome of a round, at least 1.
  * @param {Scored} row
  */
 const bestOf = ({ values }) => Math.max(1, ...values);

@@ -13,7 +13,7 @@ export class Breaks {
   /** @type {Condition[]} */
   all = [];
   /**
-   * The number of each, which it keeps while others are deleted.
+   * The number of each breakpoint, which stays the same when others are deleted.
    * @type {number[]}
    */
   numbers = [];

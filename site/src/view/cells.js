@@ -201,7 +201,7 @@ export class Cells {
   }
 
   /**
-   * Edits a cell by the text of a field. Returns whether it could: otherwise the page says why.
+   * Sets a cell to the text of a field. Returns whether that was possible; if not, the page says why.
    * @param {number} address
    * @param {HTMLInputElement} input
    */

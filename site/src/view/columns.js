@@ -8,8 +8,8 @@ const OBLONG = 1.16;
 const FULL = 1.08;
 
 /**
- * Returns the number of columns that makes the cells largest, preferably a divisor of the core size, and their sides.
- * Sides may be fractions, so that cells differ by a pixel and fill the canvas, unless they are large enough for text.
+ * Returns the number of columns with which cells are largest, preferably a divisor of the core size, and the sides of a
+ * cell. Sides may be fractions, so that cells differ by a pixel and fill the canvas, unless they have room for text.
  * @param {number} size of the core
  * @param {number} width in pixels of the screen
  * @param {number} height

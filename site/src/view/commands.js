@@ -5,7 +5,7 @@ import { CommandError } from "./arguments.js";
 
 /** @typedef {import("./session.js").Session} Session */
 /**
- * A command of the table; `site` is its summary on the page, if that is another one, or null if the page lacks it.
+ * A command of the table; `site` is its summary on the page if that differs, or null if the page lacks the command.
  * @typedef {{usage: string, short: string[], summary: string, repeats?: boolean, site?: string | null}} Command
  */
 
@@ -17,7 +17,7 @@ const PASTING = "Tab completes commands, labels and names. Pasted lines are exec
 const COMMANDS = /** @type {Command[]} */ (TABLE.commands).filter(({ site }) => site !== null);
 
 /**
- * Returns the usage of a command, or of all, as the terminal shows it.
+ * Returns the usage of a command, or of all commands if `rest` is "", as the terminal shows it.
  * @param {string} rest
  */
 function help(rest) {

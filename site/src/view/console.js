@@ -1,4 +1,4 @@
-/** The debugger's line below the story: its answers, and the lines before. */
+/** The debugger's line below the story, with its answers and the lines that were entered before. */
 import { clamp, element, make, typed, withCode } from "./dom.js";
 import { completions, execute, repeats } from "./commands.js";
 
@@ -68,7 +68,7 @@ export class Console {
 
   /**
    * Executes a line after those before it.
-   * @param {string} line an empty one repeats the last, if that moves or lists
+   * @param {string} line an empty line repeats the last one if that moves or lists
    */
   run(line) {
     this.#done = this.#done.then(() => this.#execute(line));
@@ -110,7 +110,7 @@ export class Console {
   }
 }
 
-/** Returns how many characters a line of the answers has, or 0 if they are hidden. */
+/** Returns how many characters fit in a line of the answers, or 0 if the answers are hidden. */
 function charactersOf() {
   const probe = make("span", {}, "0".repeat(10));
   const line = make("li", {}, probe);

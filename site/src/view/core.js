@@ -11,7 +11,7 @@ import { BETWEEN, DARK, SHADES } from "./palette.js";
 /** @typedef {import("./marks.js").Marks} Marks */
 /** @typedef {import("./palette.js").Palette} Palette */
 
-/** The most processes of a warrior that get rings, and the side in pixels from which cells need no rings. */
+/** The most processes that a warrior with rings can have, and the side in pixels from which cells need no rings. */
 const MAX_RINGED = 3;
 const LARGE = 16;
 const MARGIN = 8;
@@ -42,7 +42,7 @@ export class Core {
   #image = new ImageData(1, 1);
   #pixels = new Uint32Array(1);
   #processOwners = new Uint8Array(1);
-  /** What cells show below them: a pixel for each, which the browser shows large and smooth. */
+  /** The glow of the cells, which lies below them: a pixel for each cell, which the browser enlarges and smooths. */
   #glow = document.createElement("canvas");
   #glowImage = new ImageData(1, 1);
   #glows = new Uint32Array(1);
@@ -80,7 +80,7 @@ export class Core {
     const [right, bottom] = [this.#xs[columns], this.#ys[rows]];
     this.canvas.width = right + margin;
     this.canvas.height = bottom + margin;
-    // A cell has at least one pixel of the canvas. If there are more cells than pixels of the screen, it is shrunk.
+    // A cell has at least one pixel of the canvas, which is shrunk if the screen has too few pixels for the cells.
     const scale = ratio * Math.max(1, 1 / unit);
     for (const [shown, width, height] of /** @type {const} */ ([
       [this.canvas, this.canvas.width, this.canvas.height],
@@ -130,7 +130,7 @@ export class Core {
   }
 
   /**
-   * Draws each row of cells: its first line of pixels, and copies of that.
+   * Draws each row of cells: its first line of pixels, and copies of that line.
    * @param {View} view
    * @param {Palette} palette
    * @param {number} grain
@@ -245,14 +245,14 @@ export class Core {
   }
 
   /**
-   * Returns whether a text on a cell has to be white.
+   * Returns whether a cell is so dark that its text has to be white.
    * @param {number} address
    */
   #isDark(address) {
     const { x, y } = this.#middle(address);
     const at = Math.floor(y) * this.#image.width + Math.floor(x);
     const [red, green, blue] = [0, 8, 16].map((place) => (this.#pixels[at] >> place) & 255);
-    // The weights of the eye: 2550 is white.
+    // The eye weighs the channels like this; white has the sum 2550.
     return 3 * red + 6 * green + blue < 1200;
   }
 

@@ -20,7 +20,7 @@ export const FONT = "11px system-ui, sans-serif";
 const GROUND = "#0e1217";
 
 /**
- * Draws round values from one to another below a curve, as many as there is room for.
+ * Draws the round values from `first` to `last` below a curve, as many as there is room for.
  * @param {CanvasRenderingContext2D} context
  * @param {{first: number, last: number, width: number, bottom: number, x: (value: number) => number}} scale
  */
@@ -38,7 +38,7 @@ export function drawScale(context, { first, last, width, bottom, x }) {
 }
 
 /**
- * Returns the least round number that is not below a minimum.
+ * Returns the least of 1, 2, 5, 10, 20, 50 and so on that is not below a minimum.
  * @param {number} minimum
  */
 function roundStep(minimum) {
@@ -49,7 +49,7 @@ function roundStep(minimum) {
 /**
  * Draws both curves, and between them splits and ends of processes.
  * @param {Film} drawing
- * @param {{count: number}[]} peaks the most processes of each warrior: samples may miss that
+ * @param {{count: number}[]} peaks the most processes of each warrior, which samples may miss
  */
 export function drawCurves(drawing, peaks) {
   const maxCells = drawCells(drawing);
@@ -59,7 +59,7 @@ export function drawCurves(drawing, peaks) {
 }
 
 /**
- * Draws the cells of the warriors, stacked. Returns the largest sum.
+ * Draws the numbers of cells of the warriors, stacked. Returns their largest sum at a moment, at least 1.
  * @param {Film} drawing
  */
 function drawCells({ context, palette, overview: { turns, cells }, warriors, middle, x }) {
@@ -84,13 +84,13 @@ function drawCells({ context, palette, overview: { turns, cells }, warriors, mid
 }
 
 /**
- * Draws the processes of the warriors. Returns the largest number.
+ * Draws the numbers of processes of the warriors. Returns the largest one, at least 1.
  * @param {Film} drawing
  */
 function drawProcesses({ context, palette, overview: { turns, processes }, warriors, middle, bottom, x }) {
   const maximum = processes.reduce((one, other) => Math.max(one, other), 1);
   for (let who = 0; who < warriors; who++) {
-    // Equal curves lie beside each other.
+    // Curves are shifted, so that equal ones do not cover each other.
     const apart = Math.min(2, 12 / warriors) * who;
     context.beginPath();
     turns.forEach((turn, at) => {

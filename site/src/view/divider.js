@@ -8,8 +8,8 @@ const STEP = 24;
 
 /**
  * Lets the divider be dragged, or moved by the arrow keys.
- * @param {(width: number) => void} changed
- * @param {number | undefined} width of the editor in pixels; 0 is its usual one
+ * @param {(width: number) => void} changed is called with the new width, or with 0 after a double click
+ * @param {number | undefined} width of the editor in pixels; 0 stands for its usual width
  */
 export function listenToDivider(changed, width) {
   const [divider, desk] = [element("divider"), element("desk")];

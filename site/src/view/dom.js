@@ -1,4 +1,4 @@
-/** Elements, found and made; and what all views use: delayed calls, tips, colours and downloads. */
+/** What all views use: functions that find and make elements, delayed calls, tips, colours and downloads. */
 
 /** @typedef {Node | string | number | null | undefined | false} Part */
 
@@ -10,7 +10,7 @@ export function element(id) {
 }
 
 /**
- * Returns an element of a class.
+ * Returns the element with an id. Throws an Error if the page has none, or if it is not of the class `kind`.
  * @template {HTMLElement} T
  * @param {string} id
  * @param {new () => T} kind
@@ -22,7 +22,7 @@ export function typed(id, kind) {
 }
 
 /**
- * Returns the buttons of a selector.
+ * Returns the buttons that a selector matches.
  * @param {string} selector
  */
 export const buttons = (selector) =>
@@ -43,7 +43,7 @@ const nodes = (parts) =>
   });
 
 /**
- * Makes an element. A property that the element has is set; any other becomes an attribute.
+ * Makes an element. A property that the element has is set; any other becomes an attribute unless null or false.
  * @template {keyof HTMLElementTagNameMap} K
  * @param {K} kind
  * @param {Record<string, any>} properties
@@ -72,7 +72,7 @@ export function refill(place, ...parts) {
 }
 
 /**
- * Returns a function that calls another one as soon as it was not called for some milliseconds.
+ * Returns a function that calls `act` once `wait` milliseconds have passed since the function was called last.
  * @param {() => void} act
  * @param {number} wait
  */
@@ -85,11 +85,11 @@ export function debounce(act, wait) {
   };
 }
 
-/** Milliseconds between two numbers while a battle plays: more of them cannot be read, and each costs a layout. */
+/** Milliseconds between two updates of numbers while a battle plays: more cannot be read, and each costs a layout. */
 export const READING = 100;
 
 /**
- * Returns a function that calls another one some milliseconds later, however often it is called until then.
+ * Returns a function that calls `act` once, `wait` milliseconds later, however often the function is called until then.
  * @param {() => void} act
  * @param {number} wait
  */
@@ -123,7 +123,7 @@ export function withCode(text) {
 }
 
 /**
- * Shows a tip beside a point of the window.
+ * Places a tip beside a point of the window.
  * @param {HTMLElement} tip
  * @param {{x: number, y: number}} point
  */
@@ -147,7 +147,7 @@ export function colourOf(name) {
 }
 
 /**
- * Hands a file to the user.
+ * Downloads a text as a file.
  * @param {string} name
  * @param {string} text
  * @param {string} type
@@ -158,5 +158,5 @@ export function download(name, text, type) {
   setTimeout(() => URL.revokeObjectURL(link.href), 10_000);
 }
 
-/** Whether the page has the layout of a narrow window; a battle in a frame has none. */
+/** Returns whether the page has the layout of a narrow window, which an embedded battle never has. */
 export const isNarrow = () => matchMedia("(max-width: 56rem)").matches && !document.body.matches(".embed");

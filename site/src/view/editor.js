@@ -14,7 +14,7 @@ import { element, make, placeTip, refill } from "./dom.js";
 /** @typedef {{save: () => void, leave: () => void, changed: () => void}} Acts */
 
 /**
- * What the words of a line are, in the order in which they are looked for.
+ * The kinds of the words of a line, in the order in which they are tried.
  * @type {[RegExp, string | null][]}
  */
 const TOKENS = [
@@ -37,7 +37,7 @@ defineMode("redcode", () => ({
 }));
 
 /**
- * Returns the keys of a letter with Ctrl, and with the key that Macs have for it.
+ * Returns a key map that calls `act` for a letter with Ctrl, and with Cmd, which Macs have for it.
  * @param {string} letter
  * @param {() => void} act
  */
@@ -96,9 +96,9 @@ export class Editor {
   }
 
   /**
-   * Shows a line, and gives the editor the focus at a word of it if that is given.
+   * Shows a line. If `word` is given, the editor gets the focus there.
    * @param {number} line from 1
-   * @param {number} [word] the column at which it begins, from 0
+   * @param {number} [word] the column at which a word of the line begins, from 0
    */
   showLine(line, word) {
     this.mirror.refresh();
@@ -108,9 +108,10 @@ export class Editor {
   }
 
   /**
-   * Marks the line of the next instruction, and removes the previous mark. Marks nothing if the document is null.
+   * Marks the line of the next instruction, and removes the previous mark. Marks nothing if the document is null or has
+   * no such line.
    * @param {Document | null} doc
-   * @param {number} line
+   * @param {number} line from 1, or 0 for none
    */
   markNext(doc, line) {
     if (this.#moving) this.#moving.doc.removeLineClass(this.#moving.line, "wrap", "moves");
@@ -119,7 +120,7 @@ export class Editor {
   }
 
   /**
-   * Shows beside each line how often a warrior died there, and killed by it.
+   * Shows beside each line how often warriors died on it, and how often it killed others.
    * @param {Hits} hits
    */
   showHits(hits) {
@@ -138,7 +139,7 @@ export class Editor {
   }
 
   /**
-   * Marks the errors of a document that is shown.
+   * Marks the errors of the document that is shown.
    * @param {Explained[]} errors
    */
   showErrors(errors) {
@@ -153,7 +154,7 @@ export class Editor {
   }
 
   /**
-   * Takes the cells that the document makes, by lines.
+   * Takes the cells that each line of the document makes, by the number of the line.
    * @param {Map<number, Cell[]>} made
    * @param {number} core
    */

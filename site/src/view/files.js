@@ -30,7 +30,7 @@ export function listenToFiles(take) {
 }
 
 /**
- * Returns the text of a file: UTF-8, or Latin-1 if it is not.
+ * Returns the text of a file, which is read as UTF-8 or, if it is not valid UTF-8, as Latin-1.
  * @param {File} file
  */
 export async function textOf(file) {

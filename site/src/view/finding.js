@@ -15,7 +15,7 @@ const NUMBERED = ["of", "by", ...TABLE.conditions.warriors].map((word) => `(?<= 
 const WARRIORS = new RegExp(`\\b\\d+(?=\\.[A-Za-z_])|(?:${NUMBERED})\\d+(?!\\S)`, "g");
 
 /**
- * Returns how often a condition holds, and the first places, with warriors if the condition names none.
+ * Returns how often a condition holds, and the first places, with their warriors if the condition is on any warrior.
  * @param {{count: number, first: import("../battle/conditions.js").Held[]}} found
  * @param {Condition} condition
  * @param {string[]} names
@@ -65,8 +65,8 @@ async function findInRounds(session, rest, tell) {
 }
 
 /**
- * Returns as much of a session of another round as reading the arguments of commands takes. No cell is the next one in
- * it, so `.` is an error.
+ * Returns the part of a session that reading the arguments of commands needs, for another round. There no cell is
+ * executed next, so `.` is an error.
  * @param {Session} session
  * @param {number} round
  * @param {number[]} starts where each warrior is loaded there
@@ -88,8 +88,8 @@ function inRound({ fight, opened, known }, round, starts) {
 /**
  * Returns a condition with the numbers that its warriors have in another round, in which another warrior begins.
  * @param {string} text
- * @param {number} shift
- * @param {number} count
+ * @param {number} shift what is added to each number
+ * @param {number} count the number of warriors
  */
 const renumbered = (text, shift, count) =>
   ` ${text}`.replace(WARRIORS, (found) => {

@@ -1,4 +1,4 @@
-/** What the bench, the league and the lessons ask of the page, and what they share. */
+/** What the bench, the league and the lessons need from the page, and what they share. */
 import { MarsError } from "../model/errors.js";
 import * as results from "../model/layout.js";
 import { explain } from "../words/errors.js";
@@ -33,7 +33,7 @@ const REASONS = {
 };
 
 /**
- * Waits for answers. Throws what the first of them failed with, once all have come or failed.
+ * Waits until each answer has come or failed. Then throws the error of the first one that failed, if any.
  * @param {Promise<unknown>[]} pending
  */
 export async function allOf(pending) {

@@ -20,7 +20,7 @@ import { allOf, errorWords, sumOf } from "./host.js";
  * @typedef {(sources: Source[], terms: MatchTerms) => AsyncGenerator<Result[]>} Runner
  */
 
-/** The maximum number of warriors of a matrix of numbers; with more warriors it is a picture. */
+/** The maximum number of warriors whose matrix has numbers; the matrix of more warriors is a picture. */
 const MAX_TABLE_SIZE = 40;
 const NOTHING = { points: 0, wins: 0, ties: 0, losses: 0 };
 const WON = [0, 150, 130];
@@ -139,7 +139,8 @@ export class League {
   }
 
   /**
-   * Assembles the sources. One with an error is left out. If this league was stopped before its end, its results stay.
+   * Assembles the sources and returns their warriors. A source with an error is left out. If this league was stopped
+   * before its end, its results stay.
    * @param {Source[]} sources
    * @param {MatchTerms} terms
    * @param {number} run
@@ -171,7 +172,7 @@ export class League {
   }
 
   /**
-   * Runs the matches that are missing, in workers. A later run makes it stop.
+   * Runs the matches that are missing, in workers. A later run stops this one.
    * @param {Warrior[]} warriors
    * @param {number} run
    */
@@ -187,7 +188,7 @@ export class League {
   }
 
   /**
-   * Takes the results of a runner. A later run makes it stop.
+   * Takes the results of a runner. A later run stops this one.
    * @param {Runner} runner
    * @param {number} run
    */
@@ -258,7 +259,7 @@ export class League {
   }
 
   /**
-   * Returns the wins of one warrior against another. A click shows their first round.
+   * Returns the cell with the wins of one warrior against another. A click on it shows their first round.
    * @param {number} who
    * @param {number} other
    */

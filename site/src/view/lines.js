@@ -33,7 +33,7 @@ export class Lines {
   }
 
   /**
-   * Sets breakpoints where a line was loaded, or removes them.
+   * Sets a breakpoint at each cell that was loaded from a line, or removes the one that is there.
    * @param {number} line
    */
   #toggle(line) {
@@ -61,7 +61,7 @@ export class Lines {
   }
 
   /**
-   * Marks lines, and no others.
+   * Marks these lines, and no others.
    * @param {MarkedLine[]} lines
    */
   mark(lines) {

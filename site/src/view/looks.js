@@ -21,8 +21,8 @@ const [CELLS, AROUND, LISTED] = [11, 7, 20];
 export const cellAt = ({ view, known }, address) => (view ? cellText(readCell(view.cells, address), known.core) : "");
 
 /**
- * Returns the line of source of the instruction at an address, or "". The name of its warrior comes before it if that
- * is not `warrior`, by default the warrior that was loaded at the address.
+ * Returns the line of source of the instruction at an address as a comment, or "" if it is unknown. It begins with the
+ * name of its warrior unless that is `warrior`, by default the warrior that was loaded at the address.
  * @param {Session} session
  * @param {number} address
  * @param {number} [warrior]
@@ -63,7 +63,7 @@ function queueOf({ processes, queues }, warrior) {
 }
 
 /**
- * Returns a line for each of some cells.
+ * Returns a line for each of `count` cells from `first` on, or for each cell of the core if it has fewer.
  * @param {Session} session
  * @param {number} first
  * @param {number} count
@@ -106,7 +106,7 @@ export function list(session, rest) {
 }
 
 /**
- * Lists processes of a warrior from one on.
+ * Lists processes of a warrior from the one with the index `first` on.
  * @param {Session} session
  * @param {number} warrior
  * @param {number} first
@@ -132,7 +132,8 @@ export function queueAround(session, warrior, process) {
 }
 
 /**
- * Returns the warrior that a text names, by default the next one, and the index of a process after it, or "".
+ * Returns the warrior that a text names, or the next one if the text names none, and as a text the index of a process
+ * that follows the name, or "".
  * @param {Session} session
  * @param {string} rest
  */
@@ -176,7 +177,7 @@ export function show({ view, known, opened, end }) {
 }
 
 /**
- * Returns the line of source of a loaded cell, and its warrior; nothing if there is none.
+ * Returns one line, with the source line of a loaded cell and its warrior; no line if no cell has this origin.
  * @param {Session} session
  * @param {number} origin
  */
@@ -213,7 +214,7 @@ async function changeLines(session, address) {
 }
 
 /**
- * Returns how a cell got its value: its last change, and the turn that copied its instruction there if it is another
+ * Returns how a cell got its value: its last change, and the turn that copied its instruction there if that was another
  * turn.
  * @param {Session} session
  * @param {number} address

@@ -23,7 +23,7 @@ export class PositionMap {
   #names = [];
   /** @type {MatchTerms | null} */
   #terms = null;
-  /** The outcome of each distance if the own warrior is first, and if it is second; 0 is not known yet. */
+  /** For each distance, the outcome if the own warrior is first, and if it is second, as indices of WORDS. */
   outcomes = new Uint8Array(0);
   #first = 0;
   #columns = 1;
@@ -126,7 +126,8 @@ export class PositionMap {
   }
 
   /**
-   * Returns the index of a distance, and the half of its square, at a point of the window.
+   * Returns the index of the distance at a point of the window, and 0 for the upper half of its square or 1 for the
+   * lower one; null if no square is there.
    * @param {MouseEvent} event
    */
   #at({ clientX, clientY }) {

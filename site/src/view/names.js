@@ -21,7 +21,8 @@ export function lineOf(entry, isShown, { show, mark }) {
 }
 
 /**
- * Returns the name of a source in the list, and its warrior's name, as the rest of the page has it, if it is another.
+ * Returns what the list shows for a source: its name, with a dot if it is not saved, and its warrior's name if that
+ * differs.
  * @param {OpenSource} entry
  */
 export function titleOf({ name, doc, saved }) {

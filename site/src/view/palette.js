@@ -13,7 +13,7 @@ const BACK = [6, 8, 12];
 /** The number of shades that glow, and how strongly the first one does. */
 const GLOWING = 9;
 const GLOW = 0.45;
-/** How strongly processes glow, and the part of its own glow that a cell has: it is brightest in the middle. */
+/** How strongly processes glow, and the part of its glow that a cell itself shows, so that its middle is brightest. */
 const PROCESS_GLOW = 0.6;
 const OWN = 0.7;
 const WHITE = [255, 255, 255];
@@ -58,10 +58,10 @@ export const DARK = pixel([0, 0, 0]);
 /** @param {Colour} colour */
 const css = (colour) => `rgb(${colour.map(Math.round)})`;
 
-/** The colours of a battle, by the order of turns. */
+/** The colours of a battle, whose warriors are in the order of their turns. */
 export class Palette {
   backText = css(BACK);
-  /** What each shade of each owner shows below the cells, also below those around it. */
+  /** The glow of each shade of each owner, which lies below the cell and reaches the cells around it. */
   glows = new Uint32Array((NOBODY + 1) * (SHADES + 1)).fill(DARK);
   /** The shades of each owner, from fresh to old. */
   shades = new Uint32Array((NOBODY + 1) * (SHADES + 1));
@@ -89,7 +89,7 @@ export class Palette {
   }
 
   /**
-   * Returns the pixel of a point of the picture of the battle.
+   * Returns the pixel for a point of the battle's picture.
    * @param {number} owner
    * @param {number} light how much it has of the colour of its owner, 0 to 1
    * @param {number} white how much it has of white after that

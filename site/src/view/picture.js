@@ -33,7 +33,7 @@ export class Picture {
   }
 
   /**
-   * Paints a frame unless that is done. The picture before is shown until the first piece comes.
+   * Paints a frame, unless it is painted or is being painted. The picture before is shown until the first piece comes.
    * @param {string} battle names the battle
    * @param {Frame} frame
    */
@@ -78,7 +78,7 @@ export class Picture {
   }
 
   /**
-   * Draws what was painted since it was drawn before, or all of it in other colours.
+   * Draws the columns that were painted since the last drawing, or all of them if the palette is another one.
    * @param {Palette} palette
    */
   draw(palette) {

@@ -14,7 +14,7 @@ import { swatch } from "./palette.js";
  */
 /** @typedef {Map<string, Map<number, {died: number, killed: number}>>} Hits by the name of a source and its line */
 
-/** The number of rounds that are fought if the match has fewer, of squares, and of reasons that are listed. */
+/** The number of rounds that are fought if the match has fewer, and the maximum numbers of squares and of reasons. */
 const MIN_ROUNDS = 100;
 const MAX_SQUARES = 1000;
 const MAX_REASONS = 6;
@@ -23,7 +23,7 @@ export class Rounds {
   /** @type {Round[]} */
   #rounds = [];
   #match = "";
-  /** Whether all rounds are fought, or are to be. */
+  /** Whether all rounds have been fought or are being fought. */
   isFought = false;
   #later = throttle(() => this.#draw(), 100);
 
@@ -174,7 +174,7 @@ function whysOf(rounds) {
 }
 
 /**
- * Returns for each line how often warriors died on it, and by a cell that it wrote.
+ * Returns for each line how often warriors died on it, and how often others died by a cell that it wrote.
  * @param {Why[]} whys
  * @param {string[]} names
  */

@@ -145,7 +145,7 @@ export class Session extends Turns {
     return { warrior: found.warrior, name, line: found.line, text: code };
   }
 
-  /** Reads the story of the battle part by part, so that turns which are wanted meanwhile come between them. */
+  /** Reads the story of the battle part by part, so that turns that are wanted meanwhile come between the parts. */
   async #readStory() {
     const { opened } = this;
     for (let events = null; opened && opened === this.opened && !events; ) {
@@ -208,7 +208,7 @@ export class Session extends Turns {
     this.stop();
     const { turn, fight } = this;
     const wanted = Promise.resolve(edit);
-    // If it fails while earlier edits are awaited, the browser would report a rejection that nothing handles.
+    // If the edit fails while earlier ones are awaited, the browser would report a rejection that nothing handles.
     wanted.catch(() => {});
     await this.#inOrder(async () => {
       if (fight !== this.fight) throw new Error("another battle has been opened");
@@ -224,7 +224,7 @@ export class Session extends Turns {
   }
 
   /**
-   * Shows the future that a function selects, or stays in this one if that is -1.
+   * Shows the future whose number a function returns, or stays in this one if the function returns -1.
    * @param {() => number} select
    */
   async #switch(select) {

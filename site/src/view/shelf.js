@@ -15,12 +15,12 @@ import { lineOf, titleOf } from "./names.js";
  * @typedef {"own" | "example" | "guest" | "lesson"} Kind
  */
 /**
- * `made` is when it was made, in milliseconds; for a source of an older store, its index there.
+ * `made` is the time at which the source was made, in milliseconds; for a source of an older store, its index there.
  * @typedef {{name: string, doc: Document, saved: string, kind: Kind, fights: boolean, made: number}} OpenSource
  */
 /**
- * Where sources are saved. `save` returns null, or why one was not; `isOther` is whether something else changed the
- * file. `load` returns the text of a file as it is now, or null if it is gone.
+ * Where sources are saved. `save` returns null, or why the source was not saved; `isOther` is whether something else
+ * changed the file. `load` returns the text of a file as it is now, or null if the file is gone.
  * @typedef {object} Folder
  * @property {(name: string, text: string, isForced: boolean) => Promise<{text: string, isOther: boolean} | null>} save
  * @property {(name: string) => Promise<string | null>} load
@@ -31,14 +31,14 @@ import { lineOf, titleOf } from "./names.js";
  * @property {Folder | null} folder
  * @property {Record<string, string>} meanings
  * @property {() => {settings: import("../model/settings.js").Settings, rounds: number}} terms
- * @property {() => boolean} store stores the sources and which of them fight; returns whether the browser lets it
- * @property {() => void} checked the source in the editor was assembled, or others fight
+ * @property {() => boolean} store stores the sources and which of them fight; returns whether the browser allows that
+ * @property {() => void} checked is called when the source in the editor was assembled, or other sources fight
  * @property {() => void} reveal shows the editor
- * @property {(name: string, text: string) => boolean} isStale whether the battle that is shown has another text of it
+ * @property {(name: string, text: string) => boolean} isStale whether the battle has another text of the source
  */
 
 /**
- * Sources that are in the list only while they fight: they are found again in their link or lesson.
+ * The kinds of sources that are in the list only while they fight: they are found again in their link or lesson.
  * @type {Kind[]}
  */
 const GUESTS = ["guest", "lesson"];
@@ -154,7 +154,7 @@ export class Shelf {
     if (large.length) this.say(`${large.join(", ")}: too large; a source has at most 1 MB`);
   }
 
-  /** Stores the sources, and says so if the browser has begun or ceased to let it. */
+  /** Stores the sources, and says so if the browser has begun or ceased to allow that. */
   #store() {
     const isStored = this.host.store();
     if (isStored === this.#isStored) return;
@@ -163,7 +163,7 @@ export class Shelf {
   }
 
   /**
-   * Adds a source and shows it. It fights in the place of the one that was shown.
+   * Adds a source and shows it. The new source fights, and the one that was shown before no longer does.
    * @param {{name: string, text: string, saved?: string}} source
    */
   #enter(source) {
@@ -237,7 +237,7 @@ export class Shelf {
   }
 
   /**
-   * Takes a source as it is in the folder now.
+   * Replaces the text of a source by that of its file in the folder.
    * @param {OpenSource} entry
    */
   async #reload(entry) {
@@ -280,7 +280,7 @@ export class Shelf {
   }
 
   /**
-   * Shows beside the lines how often they died and killed.
+   * Shows beside the lines how often warriors died on them, and how often the lines killed others.
    * @param {Hits} hits
    */
   takeHits(hits) {

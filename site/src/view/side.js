@@ -170,7 +170,7 @@ export class Side {
   }
 
   /**
-   * Returns the line of source of the instruction at an address, if it is known.
+   * Returns the line of source of the instruction at an address, or null if it is not known.
    * @param {number} address
    */
   lineOf(address) {

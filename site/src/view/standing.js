@@ -5,7 +5,7 @@ import { number } from "../words/battle.js";
 /** @typedef {{who: number, many: number}[]} Standing warriors, and the number of their processes */
 
 /**
- * Returns which warriors have processes on each of the wanted cells that has any, by addresses.
+ * Returns the warriors that have processes on each wanted cell, by its address. Cells without processes are left out.
  * @param {View} view
  * @param {(address: number) => boolean} isWanted
  */

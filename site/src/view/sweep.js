@@ -17,8 +17,8 @@ export const meanOf = ({ row }) => (row ? row.points / (row.wins + row.ties + ro
  * Draws a bar for each result, and a scale of the values.
  * @param {HTMLCanvasElement} canvas
  * @param {Result[]} results
- * @param {{best: Result | undefined, most: number, current: number}} marks the best result, the points of a round at
- *   most, and the value that the source has
+ * @param {{best: Result | undefined, most: number, current: number}} marks the best result, the maximum number of
+ *   points of a round, and the value that the source has
  */
 export function drawSweep(canvas, results, { best, most, current }) {
   const [width, ratio] = [canvas.clientWidth, devicePixelRatio];

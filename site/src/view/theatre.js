@@ -25,7 +25,7 @@ const MAX_HITS = 4000;
 const MAX_SCANNED = 4_000_000;
 /** The least height of the core on a narrow page, in pixels. */
 const LEAST = 200;
-/** Milliseconds after which opening a battle takes long. */
+/** Milliseconds after which the page offers to cancel the opening of a battle. */
 const PATIENCE = 700;
 const EMPTY = "Empty memory. A process that executes it ends.";
 const EVENTS = { splits: "split", ends: "end of a process", dies: "death" };
@@ -165,14 +165,14 @@ export class Theatre {
     const isTwo = session.beside !== null;
     element("other").hidden = !isTwo;
     const width = isTwo && !isNarrow() ? stage.clientWidth / 2 : stage.clientWidth;
-    // On a narrow page one is below the other.
+    // On a narrow page one core is below the other.
     const most = Math.min(isTwo ? innerHeight * 0.3 : this.#roomOfNarrow(), stage.clientWidth * 1.05);
     const height = isNarrow() ? most : stage.clientHeight - element("own-name").offsetHeight;
     for (const core of isTwo ? [this.core, this.other] : [this.core]) core.fit(session.opened.core, width, height);
     this.#recolour();
   }
 
-  /** What the rest of the battle leaves of a narrow page, so that the strip and the controls are in sight, too. */
+  /** The height in pixels that remains on a narrow page if the strip and the controls are in sight, too. */
   #roomOfNarrow() {
     const battle = element("battle");
     const rest = battle.offsetHeight - element("stage").offsetHeight;

@@ -1,7 +1,7 @@
 /**
- * The strip of time: the battle as a picture, address by time, or as curves: above, the cells of each warrior, stacked;
- * below, its processes; between them, splits and ends of processes. Each death has a cross. A slider lies over it. A
- * part that is zoomed is painted and sampled again, so it is exact too.
+ * The strip of time. It shows the battle as a picture, address by time, or as curves: above, the stacked cells of the
+ * warriors; below, their processes; between them, splits and ends of processes. Each death has a cross. A slider lies
+ * over the strip. A part that is zoomed is painted or sampled again, so it is exact too.
  */
 import { BREAK } from "./core.js";
 import { drawCurves, drawScale } from "./curves.js";
@@ -12,7 +12,7 @@ import { Picture } from "./picture.js";
 /** @typedef {import("./palette.js").Palette} Palette */
 /** @typedef {{turn: number, warrior: number}} Death */
 
-/** The least number of turns that are shown, and the height of the scale. */
+/** The least number of turns that are shown, and the height of the scale in pixels. */
 const MIN_LENGTH = 12;
 const FOOT = 17;
 
@@ -28,7 +28,7 @@ export class Track {
   /** @type {number[]} */
   #edits = [];
   /**
-   * The most processes of each warrior, and when it had them: samples may miss that.
+   * The most processes of each warrior, and the turn in which it had them, which samples may miss.
    * @type {{turn: number, count: number}[]}
    */
   #peaks = [];
@@ -70,7 +70,7 @@ export class Track {
     this.#sample();
   }
 
-  /** Paints what is shown, a point of the screen for each of the picture. */
+  /** Paints the turns that are shown, with at most one point for each pixel of the screen. */
   paint() {
     const { clientWidth: width, clientHeight: height } = this.canvas;
     const { opened, first, last } = this;
@@ -144,7 +144,7 @@ export class Track {
   }
 
   /**
-   * Shows a part of what is shown, or more than that, around a turn that stays in its place.
+   * Shows fewer or more turns than before, around a turn that stays in its place.
    * @param {number} factor by which the number of turns changes: below 1 zooms in
    * @param {number} turn
    */
@@ -160,7 +160,7 @@ export class Track {
   }
 
   /**
-   * Keeps a turn among those that are shown.
+   * Moves the part that is shown if a turn is outside of it.
    * @param {number} turn
    */
   follow(turn) {
@@ -254,7 +254,7 @@ export class Track {
   }
 
   /**
-   * Returns how far a turn is from the left edge.
+   * Returns how far a turn is from the left edge, in pixels.
    * @param {number} turn
    * @param {number} width
    */

@@ -1,4 +1,4 @@
-/** Tune: a number of the source in the editor, at many values, against the opponents of the bench. */
+/** Tuning: fights the source in the editor, with many values of one of its numbers, against the bench's opponents. */
 import { number, pluralize } from "../words/battle.js";
 import { isLead } from "../words/comparison.js";
 import { readSource } from "../words/source.js";
@@ -68,7 +68,7 @@ export class Tune {
     new ResizeObserver(() => this.#draw()).observe(canvas);
   }
 
-  /** Returns the number at the caret, with its sign, or the number of the EQU that is named there, or null. */
+  /** Returns the number at the caret, with its sign, or the only number of the EQU that is named there, or null. */
   #numberAt() {
     const { mirror } = this.host.shelf.editor;
     const { line, ch } = mirror.getCursor();
@@ -118,7 +118,7 @@ export class Tune {
     return this.sweep();
   }
 
-  /** The values that the fields give, in their order. Throws an error if the fields are not valid. */
+  /** The values that the fields give, the smallest first. Throws an Error if the fields are not valid. */
   get #values() {
     const [first, last, step] = ["from", "to", "step"].map((id) => Number(typed(`tune-${id}`, HTMLInputElement).value));
     const count = Math.floor((last - first) / step) + 1;
@@ -214,7 +214,7 @@ export class Tune {
     return isBetter ? { best, own } : null;
   }
 
-  /** What the best value is worth, and whether it may be so by chance. */
+  /** Says what the best value is worth, and whether it may lead by chance; "" if no value leads. */
   get #leadWords() {
     const { best, own } = this.#lead ?? {};
     if (!best?.row || !own) return "";
@@ -235,7 +235,7 @@ export class Tune {
     if (value === undefined || !range || !shown) return;
     const text = String(value);
     shown.doc.replaceRange(text, range.from, range.to);
-    // The mark is of the number, also after it was replaced.
+    // The mark has to cover the number that replaces the old one.
     this.#mark?.clear();
     const to = { ...range.from, ch: range.from.ch + text.length };
     this.#mark = shown.doc.markText(range.from, to, MARK);

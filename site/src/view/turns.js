@@ -43,7 +43,7 @@ export class Turns {
     this.notify("look");
   });
   /**
-   * The breakpoint at which it has stopped, until another turn is wanted.
+   * The breakpoint at which playing has stopped, until another turn is wanted.
    * @type {Condition | null}
    */
   halted = null;
@@ -68,7 +68,7 @@ export class Turns {
   /** The request for the next tick. */
   #frame = 0;
   /**
-   * The turn at which playing stops, once it is known, and whether that is a breakpoint.
+   * The turn at which playing stops, once it is known, and the breakpoint there, or null if none holds.
    * @type {{turn: number, at: Condition | null} | null}
    */
   #limit = null;
@@ -218,7 +218,7 @@ export class Turns {
   }
 
   /**
-   * Plays forwards or backwards. If it is at that end already, it starts from the other one.
+   * Plays forwards or backwards. If the battle is at that end already, it plays from the other end.
    * @param {1 | -1} way
    */
   play(way) {
@@ -241,7 +241,7 @@ export class Turns {
     this.#limit = null;
     const end = { turn: way > 0 ? this.end : 0, at: null };
     const found = breaks.length ? await this.desk.search(this.future, breaks, this.wanted, way > 0) : null;
-    // The user may have stopped it, or changed the breakpoints, meanwhile.
+    // The user may have stopped the battle, or changed the breakpoints, meanwhile.
     const isLate = way !== this.way || opened !== this.opened || breaks !== this.breaks.all;
     if (!isLate) this.#limit = found ? { turn: found.turn, at: breaks[found.index] } : end;
   }

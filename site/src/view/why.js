@@ -1,4 +1,4 @@
-/** Why a warrior died: the chain of turns beside the core, as arrows on it, and at both lines of source. */
+/** Shows why a warrior died: the chain of turns beside the core, arrows on the core, and marks at lines of source. */
 import { cellText, readCell } from "../model/cells.js";
 import { number, place } from "../words/battle.js";
 import { linkWords } from "../words/why.js";

@@ -62,7 +62,8 @@ function glued(source, word) {
 }
 
 /**
- * Finds a word in place of an operation that is similar to one, lacks the space after it, or is one of another dialect.
+ * Finds a word in place of an operation: a word that is similar to an operation, that lacks the space after its opcode,
+ * or that is an opcode of another dialect.
  * @param {Source} source
  * @param {Line} line
  * @returns {Cause | null}
@@ -114,7 +115,7 @@ function badToken(source, line, place) {
 }
 
 /**
- * Says why a token is none, or is not allowed in a line.
+ * Says why a token is not valid, or is not allowed in a line.
  * @param {Source} source
  * @param {Line} line
  * @param {string} word
@@ -155,8 +156,8 @@ function operation(source, line) {
 }
 
 /**
- * Returns the word in the place of the opcode in a line without one: the label before the first operand, which may be
- * read as a label, too. It is undefined if that isn't clear.
+ * Returns the word in the place of the opcode in a line without an opcode: the label before the first operand, which
+ * may be read as a label, too. Returns undefined if it isn't clear which label that is.
  * @param {Line} line
  */
 function opcodeOf({ rest: [first], labels }) {

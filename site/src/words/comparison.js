@@ -56,8 +56,8 @@ export function verdict({ change, error }) {
 }
 
 /**
- * Returns the points per round, and how far from them the true value is at most, 19 times of 20. For that a round of
- * each outcome is added: a warrior that has lost all of 100 may win some of the next.
+ * Returns the points per round, and how far from them the true value is at most, 19 times of 20. One round of each
+ * outcome is added to estimate this, since a warrior that has lost all of 100 rounds may win some of the next.
  * @param {Counted} row
  */
 export function mean({ points, wins, ties, losses, values }) {

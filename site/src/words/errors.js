@@ -76,8 +76,8 @@ export function explain(error, text, meanings) {
 }
 
 /**
- * Returns the word or sign at which the library has an error of a source, or null. Of a character that is not ASCII the
- * library reports one byte; here it is the whole character.
+ * Returns the word or sign at which the library reports an error of a source, or null. Of a character that is not ASCII
+ * the library reports one byte; here it is the whole character.
  * @param {string} text
  * @param {MarsError} error
  * @returns {WordPlace | null}
@@ -142,7 +142,7 @@ export async function errorsOf(text, meanings, assemble) {
 }
 
 /**
- * Writes EQU in place of a misspelt one, in all lines: what they name is used elsewhere.
+ * Writes EQU in place of a misspelt one in all lines, since the names of these lines are used elsewhere.
  * @param {string[]} lines
  * @param {Source} source
  * @param {string} misspelt

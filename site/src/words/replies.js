@@ -6,7 +6,7 @@ import { joinNames, where } from "./battle.js";
 /** @typedef {import("./battle.js").Move} Move */
 /** @typedef {import("../battle/births.js").Descent} Descent */
 
-/** How many of many addresses or turns are listed. */
+/** The maximum number of addresses or turns that are listed. */
 export const MAX_LISTED = 8;
 /** The widths of the first columns of a list of cells. */
 const COLUMNS = [1, 6, 10, 24];
@@ -113,7 +113,7 @@ export function endingWords({ names, deaths }) {
  * Returns rows of cells as lines: the mark, the address, the label, the cell, processes, and the line of source. If
  * they would be longer than a width, columns are as narrow as they can be, and sources are cut.
  * @param {string[][]} rows
- * @param {number} width in characters, or 0 for any
+ * @param {number} width in characters, or 0 for no limit
  */
 export function columnsOf(rows, width) {
   const narrow = (rows[0] ?? [""]).map((_, at) => Math.max(...rows.map((row) => row[at].length)));

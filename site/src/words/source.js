@@ -95,7 +95,7 @@ export function readSource(text) {
     if (line.number < first) line.unread = { cause: "before redcode", line: first };
     else if (end) line.unread = { cause: "after end", line: end };
     else if (word === "END") end = line.number;
-    // In a loop that is skipped, only a first or second word begins another one.
+    // In a loop that is skipped, FOR and ROF count only as the first or second word.
     else if (line.skipped && (!["FOR", "ROF"].includes(word) || line.labels.length > 1)) return;
     else if (word === "EQU" && line.labels.length) {
       const name = line.labels[line.labels.length - 1];

@@ -6,7 +6,7 @@ import { place } from "./battle.js";
 /**
  * A turn that led to a death. Its kind says what it did to the cell at `target`, which has the words `after` then:
  *
- * - `aim`: it set the cell, the pointer by which the write found another one
+ * - `aim`: it set the cell, which is the pointer by which the write found its cell
  * - `write`: it copied an instruction to the cell
  * - `change`: it changed a number of that instruction
  * - `arrival`: it led the process to the cell
@@ -25,7 +25,7 @@ import { place } from "./battle.js";
  */
 
 /**
- * Returns what a turn did for a death, with code in backquotes.
+ * Returns how a turn led to a death, with code in backquotes.
  * @param {Link} link
  * @param {Known} known
  */

@@ -46,7 +46,7 @@ import { assembleAll, describe } from "../engine/warrior.js";
  * @property {number[]} owned
  */
 
-/** About the milliseconds that a piece of a picture takes; meanwhile the worker answers no other question. */
+/** About how many milliseconds a piece of a picture takes; meanwhile the worker answers no other question. */
 const PIECE_TIME = 6;
 
 export class Desk {
@@ -160,7 +160,7 @@ export class Desk {
       cycle: battle.cycle,
       next: battle.next,
       head: at === history.end ? null : queues[battle.next][0],
-      // A message would copy the whole buffer of the battle, of which the cells are a view; a copy's is transferred.
+      // A message would copy the whole buffer of the battle, of which the cells are a view. A slice has its own buffer.
       cells: battle.cells.slice(),
       ...place.columns,
       queues: all,
@@ -207,8 +207,8 @@ export class Desk {
   }
 
   /**
-   * Reads a part of the story of a future, which plays its turns again. Returns all of it once there is no more to
-   * read, until then null.
+   * Reads a part of the story of a future, which plays its turns again. Returns the whole story once there is no more
+   * to read, until then null.
    * @param {number} future
    */
   story(future) {
@@ -301,7 +301,7 @@ export class Desk {
   }
 
   /**
-   * Returns the place where a number of cycles is completed, or null if the battle ends before.
+   * Returns the first place at which a number of cycles is completed, or null if the battle ends before.
    * @param {number} future
    * @param {number} cycle
    */
@@ -320,7 +320,7 @@ export class Desk {
   }
 
   /**
-   * Returns the turns in which a process after a turn and its ancestors were born. Throws a MarsError if there is none.
+   * Returns the turns in which a process and its ancestors were born. Throws a MarsError if there is no such process.
    * @param {number} future
    * @param {number} turn
    * @param {number} warrior
@@ -331,7 +331,7 @@ export class Desk {
   }
 
   /**
-   * Assembles a line of source as a cell of this battle. Throws a MarsError.
+   * Assembles a line of source as a cell of this battle. Throws an Error if the line is not one valid instruction.
    * @param {string} source the line, after the lines that define its names
    * @returns {import("../model/cells.js").Cell}
    */

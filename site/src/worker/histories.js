@@ -3,8 +3,8 @@ import { History } from "../battle/history.js";
 
 /** @typedef {import("../model/fight.js").Made} Made */
 /**
- * A future: its edits, its last turn, the index of the future that it branched from, and of the branch of it that was
- * shown last. -1 is none.
+ * A future: its edits, its last turn, the index of the future from which it branched, and the index of its own branch
+ * that was shown last; -1 stands for none.
  * @typedef {{edits: Made[], end: number, parent: number, visited: number}} Future
  */
 
@@ -83,7 +83,7 @@ export class Histories {
   }
 
   /**
-   * Returns a round of the match, without edits. The last one is kept.
+   * Returns the history of a round of the match, without edits. The one that was returned last is kept.
    * @param {number} round
    */
   round(round) {

@@ -44,7 +44,7 @@ export class Jobs {
   }
 
   /**
-   * Assembles a source. Throws a MarsError.
+   * Assembles a source. Throws a MarsError if it has an error.
    * @param {string} text
    * @param {{settings: Settings, rounds: number, warriors?: number}} terms
    */
@@ -90,7 +90,8 @@ export class Jobs {
   }
 
   /**
-   * Returns the points of each survivor of a match of two with this number of survivors, 0 if there are none.
+   * Returns the points of each survivor of a round of two with this number of survivors. Returns 0 if the formula has
+   * no value and none is needed.
    * @param {number} survivors
    * @param {string | undefined} formula
    * @param {boolean} isNeeded whether there are such rounds; for others a formula may have no value
@@ -106,7 +107,7 @@ export class Jobs {
 
   /**
    * Fights a match of each version of a source, which differ in a number, with an opponent. Returns the row of each
-   * version, or null if it has an error, and what a loss, a win and a tie are worth.
+   * version, or null if the version has an error, and what a loss, a win and a tie are worth.
    * @param {{before: string, after: string}} source the text around the number
    * @param {number[]} values
    * @param {Warrior} opponent

@@ -17,7 +17,7 @@ const AFTERGLOW = 7;
 /** The brightness of a row of old cells, and what it gains if all of them are fresh. */
 const OLD = 0.5;
 const FRESH = 0.62;
-/** The cells of processes shine if their warrior has at most this number of them; and how much a process adds. */
+/** The maximum number of processes of a warrior whose processes make cells shine, and how much each one adds. */
 const MAX_SHINING = 24;
 const SHINE = 1;
 /** How a cell fades: its brightness at equal steps of the time until it no longer shines. */
@@ -42,7 +42,7 @@ export class Painter {
     /** For each row and owner: the number of cells, and the sum of their shine. */
     this.old = new Float64Array(this.owners * frame.rows);
     this.fresh = new Float64Array(this.owners * frame.rows);
-    /** The sums of squares: many cells that have nearly faded are less bright than a few fresh ones. */
+    /** The sums of the squares of shine, which make many nearly faded cells less bright than a few fresh ones. */
     this.squares = new Float64Array(this.owners * frame.rows);
     /** For each cell, where the sums of its row begin. */
     this.placeOf = Uint32Array.from({ length: core }, (_, at) => this.owners * Math.floor((at * frame.rows) / core));
@@ -51,8 +51,8 @@ export class Painter {
   }
 
   /**
-   * Paints the next columns for some milliseconds, at least one.
-   * @param {number} time
+   * Paints the next columns, at least one of them, for some milliseconds.
+   * @param {number} time in milliseconds
    * @returns {Piece}
    */
   paint(time) {

@@ -10,7 +10,7 @@ import { MarsError } from "../model/errors.js";
  */
 /** @typedef {Omit<Jobs, "mars">} Work */
 /**
- * Where the script of a worker is, and the machine.
+ * The address of the script of a worker, and the compiled machine.
  * @typedef {{script: string, module: Promise<WebAssembly.Module>}} Parts
  */
 /** @typedef {{done: (value: any) => void, failed: (error: unknown) => void}} Waiting */

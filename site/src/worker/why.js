@@ -7,7 +7,7 @@ import { CHANGES, EXECUTES, NUMBER_ADDRESS, NUMBER_ORIGIN, NUMBER_QUEUED } from 
 /** @typedef {import("../battle/story.js").Event} Event */
 /** @typedef {import("../words/why.js").Link} Link */
 
-/** Modes by which the number of a cell leads to another one. */
+/** Modes by which the number of a cell leads to another cell. */
 const INDIRECT = "*@{<}>";
 
 /**
@@ -28,7 +28,7 @@ export function chainOf(history, warrior) {
   const { turn, address } = death;
   const arrival = arrivalOf(history, death);
   const lead = arrival ? writesOf(history, arrival.address, arrival.turn) : [];
-  // How a warrior came to write its own instructions leads away from its death.
+  // If the warrior itself wrote that instruction, the turns that wrote it would only lead away from the death.
   const isTrapped = lead.some((link) => link.kind !== "aim" && link.warrior !== warrior);
   const links = [...(isTrapped ? lead : []), ...writesOf(history, address, turn), ...(arrival ? [arrival] : [])];
   const order = links.map((link, index) => ({ link, index }));
@@ -37,8 +37,8 @@ export function chainOf(history, warrior) {
 }
 
 /**
- * Returns the turn that copied to a cell the instruction that it has in turn `before`, and the turn that last changed
- * the cell before, each after the turn that aimed at it; none if the cell was loaded or edited.
+ * Returns the turn that copied to a cell the instruction that it has in turn `before`, and the last earlier turn that
+ * changed the cell, each after the turn that aimed at it; none if the cell was loaded or edited.
  * @param {History} history
  * @param {number} address
  * @param {number} before
@@ -88,7 +88,7 @@ export function copiedIn(history, address, turn) {
  * @param {History} history
  * @param {Link["kind"]} kind
  * @param {number} turn
- * @param {number} target the cell that it is about
+ * @param {number} target the address of the cell that the link is about
  * @returns {Link}
  */
 function linkOf(history, kind, turn, target) {
