@@ -41,7 +41,7 @@ class Call:
     - `place`: its file, below the crate, and its line
     - `head`: its source up to the body, with the contract
     - `ensures`: whether the contract promises anything
-    - `labels`, `definitions`: the labels of its clauses, and the definitions that they cite, as FILE.NAME
+    - `labels`, `definitions`: the labels of its clauses, and the definitions that its clauses cite, as FILE.NAME
     """
 
     name: str

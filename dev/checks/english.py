@@ -51,7 +51,7 @@ JAVASCRIPT_TEXT = re.compile(r"([\"'`])((?:\\.|(?!\1)[^\\\n])*)\1")
 
 
 def without_code(text: str) -> str:
-    """Returns a document without its blocks, code spans and targets of links; lines stay where they are."""
+    """Returns a document without its code blocks, code spans and targets of links. Lines keep their numbers."""
     text = re.sub(r"^```.*?^```", lambda found: "\n" * found[0].count("\n"), text, flags=re.M | re.S)
     return re.sub(r"`[^`\n]*`|\]\([^)\s]*\)", " ", text)
 
@@ -83,8 +83,8 @@ def without_expressions(text: str) -> str:
 
 
 def python_pieces(name: str, text: str) -> Iterator[Piece]:
-    """Yields the comments, docstrings and texts of a Python source. The texts of scripts and tests are no messages of
-    the product, and the messages of assertions in tests are read as comments.
+    """Yields the comments and docstrings of a Python source, and the texts of the package. Texts of scripts and tests
+    are not messages of the product, but the messages of assertions in tests are read as comments.
     """
     if name.startswith("tests/"):
         yield from (("comments", line, message) for line, message in assertion_messages(text))

@@ -13,10 +13,10 @@ from tracked import files
 # The maximum numbers of lines of the body of a function, of a function of Rattle with its contract, and of a file, and
 # the width of a line of the site.
 MAX_BODY, MAX_FUNCTION, MAX_FILE, MAX_WIDTH = 40, 60, 350, 120
-# The first line of a function of Rattle, and the line of JavaScript from which the body of one begins.
+# The first line of a function of Rattle, and the line at whose end the body of a function of JavaScript begins.
 RATTLE = r'(pub(\(crate\))? )?(const )?(extern "C" )?fn '
 SCRIPT = r"(?!(\} )?(if|for|while|switch|else|catch|with)\b).*(\)|=>) \{$"
-# What a script writes, and the files that are still too long.
+# The files that a script writes, and those that are still too long.
 GENERATED = ("site/src/model/layout.js",)
 TOO_LONG = {
     "tests/library/test_library.py",

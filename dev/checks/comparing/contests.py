@@ -80,7 +80,7 @@ class Contest:
     def comparison(
         self, kind: str, result: Value, row: Callable[[Value], Value], error: Value, computed: Value
     ) -> Comparison:
-        """Returns the rows of a result beside the computed ones, or the errors that a caller gets."""
+        """Returns the rows of a result, or the error that a caller gets, beside what the library computes."""
         if result[0] == "Ok":
             defined: Value = tuple(map(row, result[1]))
         else:

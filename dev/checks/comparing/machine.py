@@ -33,7 +33,7 @@ def random_cell(dice: random.Random, core: int) -> Value:
 
 
 def random_parameters(dice: random.Random) -> Value:
-    """Returns parameters of a small battle. Half of the time it has a read limit and a write limit."""
+    """Returns parameters of a small battle. Half of the time its limits are the core size, otherwise random."""
     core = dice.choice([1, 2, 3, 5, 8, 8, 13, 20, 40])
     limits = [core, core] if dice.random() < 0.5 else [dice.randint(1, core) for _ in range(2)]
     longest = dice.randint(1, core)
@@ -49,7 +49,9 @@ def random_parameters(dice: random.Random) -> Value:
 
 
 def random_state(dice: random.Random, share: float = 0.85) -> Value:
-    """Returns a valid state of a battle, in which this share of the warriors is alive; at least one, unless it is 0."""
+    """Returns a valid state of a battle. Each warrior is alive with the probability `share`; at least one is alive
+    unless `share` is 0.
+    """
     parameters = random_parameters(dice)
     core, warriors = parameters["core_size"], dice.choice([1, 2, 2, 3, 5, 16])
     alive = [dice.random() < share for _ in range(warriors)]

@@ -26,7 +26,7 @@ SECONDS = 5
 CELL = re.compile(r"(\d{5})   (?:([A-Z]{3})\.([A-Z]{1,2}) *(\S) *(-?\d+), (\S) *(-?\d+))?")
 MODES = {"#": "Immediate", "$": "Direct", "*": "AIndirect", "@": "BIndirect"}
 MODES |= {"{": "APredecrement", "<": "BPredecrement", "}": "APostincrement", ">": "BPostincrement"}
-# The line of pMARS, the wins of each warrior and the ties of one round, by which of the two live at its end.
+# What pMARS prints for one round, the wins of each warrior and the ties, by which of the two are alive at the end.
 RESULTS = {(True, False): "1 0 0", (False, True): "0 1 0", (True, True): "0 0 1"}
 
 

@@ -55,7 +55,7 @@ def parameters(definitions: Evaluator, settings: Value) -> Value:
 
 
 def with_refusal(name: str, result: Value) -> Value:
-    """Returns a result, whose error, if it is one, becomes the refusal of this name."""
+    """Returns a result. If it is an error, the error becomes a refusal with this name."""
     return ("Err", (name, result[1])) if result[0] == "Err" else result
 
 
@@ -91,7 +91,7 @@ def compare_program(
 
 @lru_cache(maxsize=None)
 def examples(most: int = 800) -> list[str]:
-    """Returns the examples of at most this many bytes."""
+    """Returns the sources of the examples that have at most this many bytes."""
     files = sorted(glob.glob(os.path.join(TOP, "examples", "*.red")))
     texts = [open(file, encoding="latin-1").read() for file in files]
     return [text for text in texts if len(text) <= most]

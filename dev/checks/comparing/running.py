@@ -47,7 +47,7 @@ NEEDS: dict[str, tuple[Callable[[], bool], str]] = {
     "wasm": (has_wasm, "mars.wasm: it is not built, or there is no node (package nodejs)"),
     "pmars": (has_pmars, "pMARS: `dev/bench/pmars build/pmars` builds it (package pmars)"),
 }
-# Errors of an evaluation, which only a mistake in a definition causes, and of a program that computes the other value.
+# Errors of an evaluation, which only a mistake in a definition causes, and of what computes the value to compare.
 ERRORS = (NoCase, ArithmeticError, LookupError, RecursionError, RuntimeError, TypeError, ValueError)
 
 

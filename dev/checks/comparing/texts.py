@@ -102,13 +102,13 @@ TOKENS = re.compile(r"[A-Za-z_][A-Za-z_0-9]*|\d+|\s+|.", re.S)
 
 
 def text_of(dice: random.Random, part: str, **more: Sequence[str]) -> str:
-    """Returns a random text for a part of the grammar; `more` has the alternatives of further parts."""
+    """Returns a random text for a part of the grammar; `more` has the alternatives of other parts."""
     alternatives = more[part] if part in more else GRAMMAR[part]
     return re.sub("<([a-z][a-z ]*)>", lambda found: text_of(dice, found[1], **more), dice.choice(alternatives))
 
 
 def mutated(dice: random.Random, text: str, others: Sequence[str] = ODD) -> str:
-    """Returns a text of which one or two tokens or lines are left out, doubled or replaced; half of the time, none."""
+    """Returns a text with one or two tokens or lines left out, doubled or replaced, or half of the time unchanged."""
     for _ in range(dice.choice([0, 0, 0, 1, 1, 2])):
         parts = TOKENS.findall(text) if dice.random() < 0.8 else text.splitlines(keepends=True)
         if parts:

@@ -112,7 +112,7 @@ def names_in(value: Value) -> list[str]:
 
 
 def differences(data: bytes, settings: Value) -> list[str]:
-    """Returns what pMARS reads differently in a source, as `corewar explain --pmars` finds it."""
+    """Returns what pMARS reads differently in a source: the notes of `corewar explain --pmars`, and one on asserts."""
     sys.path.insert(0, os.path.join(TOP, "python"))
     from corewar.engine.calls import assemble
     from corewar.explain.pmars import pmars_differences
@@ -135,7 +135,7 @@ def has_assert_after_equ(data: bytes) -> bool:
 
 
 def match(definitions: Evaluator, dice: random.Random) -> Iterator[str]:
-    """Yields a match, where the warriors of each round begin and which live at its end, and the results."""
+    """Yields a match; for each round, where its warriors start and which are alive at its end; and the results."""
     core, longest = dice.choice([20, 31, 80]), dice.choice([2, 4, 8])
     settings = {**random_contest(dice, core, longest, dice.choice([30, 100])), "rounds": dice.randint(2, 5)}
     if dice.random() < 0.7:
@@ -166,5 +166,5 @@ def match(definitions: Evaluator, dice: random.Random) -> Iterator[str]:
         yield f"row {row['points']} {row['wins']} {row['ties']} {row['losses']}"
 
 
-# For each kind of vectors, how many there are, and what yields the lines of one.
+# For each kind of vectors, the number of vectors, and the function that yields the lines of one.
 VECTORS: dict[str, tuple[int, Vector]] = {"battles": (1000, battle), "sources": (300, source), "matches": (100, match)}

@@ -25,7 +25,7 @@ DEPTH = 1_000_000
 
 
 class NoCase(Exception):
-    """No clause of a definition matches its arguments, which its type excludes."""
+    """No clause of a definition matches its arguments. The type of the definition excludes this."""
 
 
 def no_case() -> Value:
@@ -34,12 +34,12 @@ def no_case() -> Value:
 
 
 def cheap(compute: Callable[[], Value]) -> Callable[[], Value]:
-    """Returns the function itself. It takes the place of `later` if the value takes no time to compute again."""
+    """Returns `compute` itself. This function replaces `later` if the value takes no time to compute again."""
     return compute
 
 
 def later(compute: Callable[[], Value]) -> Callable[[], Value]:
-    """Returns a function that computes a value when it is first called."""
+    """Returns a function that computes a value in its first call, and returns the same value in later ones."""
     values: list[Value] = []
 
     def value() -> Value:
@@ -204,7 +204,7 @@ class Evaluator:
         return meaning
 
     def add(self, meaning: Meaning, lines: list[str]) -> None:
-        """Adds a function; a constant is computed once."""
+        """Adds a function, given by the lines of its source. A constant is computed when it is first needed."""
         self.sources[meaning.name] = source = "\n".join(lines)
         exec(compile(source, meaning.name, "exec"), self.space)
         function = self.space[meaning.name]
@@ -213,7 +213,7 @@ class Evaluator:
         self.space[f"each_{meaning.name}"] = one_by_one(function, meaning.later) if meaning.count else None
 
     def statement(self, module: str, name: str) -> bool:
-        """Returns whether the statement that a definition proves is true."""
+        """Returns the truth value of the statement that a definition proves."""
         term = self.file(module).statement(name)
         source = Translator(Names(self, module), self.arities).value(term, Scope({}))
         return bool(eval(source, self.space))
@@ -264,8 +264,8 @@ class Names:
 
 
 def may_wait(clauses: list[Clause], index: int) -> bool:
-    """Returns whether an argument may be computed only when it is needed: some clause does not always use it, and the
-    pattern of no clause looks into it.
+    """Returns whether an argument is to be computed only when it is needed: some clause does not always use it, and its
+    pattern in each clause is a name.
     """
     patterns = [clause.patterns[index] for clause in clauses]
     return all(isinstance(one, Variable) for one in patterns) and not all(

@@ -78,7 +78,7 @@ class File:
 
 
 def parse_parameter(parser: Parser) -> tuple[list[str], Term]:
-    """Parses `(x y : A)`. Returns the names, none of them if they are implicit, and the type."""
+    """Parses `(x y : A)` or `{x y : A}`. Returns the names, or none if they are implicit (in braces), and the type."""
     closing = "}" if parser.next.text == "{" else ")"
     parser.take()
     names = []
@@ -110,7 +110,7 @@ def is_infix(words: Sequence[Word]) -> bool:
 
 
 def infix_name(words: Sequence[Word]) -> str | None:
-    """Returns the operator that a clause defines between its patterns, if it does."""
+    """Returns the name of the operator that a clause defines between its patterns, or None if it defines none."""
     depth = 0
     for word in words:
         depth += {"(": 1, ")": -1}.get(word.text, 0)
@@ -194,7 +194,7 @@ def constructors_in(words: Sequence[Word]) -> set[str]:
 
 
 def path_of(top: str, module: str) -> str | None:
-    """Returns the file of a module of this repository's definitions, if it is one."""
+    """Returns the file of a module of this repository's definitions, or None for any other module."""
     found = SPECS.fullmatch(module)
     path = os.path.join(top, "crates", found[1], "specs", *found[2].split(".")) + ".antt" if found else ""
     return path if os.path.isfile(path) else None

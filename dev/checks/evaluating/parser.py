@@ -96,7 +96,7 @@ class Parser:
         return term
 
     def term(self, least: int = -1) -> Term:
-        """Parses a term whose operators bind at least as tightly as this."""
+        """Parses a term whose operators bind at least as tightly as `least`."""
         left = self.binder() or self.prefix()
         while self.next.text in OPERATORS and self.next.kind == "name":
             tightness, side = OPERATORS[self.next.text]
@@ -108,7 +108,7 @@ class Parser:
         return left
 
     def binder(self) -> Term | None:
-        """Parses `(x y : A) → B` or `(x : A) × B`, if that is next. Implicit arguments are left out."""
+        """Parses `(x y : A) → B`, `{x y : A} → B` or `(x : A) × B`. Returns None if none of them is next."""
         names, distance = [], 1
         while self.look(distance) not in {":", ""} and self.look(0) in {"(", "{"}:
             if self.words[self.at + distance].kind != "name":
@@ -188,7 +188,7 @@ class Parser:
         return Tuple(tuple(items)) if len(items) > 1 else items[0]
 
     def record(self) -> Term:
-        """Parses the fields of a record, after those of another one if it is given."""
+        """Parses what follows `record`: the record that it changes, if there is one, and the fields in braces."""
         base = None if self.next.text == "{" else self.atom()
         fields = []
         self.take("{")
@@ -228,7 +228,7 @@ class Parser:
         return If(test, one, self.term(5))
 
     def steps(self) -> Term:
-        """Parses a `do` block: each step is `pattern ← term`, and the last one a term. They are joined by `>>=`."""
+        """Parses a `do` block: each step is `pattern ← term`, and the last one a term. `>>=` joins the steps."""
         self.take("do")
         margin, lines = self.next.column, list[list[Word]]()
         for word in self.words[self.at :]:
@@ -280,7 +280,7 @@ class Parser:
         raise NotReadable(f"line {self.next.line}: a constructor is expected")
 
     def pattern_atom(self) -> Pattern:
-        """Parses a name, a constructor without values, or a pattern in brackets. Types in it are skipped."""
+        """Parses a name, a constructor without values, or a pattern in brackets, in which a type is skipped."""
         if self.has("("):
             parts = [self.pattern()]
             if self.has(":"):

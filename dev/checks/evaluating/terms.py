@@ -111,7 +111,7 @@ class Some:
 
 @dataclass(frozen=True)
 class Variable:
-    """A pattern that any value matches; `_` names none."""
+    """A pattern that any value matches; `_` gives the value no name."""
 
     name: str
 

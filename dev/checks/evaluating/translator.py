@@ -119,7 +119,7 @@ class Translator:
         self.count += 1
         return "".join(letter if letter.isalnum() and letter.isascii() else "_" for letter in name) + f"_{self.count}"
 
-    # ---- Expressions
+    # ---- Expressions: each method returns the text of one in Python
 
     def value(self, term: Term, scope: Scope) -> str:
         """Returns the expression for a term."""
@@ -261,7 +261,7 @@ class Translator:
     # ---- Statements for all numbers below a bound
 
     def every(self, term: Every, scope: Scope) -> str:
-        """Returns whether a statement holds for all numbers below their bounds."""
+        """Returns the expression that tests a statement for all numbers below their bounds."""
         if term.domain != Name("ℕ"):
             raise NotReadable("what holds for all values of a type is not computed")
         names = {name: self.fresh(name) for name in term.names}
@@ -281,7 +281,7 @@ class Translator:
     # ---- Statements of Python
 
     def returned(self, term: Term, scope: Scope, margin: str) -> list[str]:
-        """Returns the lines that return the value of a term. Calls of the definition itself go round the loop."""
+        """Returns the lines that return the value of a term. A last call of the definition itself is a `continue`."""
         if isinstance(term, If):
             lines = [f"{margin}if {self.value(term.test, scope)}:"]
             lines += self.returned(term.one, scope, f"{margin}    ")
