@@ -1,11 +1,11 @@
-"""Measures how many matches of one round in nano settings each way to run them plays per second, and the turns per
+"""Measures the matches per second of several ways to run matches of one round in nano settings, and the turns per
 second of long battles.
 
 100 candidates play against 10 opponents: by one call of a population, by a call for each match, by a league of each
 candidate with the ten, and by a start of `mars`, or of pMARS, for each match. Of a league, only the ten matches of the
-candidate count. Then the machine instructions of a nano match from C are counted, and the turns per second of a battle
-of 1,000,000 turns, with the record of each and as a `History`, and of matches in `outcomes`, without and with counts.
-The library is the one that `corewar` finds.
+candidate count. Then the script counts the machine instructions of a nano match from C, and measures the turns per
+second of a battle of 1,000,000 turns, with the record of each turn and as a `History`, and of matches in `outcomes`,
+without and with counts. The library is the one that `corewar` finds.
 """
 from __future__ import annotations
 
@@ -32,7 +32,7 @@ SOURCES = [
 ]
 # The turns of a long battle of two warriors, and its settings.
 TURNS, LONG = 1_000_000, corewar.Settings(cycles=500_000)
-# A program that runs as many matches as its first argument says, of as many cycles as the second one.
+# A program that runs as many matches as its first argument says, each with the second argument as its cycle limit.
 MATCH = """#include <mars.h>
 #include <stdlib.h>
 #include <string.h>
@@ -74,7 +74,7 @@ def rate(seconds: float, amount: int, work: Callable[[int], object]) -> float:
 
 
 def ways(program: str, folder: str) -> Iterator[tuple[str, int, Callable[[int], object]]]:
-    """Yields the name of each way, the number of matches that it plays at once, and its function of a seed."""
+    """Yields the name of each way, the number of matches that it plays in a call, and its function of a seed."""
     warriors = [corewar.assemble(source, settings=NANO) for source in SOURCES]
     candidates, opponents = warriors * 20, warriors * 2
     paths = [os.path.join(folder, f"{index}.load") for index in range(11)]

@@ -19,7 +19,7 @@ PLACES, MAX_HISTORY, FEWER = 200_000, 1_000_000, 400_000
 KILLS = 20_000
 SOURCES = {
     "splitter": "SPL 0\nADD.F #1, #1\nJMP -2\n",
-    # Its queue is full after a few turns.
+    # Its queue of 65,536 processes is full after some 106,000 turns.
     "filler": "SPL 0\nJMP -1\n",
     "dead": "DAT 0, 0\n",
 }
@@ -35,7 +35,7 @@ def best(command: list[str], lines: list[str]) -> float:
 
 
 def measure_places(program: str, kind: str, file: str) -> None:
-    """Prints the costs of a place and of moves over many of them."""
+    """Prints the costs of a place and of moves over many places."""
     command = [program, "-e", "-c", str(MAX_HISTORY), "-F", "4000", "--history", str(MAX_HISTORY), file, file]
     ready = [f"run {PLACES}"]
     fewer, most = (run_well(command, text_of([f"run {count}", "queue 0"])) for count in (FEWER, MAX_HISTORY))

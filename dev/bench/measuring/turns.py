@@ -1,8 +1,8 @@
 """Measures the machine instructions of a turn of `mars_core`: with its record, which is read, and in a run to the end.
 
-The warriors are two imps, two papers (a warrior that copies itself, with all kinds of operands), and two stones (a
-bomber that misses itself and the other, so that it runs long), in a core of 8000 cells. The program, race.rattle, is
-proved and built in a copy of the crates.
+The warriors are two imps, two papers (a warrior that copies itself, with all kinds of operands), and two stones
+(bombers that miss themselves and each other, so that they run long), in a core of 8000 cells. The program, race.rattle,
+is proved and built in a copy of the crates.
 """
 from __future__ import annotations
 

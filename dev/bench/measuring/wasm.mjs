@@ -1,4 +1,5 @@
-// Prints the nanoseconds of CPU time per turn of a match of two warriors in which none dies, by mars.wasm: the fastest of three times 20 rounds.
+// Prints the nanoseconds of CPU time per turn of a match of two warriors in which none dies, by mars.wasm. The match
+// has 20 rounds and is run three times, of which the fastest counts.
 //
 //     node wasm.mjs MARS.WASM FILE FILE
 import fs from "node:fs";
