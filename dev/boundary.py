@@ -39,7 +39,7 @@ class Parameter:
 
     @property
     def is_turned(self) -> bool:
-        """Whether it points to values of several bytes."""
+        """Whether the parameter points to numbers of several bytes, or to structs, but not to a length."""
         return self.is_pointer and self.type not in ("uint8_t", "size_t")
 
     @property

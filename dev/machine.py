@@ -19,7 +19,7 @@ def toolchain() -> str | None:
 
 
 def number_in(name: str, pattern: str = r"(\d+)\s*$") -> int | None:
-    """Returns a number in a file of the system, or None."""
+    """Returns the number that a pattern finds in a file of the system, or None if there is none."""
     try:
         with open(name) as file:
             found = re.search(pattern, file.read())
@@ -39,7 +39,7 @@ def free_memory() -> int:
 
 
 def max_parallel(memory: int) -> int:
-    """Returns for how many processes with this much memory, in bytes, there are processors and memory: at least one."""
+    """Returns the number of processes, at least one, that have a processor and this much memory, in bytes, each."""
     return max(1, min(len(os.sched_getaffinity(0)), free_memory() // memory))
 
 

@@ -20,7 +20,7 @@ class Mistake:
     - `before`, `after`: the text that is replaced, and its replacement
     - `imports`: the imports that the replacement needs
     - `same`: why nothing can notice the mistake; "" if something should
-    - `found_by`: what noticed it: the kind (an example, a law, a type), or "nothing", and the name or the error
+    - `found_by`: the kind of what noticed the mistake (an example, a law, a type) or "nothing", and its name or error
     """
 
     crate: str

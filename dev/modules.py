@@ -1,4 +1,4 @@
-"""Keeps the module of LLVM that the prover hands to clang when the library is built, and reads it as text."""
+"""Keeps the module of LLVM that the prover passes to clang when the library is built, and reads it as text."""
 from __future__ import annotations
 
 import os
@@ -70,7 +70,7 @@ def check_module(module: str, archive: str) -> None:
 
 
 def text_of(module: str, archive: str, toolchain: str) -> str:
-    """Returns the text of the module that an archive is made from. Raises CannotBuild."""
+    """Returns the text of the module that an archive is made from. Raises CannotBuild if it is not kept."""
     check_module(module, archive)
     with tempfile.TemporaryDirectory() as room:
         text = os.path.join(room, "module.ll")

@@ -49,7 +49,7 @@ def folder_of(name: str) -> str:
 
 
 def output_of(name: str) -> str:
-    """Returns the result of proving a crate: the file that is built from it, or its statements."""
+    """Returns the path of the result of proving a crate: the file that is built from it, or its statements."""
     return BUILT.get(name) or os.path.join(folder_of(name), "out", "rlib", f"{name}.rlib")
 
 
@@ -131,7 +131,9 @@ class FromScratch:
         return found
 
     def has_statements(self, name: str) -> bool:
-        """Returns whether the statements of a crate are newer than its sources, and of this prover and this way."""
+        """Returns whether the statements of a crate are newer than its sources, and written by this prover in this
+        way.
+        """
         output = output_of(name)
         is_whole = os.path.exists(os.path.join(os.path.dirname(output), "stamp"))
         return (

@@ -93,7 +93,7 @@ def compiled(source: str, toolchain: str, room: str) -> list[str]:
 
 
 def build_wasm(module: str, archive: str, toolchain: str, room: str, out: str) -> None:
-    """Builds mars.wasm in the file `out`. Raises CannotBuild."""
+    """Builds mars.wasm in the file `out`. Raises CannotBuild if a tool fails or the module does not fit."""
     build_wasm_of(text_of(module, archive, toolchain), toolchain, room, out)
 
 

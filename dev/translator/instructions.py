@@ -17,7 +17,7 @@ WIDE = {
     "slt": "slt128({0}, {1})",
     "sle": "!slt128({1}, {0})",
 }
-# LLVM's arithmetic in C: of unsigned integers, and of signed ones where the two differ.
+# LLVM's arithmetic in C: of unsigned integers, and of signed ones if the two differ.
 PLAIN = {
     "add": "+",
     "sub": "-",
@@ -198,8 +198,8 @@ class Instructions(Values):
         return found[1], f"insert_{kind}({self.value(found[1], found[2])}, {self.value('i8', found[3])}, {found[4]})"
 
     def do_shufflevector(self, text: str) -> tuple[str, str]:
-        """Translates two forms: a vector of copies of the first element of another, and 16 adjacent elements of one of
-        64.
+        """Translates two forms: a vector of copies of the first element of another vector, and 16 adjacent elements of
+        a vector of 64.
         """
         found = self.match(rf"(<(\d+) x i8>) ({VALUE}), \1 zeroinitializer, <(\d+) x i32> (zeroinitializer|<.*>)", text)
         value, kind = self.value(found[1], found[3]), f"<{found[4]} x i8>"

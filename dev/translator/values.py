@@ -33,7 +33,7 @@ class Values(Module):
         self.here = Function("", "", [], "")
 
     def type_of(self, name: str) -> str:
-        """Returns the type of C for one of the module."""
+        """Returns the type in C for a type of the module."""
         if name in C_TYPES:
             return C_TYPES[name]
         if name not in self.records:

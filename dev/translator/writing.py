@@ -66,7 +66,7 @@ class Translator(Instructions):
         """
         size = self.here.places[name]
         found = re.search(rf"(?:load|store) ({TYPE})[, ]", line)
-        # The last place of a line is what a load or a store is at; a stored value is before it.
+        # A load or a store has the place that it uses last in its line; a stored value comes before that place.
         at = re.search(r"ptr (%[\w.]+), align", line)
         if found and at and at[1] == name and line.count(name + ",") == 1 and self.size_of(found[1]) == size:
             return {found[1]}
