@@ -78,7 +78,7 @@ def words(text: str) -> str:
 
 
 def roff(markdown: str) -> str:
-    """Returns paragraphs, lists, tables of two columns, and blocks of Markdown as roff."""
+    """Returns Markdown as roff: paragraphs, lists, tables and code blocks. Headings are left out."""
     found = ""
     for number, part in enumerate(re.split(r"^```\w*\n", markdown, flags=re.M)):
         if number % 2:

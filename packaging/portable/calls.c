@@ -42,7 +42,7 @@ static void turn(void *values, const u8 *shape, size_t count)
         for (size = shape; *size; at += *size++) turn_bytes(at, *size);
 }
 
-/* Turns the words of a battle with this number of cells. The first word of a cell is four bytes. */
+/* Turns the words of a battle with this number of cells, except the first word of each cell, which is four bytes. */
 static void turn_battle(void *values, size_t words, size_t core)
 {
     u8 *at = (u8 *)values;
@@ -64,7 +64,7 @@ static u32 no_memory(MarsFault *fault)
     return fault->code = MARS_OUT_OF_MEMORY;
 }
 
-/* A null pointer with the length 0 stays one. */
+/* A null pointer is given to the library as a null pointer, whatever its length. */
 #define GIVEN(name) (u8 *)copy_##name
 #define COPY(name, type, count) size_t count_##name = name ? (size_t)(count) : 0; void *copy_##name = copied(name, sizeof(type), count_##name);
 #define MISSING(name) (count_##name && !copy_##name)
@@ -76,7 +76,7 @@ static u32 no_memory(MarsFault *fault)
 #define TURN_BATTLE(name, type, words) size_t core_##name = CORE_OF(name, words); turn_battle(name, words, core_##name);
 #define TURN_BATTLE_BACK(name, type, words) turn_battle_back((u32 *)name, words, core_##name, answer);
 
-/* A call that failed left the words as they were. One that succeeded wrote a battle, and what is after it stays as it was. */
+/* A call that failed left all words as they were. One that succeeded wrote a battle and left the words after it. */
 static void turn_battle_back(u32 *values, size_t words, size_t core, u32 answer)
 {
     size_t used, i, after;
