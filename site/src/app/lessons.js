@@ -10,7 +10,7 @@ import { number, pluralize } from "../words/battle.js";
 /**
  * A lesson, as site/lessons has them. `judge` is one of
  *
- * - `end`, `death`: the learner shows the last turn, or one in which a warrior dies
+ * - `end`, `death`: the learner shows the last turn, or a turn in which a warrior dies
  * - `saved`: after edits of the learner no warrior dies
  * - `match`: the learner's warrior, of at most `cells` cells, wins or survives enough of 100 rounds
  * @typedef {object} Lesson

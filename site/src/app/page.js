@@ -29,7 +29,7 @@ import { Views } from "./views.js";
 /** @typedef {import("../view/host.js").MatchTerms} MatchTerms */
 
 const MAX_WORKERS = 16;
-/** The greatest seed that "Surprise me" picks: the field shows all of it. */
+/** The greatest seed that "Surprise me" picks, all of whose digits the field shows. */
 const MAX_DRAWN_SEED = 9999;
 
 export class Page {
@@ -254,7 +254,7 @@ export class Page {
   }
 
   /**
-   * Takes the terms of a battle that was opened as it is and, if `isGuest`, its sources, which the list might lack.
+   * Shows the terms of a battle that was opened, and if `isGuest` marks its sources, which the list might lack.
    * @param {import("../model/fight.js").Fight} fight
    * @param {boolean} isGuest
    * @param {MatchTerms | null} [newer] terms with which it has not been fought yet

@@ -43,7 +43,7 @@ export class Places {
 
   /**
    * @param {Session} session
-   * @param {() => number} lesson the number of the lesson that is open, from 1, or 0
+   * @param {() => number} lesson returns the number of the lesson that is open, from 1, or 0 if none is
    * @param {() => KeptWithBattle} kept
    */
   constructor(session, lesson, kept) {

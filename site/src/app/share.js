@@ -16,7 +16,7 @@ const PRIVATE = "Only you can open this page: save it as a file, or put this tex
 const MAX_LINK_LENGTH = 8000;
 
 /**
- * Returns the text of the fight that is shown, with its edits, its turn and the cell in view.
+ * Returns the text of the fight that is shown, with its edits, its turn and the pinned cell.
  * @param {Session} session
  */
 export function shared(session) {

@@ -1,9 +1,9 @@
-/** The turns in which a process of a history and its ancestors were born, even if there are edits between them. */
+/** The turns in which a process of a history and its ancestors were born, even if edits are between these turns. */
 
 /** @typedef {import("../model/fight.js").Edit} Edit */
 /**
  * The turns in which a process and its ancestors were born, its own birth first. `added` is the turn after which an
- * edit added the first ancestor, or null if that was loaded.
+ * edit added the first ancestor, or null if the first ancestor was loaded.
  * @typedef {{births: number[], added: number | null}} Descent
  */
 

@@ -17,7 +17,7 @@ export function changesOf(history, address, turn) {
   const isEdited = (/** @type {number} */ at) => history.place(at).owner(address) === BY_HAND;
   /** @type {CellChange[]} */
   const changes = [];
-  // From the turn that changed the cell last to the one before that turn, and so on.
+  // From the turn of the last change to the turn of the change before it, and so on.
   for (let at = turn; changes.length < MAX_CHANGES && !isEdited(at); at--) {
     at = history.place(at).written(address);
     if (at === 0) break;

@@ -32,7 +32,7 @@ export class Story {
   constructor(run) {
     this.run = run;
     this.processes = run.start.processes;
-    /** The most processes that each warrior has had, and the first turn in which it had as many. */
+    /** The most processes that each warrior has had, and the first turn in which it had that many. */
     this.peaks = this.processes.map((count) => ({ count, turn: run.first }));
     const warriors = this.processes.length > MAX_STORY_WARRIORS ? [] : [...this.processes.keys()];
     /** Which warriors have not split yet, and which have not yet hit which others. */

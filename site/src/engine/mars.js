@@ -14,7 +14,7 @@ export { MarsError } from "../model/errors.js";
 /** @typedef {import("../model/settings.js").Settings} Settings */
 /**
  * A warrior, as a value: `cells` are three words for each cell, whose numbers are for the core size of the settings by
- * which it was assembled or read; `start` is the index of the cell at which it starts.
+ * which the warrior was assembled or read; `start` is the index of the cell at which it starts.
  * @typedef {{name: string, author: string, start: number, cells: Uint32Array}} Warrior
  */
 /** @typedef {{line: number, labels: string[]}} Line the number of a cell's line, from 1, and its labels */

@@ -11,7 +11,7 @@ export function drawArrow(context, { start, end, cell, isFaint }, colour) {
   const ratio = devicePixelRatio;
   const [dx, dy] = [end.x - start.x, end.y - start.y];
   const length = Math.max(1, Math.hypot(dx, dy));
-  // A short way is bent more, so that its arrow is seen.
+  // A short arrow is bent more, so that it is seen.
   const bend = Math.max(18 * ratio, Math.min(0.22 * length, 90 * ratio)) / length;
   const middle = { x: (start.x + end.x) / 2 + dy * bend, y: (start.y + end.y) / 2 - dx * bend };
   const angle = Math.atan2(end.y - middle.y, end.x - middle.x);

@@ -31,7 +31,7 @@ function suggestionsFor(before, word, text) {
   const words = isModifier ? Object.entries(WORDS.modifiers) : isOperand ? names : [...Object.entries(ACTS), ...texts];
   const isLow = /[a-z]/.test(isModifier ? before.slice(-2) : word.slice(-1));
   const all = words.filter(([name]) => name.toLowerCase().startsWith(word.toLowerCase()));
-  // What is written in full is wanted as it is.
+  // A word that is written in full needs no completion.
   const found = all.some(([name]) => name.length === word.length) ? [] : all;
   const cased = (/** @type {string} */ name) => (isLow && (isModifier || name in ACTS) ? name.toLowerCase() : name);
   return found.slice(0, MAX_SUGGESTIONS).map(([name, meaning]) => ({ word: cased(name), meaning }));

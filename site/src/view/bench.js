@@ -218,7 +218,7 @@ export class Bench {
     refill(element("bench-rows"), ...this.#opponents.map((opponent) => this.#line(opponent)));
   }
 
-  /** Returns the mean over all opponents. */
+  /** Returns the elements that show the mean points per round over all opponents; none before the first result. */
   #total() {
     const rows = [...this.rows.values()];
     if (!rows.length) return [];

@@ -70,7 +70,7 @@ export class Cells {
     }
   }
 
-  /** The address that is looked at: the pinned one, the one to execute next, or at the end that of the last death. */
+  /** The address of the pinned cell, or else of the cell to execute next; if the battle is over, of the last death. */
   get focus() {
     const { pinned, view, known } = this.session;
     return pinned ?? view?.head ?? Math.max(0, known.deaths.at(-1)?.address ?? 0);
@@ -92,7 +92,7 @@ export class Cells {
     const listed = lines.map((line) => line.outerHTML).join("");
     if (listed !== this.#listed) refill(element("listing"), ...lines);
     this.#listed = listed;
-    // The turn is announced already; so is a cell that is kept in view.
+    // A pinned cell is announced if the battle is stopped. Without a pinned cell, the turn is announced already.
     element("cell-words").setAttribute("aria-live", pinned === null || way ? "off" : "polite");
     const words = this.#notice || instructionWords(readCell(view.cells, focus), { core: known.core });
     element("cell-words").textContent = words;

@@ -2,7 +2,7 @@
 
 /** The least size of cells in pixels that show their instruction. */
 export const READABLE = 46;
-/** By how much one side of a cell may be longer than the other, so that they fill the canvas. */
+/** The greatest ratio of the sides of a cell, which need not be equal, so that the cells fill the canvas. */
 const OBLONG = 1.16;
 /** How much better a number of columns is if it fills the last row. */
 const FULL = 1.08;

@@ -1,6 +1,6 @@
 /**
- * The core on a canvas: a cell is some pixels in the colour of the warrior that wrote it last, strong if that was
- * recently, and nearly white if a process is there. Large cells show their instruction.
+ * The core on a canvas: a cell is some pixels in the colour of the warrior that wrote it last, which is strong if the
+ * write is recent, and nearly white if a process is there. Large cells show their instruction.
  */
 import { MODES, MODIFIERS, NOBODY, OPCODES, isEmpty, readCell, signed } from "../model/cells.js";
 import { drawArrow } from "./arrow.js";
@@ -102,7 +102,7 @@ export class Core {
   }
 
   /**
-   * Fills all but the margin with the colour between cells, where they are not drawn later.
+   * Fills all but the margin with the colour between cells. Cells are drawn over it later.
    * @param {number} margin
    */
   #fillGaps(margin) {
@@ -158,7 +158,7 @@ export class Core {
   }
 
   /**
-   * Draws a mark on each cell with processes. Returns the addresses of the processes of warriors that have few.
+   * Draws a mark on each cell with processes. Returns the processes of warriors that have at most MAX_RINGED.
    * @param {View} view
    * @param {Palette} palette
    */

@@ -37,7 +37,7 @@ defineMode("redcode", () => ({
 }));
 
 /**
- * Returns a key map that calls `act` for a letter with Ctrl, and with Cmd, which Macs have for it.
+ * Returns a key map that calls `act` for a letter with Ctrl, and with Cmd, which Macs have in place of Ctrl.
  * @param {string} letter
  * @param {() => void} act
  */

@@ -324,7 +324,7 @@ const countsOf = ([one, other, { points, wins, ties, losses }, reverse]) =>
   [one, other, points, wins, ties, losses, reverse.points];
 
 /**
- * Returns the colour of a result: red, green, blue, 0 to 255, and how strong it is, 0 to 1.
+ * Returns the colour of a result: red, green and blue, 0 to 255, and how strong the colour is, 0 to 0.75.
  * @param {Row} row
  */
 function shade({ wins, ties, losses }) {

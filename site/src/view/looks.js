@@ -1,4 +1,4 @@
-/** What the commands of the debugger's line show of a turn: each returns the lines. */
+/** The commands of the debugger's line that show something of a turn: each returns the lines to show. */
 import { cellText, readCell } from "../model/cells.js";
 import { where } from "../words/battle.js";
 import { instructionWords } from "../words/instruction.js";

@@ -3,9 +3,9 @@ import { CELL_WORDS } from "../model/cells.js";
 
 /** @typedef {import("./session.js").Session} Session */
 /**
- * What is drawn over the cells: addresses of cells that are looked at, that the last turn read and that differ from
- * another future, where warriors died, ranges with breakpoints, and arrows from cell to cell. `warrior` is the one that
- * made the last turn.
+ * What is drawn over the cells, by addresses: the cells that are looked at; the cells that the last turn read; the
+ * cells that differ from another future; where warriors died; ranges with breakpoints; and arrows from cell to cell.
+ * `warrior` made the last turn.
  * @typedef {object} Marks
  * @property {number | null} pinned
  * @property {number | null} hovered

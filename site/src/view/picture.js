@@ -20,7 +20,7 @@ export class Picture {
   /** @type {Palette | null} */
   #palette = null;
   #request = 0;
-  /** What is being painted. */
+  /** The battle and the frame that are painted or being painted, as JSON, or "". */
   #wanted = "";
 
   /**

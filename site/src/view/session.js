@@ -172,7 +172,7 @@ export class Session extends Turns {
   }
 
   /**
-   * Shows only one warrior in full colour, or all of them if it was the only one.
+   * Shows only one warrior in full colour, or all of them if that warrior was the only one before.
    * @param {number} who
    */
   choose(who) {

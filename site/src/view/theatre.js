@@ -150,7 +150,7 @@ export class Theatre {
     if (!opened) return;
     this.track.open(opened);
     this.hovered = null;
-    // As wide as its longest text, so that nothing beside it moves.
+    // The element is as wide as its longest text, so that nothing beside it moves.
     const widest = `Turn ${number(opened.end)} of ${number(opened.end)}`;
     element("now").style.minWidth = `${0.6 * widest.length}em`;
     this.fit();

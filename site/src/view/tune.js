@@ -17,7 +17,7 @@ const MAX_VALUES = 20_000;
 /** The number of values of a job, and of each of the first jobs, which are small so that values appear soon. */
 const BATCH = 8;
 const FIRST_BATCHES = [1, 1, 2, 4];
-/** The urgency of the jobs: all others take less time, and come first. */
+/** The urgency of the jobs of a sweep: all other jobs take less time, and come first. */
 const LAST = -1;
 /** The mark of the number in its document. */
 const MARK = { className: "tuned", inclusiveRight: true, clearWhenEmpty: false };

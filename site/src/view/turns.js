@@ -73,7 +73,7 @@ export class Turns {
    */
   #limit = null;
   /**
-   * Showing the turns that are wanted, until none is left.
+   * Resolves once the turn that is wanted is shown; null if it is shown already.
    * @type {Promise<void> | null}
    */
   #going = null;
@@ -200,8 +200,8 @@ export class Turns {
   }
 
   /**
-   * Steps turns, forwards or backwards, and stops there.
-   * @param {number} turns
+   * Steps by some turns and stops there.
+   * @param {number} turns the number of turns forwards, or backwards if it is negative
    */
   step(turns) {
     this.jump(this.wanted + turns);

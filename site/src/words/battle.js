@@ -251,7 +251,7 @@ export const standingWords = (names, { processes, owned }) =>
  */
 export function captionWords(turn, events, known, { processes, cells }) {
   const { names, end, core } = known;
-  // What has happened is said for a twelfth of the battle; otherwise, in its first tenth, what Core War is.
+  // An event is the caption for a twelfth of the battle. Without events, the caption first says what Core War is.
   if (turn >= end) return `${eventWords(events[events.length - 1], known)}.`;
   const isRecent = (/** @type {Event} */ event) => event.turn <= turn && event.turn > 0 && turn - event.turn < end / 12;
   const latest = [...events].reverse().find(isRecent);

@@ -40,7 +40,7 @@ const OPENING = ["#", "$", "@", "{", "}", "("];
 /** How many words of a line are compared with the names of operations. */
 const FIRST_WORDS = 20;
 
-/** An opcode before a name without a space. */
+/** An opcode and a name without a space between them. */
 const GLUED = new RegExp(`^(${OPCODES.join("|")})([A-Z_]\\w*)$`, "i");
 
 /**

@@ -184,7 +184,7 @@ export class Jobs {
     const originAt = (/** @type {number} */ address, /** @type {number} */ turn) =>
       lines[history.origin(address, turn)];
     return history.deaths.map(({ warrior, turn, address, other, count: written }) => {
-      // Where the warrior was hit: what the cell was before it was written, or at the start.
+      // The line that was hit is that of the cell before it was written, or else at the start.
       const turns = [written && other !== warrior ? written - 1 : turn - 1, 0];
       const hit = turns.map((one) => originAt(address, one)).find((one) => one?.who === warrior);
       const writer = written ? originAt(history.deed(written).address, written - 1) : undefined;
