@@ -108,7 +108,7 @@ def public_calls(crate: str) -> Iterator[Call]:
             wanted = set(re.findall(r"^pub (?:extern \"C\" )?fn (\w+)", text, re.M))
         else:
             wanted = {name for name, home in names.items() if home == module}
-        # Without the methods, which follow by their blocks. The length stays, so that the lines are found.
+        # The text without methods, which are found by their blocks below. Its length stays, so that lines are counted.
         functions = re.sub(r"^    .*fn ", lambda found: found[0].replace("fn ", "__ "), text, flags=re.M)
         yield from calls_of(path, text, functions, 0, "laws::" if module == "laws" else "", wanted)
         for block in BLOCK.finditer(text):

@@ -10,7 +10,7 @@ from collections.abc import Iterator
 
 from tracked import TOP, files
 
-# The seven crates of the product, from the lowest one up, and the crate with the program's `main`.
+# The seven crates of the product, from the lowest one up.
 PRODUCT = ["mars_cell", "redcode_text", "redcode_asm", "mars_core", "mars_session", "mars_match", "mars_app"]
 # The interfaces of the kit besides the program: the static library for C.
 INTERFACES = ["mars_c"]

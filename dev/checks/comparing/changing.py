@@ -89,7 +89,7 @@ def compare_call(definitions: Evaluator, name: str, state: Value, edits: Sequenc
 
 
 def random_pasts(dice: random.Random, core: int) -> list[Value]:
-    """Returns a past of each cell."""
+    """Returns a random past for each cell."""
     return [
         {"owner": dice.randrange(4), "turn": dice.randrange(3), "origin": dice.randrange(core + 2)} for _ in range(core)
     ]

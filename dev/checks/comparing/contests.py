@@ -155,7 +155,7 @@ def compare_contests(definitions: Evaluator, dice: random.Random) -> Iterator[Co
 
 
 def compare_fights(definitions: Evaluator, dice: random.Random) -> Iterator[Comparison]:
-    """Compares a match of two or three examples in a core that is large enough for them to live on."""
+    """Compares a match of two or three examples in a core that is large enough for long battles, and its last round."""
     core = dice.choice([200, 400, 800])
     settings = {**random_contest(dice, core, LONGEST, dice.choice([20, 100, 300])), "processes": dice.choice([8, 80])}
     settings |= {"rounds": dice.randint(1, 2), "distance": LONGEST}

@@ -89,7 +89,7 @@ ROWS = ("MarsRecord", "MarsTouched")
 
 
 def play(words: Sequence[int], turns: int, counts: dict[str, int]) -> Value:
-    """Executes turns of a battle. Returns its words, and as many rows of each kind as are counted."""
+    """Executes turns of a battle. Returns the error code, the words, and as many rows of each kind as `counts` has."""
     block, rows = array("uint32_t", words), {kind: room(kind, counts[kind]) for kind in ROWS}
     error = call("mars_play", *block, turns, *rows["MarsRecord"], *rows["MarsTouched"])
     return {"error": error["code"], "words": tuple(block[0]), **{kind: rows_in(*row) for kind, row in rows.items()}}

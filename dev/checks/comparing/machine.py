@@ -84,7 +84,7 @@ def block_words(definitions: Evaluator, state: Value) -> tuple[int, ...]:
 
 
 def states_from(definitions: Evaluator, state: Value, turns: int) -> list[Value]:
-    """Returns a state and those after the next turns, as many as there are."""
+    """Returns a state and the state after each of the next `turns` turns, or fewer states if the battle ends."""
     states = [state]
     while len(states) <= turns and not definitions("mars_core.State.is_over_of", states[-1]):
         states.append(definitions("mars_core.Turn.turn_of", states[-1]))

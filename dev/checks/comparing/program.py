@@ -1,4 +1,4 @@
-"""Compares runs of the program `mars`, what it writes and its exit status, for options whose values are known."""
+"""Compares what runs of the program `mars` with random options write, and their exit statuses."""
 from __future__ import annotations
 
 import os

@@ -47,7 +47,7 @@ NEEDS: dict[str, tuple[Callable[[], bool], str]] = {
     "wasm": (has_wasm, "mars.wasm: it is not built, or there is no node (package nodejs)"),
     "pmars": (has_pmars, "pMARS: `dev/bench/pmars build/pmars` builds it (package pmars)"),
 }
-# Errors of an evaluation, which only a mistake in a definition causes, and of what computes the value to compare.
+# Errors that an evaluation raises only if a definition has a mistake, and errors of what computes the other value.
 ERRORS = (NoCase, ArithmeticError, LookupError, RecursionError, RuntimeError, TypeError, ValueError)
 
 

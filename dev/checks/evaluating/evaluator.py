@@ -29,7 +29,7 @@ class NoCase(Exception):
 
 
 def no_case() -> Value:
-    """Raises NoCase, where a value is expected."""
+    """Raises NoCase in an expression, in which `raise` is not allowed."""
     raise NoCase
 
 

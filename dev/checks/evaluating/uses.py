@@ -1,4 +1,4 @@
-"""Finds the variables that each evaluation of a term needs, so that their values may be computed before it."""
+"""Finds the variables that each evaluation of a term needs, so that their values may be computed before the term."""
 from __future__ import annotations
 
 from .terms import Apply, Elim, Every, Field, If, Lambda, Let, Name, Number, Record, Some, Term, Text, Tuple
