@@ -51,7 +51,7 @@ def survived(program: str, files: list[str], cycles: int) -> bool:
 
 
 def long_round(programs: list[str], files: list[str]) -> int:
-    """Returns for how many cycles no warrior dies, LONG at most. Exits unless that is so in all programs."""
+    """Returns the number of cycles, at most LONG, for which no warrior dies. Exits if the programs differ in it."""
     least, most = CYCLES, LONG
     while least < most:
         middle = (least + most + 1) // 2

@@ -75,15 +75,15 @@ def allocations(command: Sequence[str]) -> int:
 
 
 def find_pmars() -> str | None:
-    """Returns the `pmars` on the path if it runs matches without a display, which that of Debian's package doesn't."""
+    """Returns the `pmars` on the path, or None if it runs no match without a display, as that of Debian's package."""
     found = shutil.which("pmars")
     imp = os.path.join(EXAMPLES, "imp.red")
     return None if found is None or run([found, "-b", imp, imp]).status else found
 
 
 def warrior(place: str, name: str) -> str:
-    """Returns the file of an example, or, if the name is in capitals, of a constant of race.rattle, which is put into
-    the folder.
+    """Returns the file of an example. If the name is in capitals, writes that constant of race.rattle to a file in the
+    folder `place`, and returns this file.
     """
     if not name.isupper():
         return os.path.join(EXAMPLES, f"{name}.red")
