@@ -109,14 +109,14 @@ class FromScratch:
         self.memory = free_memory()
 
     def jobs(self, at_once: int) -> int:
-        """Returns the number of jobs of each of `at_once` crates: one for each processor, if there is memory for that,
-        because the processors would be idle when one crate is proved and the others continue with few jobs.
+        """Returns the number of jobs of each of `at_once` crates: one for each processor, if there is memory for that.
+        With fewer jobs, processors would be idle when one crate is proved and the others continue.
         """
         return max(1, min(self.max_jobs, self.memory // (at_once * MEMORY_OF_A_JOB)))
 
     def proved(self) -> set[str]:
-        """Returns what need not be proved: unchanged since the program or the archive was built, or since the crate was
-        proved in this way.
+        """Returns the crates that need not be proved: those that are unchanged since the program or the archive was
+        built, or since they were proved in this way.
         """
         found = up_to_date(self.lines)
         for name in self.lines:
@@ -141,8 +141,8 @@ class FromScratch:
         )
 
     def prove(self, name: str, jobs: int) -> None:
-        """Proves a crate in `jobs` jobs. The program uses one, since every other one would read the statements of all
-        crates again.
+        """Proves a crate in `jobs` jobs. The program is proved in one job, since every other job would read the
+        statements of all crates again.
         """
         output = output_of(name)
         if name not in BUILT:
