@@ -75,7 +75,7 @@ def allocations(command: Sequence[str]) -> int:
 
 
 def find_pmars() -> str | None:
-    """Returns the `pmars` on the path, or None if it runs no match without a display, as that of Debian's package."""
+    """Returns the `pmars` on the path if it runs without a display, unlike that of Debian's package; otherwise None."""
     found = shutil.which("pmars")
     imp = os.path.join(EXAMPLES, "imp.red")
     return None if found is None or run([found, "-b", imp, imp]).status else found
