@@ -90,8 +90,8 @@ export class Jobs {
   }
 
   /**
-   * Returns the points of each survivor of a round of two with this number of survivors. Returns 0 if the formula has
-   * no value and none is needed.
+   * Returns the points of each survivor of a round of two with this number of survivors; 0 without survivors, or if the
+   * formula has no value and none is needed.
    * @param {number} survivors
    * @param {string | undefined} formula
    * @param {boolean} isNeeded whether there are such rounds; for others a formula may have no value
