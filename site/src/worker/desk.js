@@ -118,7 +118,7 @@ export class Desk {
   }
 
   /**
-   * Returns the labels of the battle, and for each origin the warrior and the line of its source.
+   * Returns the labels of the battle, and for each origin the warrior, the line of its source, and the address.
    * @param {History} history
    */
   #lines(history) {
@@ -250,7 +250,7 @@ export class Desk {
   }
 
   /**
-   * Returns where each warrior is loaded in a round of the match, in the order of its turns.
+   * Returns the address at which each warrior is loaded in a round of the match, in the order of turns in that round.
    * @param {number} round
    */
   starts(round) {
@@ -310,7 +310,7 @@ export class Desk {
   }
 
   /**
-   * Returns the last changes of a cell up to a turn and the turn of the next one, as changesOf does.
+   * Returns the changes of a cell before and after a turn, as changesOf does.
    * @param {number} future
    * @param {number} address
    * @param {number} turn

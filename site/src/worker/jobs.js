@@ -14,8 +14,8 @@ import { ASSEMBLY, FORMULA } from "../model/layout.js";
 /** @typedef {import("../model/fight.js").Fight} Fight */
 /** @typedef {import("../model/settings.js").Settings} Settings */
 /**
- * A death: whose, in which turn, on which line of its own source, and by which line of the killer's source the cell was
- * written. A line is 0 if it isn't known, and `killer` is -1 if no warrior owned the cell.
+ * A death. `line` is the line of the warrior's source on which it died, `killer` the owner of the cell, or -1 if there
+ * is none, and `by` the line of the owner's source that wrote the cell. A line is 0 if it isn't known.
  * @typedef {{warrior: number, turn: number, line: number, killer: number, by: number}} Death
  */
 /** @typedef {"win" | "tie" | "loss"} RoundResult */
@@ -127,7 +127,7 @@ export class Jobs {
   }
 
   /**
-   * Fights two rounds of a pair at each position: in the first one the first warrior begins, in the second the other.
+   * Fights two rounds of a pair at each position: the first warrior begins the first one, the other one the second.
    * Returns for each round 1 if the first warrior loses, 2 if it wins, 3 if both survive.
    * @param {Warrior[]} pair
    * @param {number[]} positions

@@ -12,7 +12,7 @@ import { BY_HAND, NOBODY } from "../model/cells.js";
  */
 /** @typedef {{from: number, owner: Uint8Array, light: Uint8Array}} Piece columns, one after another */
 
-/** The columns after which a third of the shine of a written cell is left. */
+/** The number of columns after which about a third of the shine of a written cell is left. */
 const AFTERGLOW = 7;
 /** The brightness of a row of old cells, and what it gains if all of them are fresh. */
 const OLD = 0.5;
@@ -111,7 +111,7 @@ export class Painter {
   /**
    * Weighs the cells of each warrior in each row; cells that were written recently weigh more.
    * @param {Place} place
-   * @param {number} fading the turns after which a third of the brightness is left
+   * @param {number} fading the number of turns after which about a third of the brightness is left
    */
   #weigh(place, fading) {
     const { turn } = place;

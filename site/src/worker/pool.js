@@ -15,11 +15,11 @@ import { MarsError } from "../model/errors.js";
  */
 /** @typedef {{done: (value: any) => void, failed: (error: unknown) => void}} Waiting */
 
-/** What a job that was dropped fails with. */
+/** The error of a job that was dropped. */
 export class Stopped extends Error {}
-/** What a call that takes too long fails with; its worker is ended. */
+/** The error of a call that takes too long, whose worker is then ended. */
 class TimedOut extends Error {}
-/** What opening a battle fails with if the user cancels it. */
+/** The error of opening a battle if the user cancels that. */
 class Cancelled extends Error {}
 
 /** A worker, and the calls that wait for its answers. */
@@ -98,7 +98,7 @@ class WorkerClient {
 
   /**
    * Ends the worker.
-   * @param {Error} why what the calls that wait fail with
+   * @param {Error} why the error of the calls that wait
    */
   end(why = new Stopped("stopped")) {
     this.worker.terminate();
@@ -162,7 +162,7 @@ class RemoteDesk {
 
   /**
    * Ends the worker, and starts another one with the battle and its futures.
-   * @param {Error} why what the calls that wait fail with
+   * @param {Error} why the error of the calls that wait
    */
   async #restart(why) {
     const { client } = this;
