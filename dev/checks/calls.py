@@ -7,8 +7,8 @@ usage: dev/checks/calls.py [CRATE..]
 The first form prints a line for each call of the seven libraries and of the C library: the call, its file and line, the
 labels of its clauses (a contract with one clause may have none), and the definitions of specs/ that they cite, as
 FILE.NAME. The second form prints the whole contracts, and the values that the public types have in them.
-docs/dev/CONTRACTS.txt records this; `dev/checks/rules` compares the two, so that a change of a contract is a change of
-that file.
+docs/dev/CONTRACTS.txt records the output of the second form. `dev/checks/rules` compares the two, so that a change of a
+contract is a change of that file.
 """
 from __future__ import annotations
 
