@@ -23,11 +23,11 @@ HEADER = 64
 # The maximum number of turns of a call that returns records, touched cells or the turns that meet conditions; and the
 # types of a record and of the touched cells of a turn.
 RECORDED_TURNS, ROWS = 65_536, ("MarsRecord", "MarsTouched")
-# The number of births for which `ancestors` first makes a buffer.
+# The number of births for which the first buffer of `ancestors` has room.
 BIRTHS = 1000
 # The size of the debugger's history in places, if none is given.
 HISTORY = 200_000
-# The number of an edit's error if an address is outside the core or the first one is above the last.
+# The number of an edit's error if an address is outside the core, or the first address of a fill is above the last.
 ADDRESS = numbers()["EDIT_ADDRESS"]
 
 
@@ -52,7 +52,7 @@ class Battle:
     @staticmethod
     def of_bytes(data: bytes) -> Battle:
         """Returns the battle with these bytes. Raises `MarsError` if they are not a battle."""
-        # A memoryview rejects a number, of which `bytearray` would make as many zeros.
+        # `bytearray` would turn a number into zeros; a memoryview rejects it.
         words = np.frombuffer(bytearray(memoryview(data)), np.uint32, len(data) // 4)
         call("mars_check", *slice_of("uint32_t", words))
         return battle_of_words(words)
@@ -68,7 +68,7 @@ class Battle:
     def __repr__(self) -> str:
         return f"<Battle of {self._head['warriors']} warriors after {self.turns} turns>"
 
-    # A battle changes.
+    # A battle changes, so it has no hash.
     __hash__ = None  # type: ignore[assignment]
 
     def _slice(self) -> tuple[Any, int]:
@@ -126,11 +126,11 @@ class Battle:
         call("mars_check", *self._slice())
 
     def play(self, turns: int | None = None, *, records: int = 0, touched: int = 0) -> tuple[Records, Records]:
-        """Executes turns until the battle is over, or until their number is reached.
+        """Executes turns until the battle is over, or until `turns` of them are executed.
 
-        - `turns`: the number of turns, or None for all that are left
+        - `turns`: the maximum number of turns, or None for all that are left
         - `records`: the maximum number of records to return, those of the first turns; a record has 120 bytes
-        - `touched`: the maximum number of rows with touched cells to return
+        - `touched`: the maximum number of rows to return, each with the cells that one of the first turns touched
 
         Returns an array with the fields of `MarsRecord` and one with those of `MarsTouched` in the API for C. Raises
         `CorewarError` for a negative number, and `MarsError` if something that was written to the battle is invalid.
@@ -140,7 +140,7 @@ class Battle:
         left = MAX_UINT32 if turns is None else check_size(turns)
         parts: list[tuple[Records, Records]] = []
         while True:
-            # Python raises Ctrl-C between two calls, and memory is only needed for turns that are left.
+            # Python raises Ctrl-C between two calls, and a call allocates rows for at most RECORDED_TURNS turns.
             done = self.turns - before
             count = min(left, RECORDED_TURNS if done < max(wanted) else TURNS)
             rows = [array(*one) for one in zip(ROWS, (min(count, max(0, most - done)) for most in wanted))]
@@ -154,14 +154,15 @@ class Battle:
         return recorded, seen
 
     def follow(self, pasts: Pasts, turns: int, conditions: Sequence[tuple[int, int, int, int]] = ()) -> Records:
-        """Executes turns as `play` does, and updates the past of each cell in place, as `mars_follow`.
+        """Executes turns as `play` does, and updates the past of each cell in place, as `mars_follow` does.
 
-        - `pasts`: an array with the fields of `MarsPast` and a row for each cell, as they are before these turns
+        - `pasts`: the past of each cell before these turns, as an array with the fields of `MarsPast`
+        - `turns`: the maximum number of turns
         - `conditions`: the fields of each `MarsCondition`
 
-        Returns the turns that meet all conditions, or none without conditions: an array with the fields of `MarsFound`.
-        Raises `MarsError` for a condition whose `way` or `number` does not exist, and if something that was written to
-        the battle is invalid.
+        Returns the turns that meet all conditions, as an array with the fields of `MarsFound`. It is empty if there are
+        no conditions. Raises `MarsError` for a condition whose `way` or `number` does not exist, and if something that
+        was written to the battle is invalid.
         """
         asked, count = array("MarsCondition", len(conditions)), library()[0].new("uint32_t *")
         asked[:] = [*conditions]
@@ -182,9 +183,10 @@ class Battle:
         - `index`: its index in the queue after the turns; the front has index 0
         - `turns`: the number of turns to look ahead, or None for all that are left
 
-        Returns the turns, its own birth first, then the birth of the process that split there, and so on; and the
-        index, in the queue of the battle as it is, of the process from which all of them descend. Raises `MarsError` if
-        there is no such process after the turns, and if something that was written to the battle is invalid.
+        Returns the turns: first that of the birth of the process, then that of the process that split there, and so on.
+        Also returns the index, in the queue before the turns, of the process from which all of them descend. Raises
+        `MarsError` if there is no such process after the turns, and if something that was written to the battle is
+        invalid.
         """
         ahead = MAX_UINT32 if turns is None else check_size(turns)
         count, first = (library()[0].new("uint32_t *") for _ in range(2))
@@ -231,7 +233,7 @@ class Battle:
 
 
 def battle_of_words(data: Words | bytes) -> Battle:
-    """Returns the battle of words that are known to be one, with the capacity that it needs."""
+    """Returns the battle with these words, which are known to be valid, with capacity for all processes."""
     words = np.frombuffer(data, np.uint32)
     head = words[:HEADER].view(dtype_of("MarsBattle"))[0]
     core, warriors, processes, length = (int(head[name]) for name in ("core", "warriors", "processes", "words"))

@@ -1,8 +1,8 @@
 """The library for C as its header declares it: its calls, and its types as types of NumPy.
 
-The library is the file that MARS_LIBRARY names; otherwise the first of these that exists: the library beside this file
-(in a wheel), in `build` of the checkout that contains this file, or in `lib` of the prefix in which the package is
-installed, or of the system. It is libmars.so.2, on Windows mars-2.dll, on macOS libmars.2.dylib. A call releases the
+MARS_LIBRARY names the file of the library. Without it, the library is the first that exists: beside this file (in a
+wheel), in `build` of the checkout that contains this file, or in `lib` of the prefix in which the package is installed,
+or of the system. Its name is libmars.so.2, on Windows mars-2.dll, on macOS libmars.2.dylib. A call releases the
 interpreter lock, and several threads may call at once.
 """
 from __future__ import annotations
@@ -24,23 +24,23 @@ from ..model.settings import Settings
 
 # The result of a call whose buffer is too short, which is not an error.
 ROOM = numbers()["ROOM"]
-# The greatest number of 32 bits. No argument of the library has it in its range, except for a number of turns and the
-# values of ROUNDS and WARRIORS in a source.
+# The greatest number of 32 bits. It is out of the range of each argument of the library, except for a number of turns
+# and the values of ROUNDS and WARRIORS in a source.
 MAX_UINT32 = (1 << 32) - 1
 # The numbers that are None if they are not given.
 OPTIONAL = ("read_limit", "write_limit", "position")
 OPEN_LOCK = Lock()
-# The types of the header that setup.py puts into a wheel.
+# The module with the types of the header, which setup.py puts into a wheel.
 COMPILED_TYPES = ENGINE / "declared.py"
 
 
 class NoLibrary(CorewarError):
-    """The library is missing, or its version is not that of the header."""
+    """The library is missing or cannot be loaded, or its version is too old for the header or of another major one."""
 
 
 def library() -> tuple[Any, Any]:
-    """Returns the types of the header, and the library: the same for all threads, since types of two headers are
-    incompatible.
+    """Returns the types of the header, and the library. All threads get the same objects, since types that were made
+    twice are incompatible. Raises NoLibrary.
     """
     with OPEN_LOCK:
         return open_library()
@@ -48,7 +48,7 @@ def library() -> tuple[Any, Any]:
 
 @lru_cache(maxsize=None)
 def open_library() -> tuple[Any, Any]:
-    """Returns the types of the header, and the library."""
+    """Returns the types of the header, and the library. Raises NoLibrary."""
     below = [folder / "lib" / LIBRARY for folder in INSTALLED]
     built = [ENGINE / LIBRARY, CHECKOUT / "build" / LIBRARY, *below]
     shared = os.environ.get("MARS_LIBRARY") or next((str(path) for path in built if path.is_file()), None)
@@ -67,8 +67,8 @@ def open_library() -> tuple[Any, Any]:
 
 
 def types() -> tuple[Any, str]:
-    """Returns the types of the header for cffi, and where they are from. A wheel has them ready, so that no header is
-    parsed at each start.
+    """Returns the types of the header for cffi, and the name of the file that they are from. A wheel has them ready, so
+    that no header is parsed at each start.
     """
     if COMPILED_TYPES.is_file() and "MARS_HEADER" not in os.environ:
         return import_module(f".{COMPILED_TYPES.stem}", __package__).ffi, str(COMPILED_TYPES)
@@ -79,7 +79,7 @@ def types() -> tuple[Any, str]:
 
 @lru_cache(maxsize=None)
 def dtype_of(name: str) -> np.dtype[Any]:
-    """Returns the type of the elements of an array, for a type of the header."""
+    """Returns the type of NumPy for a type of the header, given by its name."""
     return dtype_of_type(library()[0].typeof(name))
 
 
@@ -105,8 +105,8 @@ def slice_of(name: str, values: bytes | bytearray | NDArray[Any]) -> tuple[Any, 
 
 
 def clamp(value: int, maximum: int = MAX_UINT32) -> int:
-    """Returns a number as an argument of the library, or `maximum` in place of one that does not fit: the library
-    rejects that by the name of the argument.
+    """Returns a number if it is from 0 to `maximum`, and `maximum` in place of any other. The library rejects `maximum`
+    with an error that names the argument.
     """
     return value if 0 <= value <= maximum else maximum
 
@@ -121,7 +121,7 @@ def check_size(value: int) -> int:
 
 
 def settings_struct(settings: Settings, rounds: int = 1, seed: int = 1, position: int | None = None) -> Any:
-    """Returns the settings in the form that a call expects. There, 0 stands for one of OPTIONAL that is not given."""
+    """Returns the settings as a call expects them, with 0 for each number of OPTIONAL that is not given."""
     numbers = {**vars(settings), "rounds": rounds, "seed": seed, "position": position}
     given = {name: 0 if value is None else clamp(value) for name, value in numbers.items()}
     # A 0 that the caller gives is out of the range, but the library would take it for a number that is not given.
@@ -141,8 +141,8 @@ def call(name: str, *given: Any) -> int:
 
 
 def read_text(room: int, fill: Callable[..., int]) -> bytes:
-    """Returns the text that a call writes. `room` is the size of the first buffer in bytes; if it is too short, the
-    call is made again with a buffer of the size that it requires.
+    """Returns the text that the call `fill` writes. The first buffer has `room` bytes. If it is too short, the call is
+    made again with a buffer of the size that the text requires.
     """
     length, buffer = library()[0].new("size_t *"), bytearray(room)
     if fill(*slice_of("uint8_t", buffer), length) == ROOM:

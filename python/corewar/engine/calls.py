@@ -1,4 +1,5 @@
-"""Assembles sources and runs matches; and what other calls of the library need too: matches, rows, seeds and arrays."""
+"""Assembles sources and runs matches. Modules with other calls of the library use its matches, rows, seeds and arrays.
+"""
 from __future__ import annotations
 
 import os
@@ -14,7 +15,7 @@ from .binding import array, call, check_size, clamp, settings_struct, slice_of
 from .parts import TURNS
 from .warriors import Warrior, program
 
-# The generator of seeds: each is the one before times the multiplier, modulo a prime.
+# The generator of seeds: each seed is the previous seed times MULTIPLIER, modulo the prime MODULUS.
 MULTIPLIER, MODULUS = 16807, 2**31 - 1
 # The number of rounds, the seed and the position of a match.
 MatchNumbers = tuple[int, int, int | None]
@@ -98,8 +99,8 @@ def assemble(
 
 
 def encode_source(source: str | bytes) -> bytes:
-    """Returns the bytes of a source; those that are not UTF-8 may be in a text as `surrogateescape` decodes them."""
-    # `bytes` would make as many zeros of a number; a memoryview rejects it.
+    """Returns a source as bytes. In a text, bytes that are not UTF-8 may occur as `surrogateescape` decodes them."""
+    # `bytes` would turn a number into zeros; a memoryview rejects it.
     return source.encode(errors="surrogateescape") if isinstance(source, str) else bytes(memoryview(source))
 
 
@@ -144,24 +145,28 @@ def match(
 
 
 def check_numbers(settings: Settings, rounds: int, seed: int, position: int | None) -> None:
-    """Raises MarsError if the library rejects one of these numbers."""
+    """Raises MarsError if the library rejects the settings or one of these numbers."""
     # Without candidates no match is run.
     rows("mars_population", settings, (rounds, seed, position), FORMULA, [], 0)
 
 
 def portions(numbers: MatchNumbers, warriors: int, size: int) -> Iterator[MatchNumbers]:
-    """Yields the numbers of matches of about `size` rounds, which together have the rounds of a match in order."""
+    """Yields the numbers of shorter matches, of about `size` rounds each, that together have the rounds of a match, in
+    order.
+    """
     rounds, seed, position = numbers
-    # The same warrior begins each portion.
+    # Rounded up to a multiple of `warriors`, so that the same warrior begins each portion.
     size = max(1, -(-size // warriors)) * warriors
-    # In each round a seed is drawn for each warrior but the first, and for each but two to put them in another order.
+    # A round of w warriors draws w - 1 seeds to place them, and w - 2 to put them in another order.
     draws = max(0, 2 * warriors - 3) if not position else 0
     for first in range(0, rounds, size):
         yield min(size, rounds - first), seed_after(seed, draws * first), position
 
 
 def seed_after(seed: int, draws: int) -> int:
-    """Returns the seed that is left after a number of draws, or with a negative one the seed before them."""
+    """Returns the seed after a number of draws. If the number is negative, `seed` is the seed after that many draws,
+    and the seed before them is returned.
+    """
     return seed * pow(MULTIPLIER, draws, MODULUS) % MODULUS
 
 
@@ -183,7 +188,9 @@ def check_count(warriors: int) -> None:
 
 
 def warrior_arrays(warriors: Sequence[Warrior], core: int) -> tuple[Any, ...]:
-    """Returns the cells of warriors one after another, and the length and start of each, for a core of a size."""
+    """Returns arguments of a call: the cells of all warriors, one after another, as a core of this size reads them, and
+    the length and start of each warrior. Raises MarsError, and TypeError for anything that is not a warrior.
+    """
     cells, numbers = list[bytes](), list[int]()
     for index, warrior in enumerate(warriors):
         if not isinstance(warrior, Warrior):
@@ -204,7 +211,7 @@ def rows(
     warriors: Sequence[Warrior],
     count: int,
 ) -> list[Row]:
-    """Returns the rows of the call `name`, one for each of the first `count` warriors."""
+    """Returns the rows that the library's call `name` makes, one for each of the first `count` warriors."""
     given, result = settings_of(settings), array("MarsRow", count)
     words = settings_struct(given, *numbers), *slice_of("uint8_t", encode_source(formula))
     call(name, *words, *warrior_arrays(warriors, given.core), *slice_of("MarsRow", result))

@@ -16,13 +16,13 @@ SIGNAL = getattr(signal, "SIGPROF", signal.SIGTERM)
 
 
 class Expired(BaseException):
-    """The time is over. It is no `Exception`, so that nothing continues after it as after an error of a source."""
+    """The time is over. It is no `Exception`, so that code that catches the errors of a source does not catch it."""
 
 
 @contextmanager
 def deadline(limit: Limit) -> Iterator[None]:
-    """Raises `Overrun` in the `with` block once this process has taken the seconds of a limit there. Other threads than
-    the main one receive no signal, so they have no limit.
+    """Ends the `with` block by `Overrun` once this process has spent the seconds of a limit there. Only the main thread
+    receives signals, so other threads have no limit.
     """
     if threading.current_thread() is not threading.main_thread():
         yield
@@ -39,7 +39,7 @@ def deadline(limit: Limit) -> Iterator[None]:
 
 @contextmanager
 def timer(seconds: int) -> Iterator[None]:
-    """Sends the signal to the main thread once this process has taken this CPU time in the `with` block."""
+    """Sends SIGNAL to the main thread once this process has spent `seconds` of CPU time in the `with` block."""
     if SIGNAL == signal.SIGTERM:
         clock = Clock(lambda: signal.raise_signal(SIGNAL), time.process_time() + seconds)
         try:

@@ -1,4 +1,6 @@
-"""Writes files. An older file is replaced as a whole, or stays as it is if anything fails, such as on a full disk."""
+"""Writes files. An existing file is replaced as a whole, and stays as it is if that fails, such as on a full disk. Only
+if its folder accepts no new file, it is overwritten in place.
+"""
 from __future__ import annotations
 
 import os
@@ -10,7 +12,7 @@ from ..model.errors import FileError
 
 # Names that stand for open files, which another file cannot replace.
 OPEN_FILES = ("/dev/", "/proc/")
-# Windows writes CR LF in place of LF without it.
+# Without this flag, Windows writes CR LF in place of LF.
 BINARY = getattr(os, "O_BINARY", 0)
 
 
@@ -32,7 +34,7 @@ def replace(path: Path, data: bytes) -> None:
         raise PermissionError(0, "read-only file")
     part = path.with_name(f".{secrets.token_hex(8)}.part")
     try:
-        # Another program's file or link of this name is not followed.
+        # This fails if another program has made a file or a link of this name.
         handle = os.open(part, os.O_WRONLY | os.O_CREAT | os.O_EXCL | BINARY, 0o666)
     except PermissionError:
         if not path.exists():

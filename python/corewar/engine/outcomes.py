@@ -20,7 +20,8 @@ from .parts import DISTANT_TURNS, TURNS, Stopped, run_parts
 from .rewards import cycles_of
 from .warriors import Warrior
 
-# The fields of a warrior in a round, and those that are added if what it did is counted, as `outcomes` describes them.
+# The fields of a warrior in a round; the names of the fields that `counts` adds; and all fields. `outcomes` describes
+# them.
 OUTCOME = np.dtype([("survived", "?"), ("turns", "u4"), ("cycles", "u4"), ("start", "u4")])
 COUNTS = ("own_turns", "spawned", "executed", "written", "touched")
 COUNTED = np.dtype([*OUTCOME.descr, *((name, "u4") for name in COUNTS)])
@@ -29,7 +30,7 @@ COUNTED = np.dtype([*OUTCOME.descr, *((name, "u4") for name in COUNTS)])
 PARTS, MAX_ROWS = 4, 1 << 19
 # The maximum number of matches that are listed at a time, 20 MB of lineups.
 BLOCK = 1 << 18
-# How many times as long a turn takes at most if it is counted.
+# The maximum factor by which a turn takes longer if it is counted.
 COUNTING = 8
 
 Array = NDArray[Any]
@@ -50,25 +51,24 @@ def outcomes(
 ) -> NDArray[Any]:
     """Runs a match of each lineup, and returns how each of its warriors fares in each round.
 
-    - `lineups`: the indices of the warriors of each match, in their order: 1 to 16 for each; None for one match of all
-      warriors
-    - `settings`, `position`: as for `match`; a position is only for lineups of two
+    - `lineups`: for each match the indices of its 1 to 16 warriors, in their order; None for one match of all warriors
+    - `settings`, `position`: as for `match`; a position requires lineups of two
     - `rounds`: the number of rounds of each match, 1 to 100,000
     - `seeds`: the seed of all matches, or one for each, 1 to 2,147,483,646
     - `counts`: whether to count what each warrior does, which takes several times as long
     - `jobs`: the number of threads, 1 or more
     - `executor`: an executor of `concurrent.futures` that runs the matches instead, such as one of threads, processes,
-      Dask or MPI. Its workers need the same version of the package; results are the same, however they are split
-    - `reduce`: a function of the outcomes of some lineups that returns an array with a row for each, such as
-      `partial(corewar.shares, cycles=800)`; the rows of all lineups are returned instead. It runs where the matches
-      run, so that the outcomes of only a few lineups are in memory; for other processes it is a function that can be
-      pickled
+      Dask or MPI. Its workers need the same version of the package; results do not depend on how matches are split
+    - `reduce`: a function of the outcomes of some lineups that returns an array with a row for each lineup, such as
+      `partial(corewar.shares, cycles=800)`; the rows of all lineups are returned in place of the outcomes. It runs
+      where the matches run, so that the outcomes of only a few lineups are in memory; other processes require a
+      function that can be pickled
 
     Returns an array of the shape (lineups, rounds, warriors of a lineup) with these fields:
 
     - `survived`: whether the warrior lives at the end of the round
-    - `turns`: the number of turns that all warriors had made when it died, including its last one; of all turns if it
-      survived
+    - `turns`: the number of turns that all warriors had made when it died, including its last one; or the number of
+      all turns if it survived
     - `cycles`: the number of complete cycles when it died; the cycle limit if it survived
     - `start`: the address of its first cell
 
@@ -81,10 +81,10 @@ def outcomes(
       does not use them
 
     In a lineup that is shorter than others the last rows have no warrior: all their fields are 0, also `turns`, which
-    is 1 or more for a warrior. The sums over the rounds are the rows of `match`. Raises ValueError for more or fewer
-    seeds than lineups, and for numbers that are not whole; `CorewarError` for more than 16 warriors in a match, for no
-    thread and for errors of an executor; and `MarsError` if a number, a lineup or a warrior is invalid, if the core is
-    too small, or if memory runs out.
+    is 1 or more for a warrior. The rows of `match` count these outcomes over the rounds. Raises ValueError for more or
+    fewer seeds than lineups, and for numbers that are not whole; `CorewarError` for more than 16 warriors in a match,
+    for no thread, for another number of rows from `reduce` and for errors of an executor; and `MarsError` if a number,
+    a lineup or a warrior is invalid, if the core is too small, or if memory runs out.
     """
     check_jobs(jobs)
     given = settings_of(settings)
@@ -110,7 +110,7 @@ def check_jobs(jobs: int) -> None:
 
 
 def found_of(rows: Array, counts: bool, cycles: int, reduce: Callable[[Array], Array] | None) -> Array:
-    """Returns rows of the library as `outcomes` does, or reduced."""
+    """Returns the outcomes for rows of the library, or the rows that `reduce` returns for them. Raises CorewarError."""
     found = np.empty(rows.shape, COUNTED if counts else OUTCOME)
     for field in ("survived", "turns", "start", *(COUNTS if counts else ())):
         found[field] = rows[field]
@@ -125,8 +125,8 @@ def found_of(rows: Array, counts: bool, cycles: int, reduce: Callable[[Array], A
 
 @dataclass(frozen=True)
 class Run:
-    """What all matches have in common. `width` is the number of warriors of the longest lineup: the results of each
-    match have as many columns.
+    """What all matches have in common. `width` is the number of warriors of the longest lineup, and so the number of
+    columns in the results of each match.
     """
 
     settings: Settings
@@ -136,7 +136,7 @@ class Run:
 
 
 def turns_of(run: Run, table: Array) -> int:
-    """Returns the maximum number of turns of a round, times COUNTING if they are counted, since these take longer."""
+    """Returns the maximum number of turns of a round, times COUNTING if they are counted, since counting takes time."""
     return run.settings.cycles * run.width * (COUNTING if table["counting"].any() else 1)
 
 
@@ -161,7 +161,8 @@ def run_lineups(
         if len(table):
             yield slice(0, len(table)), play(warriors, table, run, finish)
         return
-    # A part has only its own warriors, so a wrong lineup is looked for first, and then a wrong warrior.
+    # A part has other indices than the table. So a wrong lineup is looked for before, and if there is none, a wrong
+    # warrior.
     is_used = np.arange(MAX_WARRIORS) < table["count"][:, None]
     wrong = (table["count"] < 1) | (np.where(is_used, table["warrior"], 0).max(axis=1) >= len(warriors))
     first = np.flatnonzero(wrong)[:1]
@@ -196,7 +197,7 @@ def play(
     """Runs the matches of a table, and returns what `finish` makes of their rows. A table of one match, which may take
     long, is run in portions, between which `stop` ends it.
     """
-    # The library rejects 0 by the same name as any number out of the range, and 0 rounds need no memory.
+    # The library rejects 0 with the same error as any number out of the range, and 0 rounds need no memory.
     rounds = run.rounds if 0 < run.rounds <= NUMBERS["rounds"].maximum else 0
     fixed, size = warrior_arrays(warriors, run.settings.core), TURNS // max(1, turns_of(run, table))
     given, parts = [(rounds, 0, run.position)], []
@@ -217,7 +218,9 @@ def play(
 
 
 def shaped(rows: Array, counts: NDArray[np.uint32], shape: tuple[int, int, int]) -> Array:
-    """Returns the rows of the library as an array of the shape (lineups, rounds, warriors), with 0 for no warrior."""
+    """Returns the rows of the library as an array of the shape (lineups, rounds, warriors), with zeros in the places
+    that have no warrior.
+    """
     if len(rows) == math.prod(shape):
         return rows.reshape(shape)
     found = np.zeros(shape, rows.dtype)
@@ -226,7 +229,7 @@ def shaped(rows: Array, counts: NDArray[np.uint32], shape: tuple[int, int, int])
 
 
 def table_of(lineups: Any, seeds: ArrayLike) -> Array:
-    """Returns lineups in the form that the library expects. Raises ValueError."""
+    """Returns lineups in the form that the library expects. Raises ValueError and CorewarError."""
     lengths = [len(one) for one in lineups if isinstance(one, Sized)] if isinstance(lineups, Sequence) else []
     if len({*lengths}) > 1 and len(lengths) == len(lineups):
         lineups = [[*one, *[0] * (max(lengths) - len(one))] for one in lineups]
@@ -245,13 +248,15 @@ def table_of(lineups: Any, seeds: ArrayLike) -> Array:
 
 
 def clamped(given: ArrayLike, wanted: str) -> NDArray[np.int64]:
-    """Returns whole numbers as the library takes them; it rejects those that do not fit. Raises ValueError."""
+    """Returns whole numbers, with MAX_UINT32, which the library rejects, in place of each that does not fit in 32 bits.
+    Raises ValueError.
+    """
     try:
         numbers = np.asarray(given)
         fits = (numbers >= 0) & (numbers <= MAX_UINT32)
     except (ValueError, TypeError):
         raise ValueError(f"expected {wanted}") from None
-    # An empty list has no whole numbers, and numbers of more than 64 bits are objects.
+    # The array of an empty list has the type float, and numbers of more than 64 bits are objects.
     if numbers.size and numbers.dtype.kind not in "biuO":
         raise ValueError(f"expected {wanted}")
     return np.where(fits, numbers, np.int64(MAX_UINT32)).astype(np.int64)

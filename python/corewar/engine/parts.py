@@ -1,5 +1,5 @@
 """Runs a call in parts: here, in threads, or on any executor of `concurrent.futures`, such as one of processes, of Dask
-or of MPI. Parts are short, so that Ctrl-C is raised at once and memory is only needed for those that are under way.
+or of MPI. Parts are short, so that Ctrl-C is raised at once and memory is needed only for parts that are under way.
 """
 from __future__ import annotations
 
@@ -14,13 +14,14 @@ from typing import Any, TypeVar
 from ..model.errors import CorewarError
 from .binding import library
 
-# The maximum number of turns of a part here, a quarter second, and on an executor, where each part costs milliseconds.
+# The maximum number of turns of a part in this process, which take about a quarter second, and of a part on an executor
+# of other processes, where each part costs milliseconds.
 TURNS, DISTANT_TURNS = 12_000_000, 50_000_000
 # The number of parts that are submitted at a time: for each thread, and to an executor with any number of workers.
 PARTS_PER_JOB, SUBMITTED_PARTS = 2, 500
 
 Result = TypeVar("Result")
-# The numbers of parts with their results; closing it ends the parts.
+# A generator of the numbers of parts with their results; closing it ends the parts.
 Parts = Generator[tuple[int, Result], None, None]
 
 
@@ -46,8 +47,8 @@ def versions() -> str:
 
 
 def call_there(wanted: str, function: Callable[..., Result], *given: Any) -> Result | CorewarError:
-    """Returns the result of a call, or its error. A process with other versions calls nothing, because its results may
-    be others, and may be stored for good.
+    """Returns the result of a call, or its CorewarError. A process with other versions than `wanted` returns an error
+    without the call, because its results may differ, and may be stored for good.
     """
     try:
         if versions() != wanted:
@@ -58,7 +59,7 @@ def call_there(wanted: str, function: Callable[..., Result], *given: Any) -> Res
 
 
 def result_of(future: Future[Any]) -> Any:
-    """Returns what an executor has answered. Raises CorewarError."""
+    """Returns the result of a part from an executor. Raises CorewarError."""
     try:
         result = future.result()
     except CancelledError:
@@ -68,7 +69,8 @@ def result_of(future: Future[Any]) -> Any:
     except ModuleNotFoundError as fault:
         raise CorewarError(f"this package is not installed on a worker: {fault}") from None
     except Exception as fault:
-        # `call_there` returns errors of the call. So a worker could not load it, or a part has ended several workers.
+        # `call_there` returns each CorewarError of the call. So a worker could not load the call, the call has raised
+        # another exception, or a part has ended several workers.
         raise CorewarError(f"error on the workers: {' '.join(str(fault).split())}") from None
     if isinstance(result, CorewarError):
         raise result
@@ -78,7 +80,7 @@ def result_of(future: Future[Any]) -> Any:
 def in_order(results: Parts[Result]) -> Iterator[Result]:
     """Yields the results of parts, which may end in any order, in the order of the parts."""
     early, number = dict[int, Result](), 0
-    # After an interrupt in here, its traceback would keep the parts running.
+    # After an interrupt in the loop, its traceback would keep the generator open and the parts running.
     with closing(results):
         for one, result in results:
             early[one] = result
@@ -91,9 +93,9 @@ def run_parts(
     function: Callable[..., Result], parts: Iterable[tuple[Any, ...]], jobs: int = 1, executor: Executor | None = None
 ) -> Parts[Result]:
     """Calls a function with the arguments of each part, and an event that is set when no result is needed any more.
-    Yields the number of each part with its result, as they end. Raises CorewarError.
+    Yields the number of each part with its result, as the parts end. Raises CorewarError.
 
-    - `jobs`: the number of threads here; with one, no other thread runs
+    - `jobs`: the number of threads in this process; if it is 1, the parts run in the calling thread
     - `executor`: runs the parts instead; unless it has threads, they get no event, and a worker must have this version
     """
     stop = Event()
@@ -122,5 +124,5 @@ def run_parts(
         for future in out:
             future.cancel()
         if executor is None:
-            # Threads that have nothing to do end at once, and no other thread is left.
+            # If no part is under way, the threads end at once. Waiting for them leaves no other thread.
             pool.shutdown(wait=not out, cancel_futures=True)

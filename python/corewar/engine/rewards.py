@@ -1,4 +1,6 @@
-"""Rewards of warriors: points by a formula, and shares of the cycles; and when warriors died in cycles."""
+"""Rewards of warriors: points by a formula, and shares of the cycles. Also counts survivals, and the cycles that were
+complete when each warrior died.
+"""
 from __future__ import annotations
 
 from functools import lru_cache
@@ -22,9 +24,9 @@ def score_of(formula: str, warriors: int, survivors: int) -> int:
 
 
 def values_of(formula: str, *counts: NDArray[Any]) -> list[int]:
-    """Returns the points of each of 1, 2 .. survivors of a round; 0 for those that do not occur, for which a formula
-    needs no value. `counts` has an array for each number of survivors: in how many rounds each warrior was one of that
-    many. For two warriors these are the wins and the ties. Raises `MarsError`.
+    """Returns the points of a survivor for each number of survivors of a round: 1, 2 and so on. They are 0 for a number
+    that does not occur, for which a formula needs no value. `counts` has an array for each number of survivors: in how
+    many rounds each warrior was one of them. For two warriors the arrays are wins and ties. Raises `MarsError`.
     """
     return [score_of(formula, len(counts), left) if many.any() else 0 for left, many in enumerate(counts, 1)]
 
@@ -46,16 +48,16 @@ def points(made: NDArray[Any], formula: str = FORMULA) -> NDArray[np.int64]:
 
 
 def is_warrior(made: NDArray[Any]) -> NDArray[np.bool_]:
-    """Returns which rows of outcomes have a warrior: each has made a turn."""
+    """Returns for each row of outcomes whether it has a warrior. Its numbers of turns and cycles are not both 0."""
     return np.asarray((made["turns"] > 0) | (made["cycles"] > 0))
 
 
 def shares(made: NDArray[Any], cycles: int) -> NDArray[np.float64]:
     """Returns the reward of each warrior of outcomes. The warriors that live in a cycle share W/`cycles`, where W is
-    the number of warriors in the lineup. In a round in which one survives, all shares add up to W.
+    the number of warriors in the lineup. In a round with a survivor, all shares add up to W.
 
     - `made`: what `outcomes` returned
-    - `cycles`: the cycle limit of its settings
+    - `cycles`: the cycle limit of the settings that `outcomes` was given
 
     Raises `CorewarError` if there are no cycles.
     """
@@ -66,7 +68,7 @@ def shares(made: NDArray[Any], cycles: int) -> NDArray[np.float64]:
     lived = np.where(is_here, np.minimum(made["cycles"].astype(np.int64) + 1, cycles), 0).astype(float)
     order = np.argsort(lived, axis=-1, kind="stable")
     ends = np.take_along_axis(lived, order, -1)
-    # From one death to the next, each cycle is shared by those that are left.
+    # From one death to the next, each cycle is shared by the warriors that are left.
     steps = np.diff(ends, axis=-1, prepend=0) / np.arange(lived.shape[-1], 0, -1)
     gained = np.empty_like(lived)
     np.put_along_axis(gained, order, steps.cumsum(-1), -1)
@@ -76,11 +78,11 @@ def shares(made: NDArray[Any], cycles: int) -> NDArray[np.float64]:
 def cycles_of(turns: NDArray[np.uint32], survived: NDArray[np.bool_], limit: int) -> NDArray[np.int64]:
     """Returns the number of complete cycles when each warrior died, or the limit if it survived.
 
-    In a cycle each living warrior makes a turn. So after each death, as many cycles are complete as fit into the turns
-    since the end of the cycle of the death before it.
+    In a cycle each living warrior makes a turn. So the number of cycles that are completed from the cycle of one death
+    to the next death is the number of turns between them, divided by the number of warriors that are left.
     """
     count = turns.shape[-1]
-    # Those that survive come last, since no number of turns has more than 32 bits.
+    # Survivors come last, since no number of turns has more than 32 bits.
     order = np.argsort(np.where(survived, 1 << 32, turns.astype(np.int64)), axis=-1, kind="stable")
     deaths = np.take_along_axis(turns, order, -1).astype(np.int64)
     complete_at = np.empty(turns.shape, np.int64)
@@ -89,7 +91,7 @@ def cycles_of(turns: NDArray[np.uint32], survived: NDArray[np.bool_], limit: int
     for number in range(count):
         left = count - number
         whole = (deaths[..., number] - 1 - end) // left
-        # Otherwise it died in the cycle of the death before it.
+        # If this is false, the warrior died in the same cycle as the one before it.
         is_later = whole >= 0
         complete_at[..., number] = complete - 1 + np.where(is_later, whole + 1, 0)
         end, complete = end + np.where(is_later, (whole + 1) * left, 0), complete_at[..., number] + 1
@@ -100,8 +102,8 @@ def cycles_of(turns: NDArray[np.uint32], survived: NDArray[np.bool_], limit: int
 
 
 def survivals(rows: NDArray[Any]) -> NDArray[np.intp]:
-    """Returns in how many rounds each warrior of matches was one of 1, 2 .. survivors and, first, in how many it died:
-    an array of the shape (lineups, warriors, warriors + 1), from rows of the library or outcomes.
+    """Returns for each warrior of each match in how many rounds it died, and then in how many it was one of 1, 2 ..
+    survivors: an array of the shape (lineups, warriors, warriors + 1). `rows` are those of the library, or outcomes.
     """
     lives = rows["survived"] != 0
     left = np.where(lives, lives.sum(axis=-1, keepdims=True), 0)

@@ -20,7 +20,7 @@ from .calls import assemble, encode_source
 from .limits import TOO_LONG, TimeLimit, limit_memory
 from .warriors import Warrior, read_load
 
-# How a process ends that took more than its CPU time.
+# The exit codes of a process that took more than its CPU time.
 ENDS_OF_TIME = {TOO_LONG} | ({-signal.SIGXCPU} if hasattr(signal, "SIGXCPU") else set())
 
 
@@ -39,18 +39,19 @@ class Limit:
 
 
 class Overrun(CorewarError):
-    """Assembling a source took more than a limit."""
+    """Reading or assembling a source took more than a limit, or the process that assembles has ended."""
 
 
 class Terminated(Overrun):
-    """The process that assembles was asked to end."""
+    """The process that assembles was ended by SIGTERM."""
 
 
 class Assembler:
-    """A process that assembles sources within limits, one after the other. It is started for the first one, and again
-    after a limit or an exception such as `KeyboardInterrupt` has ended it. After a fork, and for a copy that is
-    pickled, each side has a process of its own. `with Assembler() as assembler:` ends it. If the program has threads,
-    the process is a new one of Python, which imports the program's main module again.
+    """A process that assembles sources within limits, one after the other. It is started for the first source, and
+    again after a limit or an exception such as `KeyboardInterrupt` has ended it. After a fork, and for a copy that is
+    pickled, each side has a process of its own. `with Assembler() as assembler:` ends it after its block. If the
+    program has threads, and on every system except Linux, the process is not forked, but imports the program's main
+    module again.
 
     - `limit`: the limits for each source
     - `is_total`: whether the limit of time is for all sources together
@@ -58,8 +59,8 @@ class Assembler:
 
     def __init__(self, limit: Limit = Limit(), is_total: bool = False) -> None:
         self.limit, self.is_total = limit, is_total
-        # By the number of the process that asks: after a fork, two would read each other's answers from one pipe, and
-        # a lock that another thread holds at the fork would stay locked.
+        # By the number of the process that asks. With one server after a fork, two processes would read each other's
+        # answers from one pipe, and a lock that another thread holds at the fork would stay locked.
         self._servers: dict[int, Server] = {}
 
     def __enter__(self) -> Assembler:
@@ -96,8 +97,8 @@ class Assembler:
             try:
                 result = server.ask(data, given)
             except Terminated:
-                # It may have ended for another reason than this source: Python ends the children of a process also when
-                # a fork of it ends.
+                # The process may have ended for another reason than this source: Python ends the children of a process
+                # also when a fork of it ends.
                 result = server.ask(data, given)
         if isinstance(result, Warrior):
             return replace(result, file=os.fsdecode(file), source=data)
@@ -131,11 +132,11 @@ class Server:
         self._is_spent = False
 
     def ask(self, source: bytes, given: dict[str, Any]) -> Warrior | Exception:
-        """Returns the answer of the process for a source. Raises Overrun."""
+        """Returns the answer of the process for a source, which is a warrior or an error. Raises Overrun."""
         if self._is_spent:
             raise self._overrun(TOO_LONG)
         process, pipe = self._running or self._begin()
-        # A process of which an answer may be left in the pipe is not used again, whatever interrupts this.
+        # Whatever interrupts this call, a process whose answer may be left in the pipe is not used again.
         self._running = None
         try:
             pipe.send((source, given))
@@ -163,7 +164,7 @@ class Server:
         way = FORK if threading.active_count() == 1 else "spawn"
         context: Any = multiprocessing.get_context(way)
         ours, theirs = context.Pipe()
-        # A forked process also has our end, and does not notice that we have ended until it closes it.
+        # A forked process also has our end of the pipe. Until it closes that end, it cannot notice that we have ended.
         args = (theirs, self.limit, self.is_total, ours if way == "fork" else None)
         process = context.Process(target=serve, args=args, daemon=True)
         # The workers of a `multiprocessing.Pool` may start no process, since it might outlive them; this one does not.
@@ -182,7 +183,7 @@ class Server:
         return process, ours
 
     def _overrun(self, code: int) -> Overrun:
-        """Returns why the process has ended."""
+        """Returns the error for a process that has ended with this exit code."""
         if code in ENDS_OF_TIME:
             self._is_spent = self.is_total
             return Overrun(f"assembling takes more than {self.limit.seconds} s of CPU time")
@@ -231,7 +232,7 @@ def end_with_parent() -> None:
 
 
 def assemble_or_error(source: bytes, given: dict[str, Any]) -> Warrior | Exception:
-    """Returns the warrior of a source, without the source, or its error."""
+    """Returns the warrior of a source, with None as its source, or the error of assembling it."""
     try:
         return replace(assemble(source, **given), source=None)
     except (CorewarError, TypeError) as fault:
@@ -241,7 +242,9 @@ def assemble_or_error(source: bytes, given: dict[str, Any]) -> Warrior | Excepti
 
 
 def read_file(path: str) -> bytes:
-    """Returns the content of a file, a pipe or `-`, standard input, up to the maximum size. Raises FileError."""
+    """Returns the content of a file or a pipe, or of standard input for `-`. Raises FileError, also if the content is
+    larger than MAX_FILE_SIZE.
+    """
     try:
         with open(0 if path == "-" else path, "rb", closefd=path != "-") as file:
             text = file.read(MAX_FILE_SIZE + 1)
@@ -286,8 +289,8 @@ def read_warriors(
     limit: Limit = Limit(),
     warriors: int | None = None,
 ) -> tuple[Warrior, ...]:
-    """Returns the warriors of files, each read once. WARRIORS is the number of files, or `warriors` if given. Raises
-    FileError.
+    """Returns the warriors of files. WARRIORS is the number of files, or `warriors` if given. Raises FileError, and
+    `MarsError` if the settings are invalid.
     """
     with Assembler(limit) as assembler:
         count = len(paths) if warriors is None else warriors

@@ -25,8 +25,8 @@ def league(
 ) -> list[Row]:
     """Runs a league of up to 65,536 warriors, a match of every two, and returns the row of each, in their order.
 
-    The parameters and errors are those of `match`; every match has the same seed. `Contest.league` gives each match a
-    seed of its own, returns more than sums, and uses all processors.
+    The parameters and errors are those of `match`, without a position; every match has the same seed. `Contest.league`
+    gives each match a seed of its own, returns more than sums, and uses all processors.
     """
     run, count = Run(settings_of(settings), rounds), len(warriors)
     if is_short(run, count * (count - 1) // 2):
@@ -61,7 +61,7 @@ def population(
 
 
 def pairs_of(first: ArrayLike, second: ArrayLike) -> NDArray[np.intp]:
-    """Returns each pair of one of the first numbers and one of the second ones."""
+    """Returns all pairs of a number of `first` and a number of `second`, each pair as a row."""
     return np.array(np.meshgrid(first, second, indexing="ij"), np.intp).reshape(2, -1).T
 
 

@@ -15,9 +15,10 @@ from ..model.printing import printable
 from ..model.settings import Settings, settings_of
 from .binding import MAX_UINT32, ROOM, array, call, clamp, dtype_of, library, read_text, settings_struct, slice_of
 
-# A cell as the library has it: opcode, modifier, modes and numbers. No cell has the greatest of them.
+# A cell as the library stores it: opcode, modifier, modes and numbers. MAX_CELL has the greatest number that each field
+# can store, which is out of its range.
 CELL, MAX_CELL = struct.Struct("=4B2I"), (255, 255, 255, 255, MAX_UINT32, MAX_UINT32)
-# The numbers of cells and of bytes of their labels for which buffers are made first.
+# The sizes of the first buffers: the number of cells, and the number of bytes for their labels.
 CELLS, LABELS = 128, 1024
 
 
@@ -28,8 +29,8 @@ class Warrior:
     - `name`, `author`: at most 60 printable characters of ASCII; "Unknown" and "Anonymous" if none are given
     - `data`: its cells as bytes, each a `MarsCell` of the API for C
     - `start`: the index of the cell at which it starts, from 0
-    - `core`: the core size for which the numbers of its cells are; a core of another size reads them by value, as a
-      load file says
+    - `core`: the core size for which its cells are; in a core of another size, each number of a cell has the value that
+      the load file prints
     - `file`: the name of the file that it was read from, or ""
     - `source`: its source, or None without one
     - `listing`, `labels`: the lines of its cells in the source, each a `MarsLine` of the API for C, and the labels of
@@ -64,8 +65,8 @@ class Warrior:
         - `start`: the index of the cell at which it starts, from 0
         - `settings`: the parameters of the core, or the name of a hill
 
-        Raises ValueError for what is not six numbers. Their ranges are checked by the calls that use the warrior, which
-        raise `MarsError`, such as `warrior 4 Field`.
+        Raises ValueError for a cell that is not six numbers. Their ranges are checked by the calls that use the
+        warrior, which raise `MarsError`, such as `warrior 4 Field`.
         """
         return Warrior(name, author, pack_cells(cells), start, settings_of(settings).core)
 
@@ -76,13 +77,15 @@ class Warrior:
 
     @cached_property
     def lines(self) -> list[tuple[int, list[str]]]:
-        """The number of the line, from 1, and the labels of each cell in the source; empty without a source."""
+        """For each cell the number of its line in the source, from 1, and its labels; empty without a source."""
         rows, labels = np.frombuffer(self.listing, dtype_of("MarsLine")), self.labels.decode("ascii")
         return [(line, labels[begin:end].split("\0")[:-1]) for line, begin, end in rows.tolist()]
 
     def cells_in(self, core: int) -> bytes:
-        """Returns the cells as a core of a size reads them: each number by value. Raises `MarsError`."""
-        # A core that is too small is refused by the call that uses the warrior, with the warrior's index.
+        """Returns the cells for a core of this size: each number has the value that the load file prints. Raises
+        `MarsError`.
+        """
+        # A core that is too small is rejected by the call that uses the warrior, with the warrior's index.
         if core == self.core or core < len(self):
             return self.data
         return read_load(self.load, Settings(core=core, longest=core, distance=core)).data
@@ -108,7 +111,8 @@ class Warrior:
 
     @property
     def called(self) -> str:
-        """The name with only printable characters, or the name of the file if the warrior has no name."""
+        """The name, or the name of the file if the warrior has no name, with `?` for characters that are not printable.
+        """
         return printable(self.file if self.name in ("", "Unknown") and self.file else self.name or "Unknown")
 
     @property
@@ -136,12 +140,15 @@ def pack_cells(cells: Sequence[Cell | np.void] | Cells) -> bytes:
     try:
         return b"".join([CELL.pack(*row) for row in rows])
     except (struct.error, TypeError):
-        # What is no cell, and numbers that do not fit, are looked for only then, since evolvers make many cells.
+        # Only after an error, values that are not cells and numbers that do not fit are looked for, since evolvers make
+        # many cells.
         return b"".join([CELL.pack(*clamp_fields(row)) for row in rows])
 
 
 def clamp_fields(cell: Cell) -> list[int]:
-    """Returns the numbers of a cell as the library takes them; it rejects those that do not fit. Raises ValueError."""
+    """Returns the numbers of a cell, with the one of MAX_CELL, which the library rejects, in place of each that does
+    not fit. Raises ValueError.
+    """
     try:
         return [clamp(index(one), maximum) for one, maximum in zip(cell, MAX_CELL, strict=True)]
     except (TypeError, ValueError):
@@ -154,8 +161,8 @@ def read_load(load: bytes, settings: Settings | str = "94nop", file: str = "") -
 
 
 def program(call_name: str, settings: Settings | str, rounds: int, more: list[int], data: bytes) -> Warrior:
-    """Returns the warrior of a source or a load file, as the call of this name reads it. `more` are its arguments
-    between the settings and the data.
+    """Returns the warrior of a source or a load file, as the call of this name reads it. `more` has the arguments of
+    the call between the settings and the data.
     """
     given, (ffi, _), has_lines = settings_of(settings), library(), call_name == "mars_assemble"
     parts = [settings_struct(given, rounds), *more, *slice_of("uint8_t", data)]
