@@ -14,7 +14,7 @@ def title(history: History) -> str:
 
 
 def outcome(history: History) -> str:
-    """Returns who won, or lives if there is no opponent, as a sentence without a full stop."""
+    """Returns which warriors win, tie or, without an opponent, survive, as a sentence without a full stop."""
     living = [name for number, name in enumerate(history.names) if history.death(number) is None]
     if not living:
         return "No survivors"

@@ -14,7 +14,7 @@ from .endings import Executed, describe_survivor, executed_by, own_turns
 from .formatting import BattleFormatter
 from .turns import Turn
 
-# How many turns before those that are shown are searched for one in which a warrior executed a cell that another wrote.
+# How many turns of a warrior, before those that are shown, are searched for one that executed another warrior's cell.
 EXTRA_TURNS = 500
 
 
@@ -53,15 +53,15 @@ def causes_of(history: History, address: int, turn: int) -> list[int]:
 
 
 def foreign_write(history: History, turn: int) -> int | None:
-    """Returns the turn of another warrior that wrote the cell that a turn executed, if another wrote it."""
+    """Returns the turn that last changed the cell that a turn executed if another warrior made it, otherwise None."""
     record = history.record(turn)
     found = last_change(history, int(record["address"]), turn - 1)
     return found if found is not None and history.record(found)["warrior"] != record["warrior"] else None
 
 
 def foreign_turns(history: History, warrior: int, turns: Sequence[int]) -> Iterator[int]:
-    """Yields each of a warrior's `turns` that executed a cell that another warrior wrote. The latest is the first of
-    both.
+    """Yields each of a warrior's `turns` that executed a cell that another warrior wrote, the latest first. `turns` has
+    the latest first, too.
     """
     # A range whose end is below its start goes around.
     others = (EXECUTES, OWNER, warrior + 1, (warrior - 1) & MAX_UINT32)
@@ -86,10 +86,11 @@ def describe_turn(formatter: BattleFormatter, turn: int, shown: set[tuple[int, i
 
 
 def describe_death(formatter: BattleFormatter, warrior: int, count: int) -> Iterator[str]:
-    """Explains why a warrior died, with `count` of its turns before that; or what it did last, if it lives.
+    """Explains why a warrior died, with up to `count` of its turns before its death; or what it did last, if it lives.
 
-    If it executed no cell of another warrior in them, the last earlier turn in which it did is added. Only the end of
-    its last process is explained; if it had several processes over time, the first hit on its loaded code is added.
+    If it executed no cell that another warrior wrote in these turns, the latest such turn of EXTRA_TURNS earlier ones
+    is added. Only the end of its last process is explained; if it ever split, the first hit on its loaded code is
+    added.
     """
     history, name = formatter.history, formatter.names[warrior]
     death = history.death(warrior)
@@ -167,7 +168,7 @@ class Why:
 
 
 def why_of(formatter: BattleFormatter, warrior: int, count: int) -> Why:
-    """Returns how a battle ended for a warrior, with `count` of its turns before it died."""
+    """Returns how a battle ended for a warrior, with up to `count` of its turns before it died."""
     history, death = formatter.history, formatter.history.death(warrior)
     text = "\n".join(describe_death(formatter, warrior, count))
     fate = "alive" if death is None else "killed" if history.is_killed(warrior) else "died"

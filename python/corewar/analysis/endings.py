@@ -15,7 +15,7 @@ from .formatting import BattleFormatter, pluralize
 
 # How many of the last turns of a warrior are shown, and the most lines of a table.
 LAST_TURNS, MAX_ROWS = 1000, 8
-# The least share of these turns that is shown for a match.
+# The least share of these turns that something must be executed in to be named in the summary of a round.
 MIN_SHARE = 0.01
 
 
@@ -26,13 +26,13 @@ def own_turns(history: History, warrior: int, turn: int) -> Iterator[int]:
 
 
 def last_executed(history: History, warrior: int) -> Records:
-    """Returns the last turns of a warrior with the cells that they executed, as `executed`."""
+    """Returns the last turns of a warrior with the cells that they executed, as `executed` does."""
     turns = [*islice(own_turns(history, warrior, history.end), LAST_TURNS)]
     return executed(history, turns[-1] - 1 if turns else history.end, history.end, [by_warrior(warrior)])
 
 
 def written_by(history: History, turn: int) -> list[int]:
-    """Returns the cell that a turn wrote last, if it wrote one."""
+    """Returns the address of the cell that a turn wrote last, in a list that is empty if it wrote none."""
     writes = history.block_of(turn).last_writes
     return [int(address) for address in writes.addresses[writes.of(turn)]]
 
@@ -56,7 +56,7 @@ def describe_survivor(formatter: BattleFormatter, warrior: int) -> Iterator[str]
 @dataclass(frozen=True)
 class Executed:
     """A line that a warrior executed in its last turns: the number of `turns` that executed it, the number of `cells`
-    that these wrote, and the line, or the cell if it has no line.
+    that these turns wrote, of which only the last one of a turn counts, and the line, or the cell if it has no line.
     """
 
     turns: int
@@ -65,8 +65,8 @@ class Executed:
 
 
 def executed_by(formatter: BattleFormatter, warrior: int) -> tuple[list[Executed], set[int]]:
-    """Returns the lines that a warrior executed in its last turns, the most frequent first, and all cells that these
-    turns wrote.
+    """Returns the lines that a warrior executed in its last turns, the most frequent first, and the cells that these
+    turns wrote last.
     """
     history, written = formatter.history, dict[str, list[list[int]]]()
     last = last_executed(history, warrior)[::-1]
@@ -81,7 +81,9 @@ def executed_by(formatter: BattleFormatter, warrior: int) -> tuple[list[Executed
 
 
 def describe_hits(formatter: BattleFormatter, warrior: int, cells: set[int]) -> Iterator[str]:
-    """Says how many of the cells that a warrior wrote the other survivors executed in their last turns."""
+    """Yields a sentence for each other survivor: how many of the cells that the warrior wrote it executed in its last
+    turns.
+    """
     history = formatter.history
     for other, name in enumerate(formatter.names):
         if cells and other != warrior and history.death(other) is None:
@@ -108,8 +110,8 @@ def summarize_last_turns(history: History, sources: Sources, names: Sequence[str
 
 
 def what_executed(sources: Sources, warrior: int, turns: Records) -> Iterator[int | Line | None]:
-    """Yields for each of these turns of a warrior the line of the cell that it executed, None if that has no line, or
-    the number of the warrior that wrote the cell. Turns that executed a cell that an edit changed are left out.
+    """Yields for each of these turns of a warrior the line of the cell that it executed, None if the cell has no line,
+    or the number of the warrior that wrote the cell. Turns that executed a cell that an edit changed are left out.
     """
     for address, (writer, changed, origin) in zip(turns["address"].tolist(), turns["past"].tolist()):
         # A warrior that changes numbers of its own code still executes the same line.

@@ -29,7 +29,7 @@ def paint(number: int, text: str) -> str:
 
 
 def list_some(texts: Sequence[str]) -> str:
-    """Returns the first ones of many texts, and how many more there are."""
+    """Returns the first MAX_LISTED texts, joined by commas, and how many more there are."""
     return ", ".join(texts[:MAX_LISTED]) + (f" and {len(texts) - MAX_LISTED} more" if len(texts) > MAX_LISTED else "")
 
 
@@ -84,7 +84,8 @@ class BattleFormatter:
         return list_some([self.where(int(address)) for address in addresses])
 
     def head(self, turn: int) -> str:
-        """Describes what a turn executed, who, and what it read."""
+        """Describes a turn: its warrior, the address and the instruction that it executed, and the cells that it read.
+        """
         record = self.history.record(turn)
         name, where = self.names[record["warrior"]], self.where(int(record["address"]))
         text = f"turn {turn}: {name} at {where}: {self.cell(self.history.executed(turn))}"
@@ -92,7 +93,7 @@ class BattleFormatter:
         return f"{text}; reads {reads}" if reads else text
 
     def reads(self, turn: int) -> list[int]:
-        """Returns the cells that a turn read, except its own and those where its process went."""
+        """Returns the cells that a turn read, except the one that it executed and those where its process went."""
         record, reads = self.history.record(turn), self.history.block_of(turn).reads
         known, found = [record["address"], *record["process"][: record["queued"]]], reads.addresses[reads.of(turn)]
         return [address for address in dict.fromkeys(found.tolist()) if address not in known]
@@ -145,11 +146,13 @@ class BattleFormatter:
         return "; ".join([self.head(turn), *self.changes(turn), self.processes_after(turn)])
 
     def lines(self, turn: int) -> list[str]:
-        """Describes a turn, and each change in a line of its own."""
+        """Describes a turn, with each write in a line of its own."""
         return [self.head(turn), *(f"    {change}" for change in self.changes(turn))]
 
     def lines_with_source(self, turn: int) -> list[str]:
-        """Describes a turn as `lines`, and by the line of source from which its instruction comes, if there is one."""
+        """Describes a turn as `lines` does, and adds the line of source from which its instruction comes, if it is
+        known.
+        """
         line = self.sources.line(self.history, int(self.history.record(turn)["address"]), turn - 1)
         source = [f"    line {line.number} of {self.names[line.warrior]}: {line.text}"] if line else []
         return [*self.lines(turn), *source]
@@ -180,7 +183,7 @@ class BattleFormatter:
             yield f"{name}: {state}; {pluralize(length, 'cell')} loaded at {start}"
 
     def queue(self, turn: int, warrior: int, first: int = 0) -> str:
-        """Describes the addresses of processes of a warrior, at most MAX_PROCESSES from one on."""
+        """Describes the addresses of at most MAX_PROCESSES processes of a warrior, from the process `first` on."""
         found, end = self.history.block(turn).queue(warrior, turn), first + MAX_PROCESSES
         start, left = f", from process {first} on" if first else "", len(found) - end
         more = f" and {left} more: `queue {warrior} {end}`" if left > 0 else ""
@@ -207,5 +210,5 @@ class BattleFormatter:
         yield from fitted(rows, width)
 
     def _processes_at(self, times: Sequence[tuple[int, int]]) -> str:
-        """Returns the warriors with processes at a cell, and how many."""
+        """Returns the names of the warriors with processes at a cell, each with their number if it is above 1."""
         return ", ".join(self.names[number] + (f" x {count}" if count > 1 else "") for number, count in times)

@@ -1,5 +1,5 @@
-"""Counts how the warriors of a match died, by the cell as it was before it was hit and the line that hit it, and what
-they executed last if they tied.
+"""Counts how the warriors of a match died: on which cell, as it was before it was hit, and by which line. Also counts
+what they executed last in ties.
 """
 from __future__ import annotations
 
@@ -94,8 +94,8 @@ def fates_of(match: Match, number: int, warriors: Collection[int], _: object = N
 
 
 def cause_of_death(history: History, sources: Sources, names: Sequence[str], warrior: int) -> tuple[str, str]:
-    """Returns what a warrior died on, as it was before it was hit, and what hit it: the turn that copied its
-    instruction there, or else the one that changed it last. Names are in the order of turns.
+    """Returns what cell a warrior died on, as it was before it was hit, and what hit it: the turn that copied the
+    cell's instruction there, or else the turn that changed the cell last. Names are in the order of turns.
     """
     turn = history.death(warrior) or 0
     address = int(history.record(turn)["address"])

@@ -76,7 +76,8 @@ class Study:
     - `processes`: its maximum number of processes
     - `turns`, `survives`: the number of turns that it makes, and whether it lives after them
     - `hit`: the first turn in which it hits itself, or None
-    - `core`, `written`, `scanned`: the numbers of cells of the core, that it writes, and that it scans outside its code
+    - `core`, `written`, `scanned`: the number of all cells, of those that it writes, and of those outside its code that
+      it scans
     - `writes`, `scans`: the lines that write and that scan, those that reach the most cells first
 
     Its text is what `corewar study` prints.
@@ -123,7 +124,7 @@ def table_of(what: str, rows: tuple[Access, ...]) -> Iterator[str]:
 
 
 def study(warrior: Warrior, *, settings: Settings | str = "94nop") -> Study:
-    """Returns where a warrior writes and scans without an opponent, in at most a million turns.
+    """Returns what a warrior does without an opponent, in at most a million turns.
 
     - `settings`: the parameters of the core, or the name of a hill
 
@@ -143,7 +144,7 @@ class Observation:
         self.origins = executed(history, 0, history.end)["past"]["origin"].astype(np.int64)
         start = history.state(0)
         self.is_loaded, self.opcodes = history.owners(0) != NOBODY, start.cells["op"].copy()
-        # The first turn that executed each cell, the first hit, and the number of processes at most.
+        # The first turn that executed each cell, the first hit, and the maximum number of processes.
         self.executed = np.full(history.core, history.end + 1, np.int64)
         self.hit: tuple[int, int] | None = None
         self.processes = count = 1
@@ -172,7 +173,8 @@ class Observation:
         return found
 
     def _scanned(self, block: Block) -> Accesses:
-        """Returns what comparing instructions read, each cell once in a turn, except for their own cells."""
+        """Returns the cells that comparing instructions read, except the instructions themselves, each once in a turn.
+        """
         found = self._accesses(block, block.reads)
         again = (np.diff(found["turn"], prepend=-1) == 0) & (np.diff(found["address"], prepend=-1) == 0)
         is_other = found["address"] != found["at"]
@@ -180,7 +182,9 @@ class Observation:
         return wanted
 
     def _first_hit(self, block: Block) -> tuple[int, int] | None:
-        """Returns the first turn that changed the opcode of a cell that was loaded or executed before, and the cell."""
+        """Returns the first turn that changed the opcode of a cell that was loaded or executed before, and the cell; or
+        None if there is no such turn.
+        """
         changes = block.changes
         is_other = changes.before["op"] != changes.after["op"]
         is_own = self.is_loaded[changes.addresses] | (self.executed[changes.addresses] < changes.turns)
@@ -233,7 +237,7 @@ class Observation:
 
 def strides(found: Accesses, core: int) -> tuple[tuple[int | None, float], ...]:
     """Returns the distances between cells that the same operand accesses one after the other, the most frequent first,
-    each with its share.
+    each with its share. If none is frequent, the only distance is None, with the share 1.
     """
     # The number of earlier accesses in the same turn, which distinguishes the operands of an instruction.
     firsts = np.flatnonzero(np.diff(found["turn"], prepend=-1))

@@ -33,7 +33,7 @@ class Turn:
     - `at`, `cell`: where it executed an instruction, and the instruction
     - `line`, `source`: the number and the text of the line from which the instruction comes, also as a copy; 0 and ""
       if it comes from no source
-    - `reads`: the cells that it read, except its own and those where its process went
+    - `reads`: the cells that it read, except the one that it executed and those where its process went
     - `writes`: its writes
     - `processes`: where its process went: one cell, two after a split, or none if it died
     - `text`: the lines that `corewar trace` prints

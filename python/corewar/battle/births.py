@@ -9,7 +9,7 @@ from .runs import Segment
 
 def births_of(segments: Sequence[Segment], turn: int, warrior: int, index: int) -> tuple[list[int], int | None]:
     """Returns the turns in which a process and its ancestors were born, its own birth first; and the turn after which
-    an edit added the earliest ancestor, or None if that was loaded.
+    an edit added the earliest ancestor, or None if that ancestor was loaded.
 
     The process has `index` in the queue of its warrior after `turn`, with the edits made after that turn. Raises
     `MarsError` if there is no such process.
@@ -27,7 +27,7 @@ def births_of(segments: Sequence[Segment], turn: int, warrior: int, index: int) 
 
 
 def is_added(edit: Edit, warrior: int, index: int, count: int) -> bool:
-    """Returns whether an edit added a process, which is then the last one of the queue."""
+    """Returns whether an edit added the process with this index, which is then the last of `count` in the queue."""
     return edit.what == ADD and edit.warrior == warrior and index == count - 1
 
 

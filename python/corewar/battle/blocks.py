@@ -23,7 +23,7 @@ class Touches:
     warriors: NDArray[np.uint32]
 
     def of(self, turn: int) -> slice:
-        """Returns the part of the arrays that is of a turn."""
+        """Returns the slice of the arrays that has the cells of a turn."""
         return slice(*np.searchsorted(self.turns, [turn, turn + 1]))
 
 
@@ -56,9 +56,8 @@ def changes_of(first: int, records: Records) -> Changes:
 
 
 def writes_of(records: Records) -> tuple[NDArray[np.intp], NDArray[np.uint32]]:
-    """Returns the place of each write, three to a turn, and its words: the address, the cell before and the cell after.
-
-    NumPy copies words many times faster than structures.
+    """Returns the place of each write and its words: the address, the cell before and the cell after. Each turn has
+    three places, numbered on from those of the turn before it. NumPy copies words many times faster than structures.
     """
     fields: Any = records.dtype.fields
     change, start = fields["change"]
@@ -132,7 +131,9 @@ class Block:
 
     @cached_property
     def _queued(self) -> list[tuple[NDArray[np.uint32], NDArray[np.intp], NDArray[np.intp]]]:
-        """For each warrior the addresses it queued, and after each turn their number and the number of its turns."""
+        """For each warrior the addresses that it queued, and, after each turn, their number and the number of its
+        turns.
+        """
         used = np.arange(2) < self.records["queued"][:, None]
         found = []
         for warrior in range(len(self.start.queues)):
@@ -142,8 +143,8 @@ class Block:
         return found
 
     def queue(self, warrior: int, turn: int) -> NDArray[np.uint32]:
-        """Returns the addresses of a warrior's processes after a turn, the next one first: all that were queued, minus
-        one for each of its turns.
+        """Returns the addresses of a warrior's processes after a turn, the next one first: all that were queued,
+        without the first one for each turn that it made.
         """
         if turn == self.first:
             return self.start.queues[warrior]

@@ -17,7 +17,8 @@ from .runs import BY_HAND
 
 EXECUTES, CHANGES, READS = enumeration("EXECUTES").values()
 WARRIOR, QUEUED, DIED, ADDRESS, OWNER, TURN, ORIGIN, OPCODE, NEW_OPCODE = enumeration("NUMBER_WARRIOR").values()
-# The conditions on cells and the way in which a turn uses the cell; and those on a warrior, and a number of its turn.
+# The conditions on cells, each with the way in which a turn uses the cell; and the conditions on a warrior, each with a
+# number of the turn and its value.
 CELL_CONDITIONS = {"at": EXECUTES, "changes": CHANGES, "reads": READS}
 WARRIOR_CONDITIONS = {"splits": (QUEUED, 2), "ends": (QUEUED, 0), "dies": (DIED, 1)}
 # The way, the number and the range of a condition of the library, as in `MarsCondition`.
@@ -30,12 +31,15 @@ ALL: Row = (EXECUTES, ADDRESS, 0, MAX_UINT32)
 class Condition:
     """A condition on a turn, and on a cell that it uses.
 
-    - `word`: `at`, `changes` or `reads`: the turn executed, changed or read the cell; `splits`, `ends` or `dies`: its
-      warrior gained a process, lost one or died; `moves`: any turn. The last four are about the cell that it executed
-    - `cells`: the first and the last address of the cell, around the end of the core if the last one is smaller
+    - `word`: what the turn did: it executed (`at`), changed (`changes`) or read (`reads`) the cell; its warrior gained
+      a process (`splits`), lost one (`ends`) or died (`dies`); or anything (`moves`). For the last four words the cell
+      is the one that the turn executed
+    - `cells`: the range of the cell's address, from the first to the last; if the last is smaller, the range goes
+      around the end of the core
     - `of`: the warrior that changed the cell last, or that was loaded there
-    - `origin`: the first and the last address of the cell where its instruction was loaded, in the same way
-    - `was`, `becomes`: its opcode before the turn, such as `DAT`, and the one that the turn gave it in place of another
+    - `origin`: the range, given in the same way, of the address at which the cell's instruction was loaded
+    - `was`, `becomes`: the cell's opcode before the turn, such as `DAT`, and the opcode that the turn gave it in place
+      of another
     - `by`: the warrior of the turn
 
     None stands for any. Warriors have their numbers in the order of turns. The constructor raises `CorewarError` for
@@ -80,12 +84,12 @@ class Condition:
         return rows + ([(way, event[0], event[1], event[1])] if event else [])
 
 
-# Conditions that one turn must all meet; those with the same word are about the same cell.
+# Conditions, all of which one turn must meet; those with the same word are about the same cell.
 Joined = Sequence[Condition]
 
 
 def by_warrior(warrior: int) -> Row:
-    """Returns the condition that a turn is one of a warrior."""
+    """Returns the condition that a turn is made by this warrior."""
     return EXECUTES, WARRIOR, warrior, warrior
 
 
@@ -93,8 +97,8 @@ def find(
     history: History, rows: Sequence[Row], first: int = 0, last: int | None = None, forward: bool = True
 ) -> Iterator[Records]:
     """Yields the turns after `first`, up to `last` or the end, that meet all conditions of the library: an array
-    for each of the `spans`, the last span first if not `forward`. Each is in the order of the turns and has the fields
-    of `MarsFound`; its pasts are known only if a condition is about a past.
+    for each of the `spans`, the last span first if not `forward`. Each array is in the order of the turns and has the
+    fields of `MarsFound`; its pasts are known only if a condition is about a past.
     """
     parts = spans(history, first, history.end if last is None else last)
     is_past_asked = any(OWNER <= number <= ORIGIN for _, number, *_ in rows)
@@ -128,8 +132,8 @@ def places(history: History, joined: Joined) -> Records:
 def search(
     history: History, conditions: Sequence[Joined], turn: int, forward: bool = True
 ) -> tuple[int, Joined] | None:
-    """Returns the first place after a turn at which one of some conditions holds, with the condition; if not `forward`,
-    the last place before it; or None if there is none.
+    """Returns the first place after a turn at which one of some conditions holds, with that condition, or None if there
+    is no such place. If not `forward`, it is the last place before the turn.
     """
     span = (turn, history.end) if forward else (0, turn)
     for parts in zip(*(places_in(history, joined, *span, forward) for joined in conditions)):
@@ -149,8 +153,8 @@ def last_change(history: History, address: int, turn: int) -> int | None:
 
 
 def last_copy(history: History, address: int, turn: int) -> int | None:
-    """Returns the last turn, up to this one, that copied to a cell the instruction that it has, in place of another
-    one; or None if there is no such turn.
+    """Returns the last turn, up to this one, in which the instruction that a cell has was copied there in place of
+    another one, or None if there is no such turn.
     """
     origin = int(history.pasts(turn)[address]["origin"])
     # A range whose end is below its start goes around.

@@ -1,4 +1,6 @@
-"""A battle in frames of several turns, with the warriors that changed cells, and the processes after them."""
+"""A battle in frames of several turns. Each has the cells that changed, the warriors that changed them, and the
+processes after its last turn.
+"""
 from __future__ import annotations
 
 from collections.abc import Iterator

@@ -27,7 +27,7 @@ from .blocks import Block
 from .runs import NOBODY, Run, Segment
 
 if TYPE_CHECKING:
-    # These describe histories, and are loaded when they are called.
+    # These modules describe histories, and are loaded when a history needs them.
     from corewar.analysis.causes import Why
     from corewar.analysis.turns import Turn
     from corewar.battle.conditions import Condition
@@ -43,10 +43,10 @@ class History:
     - `match`: the match
     - `round`: the round, from 0
 
-    Turns are numbered from 1; "after turn 0" is the start. Warriors are numbered from 0 in the order of their turns, in
-    which `warriors` has them, and `names` their names, made distinct. A history never changes: an edit returns another
-    history, which shares the turns before it. The constructor runs the whole battle; it raises `MarsError` if the match
-    is invalid, and `CorewarError` if it has more than 16 warriors.
+    Turns are numbered from 1; "after turn 0" is the start. Warriors are numbered from 0 in the order of their turns.
+    `warriors` has them in this order, and `names` their names, made distinct. A history never changes: an edit returns
+    another history, which shares the turns before the edit. The constructor runs the whole battle; it raises
+    `MarsError` if the match is invalid, and `CorewarError` if it has more than 16 warriors.
     """
 
     def __init__(self, match: Match, round: int = 0) -> None:
@@ -54,7 +54,8 @@ class History:
         self.segments = [Segment.whole(Run(Battle(match, round)))]
         self.warriors = match.warriors[round % len(match.warriors) :] + match.warriors[: round % len(match.warriors)]
         self.names = make_distinct([warrior.called for warrior in self.warriors])
-        # Histories that edits make of this one share the cache. A cache of the module would keep the runs of all.
+        # Histories that edits make from this one share the cache. A cache of the module would keep the runs of all
+        # histories.
         self._blocks = lru_cache(maxsize=CACHED_BLOCKS)(read_block)
 
     def __repr__(self) -> str:
@@ -83,8 +84,8 @@ class History:
         return timeline.figure_of(self, timeline.whole(self))
 
     def player(self, turn: int = 0, height: int = 700) -> Player:
-        """Returns what a notebook shows as the battle in the page of `corewar page`, from a turn on, in a frame of a
-        height in pixels; its `page` is the HTML. Raises `CorewarError` if the site is not built.
+        """Returns an object that a notebook shows as the page of `corewar page`, with the battle after a turn, in a
+        frame of this height in pixels. Its `page` is the HTML. Raises `CorewarError` if the site is not built.
         """
         found: Player = self._load("pages.player").player_of(self, turn, height)
         return found
@@ -92,7 +93,7 @@ class History:
     def why(self, warrior: int | str, turns: int = 4) -> Why:
         """Returns a `Why`: how the battle ended for a warrior, given by number, name or file, and why.
 
-        - `turns`: the number of its turns before its death
+        - `turns`: the maximum number of its turns before its death that are described
 
         Raises `CorewarError` if there is no such warrior.
         """
@@ -120,7 +121,7 @@ class History:
 
     def born(self, turn: int, warrior: int | str, index: int = 0) -> tuple[list[int], int | None]:
         """Returns the turns in which a process and its ancestors were born, its own birth first; and the turn after
-        which an edit added the earliest ancestor, or None if that was loaded.
+        which an edit added the earliest ancestor, or None if that ancestor was loaded.
 
         - `turn`: the turn after which, with the edits made after that turn, the process is in the queue
         - `warrior`: its warrior, by number, name or file
@@ -148,8 +149,8 @@ class History:
         vars(self).update(state, _blocks=lru_cache(maxsize=CACHED_BLOCKS)(read_block))
 
     def warrior(self, named: str) -> int:
-        """Returns the number of the warrior with this number, name or file, or of the only one whose name begins so.
-        Raises `CorewarError` if there is none.
+        """Returns the number of the warrior with this number, name or file, or of the only warrior whose name begins
+        with this text. Raises `CorewarError` if there is none.
         """
         number = whole(named)
         if number is not None and number < len(self.names):
@@ -173,7 +174,7 @@ class History:
 
     @property
     def edits(self) -> tuple[tuple[int, Edit], ...]:
-        """The edits, each after the number of the turn after which it was made."""
+        """The edits in order, each as a pair: the number of the turn after which it was made, and the edit."""
         return tuple((one.first, one.run.edit) for one in self.segments if one.run.edit)
 
     def _segment(self, turn: int) -> Segment:
@@ -262,8 +263,8 @@ class History:
         return self.written(turn)[0]
 
     def written(self, turn: int) -> tuple[Owners, NDArray[np.int64]]:
-        """Returns the owner of each cell after a turn, as `owners`, and the turn that changed it last, or 0 if none
-        did. For a cell that an edit changed last it is the turn after which the edit was made.
+        """Returns the owner of each cell after a turn, as `owners` does, and the turn that changed the cell last, or 0
+        if no turn did. For a cell that an edit changed last it is the turn after which the edit was made.
         """
         pasts = self.pasts(turn)
         return pasts["owner"].astype(np.uint8), pasts["turn"].astype(np.int64)
@@ -299,8 +300,8 @@ class History:
         return (int(start.queues[warrior][0]) - loaded.start) % self.core, len(loaded)
 
     def by_hand(self, address: int, turn: int) -> tuple[int, np.void, np.void] | None:
-        """Returns the last change of a cell by an edit up to a turn, or None: the turn after which it was made, and the
-        cell before and after.
+        """Returns the last change of a cell by an edit that was made after this turn or an earlier one: the number of
+        that turn, and the cell before and after the edit. Returns None if there is no such edit.
         """
         for run in reversed([one.run for one in self.segments]):
             if run.before and run.first <= turn:
@@ -339,7 +340,7 @@ def spans(history: History, first: int, last: int) -> list[tuple[int, int]]:
 
 
 def read_block(run: Run, first: int, count: int) -> Block:
-    """Reads the `count` turns of a run after turn `first` from the library."""
+    """Returns the block of the `count` turns of a run that follow turn `first`."""
     start = run.at(first)
     return Block(
         first, start, start.copy().play(count, records=count)[0], lambda: start.copy().play(count, touched=count)[1]

@@ -31,8 +31,8 @@ class Line:
 
 
 class Sources:
-    """The lines and labels of the cells where the warriors were loaded, and the lines of all cells that were copied.
-    Load files have neither.
+    """The lines and labels of the cells where the warriors were loaded, and the lines of cells that were copied from
+    there. Load files have neither.
     """
 
     def __init__(self, history: History) -> None:
@@ -53,8 +53,9 @@ class Sources:
         return self.lines.get(int(history.pasts(turn)["origin"][address]))
 
     def describe_line(self, history: History, address: int, turn: int, warrior: int | None = None) -> str:
-        """Returns the number and the text of the line that `line` returns, or "" if there is none. The name of its
-        warrior comes first, unless that is `warrior` or, if this is None, the warrior that was loaded at the address.
+        """Returns `; ` with the number and the text of the line that `line` returns, or "" if there is none. The name
+        of the line's warrior comes first, unless the warrior is `warrior` or, if this is None, was loaded at the
+        address.
         """
         line, loaded = self.line(history, address, turn), self.lines.get(address)
         if line is None:
@@ -70,8 +71,8 @@ class Sources:
         return {**alone, **{f"{number}.{label}": address for number, label, address in self._labels}}
 
     def addresses_at(self, address: int) -> dict[str, int]:
-        """Returns the addresses of labels for a line of source that is typed for an address: as `addresses`, and the
-        labels of the warrior that was loaded there need no number.
+        """Returns the addresses of labels for a line of source that is typed for an address. They are `addresses`, but
+        the labels of the warrior that was loaded there need no number.
         """
         line = self.lines.get(address)
         own = {label: at for number, label, at in self._labels if line and number == line.warrior}
@@ -85,5 +86,5 @@ class Sources:
 
     @cached_property
     def labels(self) -> dict[int, str]:
-        """The label of each address that has one, in its shortest form."""
+        """A label for each address that has one, without the number of the warrior if possible."""
         return {address: label for label, address in reversed(self.addresses.items())}

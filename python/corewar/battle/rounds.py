@@ -29,7 +29,7 @@ class Round:
         return [self.history.loaded((place - number) % count)[0] for place in range(count)]
 
     def to_dict(self) -> dict[str, Any]:
-        """Returns its number, the addresses, the outcomes and its number of turns, as plain values."""
+        """Returns its number, the starting addresses, the outcomes and its number of turns, as plain values."""
         outcomes, history = [*self.outcomes], self.history
         return {"round": history.round, "starts": self.starts, "outcomes": outcomes, "turns": history.end}
 

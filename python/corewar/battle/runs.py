@@ -1,4 +1,6 @@
-"""A run of a battle: its states and the pasts of cells at regular distances. Those after other turns are played."""
+"""A run of a battle: its states and the pasts of cells at regular distances. To get them after other turns, the turns
+between are played.
+"""
 from __future__ import annotations
 
 from dataclasses import dataclass
@@ -22,9 +24,9 @@ class Run:
     """A battle from its start, or from an edit, to its end.
 
     - `first`: the turn after which it starts
-    - `marks`: copies of the battle as bytes: after the turn `first`, and after every `stride` turns from there
+    - `marks`: copies of the battle as bytes, after the turn `first` and after every `stride` turns from there
     - `ending`: the battle at its end
-    - `edit`, `before`: the edit, and the battle before it; None at the start of the battle
+    - `edit`, `before`: the edit, and the battle before it; None if the run starts with the battle
 
     The constructor plays a battle to its end. If the marks become too many, every other one is dropped, and the stride
     doubles. Pasts are followed when they are needed, since that takes several times as long.
@@ -47,7 +49,7 @@ class Run:
         self._latest: tuple[Battle, Pasts] | None = None
 
     def __getstate__(self) -> dict[str, Any]:
-        # What is derived is computed again.
+        # The pasts are computed again when they are needed.
         return {**vars(self), "_pasts": {}, "_latest": None}
 
     def at(self, turn: int) -> Battle:
@@ -66,8 +68,8 @@ class Run:
         return bool(self._pasts)
 
     def follow_from(self, pasts: Pasts) -> None:
-        """Takes the pasts at the start. If the run starts with an edit they are those before it, and the cells that it
-        changed get the owner BY_HAND.
+        """Takes the pasts at the start. If the run starts with an edit, `pasts` are those before it, and the cells that
+        the edit changed get the owner BY_HAND.
         """
         start = pasts.copy()
         if self.before:

@@ -14,7 +14,7 @@ from ..engine.warriors import Warrior
 from ..model.cells import MODES, OPCODES
 from ..model.settings import Settings
 
-# pMARS's numbers of opcodes and modes; those of modifiers are the same.
+# pMARS's numbers of opcodes and modes. The modifiers have the same numbers in both programs.
 PMARS_OPCODES = "MOV ADD SUB MUL DIV MOD JMZ JMN DJN CMP SLT SPL DAT JMP SEQ SNE NOP".split()
 CMP = re.compile(r"\bcmp\b", re.I)
 PMARS_MODES = dict(zip("#$@<>*{}", (0, 1, 2, 3, 4, 0x82, 0x83, 0x84)))
@@ -28,8 +28,8 @@ def seed_of_position(position: int, settings: Settings) -> int:
 
 
 def seed_of_cells(match: Match) -> int:
-    """Returns the seed of the series of `pmars -f` for two warriors: a sum over the cells of both, each number combined
-    with its index.
+    """Returns the seed of the series of `pmars -f` for two warriors: the sum of all numbers of their cells, each
+    combined with its index by an exclusive or.
     """
     numbers, core = list[int](), match.settings.core
     for warrior in match.warriors:

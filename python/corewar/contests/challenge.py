@@ -13,15 +13,15 @@ from .exact import strip_of
 from .matches import Matches
 from .standings import HEAD, NAMES, RATES, Standings, Sums, best_of, head_of, row_of
 
-# The width of a strip, which shows the points by distance as bars: in a table, whose head then fits into 80 columns,
-# and the minimum in a narrow terminal.
+# The width of a strip of bars, which show the points by distance: usually, so that the head of the table fits into 80
+# columns, and the minimum in a narrow terminal.
 STRIP, NARROW_STRIP = 24, 8
 
 
 @dataclass(frozen=True, eq=False)
 class Challenge(Standings):
-    """The results of a warrior against each of its opponents: `Standings` with a row for each opponent, which has
-    the results of the warrior in the match with it; `warriors` are the opponents.
+    """The results of a warrior against each of its opponents. They are `Standings` whose `warriors` are the opponents:
+    the row of an opponent has the results of the warrior in the match with this opponent.
 
     - `challenger`: the warrior
     - `theirs`: the points of the opponents
@@ -98,7 +98,9 @@ class Challenge(Standings):
         return [printable(one.file) for one in self.warriors]
 
     def strip(self, number: int, width: int = STRIP) -> str:
-        """Returns the points by the distance to an opponent as bars, from a loss to a win; "" if they are not known."""
+        """Returns the points by the distance to an opponent as bars, or "" if they are not known. The lowest bar stands
+        for a loss, and the highest one for a win.
+        """
         return "" if self.by_distance is None else strip_of(self.by_distance[number], self.contest.formula, width)
 
     @property

@@ -36,8 +36,8 @@ def report_absence(client: Any, end: Event) -> None:
 
 @contextmanager
 def cluster(address: str) -> Iterator[Executor]:
-    """Yields the workers of a Dask scheduler. Matches that they have not run are dropped at the end. Raises
-    CorewarError.
+    """Yields the workers of a Dask scheduler as an executor. Matches that they have not run are dropped at the end.
+    Raises CorewarError.
     """
     try:
         import distributed

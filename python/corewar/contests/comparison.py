@@ -46,8 +46,8 @@ class Comparison:
         freeze(self)
 
     def change(self, opponents: Indices | list[int] | slice = slice(None)) -> tuple[float, float, float, float]:
-        """Returns the scores of both versions for 100 rounds against some of the opponents, or against all, the change,
-        and its standard error, or NaN if that is not known.
+        """Returns the mean scores of both versions for 100 rounds against these opponents, by default against all, then
+        the change and its standard error. The error is NaN if it is not known.
         """
         scores = self.scores[:, opponents]
         scale = 100 / scores.shape[1]

@@ -34,7 +34,7 @@ Kind = TypeVar("Kind", bound=Schedule)
 class Progress:
     """How far a contest is.
 
-    - `done`, `total`: the numbers of matches
+    - `done`, `total`: the number of matches that have a result, and of all matches
     - `turned`: the number of matches that are stored only with the warriors in the other order, which are different
       matches
     """
@@ -46,7 +46,7 @@ class Progress:
 
 @dataclass(frozen=True)
 class Execution:
-    """Where matches are run, where their results are stored, and what gets their progress."""
+    """Where matches are run, where their results are stored, and what is called with their progress."""
 
     jobs: int = 1
     executor: Executor | None = None
@@ -81,7 +81,7 @@ class Contest(Terms):
         - `same`: `seed` itself, as in `mars --league`
         - `pmars`: the cells of its two warriors, as with `pmars -f`
         - `all`: a challenge or a comparison has a round for each position and each warrior that begins, so that its
-          results are exact; nothing is drawn, and `rounds` becomes the number of these
+          results are exact; nothing is drawn, and `rounds` becomes their number
 
     Results with `pmars` and `all` are not stored, and a melee can only be drawn.
 
@@ -89,9 +89,9 @@ class Contest(Terms):
 
     - `jobs`: the number of threads
     - `executor`: an executor of `concurrent.futures` that runs the matches instead, as for `outcomes`
-    - `progress`: is called with a `Progress` before the first match and each time some have been run
+    - `progress`: a function that is called with a `Progress` before the first match and each time some have been run
 
-    Ctrl-C ends each of them at once. Raises `MarsError` for an invalid number and for a formula that is not an
+    Ctrl-C ends each method at once. Raises `MarsError` for an invalid number and for a formula that is not an
     expression in W and S.
     """
 
@@ -104,11 +104,11 @@ class Contest(Terms):
         results: str | os.PathLike[str] | None = None,
         progress: Callable[[Progress], object] | None = None,
     ) -> League:
-        """Runs a league: every two warriors play a match, of which the earlier one is the first.
+        """Runs a league: every two warriors play a match, in which the earlier one comes first.
 
         - `results`: the name of a file in which results are stored; matches that it contains are not run again
 
-        Raises `MarsError` for an invalid warrior, and `CorewarError` for the file and for errors of an executor.
+        Raises `MarsError` for an invalid warrior, and `CorewarError` for errors of the file and of an executor.
         """
         matches = Matches(self, warriors, all_pairs(len(warriors)))
         return league_of(run_all(matches, Execution(jobs, executor, results, progress)))
@@ -123,8 +123,8 @@ class Contest(Terms):
         results: str | os.PathLike[str] | None = None,
         progress: Callable[[Progress], object] | None = None,
     ) -> Challenge:
-        """Runs a match of a warrior with each of its opponents; the warrior is the first. The rest is as for `league`,
-        with which it may share a file of results.
+        """Runs a match of a warrior with each of its opponents, in which the warrior comes first. The rest is as for
+        `league`, whose file of results it may share.
         """
         pairs = pairs_of([0], range(1, len(opponents) + 1))
         matches, how = Matches(self, [warrior, *opponents], pairs), Execution(jobs, executor, results, progress)
@@ -177,9 +177,9 @@ class Contest(Terms):
 
         - `size`: the number of warriors in a match, 2 to 16
         - `lineups`: the number of matches, 1 or more
-        - `results`: as for `league`, with which it may share a file
+        - `results`: as for `league`, whose file it may share
 
-        Raises `MarsError`, and `CorewarError` for too few warriors, for the file and for errors of an executor.
+        Raises `MarsError`, and `CorewarError` for too few warriors and for errors of the file and of an executor.
         """
         if self.positions != "drawn":
             raise CorewarError("the positions of a melee are drawn")
@@ -218,8 +218,8 @@ def run_all(matches: Kind, how: Execution) -> Kind:
 
 
 def run(matches: Schedule, how: Execution) -> Iterator[Indices]:
-    """Runs the matches that are not stored yet. Yields rows of matches: first of all that are stored, then each time of
-    those that have just been run. Raises CorewarError.
+    """Runs the matches that are not stored yet. Yields the rows of all stored matches first, and then, each time some
+    matches have been run, their rows. Raises CorewarError.
     """
     how.check(matches.contest)
     if matches.contest.positions == "all":

@@ -25,9 +25,9 @@ def distances(settings: Settings) -> range:
 
 
 def battles_of(pairs: NDArray[np.intp], settings: Settings) -> tuple[NDArray[np.intp], NDArray[np.int64]]:
-    """Returns a lineup of each pair for each battle, and the seeds that draw the positions."""
+    """Returns a lineup for each battle of each pair, and for each lineup the seed that draws its positions."""
     room = len(distances(settings))
-    # The draw modulo `room` selects the distance. A draw is never 0, so `room` stands for it.
+    # The draw modulo `room` selects the distance. A draw is never 0, so `room` takes the place of 0.
     seeds = np.array([seed_after(step or room, -1) for step in range(room)], np.int64)
     # If the second warrior begins, it is at address 0, and the first one at the core size minus the distance.
     lineups = np.repeat(np.stack([pairs, pairs[:, ::-1]], axis=1), room, axis=1).reshape(-1, 2)
@@ -49,7 +49,7 @@ def rounds_of(survived: NDArray[np.bool_], pairs: int) -> NDArray[Any]:
 
 
 def strip_of(scores: NDArray[np.float64], formula: str, width: int) -> str:
-    """Returns mean scores by distance as bars, from a loss to a win."""
+    """Returns mean scores by distance as bars. The lowest bar stands for a loss, and the highest one for a win."""
     ends = [0.0, *scores.tolist()]
     with suppress(MarsError):
         ends.append(score_of(formula, 2, 1))

@@ -17,13 +17,13 @@ LEADS = ("lead", "lead_error")
 
 @dataclass(frozen=True, eq=False)
 class League(Standings):
-    """The results of a league, `Standings` with the results of each match.
+    """The results of a league. They are `Standings` with the results of each match.
 
     - `pairs`: the two warriors of each match, in their order
-    - `results`: the points, wins, ties and losses of the first one, and the points of the second one
+    - `results`: the points, wins, ties and losses of the first warrior of each match, and the points of the second one
     - `seeds`: the seeds of the matches
     - `leads`, `lead_errors`: by how much the score of each warrior is greater than that of the next rank, and the
-      standard error of that; NaN for the last one
+      standard error of this lead; NaN for the last warrior
     - `by_points`: whether rows are shown by their points, or in the order of the warriors
     """
 
@@ -43,7 +43,7 @@ class League(Standings):
 
     @property
     def order(self) -> Indices:
-        """The indices of the warriors as they are shown."""
+        """The indices of the warriors in the order in which they are shown."""
         return best_of(self.points) if self.by_points else np.arange(len(self.warriors))
 
     @property
@@ -108,10 +108,11 @@ def league_of(matches: Matches) -> League:
     check_points(map(sum, matrix[..., 0].tolist()))
     counts, rows = matrix.sum(axis=1), np.arange(len(matches))
     best, scale = best_of(counts[:, 0]), 100 / (contest.rounds * max(1, count - 1))
-    # The points of a match belong to the sum of each of its warriors ..
+    # The points of a match count for the sum of each of its warriors.
     given = matches.lineups.T.ravel(), np.tile(rows, 2), np.repeat([0, 1], len(rows))
     errors = Sums(count, *given, np.ones_like(given[0])).errors(matches) * scale
-    # .. and to the lead of each over the next one, and with the opposite sign to the lead of the one before.
+    # They also count for the lead of each over the next rank and, with the opposite sign, for the lead of the rank
+    # before.
     orders = np.argsort(best)[given[0]]
     sums = np.stack([np.r_[orders, orders - 1], *np.tile(given[1:], 2), np.repeat([1, -1], len(orders))])
     sums = sums[:, (sums[0] >= 0) & (sums[0] < count - 1)]

@@ -1,4 +1,4 @@
-"""Matches of two: their warriors, seeds and results, which are run or read from a file."""
+"""Matches of two warriors, which are run or read from a file: their lineups, seeds and results."""
 from __future__ import annotations
 
 import hashlib
@@ -75,11 +75,11 @@ def digests_of(warrior: Warrior) -> tuple[bytes, bytes]:
 
 class Schedule:
     """Matches of lineups of warriors, which are run or read from a file. Rows are indices of matches, and results are
-    only valid where `is_fought`.
+    valid only where `is_fought` is true.
     """
 
     TABLE: Table
-    # Makes of the rows of the library the results that a worker sends.
+    # Returns the results that a worker sends for rows of the library.
     finish: Callable[[NDArray[Any]], NDArray[Any]]
 
     def __init__(self, contest: Contest, warriors: Sequence[Warrior], lineups: Indices) -> None:
@@ -91,7 +91,9 @@ class Schedule:
         return len(self.lineups)
 
     def play(self, jobs: int = 1, executor: Executor | None = None) -> Iterator[Indices]:
-        """Runs the matches that are left. Yields the rows of some with their results filled in. Raises CorewarError."""
+        """Runs the matches that are left. Each time it has filled in results, it yields their rows. Raises
+        CorewarError.
+        """
         left, run = np.flatnonzero(~self.is_fought), self.contest.run(self.lineups.shape[1])
         for block in (left[at : at + BLOCK] for at in range(0, len(left), BLOCK)):
             table = table_of(self.lineups[block], self.seeds[block])
@@ -104,7 +106,7 @@ class Schedule:
                 yield rows
 
     def fill_in(self, rows: Indices, found: NDArray[Any]) -> None:
-        """Takes the results of matches. Raises CorewarError if no matches of these warriors can have them."""
+        """Fills in the results of matches. Raises CorewarError if these matches cannot have such results."""
         raise NotImplementedError
 
     def stored(self, rows: Indices) -> Iterator[tuple[Any, ...]]:
@@ -112,15 +114,15 @@ class Schedule:
         raise NotImplementedError
 
     def take_stored(self, stored: Iterator[tuple[Any, ...]]) -> int:
-        """Fills in what was stored. Returns how many of these matches are stored only with the warriors in the other
-        order, by results that belong to none of these matches. Raises CorewarError if the results cannot be those of a
-        match.
+        """Fills in the stored results. Returns how many matches have no result, but could have one if their warriors
+        were in the other order; a result that belongs to another match does not count. Raises CorewarError if a result
+        cannot be that of a match.
         """
         raise NotImplementedError
 
 
 class Matches(Schedule):
-    """The matches of pairs, with their counts."""
+    """The matches of pairs of warriors, with their counts, as `counts_of` returns them."""
 
     TABLE = Table("fought", ("first", "second"), ("points", "wins", "ties", "losses", "theirs"), "INTEGER")
 

@@ -29,8 +29,8 @@ if TYPE_CHECKING:
 
 @dataclass(frozen=True, eq=False)
 class Melee(Standings):
-    """The results of warriors in melees, `Standings` with the lineups. An error is NaN if the warrior was in fewer than
-    two matches.
+    """The results of warriors in melees. They are `Standings` with the lineups. An error is NaN if the warrior was in
+    fewer than two matches.
 
     - `lineups`: the warriors of each match, in their order
     - `seeds`: the seeds of the matches

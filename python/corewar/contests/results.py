@@ -1,8 +1,8 @@
 """Stores results of matches in an SQLite file, so that no match is run twice.
 
 A match is identified by its settings and by the digests of the cells and starts of its warriors, in their order, since
-its results depend only on these. Results are written once a second, all of them or none, so a process that is killed
-loses at most those of its last second. Several processes may use one file.
+its results depend only on these. Results wait until a second has passed since the last write, and are then written
+together, so a process that is killed loses only the latest ones. Several processes may use one file.
 """
 from __future__ import annotations
 
@@ -23,8 +23,8 @@ if TYPE_CHECKING:
     # These are stored in tables.
     from .matches import Schedule
 
-# In seconds: how long another process may lock the file, how long one attempt takes, during which Ctrl-C waits, and how
-# long results wait to be written.
+# In seconds: how long another process may lock the file, how long one attempt takes, during which Ctrl-C waits, and the
+# least time between two writes.
 LOCK_SECONDS = 60
 TRY_SECONDS = 0.25
 WRITE_SECONDS = 1
@@ -59,7 +59,9 @@ class Table:
 
 
 class Results:
-    """The stored results of some matches. Waiting results are written at the end. Raises CorewarError for the file."""
+    """The stored results of some matches. Waiting results are written at the end. Raises CorewarError for errors of the
+    file.
+    """
 
     def __init__(self, path: str, matches: Schedule) -> None:
         self.path, self.matches, self.contest = path, matches, matches.contest.key
@@ -86,7 +88,8 @@ class Results:
             raise CorewarError(f"{self.path}: {fault}") from None
 
     def find(self) -> int:
-        """Fills in the stored matches. Returns how many are stored only in the other order."""
+        """Fills in the stored results. Returns how many matches are stored only with their warriors in the other order.
+        """
         with self.file_errors():
             try:
                 stored = self.retry_while_locked(lambda: self.file.execute(self.matches.TABLE.find, [self.contest]))
@@ -111,7 +114,9 @@ class Results:
             self.file.executemany(self.matches.TABLE.keep, self.new)
 
     def retry_while_locked(self, function: Callable[[], Done]) -> Done:
-        """Returns the result of a function, which is tried again while another process has locked the file."""
+        """Returns the result of a function. It is called again while another process has locked the file, for up to
+        LOCK_SECONDS.
+        """
         end, is_shown = time.monotonic() + LOCK_SECONDS, False
         while True:
             try:

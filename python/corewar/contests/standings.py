@@ -1,4 +1,4 @@
-"""The results of warriors: per 100 rounds, with standard errors and ranks, and as rows for programs."""
+"""The results of warriors: counts, scores per 100 rounds with standard errors and ranks, and rows for programs."""
 from __future__ import annotations
 
 import csv
@@ -124,7 +124,7 @@ def row_of(warrior: Warrior, counts: Sequence[int], error: float, **more: int) -
 
 
 def best_of(points: Numbers | Rates) -> Indices:
-    """Returns indices by points or scores, the most first; equal ones are in their order."""
+    """Returns the indices of points or scores, the greatest first; equal ones stay in their order."""
     return np.argsort(-points, kind="stable")
 
 
@@ -134,7 +134,7 @@ def rounded(number: float) -> float | None:
 
 
 def csv_text(columns: Sequence[str], rows: Iterable[Mapping[str, Any]]) -> str:
-    """Returns rows as CSV, with a line of their columns."""
+    """Returns rows as CSV, after a line with the names of the columns."""
     text = io.StringIO()
     writer = csv.DictWriter(text, columns, extrasaction="ignore", lineterminator="\n")
     writer.writeheader()

@@ -52,7 +52,8 @@ class Terms:
         if position is not None and positions in ("pmars", "all"):
             raise CorewarError(f"a position and the positions {positions} exclude each other")
         # An invalid number, and a formula that is wrong or has no value for a win, are rejected here and not after
-        # hours of matches. If each match has its own seed, made from this one, no match would check this one.
+        # hours of matches. If each match has its own seed, made from the seed of the contest, none would check the
+        # latter.
         check_numbers(self.settings, rounds, seed, position)
         score_of(formula, 2, 1)
         if positions == "all":
@@ -88,7 +89,9 @@ class Terms:
         return Run(self.settings, 1 if self.positions == "all" else self.rounds, self.position, width)
 
     def fixed_seeds(self, warriors: Sequence[Warrior], pairs: Indices) -> Numbers:
-        """Returns the seeds of matches of two as `pmars -f` has them, or the seed itself."""
+        """Returns the seeds of matches of two: with the positions `pmars` those of `pmars -f`, otherwise the contest's
+        seed for each.
+        """
         if self.positions != "pmars":
             return np.full(len(pairs), self.seed)
         matches = [Match([warriors[number] for number in pair], settings=self.settings) for pair in pairs.tolist()]

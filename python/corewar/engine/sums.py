@@ -26,7 +26,7 @@ def league(
     """Runs a league of up to 65,536 warriors, a match of every two, and returns the row of each, in their order.
 
     The parameters and errors are those of `match`, without a position; every match has the same seed. `Contest.league`
-    gives each match a seed of its own, returns more than sums, and uses all processors.
+    gives each match a seed of its own, returns more than sums, and can use all processors.
     """
     run, count = Run(settings_of(settings), rounds), len(warriors)
     if is_short(run, count * (count - 1) // 2):

@@ -1,4 +1,4 @@
-"""Reads expressions as this kit does and as pMARS does, whose order of operations is sometimes another one."""
+"""Reads expressions as this kit does and as pMARS does, whose order of operations sometimes differs."""
 from __future__ import annotations
 
 import re
@@ -52,7 +52,7 @@ class Reader:
         return self.chain(1)
 
     def chain(self, level: int) -> Tree:
-        """Reads operators of this precedence and higher ones."""
+        """Reads operands and the operators between them, as long as their precedence is this one or higher."""
         tree = self.operand()
         while PRECEDENCES.get(self.tokens[self.at], 0) >= level:
             operator = self.next()
@@ -86,7 +86,8 @@ class PmarsReader(Reader):
     def part(self, bound: int, left: Tree | None, operator: str) -> Tree:
         """Reads the right side of an operator and what follows.
 
-        - `bound`: the precedence of the operator before it, or -1
+        - `bound`: the precedence of the operator before this one, or -1 if there is none
+        - `left`, `operator`: the left side and the operator; None and "" at the beginning of an expression
         """
         right = self.operand()
         tree = right if left is None else Binary(operator, left, right)
@@ -114,8 +115,8 @@ READERS = (Reader, PmarsReader)
 
 
 def regrouped(tokens: Sequence[str]) -> str | None:
-    """Returns an expression with parentheses where pMARS computes it in another order than this kit, "" if both compute
-    the same, or None if only pMARS rejects it.
+    """Returns an expression with parentheses that give it the order of pMARS if this kit computes it in another order;
+    None if only pMARS rejects it; otherwise "", also if it has more than MAX_TOKENS.
     """
     ours = Reader(tokens).read() if len(tokens) <= MAX_TOKENS else None
     if ours is None:
@@ -137,7 +138,7 @@ def is_read(tokens: Sequence[str]) -> bool:
 
 def written(tree: Tree, is_short: bool = False) -> str:
     """Returns the text of a tree, with parentheses around each operation within another, so that both programs read it
-    in the same way; a short one has none around products.
+    in the same way. A short text has none around products.
     """
 
     def nested(inner: Tree) -> str:

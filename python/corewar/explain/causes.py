@@ -22,7 +22,7 @@ from .source import (
     most_similar,
 )
 
-# A function of the source, the line of the error, and where the library has it.
+# A function of the source, the line of the error, and the place that the library reports.
 Cause = Callable[[Source, Line, Place | None], Iterator[Advice]]
 # A comment of another language.
 COMMENT = re.compile(r"//|/\*|^\s*#|,.*\w\s+#\s")
@@ -66,7 +66,7 @@ def bad_token(source: Source, line: Line, place: Place | None) -> Iterator[Advic
 
 
 def wrong_token(source: Source, line: Line, token: str) -> Iterator[Advice]:
-    """Says why a token is none, or is not allowed in a line."""
+    """Says why a word is no token, or is not allowed in a line."""
     counters = {loop.counter for loop in source.loops_around(line.number)}
     joined_names = [name for name in token.split("&")[1:] if name not in counters]
     if token.isdecimal() and Decimal(token) > MAX_NUMBER:
@@ -115,7 +115,9 @@ def opcode_of(line: Line) -> str:
 
 
 def empty(source: Source, _line: Line, _: Place | None) -> Iterator[Advice]:
-    """Looks in each line for an opcode that is not read as one, also before a name that the source does not have."""
+    """Looks in each line for a word that is probably meant as an opcode, also one with a name right after it that the
+    source does not define.
+    """
     for line in source.read_lines():
         word, found = misspelt(source, line), GLUED.match("".join(line.labels[:1]))
         if not word and found:

@@ -5,7 +5,7 @@ import re
 
 from .source import NAME, Line, Load, Loop, Source, read_source
 
-# The maximum number of EQU names that are moved, and of lines that are read for it.
+# The maximum number of EQU names that are moved, and of lines that are read again for the moves.
 MAX_MOVES, MAX_MOVED_LINES = 100, 100_000
 # A line that uses an EQU, with the loops around it, up to the innermost one whose counter the EQU has.
 Use = tuple[Line, list[Loop]]
@@ -55,8 +55,8 @@ def loops_of(around: list[Loop], counters: set[str]) -> list[Loop]:
 
 
 def counters_of_equates(source: Source) -> dict[str, set[str]]:
-    """Returns the counters of loops that are parts of names in each EQU that has any, also in those that it names; not
-    those that pMARS rejects, since an earlier line has the same label.
+    """Returns, for each EQU that has any, the counters of loops that are parts of names in its text or in the text of
+    an EQU that it names. A counter is left out if pMARS rejects it, since an earlier line has the same label.
     """
     labels, found = source.labels(), dict[str, set[str]]()
     counters = {one.counter for one in source.loops if labels.get(one.counter, one.head).number >= one.head.number}
@@ -78,7 +78,7 @@ def counters_of_equates(source: Source) -> dict[str, set[str]]:
 
 def move_equate(source: Source, lines: list[str], head: Line, users: list[Use]) -> None:
     """Moves an EQU to the beginning of the innermost loop around each of the lines that use it. Its name is joined to
-    the counters of all loops around it, since each iteration defines it again. If no line uses it, it is removed.
+    the counters of all loops around it, since each iteration defines it again. An EQU that no line uses is removed.
     """
     name, copies = head.labels[0], source.equate(head)
     texts, words = [lines[line.number - 1] for line in copies], {*re.findall(r"\w+", "\n".join(lines))}

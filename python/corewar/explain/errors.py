@@ -30,7 +30,7 @@ def kind_of(fault: MarsError) -> str:
 def errors_of(data: bytes, load: Callable[[bytes], object]) -> Iterator[tuple[MarsError, list[str]]]:
     """Yields the errors of a source, each with its explanation.
 
-    - `load`: assembles a source; what it raises besides `MarsError` ends the search
+    - `load`: assembles a source; any exception that it raises besides `MarsError` is passed on
     """
     source, given, lines, seen = read_source(data), data.split(b"\n"), data.split(b"\n"), set[int]()
     for _ in range(MAX_ERRORS):
@@ -90,7 +90,7 @@ class Problem:
 
 
 def problem_of(kind: str, number: int, source: bytes, sentences: Sequence[str], place: Place | None = None) -> Problem:
-    """Returns an error with its explanation; `place` is where the library has it."""
+    """Returns an error with its explanation; `place` is where the library reports it, or None."""
     lines = source.split(b"\n")
     text = lines[number - 1].decode("utf-8", "replace").rstrip("\r") if 0 < number <= len(lines) else ""
     return Problem(number, kind, text, tuple(map(str, sentences)), *wrong_word(number, text, sentences, place))
@@ -118,7 +118,7 @@ def problems(
     """Returns the errors of a source, at most ten, each with what `corewar explain` says; none if it is right.
 
     - `settings`, `rounds`, `warriors`: as for `assemble`
-    - `limit`: the limits for assembling it; what else it costs has the same limit of time, but only in the main thread
+    - `limit`: the limits for assembling it; explaining it has the same limit of time, but only in the main thread
 
     Raises `Overrun` if a limit is exceeded, and `MarsError` if the settings are invalid.
     """

@@ -18,15 +18,15 @@ from .source import ASSERT, OPCODES, Line, Load, Source, read_source
 Fix = Callable[[Source, list[str], Load], None]
 # The greatest count of a loop.
 MAX_ITERATIONS = 10_000
-# The maximum number of counts that are computed in a source, each by the assembler.
+# The maximum number of counts that are computed in a source, each by the assembler, and of counts that are bounded.
 MAX_COUNTS = 20
 
 
 def fix(data: bytes, load: Load, is_rejected: bool = False) -> bytes:
     """Returns the source with each construct replaced that is known to be read differently by pMARS.
 
-    - `load`: assembles a source; it computes counts
-    - `is_rejected`: replaces only what this kit rejects
+    - `load`: assembles a source, from which counts are computed
+    - `is_rejected`: whether to replace only what this kit rejects
     """
     source = read_source(data)
     for one in [one for one in FIXES if not (is_rejected and one in READ_DIFFERENTLY)]:
@@ -61,7 +61,9 @@ def rename_counters(source: Source, lines: list[str], _: Load) -> None:
 
 
 def separate_labels(source: Source, lines: list[str], _: Load) -> None:
-    """Writes several labels before FOR or EQU in lines of their own; all are names of an EQU."""
+    """Writes all labels before a FOR, except its counter, in lines of their own, and an EQU with several labels as an
+    EQU for each.
+    """
     for line, following in zip(source.lines, [*source.lines[1:], Line(0, "")]):
         if len(line.labels) < 2 or line.word not in ("FOR", "EQU") or line.skipped:
             continue
@@ -99,14 +101,14 @@ def remove_asserts(source: Source, lines: list[str], _: Load) -> None:
 
 
 def comment_prose(source: Source, lines: list[str], _: Load) -> None:
-    """Makes a comment of each line of a skipped loop whose text begins a loop here but not in pMARS."""
+    """Makes a comment of each line in a skipped loop that begins a loop in this kit but not in pMARS."""
     for line in source.lines:
         if line.skipped and line.word == "FOR" and len(line.labels) < 2 and not opens_in_pmars(line):
             lines[line.number - 1] = commented(lines[line.number - 1])
 
 
 def compute_counts(source: Source, lines: list[str], load: Load) -> None:
-    """Replaces each count that has labels by its number, if the labels are before it."""
+    """Replaces each count that has labels by its number, if the labels are before it and no loop is around it."""
     labels, left = source.labels(), MAX_COUNTS
     for loop in source.loops:
         number, expression = loop.head.number, "".join(loop.head.rest)
@@ -173,5 +175,5 @@ FIXES: list[Fix] = [
     compute_counts,
     bound_counts,
 ]
-# The fixes of what this kit accepts, too, but reads in another way.
+# The fixes of what this kit accepts as well, but reads in another way.
 READ_DIFFERENTLY = [obey_directives, take_lone_labels, write_version, write_seq, write_operands]

@@ -1,4 +1,4 @@
-"""Says what is probably meant otherwise in a source without errors."""
+"""Finds what is valid in a source without errors, but is probably meant otherwise."""
 from __future__ import annotations
 
 from collections.abc import Sequence
@@ -8,7 +8,7 @@ from ..model.cells import MODES, signed
 from .sentences import cause_sentence
 from .source import GLUED, NAME, OPCODES, PREDEFINED, Line, Source, glued, read_source
 
-# How many labels are looked at for an opcode without a space.
+# The maximum number of labels that are checked for an opcode with a name right after it.
 MAX_LABELS = 100
 # Opcodes that compute with the number of their A-operand.
 COMPUTING = ("ADD", "SUB", "MUL", "DIV", "MOD", "SLT")
@@ -22,7 +22,7 @@ def hints_of(warrior: Warrior, lines: Sequence[tuple[int, list[str]]]) -> list[s
     - the EQU name of a number as the A-operand of an instruction that computes, without `#`, if the cell at this
       distance is outside the warrior: it is empty, and computing with it changes nothing
 
-    `lines` has the number of the line, and the labels of each instruction.
+    `lines` has, for each instruction, the number of its line and its labels.
     """
     source, found = read_source(warrior.source or b""), dict[int, str]()
     labels = [(one, name) for one in source.read_lines() if one.is_label for name in one.labels if GLUED.match(name)]

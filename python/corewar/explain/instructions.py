@@ -62,7 +62,7 @@ class Operand:
 
 
 def describe_instruction(cell: str, names: tuple[str, str] = ("", "")) -> str:
-    """Returns what a cell does that is written as `cell_text` returns it, or "" for any other text.
+    """Returns a sentence on what a cell does, which is given as `cell_text` returns it, or "" for any other text.
 
     - `names`: for each operand the name of the cell at its distance, or of its number if its mode is `#`; with "" the
       distance or the number is given

@@ -20,8 +20,8 @@ CELL = np.dtype([*((name, "u1") for name in ("op", "modifier", "a_mode", "b_mode
 
 
 def columns(records: Records) -> dict[str, NDArray[Any]]:
-    """Returns arrays of records as columns without nested fields, as `pandas.DataFrame` takes them: the field `address`
-    of the first `change` is `change_0_address`.
+    """Returns an array of records as columns without nested fields, as `pandas.DataFrame` takes them. For example, the
+    field `address` of the first `change` is the column `change_0_address`.
     """
     if records.ndim > 1:
         parts = {str(index): columns(records[:, index]) for index in range(records.shape[1])}

@@ -15,7 +15,7 @@ SET, MOVE, KILL, ADD = enumeration("SET_CELL").values()
 
 @dataclass(frozen=True)
 class Edit:
-    """An edit of a battle. The static methods return one of each kind; `Battle.edit` and `History.edited` check it.
+    """An edit of a battle. The static methods return edits of each kind; `Battle.edit` and `History.edited` check them.
 
     - `what`: 1 sets cells, 2 moves a process, 3 kills a process, 4 adds a process
     - `warrior`: the number of a warrior, from 0

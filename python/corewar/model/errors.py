@@ -11,7 +11,7 @@ FORMULA, ASSEMBLY, LOAD, SCORE = (RESULTS[name] for name in ("FORMULA", "ASSEMBL
 BLOCK, EDIT, WARRIOR, LINEUP = (RESULTS[name] for name in ("BLOCK", "EDIT", "WARRIOR", "LINEUP"))
 # The number of SCORE for a sum of points that does not fit in 64 bits.
 RANGE = enumeration("EXPRESSION_SYNTAX")["EXPRESSION_RANGE"]
-# Results whose kind is not their name.
+# The kinds of results whose kind is not their name in lower case.
 WORDS = {MEMORY: "out of memory", EDIT: "refused"}
 # Results whose numbers are in an enumeration of another name.
 ENUMERATIONS = {FORMULA: "EXPRESSION", SCORE: "EXPRESSION"}
@@ -36,8 +36,8 @@ class MarsError(CorewarError):
     - `problem`, `expression`: the numbers of nested errors, or 0
     - `line`: the line of a source or a load file, from 1; or the address or index of a wrong cell; otherwise 0
     - `warrior`: the index of a wrong warrior or lineup, from 0
-    - `begin`, `end`: the bytes of the token at which a source has its error, counted from 0 and without `end`; for a
-      token from an EQU those in its definition; both 0 if the error has no token
+    - `begin`, `end`: the index of the first byte of the token at which a source has its error, and of the byte after
+      the token; for a token from an EQU they are in its definition; both are 0 if the error has no token
 
     `Fault` is its older name, which the next version removes.
     """
@@ -63,7 +63,7 @@ class MarsError(CorewarError):
         super().__init__(self._place() + " ".join([*head, *filter(None, parts)]))
 
     def _place(self) -> str:
-        """Returns where the error is, as its text begins."""
+        """Returns the beginning of the text, which says where the error is, or "" if the text does not say it."""
         if self.code in (ASSEMBLY, LOAD):
             return f"line {self.line}: "
         return f"index {self.warrior}: " if self.code in (WARRIOR, LINEUP) else ""

@@ -1,8 +1,9 @@
 """The header of the library: where it is, its declarations for cffi, and its names and numbers, from which the package
 has opcodes, errors and ranges. This module imports no other of the package, since setup.py runs it.
 
-The header is the file that MARS_HEADER names; otherwise mars.h beside the binding (in a wheel), of the checkout that
-contains this file, of the prefix in which the package is installed, or of the system.
+MARS_HEADER names the header. Without it, the header is the first mars.h that exists: beside the binding (in a wheel),
+in the checkout that contains this file, or in `include` of the prefix in which the package is installed, or of the
+system.
 """
 from __future__ import annotations
 
@@ -15,7 +16,7 @@ from pathlib import Path
 PACKAGE = Path(__file__).resolve().parents[1]
 ENGINE = PACKAGE / "engine"
 CHECKOUT = PACKAGE.parents[1]
-# The name of the library on this system, which has its major version.
+# The name of the library's file on this system, which contains the major version.
 LIBRARY = {"win32": "mars-2.dll", "cygwin": "mars-2.dll", "darwin": "libmars.2.dylib"}.get(sys.platform, "libmars.so.2")
 # The possible prefixes of `make install`, first the one in which this package is installed.
 INSTALLED = [*PACKAGE.parents[3:4], Path("/usr/local"), Path("/usr")]

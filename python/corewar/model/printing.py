@@ -8,9 +8,9 @@ from shutil import get_terminal_size
 from textwrap import wrap
 from typing import TextIO
 
-# What colours a text on a terminal.
+# The sequences that colour a text on a terminal.
 COLOUR = re.compile(r"\033\[[\d;]*m")
-# What comes before a column of a table, and how much further right than a line its continuation begins.
+# The spaces before a column of a table, and how many more spaces than a line its continuation begins with.
 COLUMN, INDENT = re.compile(r"(?<=\S)  +"), 4
 
 
@@ -31,7 +31,7 @@ def make_distinct(names: list[str]) -> list[str]:
 
 
 def cut(text: str, width: int) -> str:
-    """Returns a text of at most `width` letters, which is 2 or more: a longer text is cut and ends in `..`."""
+    """Returns a text, cut to `width` letters with `..` at its end if it is longer. `width` is 2 or more."""
     return text if len(text) <= width else f"{text[: width - 2]}.."
 
 
@@ -45,7 +45,7 @@ def broken(line: str, width: int) -> str:
     """Returns a line that is broken at spaces into parts of at most this width, unless a word is longer.
 
     The parts after the first one are indented: to the start of one of the line's columns, or by INDENT more than the
-    line. Of these indents, those with the fewest parts are taken, and of them the greatest.
+    line. The indent that makes the fewest parts is taken, or the greatest if several make equally few.
     """
     least = min(len(line) - len(line.lstrip(" ")) + INDENT, width // 2)
     starts = {least, *(found.end() for found in COLUMN.finditer(line) if least < found.end() <= width // 2)}

@@ -45,7 +45,7 @@ class Settings:
     write_limit: int | None = None
 
 
-# The first one has the default settings.
+# The settings of known hills. The first hill has the default settings.
 HILLS = {
     "94nop": Settings(),
     "94x": Settings(core=55440, processes=10000, cycles=500000, longest=200, distance=200),
