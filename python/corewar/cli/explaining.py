@@ -40,7 +40,7 @@ EXAMPLES = [
 ]
 # The exit status if `--fix` leaves lines that both programs accept, and that pMARS reads in another way.
 LEFT = 3
-# The explanations of operations without operands.
+# What operations mean, for an argument that is only the name of one.
 MEANINGS = {**OPCODES, **DIRECTIVES}
 
 
@@ -125,8 +125,8 @@ class Explanations:
 
 
 def instruction_of(words: Sequence[str]) -> Line | None:
-    """Returns the line of some arguments that are not files, if it looks like an instruction: it has an opcode or, also
-    if that is misspelt, a space or a comma.
+    """Returns the line that arguments make up, or None if one of them is a file or the line does not look like an
+    instruction: it has no opcode, is no directive, and has no space or comma, with which the opcode may be misspelt.
     """
     text, are_sources = " ".join(words), any(word.endswith((".red", ".load")) for word in words)
     if any(map(os.path.exists, words)):
@@ -272,7 +272,7 @@ def explain_input(options: BattleOptions, shown: Explanations) -> int:
 
 
 def place_in(source: bytes, kind: str, number: int, load: Callable[[bytes], Warrior]) -> Place | None:
-    """Returns where a source has the error that a message names, if it has that error."""
+    """Returns where a source has the error that a message names, or None if it does not have this error."""
     try:
         load(source)
     except MarsError as fault:

@@ -75,8 +75,8 @@ def why(options: BattleOptions, named: str | None, turns: int, form: str) -> int
 
 
 def print_losses(options: BattleOptions, named: str | None, form: str) -> int:
-    """Prints how the named warrior, or each one without a name, died and tied in the rounds run before Ctrl-C. Returns
-    the exit status.
+    """Prints how the named warrior, or each warrior if `named` is None, died and tied. After Ctrl-C, this covers only
+    the rounds that have been looked at. Returns the exit status.
     """
     match = options.match()
     first = History(match)

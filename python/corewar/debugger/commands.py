@@ -19,7 +19,7 @@ class QuitDebugger(Exception):
 
 @dataclass(frozen=True)
 class Command:
-    """A command. An empty line repeats one that `repeats`."""
+    """A command. If it `repeats`, an empty line after it executes it again."""
 
     usage: str
     summary: str
@@ -69,7 +69,7 @@ def quit_debugger(session: Session, _: str) -> NoReturn:
     raise QuitDebugger
 
 
-# `Runner` in `prompt` executes these two; entering them makes them known to `help` and to completion.
+# `Runner` in `prompt` executes these two; here they do nothing, so that every command of the table has an act.
 for name in ("source", "log"):
     command(name)(lambda *_: [])
 

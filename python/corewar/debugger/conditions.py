@@ -39,7 +39,8 @@ def read_conditions(session: Session, text: str) -> Joined:
 
 
 def has_argument(session: Session, word: str, rest: list[str]) -> bool:
-    """Returns whether an argument follows a condition's first word. In `dies of`, it is a warrior called `of`."""
+    """Returns whether an argument follows a condition's first word. In `dies of`, it does if a warrior is called `of`.
+    """
     if not rest or rest[0] not in FOLLOWING:
         return bool(rest)
     is_name = word in WORDS["warriors"] and rest[0] in map(str.lower, session.names)
@@ -47,7 +48,9 @@ def has_argument(session: Session, word: str, rest: list[str]) -> bool:
 
 
 def with_more(session: Session, condition: Condition, word: str, rest: list[str]) -> Condition:
-    """Returns a condition that also has what a word says. Removes the argument of that word from `rest`."""
+    """Returns a condition to which a word and its argument are added, and removes the argument from `rest`. Raises
+    CorewarError.
+    """
     name = {"from": "origin"}.get(word, word)
     if not rest or getattr(condition, name) is not None:
         raise CorewarError(WORDS["expected"])

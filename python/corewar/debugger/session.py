@@ -90,7 +90,7 @@ class Session:
 
     def search(self, conditions: Sequence[Joined], forward: bool) -> Joined:
         """Goes to the next place where one of the conditions holds or, if not `forward`, to the last such place before
-        here. Returns the condition. Raises CorewarError if there is no such place or no condition.
+        here. Returns the condition that holds. Raises CorewarError if there is no such place or no condition.
         """
         if not conditions:
             raise CorewarError("no breakpoint is set; use `break CONDITION` or add a condition to this command")
@@ -107,7 +107,9 @@ class Session:
         return found
 
     def address(self, text: str) -> int:
-        """Returns the address of a number, a label, or `.`, the cell to execute next; each with or without +N or -N."""
+        """Returns the address that a text stands for: a number, a label, or `.` for the cell to execute next, each with
+        or without +N or -N. Raises CorewarError for any other text.
+        """
         found = re.fullmatch(r"(\.|[\w.]+?)((?:[+-]\d{1,9})*)", without_separators(text))
         base = found[1] if found else ""
         at = self.history.head(self.turn) if base == "." else self.sources.addresses.get(base, whole(base))
@@ -127,8 +129,8 @@ class Session:
         return self.history.warrior(text)
 
     def cell(self, address: int, line: str) -> Cell:
-        """Returns the cell that a line of source makes at an address, as the debugger reads it. Labels refer to the
-        core.
+        """Returns the cell that a line of source makes at an address, where labels stand for cells of the core. Raises
+        CorewarError if the line is not an instruction.
         """
         addresses, words = self.sources.addresses_at(address), LABEL.findall(line)
 

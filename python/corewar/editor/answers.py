@@ -185,8 +185,8 @@ def name_to_rename(text: Text, params: Params) -> Token:
 
 
 def check_name(text: Text, new: str) -> None:
-    """Raises CorewarError if a name is invalid or already used. Under other settings a used name could mean something
-    else, even if the warrior stays the same under these.
+    """Raises CorewarError if a name is invalid or already used. A used name is rejected even if the warrior would stay
+    the same, since it could change under other settings.
     """
     if not NAME.match(new) or "&" in new or new.upper() in [*OPERATIONS, *ELSEWHERE]:
         raise CorewarError(
@@ -242,7 +242,7 @@ def folds(text: Text, _: Params) -> Any:
 
 @answers("semanticTokens/full")
 def semantic_tokens(text: Text, _: Params) -> Any:
-    """Returns the tokens, each as five numbers: lines and units after the one before, length, type, and 0."""
+    """Returns the tokens, each as five numbers: lines and units after the token before it, length, type, and 0."""
     data, last = list[int](), {"line": 0, "character": 0}
     for token in text.names.tokens:
         if token.kind in TYPES:

@@ -101,7 +101,7 @@ class Server:
         else:
             text = (params.get("contentChanges") or [params["textDocument"]])[-1]["text"]
             self.versions[uri] = params["textDocument"].get("version")
-            # If reading the text takes too long, that is its error.
+            # Until the text has been read, its error is that this takes too long.
             self.texts[uri] = self.text("", f"reading the source takes more than {LIMIT.seconds} s of CPU time")
             self.changed.add(uri)
             self.texts[uri] = self.text(text)

@@ -30,8 +30,8 @@ Cells = dict[int, list[tuple[int, str]]]
 
 @dataclass
 class Error:
-    """An error of a source: its text and explanation, the number of the line to correct, or 0, and where the library
-    has it.
+    """An error of a source: its text and explanation, the number of the line to correct, or 0, and the place that the
+    library reports, or None.
     """
 
     kind: str
@@ -50,7 +50,7 @@ class Text:
 
     Lines count from 1 and columns from 0, in characters. Positions of the protocol count both from 0, in UTF-16 units.
 
-    - `refused`: why a text is not read, which is then its only error
+    - `refused`: why a text is not read, which is then its only error, or "" if it is read
     """
 
     def __init__(self, text: str, assemble: Callable[..., Warrior], settings: Settings, refused: str = "") -> None:
@@ -62,7 +62,7 @@ class Text:
         self.settings = HILLS.get(hill[1].lower(), settings) if hill else settings
         self.source: Source = read_source(self.data)
         self._assemble = assemble
-        # The columns of the characters of a line that have two units.
+        # For each line, the columns of the characters that have two units.
         self._wide: dict[int, list[int]] = {}
 
     @cached_property
@@ -141,8 +141,8 @@ class Text:
     def values(self, number: int, expression: str) -> list[int]:
         """Returns the value of an expression in each cell of a line, or nothing if it has none there.
 
-        The assembler computes it: a DAT in place of the instruction holds two of its digits, in a base for which they
-        fit.
+        The assembler computes the value: a DAT in place of the instruction holds two of its digits, in a base whose
+        digits fit into a cell.
         """
         base = (self.settings.core + 1) // 2
         weights = [base**power for power in range(64) if base > 1 and base**power < MAX_WEIGHT]

@@ -44,7 +44,7 @@ MEANINGS = {
 }
 
 
-# What precedes the error of an expression: of an operand or an assert, of the count of a FOR, of a formula.
+# What precedes the error of an expression, which is in an operand or an assert, in the count of a FOR, or in a formula.
 OF_EXPRESSIONS = ("4 Expression ", "1 Text 10 Expression ", "formula 1 Expression ")
 KINDS = {
     **{head + kind: text for head in OF_EXPRESSIONS for kind, text in SENTENCES["expressions"].items()},
@@ -61,7 +61,7 @@ def explain_error(fault: MarsError, source: bytes) -> list[str]:
 
 
 def explain_kind(kind: str, number: int, source: bytes, place: Place | None = None) -> list[str]:
-    """Explains an error by its text, the number of its line, and where the library has it."""
+    """Explains an error by its text, the number of its line, and the place that the library reports."""
     causes: list[str] = []
     if kind in CAUSES:
         text = read_source(source)

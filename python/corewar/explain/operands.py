@@ -9,14 +9,14 @@ from ..model.cells import MODES
 from .arithmetic import MAX_TOKENS, regrouped
 from .source import ASSERT, OPCODES, Line, Source
 
-# How deep EQU names refer to each other.
+# The maximum depth to which EQU names in the texts of other EQUs are replaced.
 MAX_DEPTH = 32
 
 
 @dataclass
 class Instruction:
-    """An instruction, ORG, END, FOR or assert, and the tokens of its operands. It is `written` in the line if that also
-    has its operation: then the operands can be written there in another way.
+    """An instruction, ORG, END, FOR or assert, and the tokens of its operands. It is `written` if the line has its
+    operation, and not only an EQU name for it: then the operands can be written there in another way.
     """
 
     line: Line
@@ -25,7 +25,9 @@ class Instruction:
     written: bool = True
 
     def split(self, text: str) -> tuple[str, list[str], str]:
-        """Returns what is before the operands in the text of the line, the texts of the operands, and its comment."""
+        """Returns what is before the operands in the text of the line, the texts of the operands, and the comment. All
+        are empty if the text does not have the operation.
+        """
         if self.word == "ASSERT":
             found = re.match(r"(\s*;assert\b\s*)([^;]*)(.*)", text, re.I | re.S)
         else:
@@ -91,7 +93,7 @@ def split_operands(tokens: Sequence[str]) -> list[list[str]]:
 def instructions_of(source: Source) -> list[Instruction]:
     """Returns what has operands in the lines that are read, also in the text of an EQU that is used as an operation."""
     expansion, found, name = Expansion(source), list[Instruction](), ""
-    # What follows the name of such an EQU belongs to its text.
+    # What follows the name of such an EQU belongs to its text, so the instruction is found where the name is used.
     continued = {line.operation for line in source.lines if line.rest}
 
     def add(line: Line, word: str, tokens: list[str], written: bool = True) -> None:

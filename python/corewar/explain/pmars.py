@@ -20,7 +20,7 @@ COMMENTED = re.compile(r"\s*;(name|author)\s*(.*)", re.I)
 OPTIONAL = ("DAT", "JMP", "SPL", "NOP")
 # The longest name or author, and line, that both programs read in the same way.
 MAX_NAME_LENGTH, MAX_LINE_LENGTH = 60, 255
-# What a source has in a line that pMARS reads differently.
+# The differences that are found in a source, each with the number of its line and a sentence.
 Found = Iterator[tuple[int, str]]
 CHECKS: list[Callable[[Source], Found]] = []
 # What pMARS makes of an error of this kit.
@@ -35,7 +35,8 @@ ACCEPTED = {
 REPEATED = "pMARS drops this line, with a warning, in later iterations of its loop; join the counter to the name."
 REGISTER = "pMARS takes the undefined `{}` for a register, which is 0 unless a line sets it; write a number."
 UNCLOSED = "pMARS only warns about a FOR without ROF, and reads the lines after it once; write ROF."
-# The number of rows of the table that are looked for: an error shows some of them, and two errors one row.
+# The number of rows of the table that are looked for. Some of them are found by an error, and one by either of two
+# errors.
 CHECKED_ROWS = 35
 
 
@@ -103,7 +104,7 @@ def start_by_org(source: Source, load: Load) -> int | None:
 @check
 def immediate(source: Source) -> Found:
     for one in instructions_of(source):
-        # The others don't use the value of their B-operand.
+        # The opcodes in OPTIONAL do not use the value of their B-operand.
         modes = [tokens[:1] for tokens in one.operands] if one.word in OPCODES and one.word not in OPTIONAL else []
         if len(modes) == 2 and modes[0] in (["<"], [">"], ["{"], ["}"]) and modes[1] == ["#"]:
             text = "pMARS reads the B-operand before the side effect of the A-operand, this kit after it."
@@ -206,7 +207,8 @@ def prose(source: Source) -> Found:
 
 
 def opens_in_pmars(line: Line) -> bool:
-    """Returns whether pMARS takes a FOR in text that it skips for a loop: not after a colon or an opcode."""
+    """Returns whether a FOR in skipped text begins a loop for pMARS, which it does unless it follows a colon or opcode.
+    """
     before = re.split(r"\bfor\b", line.code, flags=re.I)[0]
     return ":" not in before and not any(word.upper() in OPCODES for word in before.split())
 
@@ -242,7 +244,7 @@ def asserts(source: Source) -> Found:
 
 
 def names_of_assert(source: Source, one: Instruction) -> tuple[list[str], list[str]]:
-    """Returns the labels of earlier lines, and the other names that are not defined."""
+    """Returns the names in an assert that are labels of earlier lines, and those that are not defined."""
     labels, counters = source.labels(), {loop.counter for loop in source.loops_around(one.line.number)}
     words = [word for tokens in one.operands for word in tokens if NAME.match(word)]
     words = [word for word in dict.fromkeys(words) if word not in PREDEFINED and word not in counters]
@@ -328,8 +330,8 @@ def lone_labels(source: Source) -> Found:
 
 
 def lone_labels_of(source: Source) -> Iterator[tuple[Line, Line]]:
-    """Yields each line of only labels that pMARS adds to the line after it, which is an EQU or a FOR without a counter,
-    with that line; at the end of the source, with an empty line.
+    """Yields each line of only labels that pMARS adds to a following EQU, or to a following FOR without a counter, each
+    with the line of that EQU or FOR. Labels at the end of the source come with an empty line.
     """
     alone = list[Line]()
     for line in [*source.lines, Line(0, "")]:

@@ -31,7 +31,8 @@ def take_lone_labels(source: Source, lines: list[str], _: Load) -> None:
 
 
 def write_operands(source: Source, lines: list[str], _: Load) -> None:
-    """Writes the first operand of DAT, the operand of ORG, and parentheses where pMARS computes in another order."""
+    """Writes a missing first operand of DAT or operand of ORG, and parentheses where pMARS computes in another order.
+    """
     for one in instructions_of(source):
         at, new = one.line.number - 1, one.regrouped()
         is_short = one.word == "DAT" and len(one.operands) == 1 or one.word == "ORG" and not one.operands
@@ -39,7 +40,7 @@ def write_operands(source: Source, lines: list[str], _: Load) -> None:
             continue
         head, texts, end = one.split(lines[at])
         if len(texts) != len(one.operands):
-            # An EQU name has several operands.
+            # An EQU name stands for several operands.
             texts = ["".join(tokens) for tokens in one.operands]
         texts = [text or old for text, old in zip(new, texts)]
         if is_short:
@@ -48,7 +49,7 @@ def write_operands(source: Source, lines: list[str], _: Load) -> None:
 
 
 def write_version(source: Source, lines: list[str], _: Load) -> None:
-    """Writes the VERSION of pMARS."""
+    """Writes 92, the version of pMARS, in place of VERSION."""
     for line in source.read_lines():
         if "VERSION" in [*line.operands, *line.rest]:
             replace_in_code(line, lines, r"(?<![\w.&])VERSION(?![\w&])", "92")

@@ -9,7 +9,7 @@ SENTENCES: dict[str, dict[str, str]] = json.loads((files("corewar.explain") / "m
 
 
 class Advice(str):
-    """A sentence on the word `old` of a line, or on none if that is "".
+    """A sentence on the word `old` of a line, or on no word if `old` is "".
 
     - `new`: the word to write, or ""
     - `line`: the number of the line, or 0 for the line of the error

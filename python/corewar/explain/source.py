@@ -21,15 +21,15 @@ EXTENSIONS = ["LDP", "STP", "PIN"]
 ELSEWHERE = [*EXTENSIONS, "XCH", "PCT", "STS"]
 # What assembles a source.
 Load = Callable[[bytes], Warrior]
-# A name with its joins, a number, or punctuation, also such as the language does not have; bytes up to 32 are spaces.
+# A name with its joins, a number, or punctuation, even if the language does not use it; bytes up to 32 are spaces.
 TOKEN = re.compile(r"(?:\w|&(?=[A-Za-z_]))+|==|!=|<=|>=|&&|\|\||[^\0- ]", re.ASCII)
 NAME = re.compile(r"[A-Za-z_][\w&]*\Z", re.ASCII)
 ASSERT = re.compile(r"\s*;assert\b(.*)", re.I)
-# An opcode before a name without a space.
+# An opcode and a name with no space between them.
 GLUED = re.compile(rf"({'|'.join(OPCODES)})([A-Z_]\w*)\Z", re.I | re.ASCII)
 # How many names are compared with a word; a comparison takes 10 to 20 microseconds for each letter.
 MAX_CHOICES = 1000
-# The most loops around a line.
+# The maximum number of loops around a line that are looked at, of which the innermost ones are taken.
 MAX_LOOPS = 32
 # How many words of a line are compared with the names of operations.
 FIRST_WORDS = 20
@@ -37,8 +37,8 @@ FIRST_WORDS = 20
 
 @dataclass
 class Line:
-    """A line; `rest` has the tokens after the labels and the operation, `unread` is the reason if the line is not read,
-    and `skipped` whether it is in a loop whose count is 0.
+    """A line. `rest` has the tokens after the labels and the operation, `unread` is the reason why the line is not
+    read, or "" if it is, and `skipped` is whether it is in a loop whose count is 0.
     """
 
     number: int
@@ -182,7 +182,7 @@ def read_source(data: bytes) -> Source:
         elif end:
             line.unread = cause_sentence("after end", line=end)
         elif line.skipped and (line.word not in ("FOR", "ROF") or len(line.labels) > 1):
-            # In a loop that is skipped, only a first or second word begins another one.
+            # In a loop that is skipped, only a FOR that is the first or second word begins another loop.
             continue
         elif line.word == "END":
             end = number
@@ -199,8 +199,8 @@ def read_source(data: bytes) -> Source:
 
 
 def most_similar(word: str, choices: Sequence[str]) -> str | None:
-    """Returns the choice that is most similar to a word. A choice with the same letters in another order comes first
-    and, of equally similar ones, the one with the same first letter.
+    """Returns the choice that is most similar to a word, or None if none is similar. A choice with the same letters in
+    another order comes first and, of equally similar choices, one with the same first letter.
     """
     upper = {choice.upper(): choice for choice in choices[:MAX_CHOICES]}
     same = [choice for choice in upper if sorted(choice) == sorted(word.upper())]
@@ -228,8 +228,8 @@ def likeness(word: str, choice: str) -> float:
 
 
 def misspelt(source: Source, line: Line) -> Misspelt | None:
-    """Returns a sentence on a word in place of an operation that is similar to one, lacks the space after it, or is one
-    of another dialect; or None without such a word.
+    """Returns a sentence on a word in place of an operation, or None without such a word. The word is similar to an
+    operation, lacks the space after an operation, or is an operation of another dialect.
     """
     for word in [] if line.word in OPERATIONS else line.labels[:FIRST_WORDS]:
         if pair := glued(source, word):
@@ -269,7 +269,9 @@ def place_of(data: bytes, begin: int, end: int) -> Place | None:
 
 
 def column_of(word: str, line: str, last: int = 0) -> int | None:
-    """Returns the column of a word in a line, before its comment: the first one that ends after the column `last`."""
+    """Returns the column at which a word begins in the code of a line, or None if it does not occur there. Of several
+    occurrences it is the first that ends after the column `last`.
+    """
     pattern = rf"(?<![\w&]){word}(?![\w&])" if NAME.match(word) else re.escape(word)
     found = re.finditer(pattern, line.partition(";")[0]) if word else ()
     return next((one.start() for one in found if one.end() > last), None)
