@@ -49,7 +49,9 @@ class BattleOptions:
 
     @property
     def contest(self) -> Contest:
-        """The contest of the options. The matches of a series of pMARS all have its seed."""
+        """The contest of the options. With `--pmars-position` all matches have the seed of its series, and with
+        `--pmars-fixed` each has the seed of its cells.
+        """
         return Contest(
             self.settings,
             rounds=self.rounds,
@@ -69,8 +71,8 @@ class BattleOptions:
         return replace(self, positions="all")
 
     def match(self) -> Match:
-        """Returns the match of the files, each of which is read once. Raises FileError, and an error of click if the
-        number of files does not fit.
+        """Reads the files and returns their match. Raises FileError, and an error of click if the number of files does
+        not fit.
         """
         self.check_pmars(len(self.files))
         if len(self.files) > MAX_WARRIORS:
@@ -272,7 +274,7 @@ ROUND = match_option(
 
 
 def is_given(parameter: str) -> bool:
-    """Returns whether the option with this name of its argument is on the command line."""
+    """Returns whether the option that sets this argument is on the command line."""
     return click.get_current_context().get_parameter_source(parameter) is ParameterSource.COMMANDLINE
 
 

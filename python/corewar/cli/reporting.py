@@ -16,7 +16,9 @@ from ..model.printing import lines_for, printable
 
 
 def is_coloured() -> bool:
-    """Returns whether standard output has colours: as `--color` says, or by default on a terminal without NO_COLOR."""
+    """Returns whether standard output has colours: as `--color` says, or by default on a terminal, unless NO_COLOR is
+    set or TERM is `dumb`.
+    """
     when = click.get_current_context().find_root().params.get("color")
     automatic = sys.stdout.isatty() and not os.environ.get("NO_COLOR") and os.environ.get("TERM") != "dumb"
     return when == "always" or when != "never" and automatic

@@ -32,7 +32,7 @@ KEYS = [
     "[ ] round",
     "q quit",
 ]
-# The frames in a second, the seconds of a battle at the first speed, and how much a key changes it.
+# The frames in a second, the seconds of a battle at the first speed, and the factor by which a key changes the speed.
 FRAMES, SECONDS, FASTER = 20, 20, 1.6
 # What separates the keys, and the least number of other lines around the core: the title, the warriors, the last turn.
 GAP, LINES = "   ", 3

@@ -15,7 +15,7 @@ from ..pictures.colours import mix_colours
 from .render import render, write_page
 from .site import page_of, site_folder
 
-# A browser cannot show the matrix of more warriors.
+# The maximum number of warriors in a matrix; a browser cannot show a larger one.
 MAX_MATRIX_SIZE = 250
 PAGE = "battles.html"
 

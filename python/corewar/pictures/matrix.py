@@ -9,7 +9,8 @@ from ..contests.league import League
 from .saving import save
 from .colours import LOST, TIED, WON, mix_colours
 
-# The size of a cell, and the maximum size of the matrix, in inches; smaller letters, in points, are left out.
+# The size of a cell and the maximum size of the matrix, in inches; and the size, in points, below which letters are
+# left out.
 CELL, SIDE, LETTER = 0.25, 20.0, 4.0
 
 

@@ -16,7 +16,7 @@ from .colours import warrior_colours
 HALVES, BRAILLE = (1, 2), (2, 4)
 # The bits of a Braille character by rows of dots.
 BITS = np.array([[1, 8], [2, 16], [4, 32], [64, 128]])
-# How much of white the colour of a process has.
+# The share of white in the colour of a process.
 WHITE = 0.65
 # Parts of a text with the style of each, as prompt_toolkit takes them.
 Fragments = list[tuple[str, str]]
@@ -32,7 +32,7 @@ class Canvas:
     columns: int
 
     def dots(self, values: NDArray[np.int64]) -> Dots:
-        """Returns the dots of cells by rows and columns: the greatest value of each, 0 beyond the core."""
+        """Returns the dots by rows and columns, each the greatest value of its cells, or 0 beyond the core."""
         wide, tall = self.columns * self.shape[0], self.shape[1]
         count = -(-len(values) // self.cells)
         padded = np.zeros(-(-count // (wide * tall)) * wide * tall * self.cells, np.int64)
@@ -96,7 +96,7 @@ def halves(dots: Dots, styles: list[str]) -> list[Fragments]:
 
 
 def braille(dots: Dots, styles: list[str], count: int) -> list[Fragments]:
-    """Returns a character for eight dots, in the colour of a process there, or else of the owner of most."""
+    """Returns a character for eight dots, in the colour of a process there, or else of the owner of most dots."""
     height, width = dots.shape
     groups = dots.reshape(height // 4, 4, width // 2, 2).transpose(0, 2, 1, 3)
     letters = (np.where(groups > 0, BITS, 0).sum(axis=(2, 3)) + 0x2800).tolist()

@@ -78,7 +78,7 @@ class Handler(BaseHTTPRequestHandler):
             self._refuse(404, "not found")
 
     def _path(self) -> str | None:
-        """Returns the path below the token; None if the request was refused."""
+        """Returns the path below the token, or None if the request was rejected."""
         host, port = self.headers.get("Host", ""), self.server.server_address[1]
         is_own = host in (f"{HOST}:{port}", f"localhost:{port}")
         path, below = urlsplit(self.path).path, f"/{self.served.token}/"
