@@ -29,7 +29,7 @@ try:
 except ImportError as fault:
     sys.exit(f"hill: {fault}; install the dependencies of corewar with dev/setup")
 
-# The limits for assembling the source of a newcomer, who may be a stranger.
+# The limits for assembling the source of a newcomer, which may be from a stranger.
 LIMIT = corewar.Limit(5, 500)
 # A hill, and a warrior of it, as they are in the file.
 Hill = dict[str, Any]
