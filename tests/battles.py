@@ -1,6 +1,6 @@
 """Random battles for hypothesis: warriors of any cells in a small core, and lines of the debugger.
 
-States and rows are those of a battle after one call for each line. `is_listed` compares a state with the listings of
+Battles and records are made by one call of `Battle` for each line. `is_listed` compares a state with the listings of
 the debugger.
 """
 from __future__ import annotations

@@ -92,7 +92,7 @@ class Browser:
         return found
 
     def press(self, *keys: str, held: str = "") -> None:
-        """Presses keys one after another, by their names or characters, while another one is held."""
+        """Presses keys one after another, by their names or characters, while the key `held`, if given, is down."""
         values = [KEYS.get(key, key) for key in keys]
         acts = [{"type": kind, "value": value} for value in values for kind in ("keyDown", "keyUp")]
         if held:

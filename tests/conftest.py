@@ -17,7 +17,8 @@ settings.register_profile("ci", deadline=None, derandomize=True)
 settings.register_profile("wide", deadline=None, max_examples=3000)
 settings.load_profile("ci")
 
-# Processes of tests receive Ctrl-C, even if a shell runs the tests in the background and ignores it.
+# Processes of tests receive Ctrl-C, even if a shell runs the tests in the background, where it makes them ignore
+# Ctrl-C.
 signal.signal(signal.SIGINT, signal.default_int_handler)
 
 TOP = Path(__file__).resolve().parents[1]

@@ -119,7 +119,7 @@ def memory() -> Iterator[tuple[str, str]]:
     for kind in ("i16", "i32"):
         low = PLACE.format(16) + f"%c = trunc i64 %a0 to {kind}\nstore {kind} %c, ptr %p, align 1\n"
         yield f"pun of {kind}", low + "%r = load i64, ptr %p, align 1\n"
-    # A number of 64 bits of which only the lowest byte is loaded, as the library does.
+    # Only the lowest byte of a stored number of 64 bits is loaded, which the library does, too.
     pun = PLACE.format(8) + "store i64 %a0, ptr %p, align 8\n%v = load i8, ptr %p, align 8\n"
     yield "pun of i64", pun + widened("i8")
     pair = PLACE.format(16) + AFTER + "store i64 %a0, ptr %p, align 8\nstore i64 %a1, ptr %q, align 8\n"

@@ -12,7 +12,7 @@ from corewar.model.cells import cell_text
 from corewar.model.settings import HILLS, Settings
 
 PMARS, DEBIAN = Path(TOP) / "build" / "pmars" / "pmars", Path("/usr/share/doc/pmars/examples")
-# A line of the cells that pMARS lists.
+# A cell in a line, as pMARS lists it.
 CELL = re.compile(r"^(START)? +([A-Z]{3}\.[A-Z]{1,2}) +([#$@<>*{}]) *(-?\d+), ([#$@<>*{}]) *(-?\d+)", re.M)
 
 
@@ -37,7 +37,7 @@ def run_pmars(pmars: Path, *words: object) -> str:
 
 def listed_by(pmars: Path, file: Path) -> list[str]:
     """Returns the cells of a source as pMARS lists them, with SEQ in place of CMP, and `START` before the first one to
-    be executed; no cells of a source that it rejects.
+    be executed. The list is empty if pMARS rejects the source.
     """
     cells = CELL.findall(run_pmars(pmars, "-r", 0, *words_of(HILLS["94nop"]), file))
     return [
@@ -47,6 +47,6 @@ def listed_by(pmars: Path, file: Path) -> list[str]:
 
 
 def own_cells(warrior: Warrior) -> list[str]:
-    """Returns the cells of a warrior in the same form."""
+    """Returns the cells of a warrior in the form of `listed_by`."""
     cells = [cell_text(cell, warrior.core) for cell in warrior.cells]
     return [f"START {cell}" if index == warrior.start else cell for index, cell in enumerate(cells)]

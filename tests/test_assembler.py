@@ -21,7 +21,7 @@ SHARED = Assembler()
 
 
 def ask(number: int) -> tuple[int, int]:
-    """Returns a number, and what the assembler that all processes share makes of it."""
+    """Returns a number, and the number in the cell that SHARED assembles from it, which must be the same."""
     return number, int(SHARED.assemble(f"DAT 0, {number}\n").cells[0]["b"])
 
 

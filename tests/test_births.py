@@ -16,7 +16,7 @@ from corewar.model.edits import ADD, KILL, Edit
 from corewar.model.errors import CorewarError, MarsError
 from corewar.model.settings import Settings
 
-# A paper of two processes, and one whose first process splits for ever.
+# A paper of two processes, and a warrior whose first process splits for ever.
 PAPER = ";name Paper\nSPL 1, 0\nSPL @0, <9\nMOV }-1, >-1\nMOV }-2, >-2\nJMP -3, 0\n"
 CHAIN = ";name Chain\nSPL 0, 0\nJMP 0, 0\n"
 LOADED = "Its first ancestor was loaded."

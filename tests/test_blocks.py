@@ -66,7 +66,7 @@ def header(words: Words) -> Any:
 
 
 def is_turn(before: Battle, row: Any, touched: Any, after: Battle) -> bool:
-    """Returns whether the rows of a turn are what it changed."""
+    """Returns whether the rows of a turn describe the change from the battle before it to the battle after it."""
     warrior, cells = before.next, before.cells.copy()
     for change in row["change"][: row["changes"]]:
         if cells[change["address"]] != change["before"] or change["address"] not in touched["address"]:
@@ -189,7 +189,7 @@ def test_errors_of_blocks(changes: dict[int, int], error: tuple[int, ...]) -> No
 
 
 def test_few_words() -> None:
-    """Too few words for the battle are an error; too few for its turns are the result ROOM."""
+    """Too few words for the battle are an error; with too few for its turns, the result of the call is ROOM."""
     words = three()
     assert header(words)["words"] == 91 and len(words) == 64 + 3 * 8 + 3 * 3
     for length in (0, 63, 90):

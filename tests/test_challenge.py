@@ -94,7 +94,9 @@ def test_versions_score_as_in_their_matches(run: Run) -> None:
 
 
 def test_versions_for_programs(run: Run) -> None:
-    """CSV and JSON have the rows of the table, with the names of the versions and with exact errors."""
+    """CSV and JSON have the rows of the table, with errors of four digits after the point. JSON also names the
+    versions.
+    """
     words = ["challenge", "--old", "dead.red", "-r", 4, "stay.red", "stay.red", "dead.red"]
     heads = "file,name,author,old,new,change,error,number\n"
     rows = "stay.red,Stay,Anonymous,0.0,100.0,100.0,0.0,0\ndead.red,Dead,Anonymous,150.0,300.0,150.0,86.6025,1\n"
@@ -143,7 +145,9 @@ ROWS = [
 
 
 def test_formats_for_programs(run: Run) -> None:
-    """CSV and JSON have a row for each match, with its opponent and the candidate's results, and a row of sums."""
+    """CSV and JSON have a row for each match, with its opponent and the candidate's results. The row of the sums is
+    always in JSON, but in CSV only with --sum.
+    """
     words, files = ["challenge", "-r", 4], ["stay.red", "stay.red", "dead.red"]
     table = [*csv.reader(io.StringIO(run(*words, "--format", "csv", *files).stdout))]
     assert table == [HEADS, *ROWS]

@@ -94,7 +94,7 @@ def test_results_are_stored(tmp_path: Path) -> None:
 
 
 def test_no_thread_is_left() -> None:
-    """A process with threads could not be forked, as an `Assembler` does."""
+    """An `Assembler` forks the process, which it can only do safely without threads."""
     CONTEST.league(warriors(), jobs=4)
     assert threading.active_count() == 1
 
@@ -151,7 +151,7 @@ def test_errors_of_executors() -> None:
 
 
 def test_an_interrupt_anywhere_ends_the_parts() -> None:
-    """An interrupt between two results ends the parts, too: none is awaited while it is handled."""
+    """An interrupt between two results ends the parts, too, before it is handled."""
 
     class Interrupting(int):
         def __hash__(self) -> int:
@@ -201,7 +201,7 @@ def test_waiting_takes_no_locks() -> None:
     found = run_parts(int, [(), (), ()], executor=Pool())
     threading.Timer(0.1, lambda: futures[1].set_result(7)).start()
     assert next(found) == (1, 7)
-    # Once for each, so that it reports itself when it is done; the result was also set and read.
+    # Each lock was taken once, to add a callback to its future, and that of the result also to set and to read it.
     assert [*map(taken.count, locks)] == [1, 3, 1]
     found.close()
     assert futures[0].cancelled() and futures[2].cancelled()
@@ -217,7 +217,7 @@ def test_seeds_of_matches() -> None:
     contest = Contest("nano")
     seeds = contest.league(made).seeds
     assert len({*seeds.tolist()}) == len(seeds) == 1770 and seeds.min() > 0 and seeds.max() < 2**31 - 1
-    # They are spread evenly.
+    # The seeds are spread evenly.
     assert abs(seeds.mean() / 2**30 - 1) < 0.1
     turned, other = contest.league(made[::-1]).seeds, Contest("nano", seed=2).league(made).seeds
     assert not {*seeds.tolist()} & {*turned.tolist()} and not {*seeds.tolist()} & {*other.tolist()}

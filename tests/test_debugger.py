@@ -126,7 +126,7 @@ def test_cells_are_a_range_or_a_number() -> None:
 
 
 def test_a_list_fits_a_narrow_terminal() -> None:
-    """Columns are as wide as they need, and sources are cut."""
+    """Columns are only as wide as their texts, and sources are cut."""
     session = session_of("dwarf", "imp")
     wide = execute(session, "list 0 4")
     session.width = lambda: max(map(len, wide))
@@ -232,9 +232,9 @@ def test_find_counts_places() -> None:
     execute(session, "goto 0")
     found = [session.turn for _ in range(3) if execute(session, "continue changes 3")]
     assert [*map(int, first.split(", "))][:3] == found and int(count) > 20
-    # A cell is executed next after the turn before its own.
+    # `at` holds after the turn before the one that executes the cell.
     assert execute(session, "find at 1305") == ["at 1305: 1 time, after turn 1"]
-    # Whose death it was is only said if the condition does not say it.
+    # The warrior that died is named only if the condition does not name it.
     assert execute(session, "find dies") == ["dies: 1 time, after turn 7798 (Imp)"]
     assert execute(session, "find dies by imp") == ["dies Imp: 1 time, after turn 7798"]
     (line,) = execute(session, "find at from bomb and dies")
@@ -249,7 +249,7 @@ def test_conditions_are_joined() -> None:
     (line,) = execute(session, "find changes of 1 by dwarf and becomes dat")
     found = history.find(Condition("changes", of=1, by=0, becomes="DAT"))
     assert line.startswith(f"changes of Imp becomes DAT by Dwarf: {len(found)} times, after turn {found[0]}, ")
-    # Each of them is a bomb on what Imp wrote, or was loaded with.
+    # In each of these turns, Dwarf bombs a cell that Imp wrote or was loaded in.
     for turn in found[::100].tolist():
         (bomb,) = history.trace(turn, turn)
         assert bomb.warrior == 0 and history.owners(turn - 1)[bomb.writes[0].at.address] == 1
@@ -294,7 +294,7 @@ def test_names_may_have_words_of_conditions() -> None:
 
 
 def test_find_looks_at_all_rounds() -> None:
-    """Names, numbers and labels mean the same warriors in each round, though another one begins it."""
+    """Names, numbers and labels refer to the same warriors in each round, though another warrior begins it."""
     fight = Match(tuple(read(str(EXAMPLES / f"{name}.red"), rounds=30) for name in ("dwarf", "imp")), rounds=30)
     found = [History(fight, number) for number in range(30)]
     for place, words in ((0, "of imp by dwarf"), (1, "of 0 by 1")):
@@ -320,7 +320,7 @@ def test_help_describes_each_command() -> None:
     session = session_of("imp")
     text = "\n".join(execute(session, "help"))
     assert all(one.usage in text for one in COMMANDS.values())
-    # These lines are broken already.
+    # The lines on conditions are broken in the table itself.
     assert max(map(len, text.partition("A CONDITION")[2].split("\n"))) <= 80
     assert execute(session, "help step")[0].startswith("step [N|W]")
     assert find_command("cont").name == "continue"
@@ -382,7 +382,8 @@ def test_numbers_of_thousands_of_digits_are_refused() -> None:
 
 
 def test_files_of_lines(run: Run, tmp_path: Path) -> None:
-    """The commands `log` and `source` can be abbreviated; a file that names itself, or that is the log, ends."""
+    """The commands `log` and `source` can be abbreviated; executing a file that names itself, or that is the log, ends.
+    """
     (tmp_path / "self").write_text("source self\nstep\n")
     assert run("debug", "@imp", input="source self\n").stdout.splitlines()[-2].startswith("turn 8: ")
     lines = run("debug", "@imp", input="lo kept\nstep\nso kept\nlog\nlog a\0b\nsource a\0b\n").stdout.splitlines()
@@ -433,7 +434,7 @@ def test_control_characters_of_sources_are_not_shown(run: Run, tmp_path: Path) -
 
 
 def test_a_killed_command_leaves_no_process(tmp_path: Path) -> None:
-    """The process that assembles ends with the one that started it, while it waits and while it assembles."""
+    """The process that assembles ends with the one that started it, both while it waits and while it assembles."""
     os.mkfifo(tmp_path / "pipe")
     (tmp_path / "slow.red").write_text(slow())
     for other, how in itertools.product(("pipe", "slow.red"), (signal.SIGKILL, signal.SIGTERM)):
@@ -444,7 +445,7 @@ def test_a_killed_command_leaves_no_process(tmp_path: Path) -> None:
             time.sleep(0.05)
         time.sleep(0.3)
         process.send_signal(how)
-        # This waits until each process with the output has closed it.
+        # This waits until each process that has the output open has ended.
         process.communicate(timeout=20)
 
 

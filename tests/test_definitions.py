@@ -139,7 +139,7 @@ constant = 17
 
 
 def test_definitions(define: Define) -> None:
-    """Recursion, `do`, imports, aliases and partial application are computed, and no argument that is not needed."""
+    """Recursion, `do`, imports, aliases and partial application are computed; arguments that are not needed are not."""
     definitions = define(DEFINITIONS, Other=OTHER)
 
     def get(name: str) -> Callable[..., Any]:

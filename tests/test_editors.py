@@ -1,4 +1,5 @@
-"""The files for editors: they colour the examples as the kit reads them, and Neovim and Emacs use the language server.
+"""The files for editors. With them editors colour the examples as the kit reads them, and Neovim and Emacs use the
+language server.
 
 Vim, Emacs, Kate and bat colour the examples; bat reads the grammar of VS Code and TextMate in another form.
 """
@@ -197,7 +198,7 @@ def test_colours_are_what_the_kit_reads(share: Path, colours: Callable[..., list
 
 
 def test_the_extension_for_vs_code(share: Path) -> None:
-    """The files that its manifest names exist, and its script is valid JavaScript."""
+    """The files that the manifest of the extension names exist, and the script of the extension is valid JavaScript."""
     folder = share / "corewar" / "vscode"
     manifest = json.loads((folder / "package.json").read_text())
     parts = manifest["contributes"]

@@ -20,7 +20,7 @@ COMMAND = TOP / "dev" / "checks" / "evaluate"
 
 
 def require(area: str) -> None:
-    """Skips a test on a machine without what an area needs. pMARS is built if it is not."""
+    """Skips a test on a machine without what an area needs. For the area `pmars`, pMARS is built if it is missing."""
     if area == "pmars":
         build_pmars()
     if area in NEEDS and not NEEDS[area][0]():
@@ -106,7 +106,7 @@ def test_command() -> None:
 
 
 def test_vectors(tmp_path: Path) -> None:
-    """The same seed gives the same files; pMARS has no other answers, except to a changed one."""
+    """The same seed gives the same files, and pMARS agrees with them, except with a file that was changed."""
     command = TOP / "dev" / "checks" / "vectors"
     for name in ("one", "other"):
         subprocess.run([command, tmp_path / name, "--count", "25"], check=True)

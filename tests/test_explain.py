@@ -233,7 +233,9 @@ def test_all_errors_of_a_file(run: Run, tmp_path: Path) -> None:
 
 
 def test_each_error_has_a_meaning() -> None:
-    """Each error of the documents is explained with the same words, and is found in a line after any text."""
+    """Each error of the documents is explained with the same words, and its message is found after the names of
+    programs and of a file.
+    """
     document = (TOP / "docs" / "user" / "LANGUAGE.md").read_text()
     table = document[document.index("## Errors") : document.index("## Differences")]
     rows = dict(re.findall(r"^\| `(.*?)` \| (.*) \|$", table, re.M))
@@ -245,7 +247,7 @@ def test_each_error_has_a_meaning() -> None:
 
 
 def test_each_error_of_the_library_is_known() -> None:
-    """The explained texts are the texts of the errors."""
+    """The text of each error of a source, a warrior, a lineup and a formula has an explanation."""
     for number, name in enumerate(("", "Operation", "Operand", "", "AssertFailed", "BadOrigin", "Empty", "TooLong"), 1):
         assert not name or f"{number} {name}" in KINDS and explain_error(MarsError(ASSEMBLY, number, line=1), b"")
     for number, name in [*names("TEXT").items()][:-1]:
@@ -702,7 +704,7 @@ def test_the_place_of_an_error(source: str, word: str, column: int | None) -> No
 
 
 def test_a_number_without_its_sign(run: Run, tmp_path: Path) -> None:
-    """An EQU number is a distance without `#`. If that leads out of the warrior, the number was meant."""
+    """An EQU number is a distance without `#`. If the distance leads out of the warrior, the number was meant."""
     (tmp_path / "x.red").write_text("by EQU far*2\nfar EQU 20\nadd by, 1\nadd #by, 1\nmov by, 1\nadd 40, 1\n")
     hint = "line 3: `by` is the cell 40 cells ahead, outside the warrior; write `#by` for the number 40"
     assert run("explain", "x.red").stdout == f"x.red: no error\n{hint}\n"
@@ -713,14 +715,16 @@ def test_a_number_without_its_sign(run: Run, tmp_path: Path) -> None:
 
 
 def test_a_space_that_is_missing(run: Run, tmp_path: Path) -> None:
-    """An opcode and a label without a space are a label, which is valid unless it is used."""
+    """An opcode and a label without a space between them are read as a label. It is valid, but reported if no operand
+    names it.
+    """
     (tmp_path / "x.red").write_text("go mov 0, 1\nlast JMPgo\naddgo\n    dat addgo\n")
     hint = "line 2: `JMPgo` is read as a label; did you mean `JMP go`?"
     assert run("explain", "x.red").stdout == f"x.red: no error\n{hint}\n"
 
 
 def test_a_comma_that_is_missing(run: Run, tmp_path: Path) -> None:
-    """A mode that compares is valid, in both programs; a comma before it was meant."""
+    """A mode without a comma before it is valid in both programs, but compares two numbers; the comma was meant."""
     (tmp_path / "x.red").write_text("djn -1 <-5\nmov 1<2, 3>2\nspl 0, <-10\n")
     hint = "line 1: `<` compares two numbers of one operand; write `, <` for the mode of a second operand"
     assert run("explain", "x.red").stdout == f"x.red: no error\n{hint}\n"
@@ -736,7 +740,7 @@ def test_a_comma_that_is_missing(run: Run, tmp_path: Path) -> None:
     ],
 )
 def test_the_limit_is_for_explanations_too(run: Run, tmp_path: Path, words: list[str], source: str) -> None:
-    """What the command itself makes of a source takes no longer than assembling it may."""
+    """What the command itself does with a source has the same limit of time as assembling the source."""
     (tmp_path / "large.red").write_text(source)
     (tmp_path / "bad.red").write_text("foo 1\n")
     done = run("explain", *words, "--source-limit", 1, "large.red", timeout=60)
@@ -771,7 +775,7 @@ def test_only_an_earlier_label_is_no_counter_of_pmars() -> None:
 
 
 def test_a_fix_reports_what_is_left(run: Run, tmp_path: Path) -> None:
-    """The source is assembled now, but pMARS executes a line in another way."""
+    """The fixed source can be assembled, but pMARS executes a line of it in another way."""
     (tmp_path / "left.red").write_text(" MOV <0, #5\np q FOR 2\nDAT #5\nROF\n")
     done = run("explain", "--fix", "left.red")
     note = "line 1: pMARS reads the B-operand before the side effect of the A-operand, this kit after it."

@@ -1,4 +1,4 @@
-"""`explain --fix` makes of old and of changed sources what pMARS reads in them, or says what it leaves."""
+"""`explain --fix` replaces old and changed sources by what pMARS reads in them, or reports what it leaves."""
 from __future__ import annotations
 
 import random
@@ -157,7 +157,7 @@ j     for     many
 
 @pytest.mark.parametrize("name", OLD)
 def test_sources_in_an_older_style(pmars: Path, tmp_path: Path, run: Run, name: str) -> None:
-    """A fixed source makes in both programs the cells that pMARS makes of the old one."""
+    """Both programs read in a fixed source the cells that pMARS reads in the old source."""
     old, new = tmp_path / "old.red", tmp_path / "new.red"
     old.write_text(f";redcode{OLD[name]}")
     done = run("explain", "--fix", old)
@@ -218,7 +218,9 @@ def sources(seed: int, number: int) -> list[str]:
 
 
 def test_changed_sources(pmars: Path, tmp_path: Path) -> None:
-    """A fixed source without an error and without a note has the cells and the start that pMARS makes of it."""
+    """If a fixed source has no error and no note, both programs read in it the cells and the start that pMARS reads in
+    the changed source.
+    """
     file, compared = tmp_path / "changed.red", 0
     for text in sources(94, NUMBER):
         fixed = fix(text.encode(), assemble)
