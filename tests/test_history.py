@@ -47,8 +47,8 @@ def small_blocks(monkeypatch: pytest.MonkeyPatch) -> None:
 
 
 def edited(history: History, places: list[tuple[float, str]]) -> tuple[History, list[str]]:
-    """Returns the history after those edits that are possible, each after this part of the turns that are left, and the
-    debugger's lines up to the last edit.
+    """Returns the history with those edits that are possible, and the debugger's lines up to the last edit. The number
+    with an edit is the part of the turns that are left after which it is made.
     """
     turn, lines = 0, []
     for part, line in places:
@@ -295,7 +295,7 @@ def test_wrong_turns_are_rejected() -> None:
 
 @given(matches(), st.integers(0, 2))
 def test_marks_are_bounded(fight: Match, round: int) -> None:
-    """There are at most as many marks as allowed, at equal distances; the last distance may be shorter."""
+    """There are at most as many marks as allowed, at equal distances; the end may be nearer to the last mark."""
     run = History(fight, round).segments[0].run
     turns = [Battle.of_bytes(mark).turns for mark in run.marks]
     assert turns == [*range(0, max(1, run.ending.turns), run.stride)] and len(turns) <= 4
@@ -323,7 +323,7 @@ def test_a_battle_is_a_value(fight: Match, round: int, first: int, more: int, li
 
 
 def test_records_are_returned_in_portions(monkeypatch: pytest.MonkeyPatch) -> None:
-    """Records in portions are the same as those at once, and need memory only for the turns that are left."""
+    """Records in portions are the same as all at once, and need memory only for turns that are executed."""
     fight = dwarf_and_imp().match
     records, touched = Battle(fight).play(records=9000, touched=50)
     for size in (100, 7000):
@@ -341,7 +341,7 @@ def test_a_battle_is_checked() -> None:
         with pytest.raises(MarsError) as fault:
             Battle.of_bytes(bytes(battle)[:length])
         assert (fault.value.kind, fault.value.name) == ("block", name)
-    # A number does not stand for as many zero bytes.
+    # A number is not turned into zero bytes.
     with pytest.raises(TypeError):
         Battle.of_bytes(1 << 40)  # type: ignore[arg-type]
     with pytest.raises(MarsError, match="^block 2 Mark$"):

@@ -40,7 +40,7 @@ def make(*words: object, **how: object) -> subprocess.CompletedProcess[str]:
     command = ["make", "--no-print-directory", *map(str, words), f"PROGRAM={PROGRAM}"]
     with open(TOP / "build" / "lock", "w") as lock:
         fcntl.flock(lock, fcntl.LOCK_EX)
-        # The libraries for other systems take three minutes of a processor.
+        # The libraries for other systems take three minutes of CPU time.
         return subprocess.run(command, cwd=TOP, capture_output=True, text=True, timeout=1800, **how)  # type: ignore
 
 
@@ -97,7 +97,7 @@ def test_it_runs(prefix: Path, run: Run) -> None:
 
 
 def test_it_calls_what_is_installed(prefix: Path) -> None:
-    """The library, the header and the examples are those of the prefix."""
+    """The library and the examples are those of the prefix."""
     code = "from corewar.cli.web import *; from corewar.engine.binding import *; library(); "
     code += "print(open('/proc/self/maps').read(), next(path for path in EXAMPLES if path.is_dir()))"
     environment = {"PYTHONPATH": str(prefix / "lib/python3/dist-packages")}
@@ -203,7 +203,7 @@ def test_one_list_of_packages(tmp_path: Path) -> None:
         assert {f"{relation}: python3-{name}" for name in extras[extra]} == {
             *re.findall(f"^{relation}: .*", control, re.M)
         }
-    # With this stub, no package is installed.
+    # With this stub of dpkg-query, dev/setup finds no package installed.
     (tmp_path / "dpkg-query").write_text("#!/bin/sh\n")
     (tmp_path / "dpkg-query").chmod(0o755)
     (tmp_path / "python3").symlink_to("/usr/bin/python3")

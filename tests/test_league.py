@@ -96,7 +96,9 @@ def test_a_hill_is_its_words(run: Run) -> None:
 
 
 def test_files(run: Run, folder: Path) -> None:
-    """It reads load files, WARRIORS and ROUNDS, standard input and a name with a dash; a file stands for no name."""
+    """A league takes load files, standard input and a name that begins with a dash. Sources get WARRIORS and ROUNDS,
+    and a warrior without a name has that of its file.
+    """
     own = own_rows(folder, "-o -r 4 old.load made.red unnamed.load late.red dead.red")
     output = run("league", "-r", 4, "old.load", "made.red", "unnamed.load", "late.red", "dead.red").stdout
     shown = [line.replace(" Unknown by", " old.load by").replace("   by ", "  unnamed.load by ") for line in own]
@@ -193,7 +195,7 @@ def examples() -> list[corewar.Warrior]:
 
 
 def variants() -> list[corewar.Warrior]:
-    """Returns five variants of each of two examples, with other numbers in the first cell."""
+    """Returns five variants of each of two examples, each with a different B-number in the first cell."""
     made = []
     for warrior in examples()[:3:2]:
         for change in range(5):
@@ -204,7 +206,7 @@ def variants() -> list[corewar.Warrior]:
 
 
 def clones() -> list[corewar.Warrior]:
-    """Returns warriors of which each three are equal, as evolvers breed them."""
+    """Returns each example three times, since evolvers breed equal warriors."""
     return [warrior for warrior in examples() for _ in range(3)]
 
 
@@ -224,7 +226,7 @@ def test_the_errors_are_how_seeds_differ(warriors: list[corewar.Warrior]) -> Non
 
 
 def test_a_lead_has_an_error() -> None:
-    """In a league of two it is the error of the difference of their points; between equal warriors it is 0."""
+    """In a league of two, this error is that of the difference of their points; between equal warriors it is 0."""
     dwarf, imp = examples()[:2]
 
     def league(*warriors: corewar.Warrior, **given: Any) -> list[dict[str, Any]]:
@@ -264,7 +266,7 @@ def test_picture(run: Run, folder: Path) -> None:
 
 
 def test_pages(run: Run, folder: Path) -> None:
-    """One page has the table, the matrix and the settings, and another one all battles, to which each number leads."""
+    """One page has the table, the matrix and the settings. Another page has all battles; the matrix links to it."""
     run("league", "--pages", "web", *LAST_FIRST[:2], "dead.red", "./late.red", "same.red")
     page = (folder / "web" / "index.html").read_text()
     assert "rounds 4 · seed 1" in page and "Late, later by Me &amp; you" in page
@@ -374,7 +376,7 @@ def test_no_file_has_a_warrior(run: Run, folder: Path) -> None:
 
 
 def test_source_limit(run: Run, folder: Path) -> None:
-    """A source that exceeds its limit is reported and left out; a long match is not."""
+    """A source that exceeds its limit is reported and left out; a long match has no limit."""
     (folder / "slow.red").write_text(slow())
     (folder / "names.red").write_text(large())
     for limit, name, cost in (("1", "slow.red", "more than 1 s"), ("60,200", "names.red", "more than 200 MB")):
@@ -403,7 +405,9 @@ def wait_for_results(path: Path, count: int) -> None:
 
 
 def test_it_continues_after_it_was_ended(folder: Path) -> None:
-    """After a kill and after Ctrl-C, which reports how many are stored, the table is the same, and all are stored."""
+    """After a kill and after Ctrl-C, which reports how many matches are stored, the same command still prints the same
+    table, and then all matches are stored.
+    """
     path, before = folder / "kept.sqlite", 0
     words = ["-r", 800, "--same-seed", "--jobs", 1, "--results", path, *(EXAMPLES / name for name in NAMES[:7])]
     for how in (signal.SIGKILL, signal.SIGINT):
@@ -471,7 +475,7 @@ def test_a_stored_match_is_of_its_contest(folder: Path) -> None:
         assert not filled(other)[0].is_fought.any()
     stored, turned = filled(contest, (0, 2, 1, 0))
     assert stored.is_fought.tolist() == [True, True, False, False, False, False] and turned == 1
-    # Copies on both sides of an opponent are no other order of files.
+    # Equal warriors before and after an opponent do not count as another order.
     stored, turned = filled(contest, (0, 1, 0))
     assert stored.is_fought.tolist() == [True, False, False] and turned == 0
     with sqlite3.connect(path) as file, pytest.raises(sqlite3.IntegrityError):
@@ -479,7 +483,9 @@ def test_a_stored_match_is_of_its_contest(folder: Path) -> None:
 
 
 def test_a_corrected_name_runs_nothing_again(run: Run, folder: Path) -> None:
-    """A stored match is known without names and authors; a file of version 1.2, which knew them, is still read."""
+    """A stored match is found without names and authors. A file of version 1.2, whose digests are also of these, is
+    still read.
+    """
     words = ["league", "-r", 4, "--results", "kept.sqlite", "stay.red", "late.red", "dead.red"]
     table, path = run(*words).stdout, folder / "kept.sqlite"
     (folder / "late.red").write_text(FILES["late.red"].replace("later", "latest").replace("Me", "Myself"))

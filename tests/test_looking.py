@@ -55,7 +55,9 @@ def test_why(run: Run) -> None:
 
 
 def test_why_finds_the_bomb_on_an_equal_opcode(run: Run, tmp_path: Path) -> None:
-    """A bomb on an empty cell changes no opcode, and the victim, which counts its number down, did not write it."""
+    """A bomb on an empty cell changes no opcode. The victim then counts a number of this cell down, but the instruction
+    is not from the victim.
+    """
     (tmp_path / "bomber.red").write_text(";name Bomber\nMOV 2, 60\nJMP 0\nDAT #1, #1\n")
     (tmp_path / "victim.red").write_text(";name Victim\nSUB #1, -40\nJMP -41\n")
     lines = run("why", "-F", 100, "bomber.red", "victim.red").stdout.splitlines()
@@ -138,7 +140,7 @@ def test_wrong_arguments_and_files(run: Run, tmp_path: Path) -> None:
 
 
 def test_the_help_has_a_whole_sentence_for_each_command() -> None:
-    """At 80 columns, each fits a line; at fewer, none is cut."""
+    """At 80 columns, each sentence fits into a line; at fewer columns, none is cut."""
     assert isinstance(commands, Commands)
     context = click.Context(commands)
     # As click computes it: its help leaves 2 columns of a terminal free, and uses 6 around the names of commands.
@@ -153,7 +155,7 @@ def test_the_help_has_a_whole_sentence_for_each_command() -> None:
 
 
 def test_streams(run: Run) -> None:
-    """A warrior may come from standard input; a full output is reported in a line."""
+    """A warrior may come from standard input; a full device for standard output is reported in one line."""
     source = (EXAMPLES / "imp.red").read_text()
     assert run("why", "-", input=source).stdout.startswith("No warrior died")
     with open("/dev/full", "w") as full:
@@ -249,7 +251,7 @@ def test_ctrl_c_while_it_is_loaded(tmp_path: Path) -> None:
 
 
 def test_ctrl_c_ends_a_match(tmp_path: Path) -> None:
-    """The command does not wait for the call of the library, which runs all rounds."""
+    """The command does not wait for the rounds that the library is running."""
     words = ["fight", "-r", "100000", "-c", "10000000", *[str(EXAMPLES / f"{name}.red") for name in ("imp", "dwarf")]]
     with begin(*words, stdout=None) as process:
         loaded = Path(f"/proc/{process.pid}/maps")
@@ -308,7 +310,7 @@ def test_folders_are_files_of_warriors(run: Run, tmp_path: Path) -> None:
     for name in ("b", "a"):
         (tmp_path / "hill" / f"{name}.red").write_text(f";name {name}\njmp 0\n")
     assert run("league", "hill").stdout == run("league", "hill/a.red", "hill/b.red").stdout
-    # A file that is also named itself counts once.
+    # A file of a folder that is also given by its own name counts once.
     assert run("challenge", "hill/a.red", "hill").stdout.endswith("sum of 1\n")
     assert run("league", "hill", "hill/a.red").stdout == run("league", "hill/b.red", "hill/a.red").stdout
     (tmp_path / "hill" / "b.red").unlink()

@@ -18,7 +18,7 @@ from corewar.model.printing import broken
 
 
 def test_a_tie(run: Run, tmp_path: Path) -> None:
-    """The report on the last turns of survivors has lines of other warriors and of load files, but not too many."""
+    """The report on the last turns of survivors has lines of other warriors and cells of load files, at most eight."""
     lines = run("why", "@boot", "@imp").stdout.splitlines()
     assert lines[:5] == [
         "No warrior died; the battle is over: Stranger and Imp survive.",
@@ -169,7 +169,7 @@ def test_a_terminal_breaks_lines_at_spaces(run: Run, tmp_path: Path) -> None:
         assert " ".join(lines).split() == whole.split()
     assert broken("help  list all commands", 16) == "help  list all\n      commands"
     assert broken("  a sentence of words", 16) == "  a sentence of\n      words"
-    # In a column further right it would be three lines.
+    # With the indent of a column further right, it would be three lines.
     assert broken("1  two  a name of seven letters", 18) == "1  two  a name of\n    seven letters"
 
 

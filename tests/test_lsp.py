@@ -269,7 +269,7 @@ def test_a_source_that_costs_too_much(editor: Editor) -> None:
 
 
 def test_a_source_that_is_too_large(editor: Editor) -> None:
-    """Its only error says so, and the server continues."""
+    """The only error of the source says that it is too large, and the server continues."""
     (found,) = editor.write("NOP\n" * 5_000_000)
     assert found["message"] == "larger than 1,048,576 bytes" and found["range"]["start"]["line"] == 0
     assert editor.about("codeAction", range=found["range"])["result"] == []
@@ -403,7 +403,9 @@ def outcomes(source: str) -> list[bytes | str]:
 
 
 def test_no_rename_changes_a_warrior() -> None:
-    """Each name of each source is renamed to a fresh name and to names that may clash, with each hill's settings."""
+    """Each name of each source is renamed to a fresh name and to names that may clash. A rename that is accepted
+    changes no warrior, with the settings of any hill.
+    """
     dice, refused, renamed = Random(7), 0, 0
     for source in SOURCES:
         text = text_of(source)
@@ -421,7 +423,7 @@ def test_no_rename_changes_a_warrior() -> None:
                     continue
                 renamed += 1
                 assert outcomes(edited(source, edit)) == before, (source, token, new)
-    # A fresh name is never refused in a source without errors.
+    # A fresh name is never rejected in a source without errors.
     assert renamed > 100 and refused == 0, (renamed, refused)
 
 
@@ -451,7 +453,7 @@ def test_positions_are_in_utf16(line: str, data: st.DataObject) -> None:
 
 
 def test_semantic_tokens() -> None:
-    """Each token is where its text is, in UTF-16 units, and comments are one token."""
+    """Each token is where its text is, in UTF-16 units, and each comment is one token."""
     source = ";name \U0001f600\nx&i DAT.F #1, CORESIZE ; \U0001f600 two\n"
     text = text_of(source)
     line = column = 0

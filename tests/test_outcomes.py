@@ -38,7 +38,9 @@ def random_warriors(dice: random.Random, count: int) -> list[Warrior]:
 
 
 def test_outcomes_are_those_of_matches_and_battles() -> None:
-    """In random melees of 2 to 8, sums over rounds are rows of matches, and a round has what its battle has."""
+    """In random melees of 2 to 8 warriors, the counts over the rounds are those of matches, and the outcomes of a round
+    are those of its battle.
+    """
     dice, died = random.Random(70), 0
     for _ in range(1000):
         warriors, count, rounds = random_warriors(dice, 10), dice.randint(2, 8), dice.randint(1, 3)
@@ -279,7 +281,7 @@ except KeyboardInterrupt:
 
 
 def test_shares() -> None:
-    """The warriors that live in a cycle share its reward, and the shares of a round in which one survives add up to the
+    """The warriors that live in a cycle share its reward, and the shares of a round with a survivor add up to the
     number of warriors.
     """
     outcomes = np.zeros((1, 3), OUTCOME)

@@ -34,7 +34,7 @@ def unpacked(page: str) -> dict[str, Any]:
 
 
 def test_files_are_replaced_whole_or_not_at_all(run: Run, tmp_path: Path) -> None:
-    """On a full disk the older file is unchanged; a link remains one, and no other file is left in the folder."""
+    """On a full disk the older file is unchanged; a link remains a link, and no other file is left in the folder."""
     words = ("league", "--format", "csv", "-o", "out.csv", "@dwarf", "@imp")
     (tmp_path / "kept").mkdir()
     (tmp_path / "kept" / "old.csv").write_text("old")
@@ -117,7 +117,7 @@ def test_edits_are_in_the_order_of_their_turns(run: Run, tmp_path: Path) -> None
 
 
 def test_battles_that_the_site_does_not_show(run: Run, tmp_path: Path) -> None:
-    """A battle that is too long is refused, but a short one may have as high a limit of cycles."""
+    """A battle that is too long is rejected, but a short battle may have the same limit of cycles."""
     long = ["-c", 8_000_001]
     done = run("page", *long, "@imp", "@imp")
     assert done.returncode == 1 and "the battle has 16000002 turns, but a page shows at most 16000000" in done.stderr
@@ -154,7 +154,9 @@ def test_a_picture_is_the_same_each_time(run: Run, tmp_path: Path) -> None:
 
 
 def test_the_points_of_a_picture() -> None:
-    """An imp in a core of 8: in row K its process is in column K + 1 of 8, on white or on its own cells."""
+    """An imp in a core of 8 cells: in row K, from 0, its process is in column K + 1, its own cells are before this
+    column, and white is after it.
+    """
     from corewar.pictures.timeline import View, pixels_of
 
     imp = read(EXAMPLES / "imp.red", warriors=1)

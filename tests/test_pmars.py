@@ -69,7 +69,7 @@ def random_cells(dice: random.Random, settings: Settings) -> str:
 
 
 def different(pmars: Path, file: Path, warrior: Warrior) -> list[tuple[str, str]]:
-    """Returns the cells that a source makes here and in pMARS where they differ."""
+    """Returns the pairs of cells that differ: the cell that a source makes here, and the one that it makes in pMARS."""
     theirs, own = listed_by(pmars, file), own_cells(warrior)
     assert len(own) == len(theirs), file
     return [pair for pair in zip(own, theirs) if pair[0] != pair[1]]
@@ -126,7 +126,7 @@ def test_cells_of_sources(pmars: Path) -> None:
 
 
 def test_the_options(pmars: Path, run: Run) -> None:
-    """The options of `corewar` select these series, and print the seed that does."""
+    """The options of `corewar` select these series, and print the seed that selects the same positions."""
     files = [EXAMPLES / "dwarf.red", EXAMPLES / "scanner.red"]
     for option, words in (("--pmars-position=4000", ("-F", 4000)), ("--pmars-fixed", ("-f",))):
         expected = fought(pmars, HILLS["94nop"], files, "-r", 50, *words)
