@@ -90,7 +90,9 @@ def test_a_newcomer_sees_a_fight(page: Browser) -> None:
 
 
 def test_a_newcomer_is_welcome(page: Browser, site: str) -> None:
-    """One line says what the page is until it is closed, also at the next visit; its button begins the first lesson."""
+    """A line says what the page is, also at the next visit. Its button begins the first lesson, and closes the line for
+    good.
+    """
     shown = "!document.getElementById('welcome').hidden"
     go_to_turn(page, 7798)
     page.open(f"{site}?second")
@@ -193,12 +195,12 @@ def text_of(words: list[int]) -> str:
 
 
 def test_the_end_leads_to_the_death(page: Browser) -> None:
-    """Why? goes to the write that killed, draws it, lists the turns, and marks both lines of source."""
+    """The button Why? leads to the write that killed, draws it, lists the turns, and marks both lines of source."""
     page.run("corewar.session.jump(7700); corewar.session.setRate(400); corewar.session.play(1)")
     page.until("!document.getElementById('ending').hidden")
     go_to_turn(page, 7700)
     assert page.value("document.getElementById('ending').hidden")
-    # What can be done at the end is offered, too, if a key leads there.
+    # What can be done at the end is also offered if a key leads there.
     page.press("End")
     page.until("!document.getElementById('ending').hidden")
     assert page.text("caption") == "Dwarf wins after 7,798 turns."
@@ -435,7 +437,7 @@ def test_the_debugger_has_a_line(page: Browser) -> None:
     assert ask("goto start").startswith("next: Dwarf") and ask("goto -1") == "the battle has turns 0 to 202"
     assert ask("goto +3").startswith("next: ") and page.value("corewar.session.turn") == 3 and ask("goto start")
     assert ask("list").split()[0] == str(page.value("corewar.session.view.queues.at(-1)") + 3)
-    # The last line of each answer.
+    # `ask` returns only the last line of a reply.
     assert ask("explain") == "Add 4 to the B-number of bomb."
     assert ask("explain 1") == "Copy bomb to the cell pointed to by the B-number of bomb."
     assert ask("explain 4") == "End the process."
@@ -460,7 +462,7 @@ return replies;"""
 
 
 def terminal_replies(names: list[str], lines: list[str], width: int) -> Iterator[list[str]]:
-    """Yields the replies of `corewar debug` to some lines, in a terminal of a width."""
+    """Yields the replies of `corewar debug` to some lines, in a terminal of this width."""
     warriors = tuple(read(str(path), rounds=10, warriors=len(names)) for path in files(*names))
     history = History(Match(warriors, rounds=10))
     session = Session(history, Sources(history), width=lambda: width)
@@ -480,7 +482,9 @@ def comparable(line: str, reply: list[str]) -> list[str]:
 
 
 def test_replies_are_those_of_the_terminal(page: Browser) -> None:
-    """Good and bad lines of all commands have the replies of a terminal as wide as the page's, also after edits."""
+    """Good and bad lines of all commands have the replies of a terminal that is as wide as the list of replies on the
+    page, also after edits.
+    """
     page.run("corewar.session.stop()")
     width = page.value("corewar.session.width()")
     assert 25 < width < 50
@@ -509,7 +513,7 @@ def test_labels_of_several_warriors(page: Browser) -> None:
     ask = functools.partial(answer, page)
     shared = "bomb is a label of several warriors; use 0.bomb or 1.bomb"
     assert ask("list bomb") == shared and ask("edit 700 jmp bomb") == shared
-    # In an edit of a cell that a warrior loaded, its own labels need no number.
+    # In an edit of a cell where a warrior was loaded, the labels of this warrior need no number.
     assert ask("edit 0 jmp bomb").endswith(" -> JMP.B $3, $0") and ask("undo")
     there = page.value("corewar.session.known.addresses.get('1.bomb')")
     assert ask("list 1.bomb 1").split()[:2] == [str(there), "1.bomb"]
@@ -553,7 +557,7 @@ def test_the_line_is_completed(page: Browser) -> None:
     assert {"bomb", "Dwarf", "Imp"} <= {*listed} and page.value("document.activeElement.id") == "line"
     page.press("Tab")
     assert page.value("document.activeElement.id") != "line"
-    # Lines that are pasted together are executed.
+    # If several lines are pasted, each is executed.
     code = """const pasted = new Event("paste", {cancelable: true});
       pasted.clipboardData = {getData: () => "goto 5\\nstep\\n\\nstep\\n"};
       document.getElementById("line").dispatchEvent(pasted);"""
@@ -708,7 +712,7 @@ def test_the_list_has_the_names_of_warriors(page: Browser) -> None:
         "const {mirror} = corewar.shelf.editor; mirror.setValue(mirror.getValue().replace('Lookout', 'Far Sight'))"
     )
     page.until(f"{names}.includes('scanner • Far Sight')")
-    # The text that is edited stays in its place, also as the example can be restored.
+    # The text that is edited stays in its place, also when the button that restores the example appears.
     page.until("!document.getElementById('restore').hidden")
     assert page.value("document.getElementById('editor').getBoundingClientRect().top") == top
 
@@ -745,7 +749,7 @@ def test_the_editor_shows_errors_and_fights(page: Browser, site: str) -> None:
 
 
 def test_the_editor_helps(page: Browser) -> None:
-    """It completes words, begins lines where labels are, makes comments, finds texts and explains opcodes."""
+    """The editor completes words, indents new lines, makes comments, finds texts and explains opcodes."""
     page.run("corewar.session.stop(); corewar.views.showDesk(true)")
     mirror = "corewar.shelf.editor.mirror"
     page.run(
@@ -816,7 +820,9 @@ def test_the_editor_has_room(page: Browser, site: str) -> None:
 
 
 def test_details_are_a_tab_beside_the_editor(page: Browser) -> None:
-    """The core keeps its room in a usual window. What is looked at is shown; a lesson is shown beside the editor."""
+    """The core keeps its room in a usual window. The tab with what is looked at is shown, and a lesson is shown beside
+    the editor.
+    """
     shown = "['desk', 'side', 'lesson-box', 'core'].filter(id => document.getElementById(id).checkVisibility())"
     go_to_turn(page, 7798)
     assert page.value(shown) == ["side", "core"]
@@ -842,7 +848,7 @@ def test_details_are_a_tab_beside_the_editor(page: Browser) -> None:
 
 
 def test_a_source_that_takes_minutes(page: Browser) -> None:
-    """Its worker is ended, and the page continues to work: in the editor, and in a fight."""
+    """The worker that assembles the source is ended, and the page continues to work: in the editor, and in a fight."""
     page.run("corewar.shelf.show(corewar.shelf.add({name: 'slow.red', text: given[0]}))", slow())
     page.until("document.getElementById('fault').textContent.includes('takes too long')")
     turn = page.value("corewar.session.turn")
@@ -1010,7 +1016,7 @@ def test_two_windows_lose_nothing(pair: Browser) -> None:
 
 
 def test_what_a_link_brings_is_stored_once_it_is_changed(page: Browser, site: str) -> None:
-    """Neither its sources nor its terms are stored, except for what the user changes."""
+    """Neither the sources nor the terms of a link are stored, except for what the user changes."""
     fight = """const fight = {...corewar.session.fight, formula: given[0], rounds: 7, warriors: given[1]};
       return shared({...corewar.session, fight, opened: {edits: []}, turn: 5, pinned: null});"""
     sources = [{"name": f"{name}.red", "text": f";name {name}\nMOV 0, 1\n"} for name in ("Anna", "Bert")]
@@ -1072,7 +1078,7 @@ def test_examples_are_restored(page: Browser, site: str) -> None:
 
 
 def test_opening_a_battle_is_cancelled(page: Browser) -> None:
-    """The battle before stays, with its futures."""
+    """The battle that was shown before stays, with its futures."""
     answer(page, "edit 3 jmp 0")
     page.run("window.opening = corewar.fight([{name: 'slow.red', text: given[0]}])", slow())
     page.until("!document.getElementById('waiting').hidden")
@@ -1150,7 +1156,7 @@ def test_what_is_scrolled_and_opened_keeps_its_keys(page: Browser) -> None:
 
 
 def test_a_new_source_fights(page: Browser) -> None:
-    """A new source is selected in place of the source that was shown, and so is an opened one."""
+    """A new source is selected in place of the source that was shown, and so is a source that is opened from a file."""
     page.run("document.getElementById('new').click(); document.getElementById('fight').click()")
     page.until("document.title === 'Imp against My first warrior · Core War'")
     page.run("await corewar.shelf.take([new File([';name Mine\\nMOV 0, 1'], 'mine.txt')])")
@@ -1254,13 +1260,15 @@ def test_versions_on_the_bench(page: Browser, tmp_path: Path) -> None:
 
 
 def test_a_number_is_tuned(page: Browser, tmp_path: Path) -> None:
-    """The bench fights with many values of a number, exactly; a click takes one, and what fails leaves a gap."""
+    """The bench fights with many values of a number, with the results of the program. A click takes a value, and a
+    value with which the source has an error leaves a gap.
+    """
     page.run("corewar.views.showDesk(true); corewar.shelf.show(corewar.shelf.find('dwarf.red'))")
     # The first click in the editor, too, offers to tune the number.
     page.click("#editor .cm-number")
     page.until("document.getElementById('tune-here').checkVisibility()")
     assert page.text("tune-here") == "Tune 4"
-    # The name of an EQU is as good as its number.
+    # With the cursor on the name of an EQU, its number can be tuned, too.
     page.run("corewar.shelf.editor.mirror.setCursor(11, 3)")
     assert page.value("document.getElementById('tune-here').hidden")
     page.run("corewar.shelf.editor.mirror.setCursor(8, 20)")
@@ -1481,7 +1489,7 @@ def test_own_settings_are_opened_again(page: Browser) -> None:
 
 
 def test_new_terms_of_a_hidden_battle(page: Browser) -> None:
-    """The battle is fought again when it is shown, and only if it has other terms."""
+    """The battle is fought again when it is shown, but only if the terms have changed."""
     page.run("corewar.views.show('league'); seed.value = '9'; seed.dispatchEvent(new Event('change'))")
     assert page.value("corewar.session.fight.seed") == 1
     page.run("document.querySelector('[data-view=battle]').click()")
@@ -1523,7 +1531,7 @@ def test_many_warriors(page: Browser) -> None:
 
 def test_a_lesson_is_checked(page: Browser) -> None:
     page.click("[data-view=learn]")
-    # A lesson is checked beside its battle. The list leads there, first to the first one.
+    # A lesson is checked beside its battle. The list of lessons leads there, and its main button is the first lesson's.
     main = "[...document.querySelectorAll('#lessons button')].map(one => one.className)"
     assert page.value(main) == ["main"] + [""] * 9
     begin = "document.querySelectorAll('#lessons button')[given[0]].click()"
@@ -1804,7 +1812,7 @@ def test_memory_does_not_grow(page: Browser) -> None:
 
 
 def test_a_page_in_one_file(page: Browser, browser: Browser, tmp_path: Path) -> None:
-    """A page opens from a disk, and saves another one."""
+    """A page in one file opens from a disk, and can save another such page."""
     go_to_turn(page, 7797)
     text = page.run("return pageWith(await shared(corewar.session))")
     (tmp_path / "fight.html").write_text(text, encoding="utf-8")

@@ -115,7 +115,7 @@ def test_challenges_at_once(tmp_path: Path) -> None:
 
 
 def test_a_hill_limits_sources(tmp_path: Path) -> None:
-    """A source of a stranger that takes too long is an error, and later ones may challenge."""
+    """A source of a stranger that takes too long is an error, and later sources may challenge."""
     (tmp_path / "slow.red").write_text(slow())
     done = run("hill.py", "hill.json", "slow.red", cwd=tmp_path)
     error = "hill: slow.red: assembling takes more than 5 s of CPU time\n"
@@ -169,7 +169,9 @@ def test_asking_and_telling(tmp_path: Path) -> None:
 
 
 def test_the_red_queen(tmp_path: Path) -> None:
-    """Processes run the matches of each champion, whose league is the table; and the script stays short."""
+    """Processes run the matches by which champions evolve, and the table is a league of all champions. The script stays
+    short.
+    """
     table = run("redqueen.py", 1, cwd=tmp_path).stdout.splitlines()
     assert len(table) == 3 and table[0].split()[:2] == ["rank", "points"]
     assert len((EXAMPLES / "redqueen.py").read_text().splitlines()) < 50

@@ -37,7 +37,9 @@ def test_problems() -> None:
 
 
 def test_why() -> None:
-    """`why` returns the last turn, what changed its cell, and the turns before; of a living warrior, its lines."""
+    """`why` returns the last turn, the turns that changed its cell, and the warrior's turns before it; for a living
+    warrior, the lines that it executed.
+    """
     history = History(fight("dwarf", "imp"))
     why = history.why("imp")
     assert (why.warrior, why.name, why.fate, why.turn) == (1, "Imp", "died", 7798) and history.why(1) == why
@@ -66,7 +68,8 @@ def test_trace() -> None:
 
 
 def test_fates() -> None:
-    """`fates` returns what warriors died on and by in each round, and what the survivors of a tie executed last."""
+    """`fates` yields on what cell warriors died in each round, what hit the cell, and what was executed last in a tie.
+    """
     first, *_, last = corewar.fates(fight("dwarf", "imp", rounds=3))
     assert first == corewar.Death(1, 0, "its line 5: MOV.I 0, 1", "Dwarf, by line 10: MOV bomb, @bomb")
     assert isinstance(last, corewar.Tie) and (last.warrior, last.round, last.executed) == (1, 2, "cells that it wrote")

@@ -38,7 +38,7 @@ def assemble_cells() -> Any:
 
 @given(matches())
 def test_a_warrior_is_a_value(fight: Match) -> None:
-    """Equal warriors have equal cells, load files and digests, also in other processes."""
+    """Warriors with equal cells are equal, and so are their hashes; a pickled warrior is equal to the original."""
     for warrior in fight.warriors:
         same = Warrior.from_cells(warrior.cells, warrior.start)
         assert same == warrior and hash(same) == hash(warrior) and pickle.loads(pickle.dumps(warrior)) == warrior
@@ -148,7 +148,7 @@ def test_a_core_without_cells() -> None:
 @pytest.mark.parametrize("text", ("A\0", "A\0B", "\0", "A\n"))
 @pytest.mark.parametrize("field", ("name", "author"))
 def test_names_with_control_characters(field: str, text: str) -> None:
-    """A name with a control character is refused, and not cut off at a zero character."""
+    """A name with a control character is rejected, and not cut off at a zero character."""
     warrior = Warrior.from_cells(assemble_cells(), **{field: text})  # type: ignore[arg-type]
     with pytest.raises(MarsError, match="warrior 5 Name"):
         str(warrior)

@@ -46,7 +46,7 @@ def test_each_cell_is_drawn(columns: int, rows: int) -> None:
         elif y % 2 == 0:
             assert (letter == "▀") == is_owned
     styles = {style for style, _ in draw(history, 0, canvas_of(80, 80, 1))}
-    # At the start, both have a process on a cell of their own.
+    # At the start, both warriors have a process on a cell of their own.
     assert f"fg:{COLOURS[0]}" in styles and len([style for style in styles if style]) == 3
 
 
@@ -71,7 +71,7 @@ def test_keys() -> None:
 
 
 def test_watching(run: Run) -> None:
-    """The screen is left as it was; without a terminal there is nothing to see."""
+    """The screen is left as it was. Without a terminal, the command is a usage error."""
     pexpect = pytest.importorskip("pexpect", reason="package python3-pexpect")
     words = ["watch", str(EXAMPLES / "dwarf.red"), str(EXAMPLES / "imp.red")]
     environment = {**os.environ, "TERM": "xterm"}

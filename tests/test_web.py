@@ -108,7 +108,7 @@ def test_a_killed_server_leaves_no_file(tmp_path: Path) -> None:
     """The page with the token is removed on SIGTERM, too."""
     pages = tmp_path / "pages"
     pages.mkdir()
-    # The second line is the browser's, which gets the page once it is there.
+    # The second line is from the browser, which is started once the page is written.
     environment = {**ENVIRONMENT, "BROWSER": "echo %s", "TMPDIR": str(pages)}
     with begin("web", "--port", 0, tmp_path, env=environment) as process:
         assert process.stdout

@@ -123,7 +123,7 @@ def history_of(fight: dict[str, Any]) -> History:
 
 
 def joined_of(parts: dict[str, Any]) -> list[Condition]:
-    """Returns Python's conditions of one of JavaScript."""
+    """Returns Python's conditions for a condition of JavaScript and those that are joined to it."""
     values = {name: tuple(value) if isinstance(value, list) else value for name, value in parts.items()}
     rest = values.pop("and", None)
     return [Condition(**values), *(joined_of(rest) if rest else [])]
@@ -164,7 +164,7 @@ def test_its_history_is_that_of_python() -> None:
         count = len(history.warriors)
         for row, turn in enumerate(answer["moments"]):
             cells = [int((history.owners(turn) == warrior).sum()) for warrior in range(count)]
-            # After a turn with an edit there is a moment before it and one after it.
+            # After a turn with an edit there is a moment before the edit and one after it.
             if turn not in [after for after, _ in history.edits]:
                 assert answer["cells"][row * count : (row + 1) * count] == cells
                 queues = history.state(turn).queues

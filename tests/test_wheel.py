@@ -55,7 +55,9 @@ def environment(tmp_path_factory: pytest.TempPathFactory) -> Iterator[Path]:
 
 
 def started(environment: Path, *words: object, input: str = "", folder: object = "/") -> str:
-    """Runs a program of the environment in a folder, which has to succeed silently, and returns its output."""
+    """Runs a program of the environment in a folder, and returns its output. The program must succeed, and must write
+    nothing to standard error.
+    """
     command = [str(environment / "bin" / str(words[0])), *map(str, words[1:])]
     variables = {"PATH": "/usr/bin:/bin", "HOME": str(environment), "NO_COLOR": "1"}
     done = subprocess.run(command, input=input, cwd=str(folder), env=variables, capture_output=True, text=True)
