@@ -53,7 +53,9 @@ def causes_of(history: History, address: int, turn: int) -> list[int]:
 
 
 def foreign_write(history: History, turn: int) -> int | None:
-    """Returns the turn that last changed the cell that a turn executed if another warrior made it, otherwise None."""
+    """Returns the turn of another warrior that last changed the cell that a turn executed, or None if the last change
+    was not made by another warrior.
+    """
     record = history.record(turn)
     found = last_change(history, int(record["address"]), turn - 1)
     return found if found is not None and history.record(found)["warrior"] != record["warrior"] else None
@@ -88,9 +90,9 @@ def describe_turn(formatter: BattleFormatter, turn: int, shown: set[tuple[int, i
 def describe_death(formatter: BattleFormatter, warrior: int, count: int) -> Iterator[str]:
     """Explains why a warrior died, with up to `count` of its turns before its death; or what it did last, if it lives.
 
-    If it executed no cell that another warrior wrote in these turns, the latest such turn of EXTRA_TURNS earlier ones
-    is added. Only the end of its last process is explained; if it ever split, the first hit on its loaded code is
-    added.
+    If neither these turns nor its last one executed a cell that another warrior wrote, the latest of EXTRA_TURNS
+    earlier turns that did so is added. Only the end of its last process is explained; if it ever split, the first hit
+    on its loaded code is added.
     """
     history, name = formatter.history, formatter.names[warrior]
     death = history.death(warrior)

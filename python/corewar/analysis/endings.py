@@ -15,7 +15,7 @@ from .formatting import BattleFormatter, pluralize
 
 # How many of the last turns of a warrior are shown, and the most lines of a table.
 LAST_TURNS, MAX_ROWS = 1000, 8
-# The least share of these turns that something must be executed in to be named in the summary of a round.
+# The summary of a round names what was executed in at least this share of these turns.
 MIN_SHARE = 0.01
 
 
@@ -81,8 +81,8 @@ def executed_by(formatter: BattleFormatter, warrior: int) -> tuple[list[Executed
 
 
 def describe_hits(formatter: BattleFormatter, warrior: int, cells: set[int]) -> Iterator[str]:
-    """Yields a sentence for each other survivor: how many of the cells that the warrior wrote it executed in its last
-    turns.
+    """Yields a sentence for each other survivor. It says how many cells that the warrior wrote were executed by this
+    survivor in its last turns.
     """
     history = formatter.history
     for other, name in enumerate(formatter.names):

@@ -84,8 +84,7 @@ class BattleFormatter:
         return list_some([self.where(int(address)) for address in addresses])
 
     def head(self, turn: int) -> str:
-        """Describes a turn: its warrior, the address and the instruction that it executed, and the cells that it read.
-        """
+        """Describes a turn: its warrior, the address, the instruction that it executed, and the cells that it read."""
         record = self.history.record(turn)
         name, where = self.names[record["warrior"]], self.where(int(record["address"]))
         text = f"turn {turn}: {name} at {where}: {self.cell(self.history.executed(turn))}"
@@ -210,5 +209,7 @@ class BattleFormatter:
         yield from fitted(rows, width)
 
     def _processes_at(self, times: Sequence[tuple[int, int]]) -> str:
-        """Returns the names of the warriors with processes at a cell, each with their number if it is above 1."""
+        """Returns the names of the warriors with processes at a cell; with ` x N` after a name for N processes, if N >
+        1.
+        """
         return ", ".join(self.names[number] + (f" x {count}" if count > 1 else "") for number, count in times)

@@ -173,8 +173,7 @@ class Observation:
         return found
 
     def _scanned(self, block: Block) -> Accesses:
-        """Returns the cells that comparing instructions read, except the instructions themselves, each once in a turn.
-        """
+        """Returns the cells that comparing instructions read, except the instructions themselves, once in a turn."""
         found = self._accesses(block, block.reads)
         again = (np.diff(found["turn"], prepend=-1) == 0) & (np.diff(found["address"], prepend=-1) == 0)
         is_other = found["address"] != found["at"]

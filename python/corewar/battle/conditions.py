@@ -31,9 +31,9 @@ ALL: Row = (EXECUTES, ADDRESS, 0, MAX_UINT32)
 class Condition:
     """A condition on a turn, and on a cell that it uses.
 
-    - `word`: what the turn did: it executed (`at`), changed (`changes`) or read (`reads`) the cell; its warrior gained
-      a process (`splits`), lost one (`ends`) or died (`dies`); or anything (`moves`). For the last four words the cell
-      is the one that the turn executed
+    - `word`: what the turn did. It executed (`at`), changed (`changes`) or read (`reads`) the cell; its warrior gained
+      a process (`splits`), lost one (`ends`) or died (`dies`); or it did anything (`moves`). For the last four words
+      the cell is the one that the turn executed
     - `cells`: the range of the cell's address, from the first to the last; if the last is smaller, the range goes
       around the end of the core
     - `of`: the warrior that changed the cell last, or that was loaded there

@@ -126,7 +126,8 @@ class Explanations:
 
 def instruction_of(words: Sequence[str]) -> Line | None:
     """Returns the line that arguments make up, or None if one of them is a file or the line does not look like an
-    instruction: it has no opcode, is no directive, and has no space or comma, with which the opcode may be misspelt.
+    instruction. It does if it has an opcode, is a directive or, since an opcode may be misspelt, has a space or a
+    comma.
     """
     text, are_sources = " ".join(words), any(word.endswith((".red", ".load")) for word in words)
     if any(map(os.path.exists, words)):

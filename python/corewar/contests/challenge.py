@@ -98,9 +98,7 @@ class Challenge(Standings):
         return [printable(one.file) for one in self.warriors]
 
     def strip(self, number: int, width: int = STRIP) -> str:
-        """Returns the points by the distance to an opponent as bars, or "" if they are not known. The lowest bar stands
-        for a loss, and the highest one for a win.
-        """
+        """Returns the points by distance to an opponent as bars, as `strip_of` does, or "" if they are not known."""
         return "" if self.by_distance is None else strip_of(self.by_distance[number], self.contest.formula, width)
 
     @property

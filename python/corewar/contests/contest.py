@@ -81,7 +81,7 @@ class Contest(Terms):
         - `same`: `seed` itself, as in `mars --league`
         - `pmars`: the cells of its two warriors, as with `pmars -f`
         - `all`: a challenge or a comparison has a round for each position and each warrior that begins, so that its
-          results are exact; nothing is drawn, and `rounds` becomes their number
+          results are exact; nothing is drawn, and `rounds` becomes the number of these rounds
 
     Results with `pmars` and `all` are not stored, and a melee can only be drawn.
 

@@ -49,7 +49,7 @@ def rounds_of(survived: NDArray[np.bool_], pairs: int) -> NDArray[Any]:
 
 
 def strip_of(scores: NDArray[np.float64], formula: str, width: int) -> str:
-    """Returns mean scores by distance as bars. The lowest bar stands for a loss, and the highest one for a win."""
+    """Returns mean scores by distance as bars. Their scale has all scores, the 0 of a loss, and the score of a win."""
     ends = [0.0, *scores.tolist()]
     with suppress(MarsError):
         ends.append(score_of(formula, 2, 1))

@@ -88,8 +88,7 @@ class Results:
             raise CorewarError(f"{self.path}: {fault}") from None
 
     def find(self) -> int:
-        """Fills in the stored results. Returns how many matches are stored only with their warriors in the other order.
-        """
+        """Fills in the stored results. Returns how many matches are stored only in the other order of warriors."""
         with self.file_errors():
             try:
                 stored = self.retry_while_locked(lambda: self.file.execute(self.matches.TABLE.find, [self.contest]))

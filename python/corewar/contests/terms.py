@@ -52,8 +52,8 @@ class Terms:
         if position is not None and positions in ("pmars", "all"):
             raise CorewarError(f"a position and the positions {positions} exclude each other")
         # An invalid number, and a formula that is wrong or has no value for a win, are rejected here and not after
-        # hours of matches. If each match has its own seed, made from the seed of the contest, none would check the
-        # latter.
+        # hours of matches. If each match has its own seed, made from that of the contest, no match would check the seed
+        # of the contest.
         check_numbers(self.settings, rounds, seed, position)
         score_of(formula, 2, 1)
         if positions == "all":

@@ -39,7 +39,8 @@ def read_conditions(session: Session, text: str) -> Joined:
 
 
 def has_argument(session: Session, word: str, rest: list[str]) -> bool:
-    """Returns whether an argument follows a condition's first word. In `dies of`, it does if a warrior is called `of`.
+    """Returns whether an argument follows a condition's first word. A word of FOLLOWING is one if it is the name of a
+    warrior and no other argument can follow it, as in `dies of`.
     """
     if not rest or rest[0] not in FOLLOWING:
         return bool(rest)

@@ -37,8 +37,7 @@ def times(history: History, joined: Joined, most: int) -> tuple[int, str]:
 
 
 def find_in_rounds(session: Session, rest: str) -> Iterator[str]:
-    """Finds conditions in each round of the match, without edits. Names and labels refer to the round that is searched.
-    """
+    """Finds conditions in each round of the match, without edits. Names and labels refer to the round searched."""
     match, here, total, rows = session.history.match, session.history.round, 0, list[str]()
     joined, names = read_conditions(session, rest), session.names
     for number in range(match.rounds):

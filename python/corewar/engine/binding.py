@@ -1,8 +1,8 @@
 """The library for C as its header declares it: its calls, and its types as types of NumPy.
 
-MARS_LIBRARY names the file of the library. Without it, the library is the first that exists: beside this file (in a
-wheel), in `build` of the checkout that contains this file, or in `lib` of the prefix in which the package is installed,
-or of the system. Its name is libmars.so.2, on Windows mars-2.dll, on macOS libmars.2.dylib. A call releases the
+MARS_LIBRARY names the file of the library. Without it, the library is looked for beside this file (in a wheel), in
+`build` of the checkout that contains this file, and in `lib` of the prefix in which the package is installed, and of
+the system. Its name is libmars.so.2, on Windows mars-2.dll, on macOS libmars.2.dylib. A call releases the
 interpreter lock, and several threads may call at once.
 """
 from __future__ import annotations
@@ -35,7 +35,7 @@ COMPILED_TYPES = ENGINE / "declared.py"
 
 
 class NoLibrary(CorewarError):
-    """The library is missing or cannot be loaded, or its version is too old for the header or of another major one."""
+    """The library is missing or cannot be loaded, or its version is older than the header's or of another major one."""
 
 
 def library() -> tuple[Any, Any]:

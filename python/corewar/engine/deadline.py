@@ -21,8 +21,8 @@ class Expired(BaseException):
 
 @contextmanager
 def deadline(limit: Limit) -> Iterator[None]:
-    """Ends the `with` block by `Overrun` once this process has spent the seconds of a limit there. Only the main thread
-    receives signals, so other threads have no limit.
+    """Ends the `with` block with `Overrun` once this process has spent the seconds of a limit there. Only the main
+    thread receives signals, so other threads have no limit.
     """
     if threading.current_thread() is not threading.main_thread():
         yield

@@ -48,7 +48,7 @@ def points(made: NDArray[Any], formula: str = FORMULA) -> NDArray[np.int64]:
 
 
 def is_warrior(made: NDArray[Any]) -> NDArray[np.bool_]:
-    """Returns for each row of outcomes whether it has a warrior. Its numbers of turns and cycles are not both 0."""
+    """Returns for each row of outcomes whether it has a warrior: then its `turns` or its `cycles` is not 0."""
     return np.asarray((made["turns"] > 0) | (made["cycles"] > 0))
 
 
@@ -78,8 +78,8 @@ def shares(made: NDArray[Any], cycles: int) -> NDArray[np.float64]:
 def cycles_of(turns: NDArray[np.uint32], survived: NDArray[np.bool_], limit: int) -> NDArray[np.int64]:
     """Returns the number of complete cycles when each warrior died, or the limit if it survived.
 
-    In a cycle each living warrior makes a turn. So the number of cycles that are completed from the cycle of one death
-    to the next death is the number of turns between them, divided by the number of warriors that are left.
+    In a cycle each living warrior makes a turn. So between the end of the cycle of one death and the next death, the
+    number of complete cycles is the number of turns, divided by the number of warriors that are left and rounded down.
     """
     count = turns.shape[-1]
     # Survivors come last, since no number of turns has more than 32 bits.

@@ -111,8 +111,7 @@ class Warrior:
 
     @property
     def called(self) -> str:
-        """The name, or the name of the file if the warrior has no name, with `?` for characters that are not printable.
-        """
+        """The name, or the name of the file if the warrior has none, with `?` for characters that are not printable."""
         return printable(self.file if self.name in ("", "Unknown") and self.file else self.name or "Unknown")
 
     @property

@@ -207,8 +207,7 @@ def prose(source: Source) -> Found:
 
 
 def opens_in_pmars(line: Line) -> bool:
-    """Returns whether a FOR in skipped text begins a loop for pMARS, which it does unless it follows a colon or opcode.
-    """
+    """Returns whether a FOR in skipped text begins a loop in pMARS: it does unless it follows a colon or an opcode."""
     before = re.split(r"\bfor\b", line.code, flags=re.I)[0]
     return ":" not in before and not any(word.upper() in OPCODES for word in before.split())
 

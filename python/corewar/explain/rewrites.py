@@ -31,7 +31,8 @@ def take_lone_labels(source: Source, lines: list[str], _: Load) -> None:
 
 
 def write_operands(source: Source, lines: list[str], _: Load) -> None:
-    """Writes a missing first operand of DAT or operand of ORG, and parentheses where pMARS computes in another order.
+    """Writes the missing operand of ORG or DAT, and operands as pMARS reads them: with parentheses if it computes in
+    another order, or with a 0 after a mode without a number.
     """
     for one in instructions_of(source):
         at, new = one.line.number - 1, one.regrouped()

@@ -269,8 +269,8 @@ def place_of(data: bytes, begin: int, end: int) -> Place | None:
 
 
 def column_of(word: str, line: str, last: int = 0) -> int | None:
-    """Returns the column at which a word begins in the code of a line, or None if it does not occur there. Of several
-    occurrences it is the first that ends after the column `last`.
+    """Returns the column of the first occurrence of a word, in the code of a line, that ends after the column `last`,
+    or None if there is none.
     """
     pattern = rf"(?<![\w&]){word}(?![\w&])" if NAME.match(word) else re.escape(word)
     found = re.finditer(pattern, line.partition(";")[0]) if word else ()

@@ -1,9 +1,8 @@
 """The header of the library: where it is, its declarations for cffi, and its names and numbers, from which the package
 has opcodes, errors and ranges. This module imports no other of the package, since setup.py runs it.
 
-MARS_HEADER names the header. Without it, the header is the first mars.h that exists: beside the binding (in a wheel),
-in the checkout that contains this file, or in `include` of the prefix in which the package is installed, or of the
-system.
+MARS_HEADER names the header. Without it, mars.h is looked for beside the binding (in a wheel), in the checkout that
+contains this file, and in `include` of the prefix in which the package is installed, and of the system.
 """
 from __future__ import annotations
 
