@@ -94,7 +94,7 @@ def test_results_are_stored(tmp_path: Path) -> None:
 
 
 def test_no_thread_is_left() -> None:
-    """An `Assembler` forks the process, which it can only do safely without threads."""
+    """An `Assembler` forks the process, which it can do safely only without threads."""
     CONTEST.league(warriors(), jobs=4)
     assert threading.active_count() == 1
 

@@ -382,8 +382,7 @@ def test_numbers_of_thousands_of_digits_are_refused() -> None:
 
 
 def test_files_of_lines(run: Run, tmp_path: Path) -> None:
-    """The commands `log` and `source` can be abbreviated; executing a file that names itself, or that is the log, ends.
-    """
+    """The commands `log` and `source` can be abbreviated; executing a file that names itself or is the log ends."""
     (tmp_path / "self").write_text("source self\nstep\n")
     assert run("debug", "@imp", input="source self\n").stdout.splitlines()[-2].startswith("turn 8: ")
     lines = run("debug", "@imp", input="lo kept\nstep\nso kept\nlog\nlog a\0b\nsource a\0b\n").stdout.splitlines()

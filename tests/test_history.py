@@ -47,8 +47,8 @@ def small_blocks(monkeypatch: pytest.MonkeyPatch) -> None:
 
 
 def edited(history: History, places: list[tuple[float, str]]) -> tuple[History, list[str]]:
-    """Returns the history with those edits that are possible, and the debugger's lines up to the last edit. The number
-    with an edit is the part of the turns that are left after which it is made.
+    """Returns the history with those edits that are possible, and the debugger's lines up to the last edit. Each edit
+    is made after its part of the turns that are left after the edit before it.
     """
     turn, lines = 0, []
     for part, line in places:

@@ -48,8 +48,7 @@ def test_it_is_the_sum_of_its_matches(formula: str) -> None:
 
 
 def test_lineups_are_fair() -> None:
-    """No warrior is twice in a lineup, each occurs at each place of a lineup, and all occur equally often or once more.
-    """
+    """No warrior is twice in a lineup, each occurs at each place, and how often they occur differs by at most one."""
     lineups = lineups_of(7, 4, 100, random.Random(1))
     assert all(len({*lineup}) == 4 for lineup in lineups)
     counts = [sum(lineup.count(one) for lineup in lineups) for one in range(7)]

@@ -68,8 +68,7 @@ def test_trace() -> None:
 
 
 def test_fates() -> None:
-    """`fates` yields on what cell warriors died in each round, what hit the cell, and what was executed last in a tie.
-    """
+    """`fates` yields the cell on which a warrior died in a round, and what hit it; for a tie, what it executed last."""
     first, *_, last = corewar.fates(fight("dwarf", "imp", rounds=3))
     assert first == corewar.Death(1, 0, "its line 5: MOV.I 0, 1", "Dwarf, by line 10: MOV bomb, @bomb")
     assert isinstance(last, corewar.Tie) and (last.warrior, last.round, last.executed) == (1, 2, "cells that it wrote")
