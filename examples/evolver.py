@@ -84,8 +84,7 @@ def fight(candidates: list[Candidate], opponents: list[corewar.Warrior], seed: i
 
 
 def measure(cells: list[Cell], opponents: list[corewar.Warrior]) -> float:
-    """Returns the mean points per round against the opponents, over many rounds with a seed that no generation draws.
-    """
+    """Returns the mean points per round against the opponents, in many rounds with a seed that no generation draws."""
     row = corewar.population([warrior(cells)], opponents, rounds=2000, seed=2_000_000_011, settings=NANO)[0]
     return row.points / (2000 * len(opponents))
 
