@@ -121,7 +121,7 @@ def describe_death(formatter: BattleFormatter, warrior: int, count: int) -> Iter
 
 
 def describe_hit(formatter: BattleFormatter, warrior: int) -> Iterator[str]:
-    """Describes the first turn in which another warrior changed a cell where this one was loaded, if there is one."""
+    """Describes the first turn in which another warrior changed a cell where this warrior was loaded, if any did."""
     found = first_hit(formatter.history, warrior)
     if found:
         yield "The first hit of another warrior on its loaded code was:"
@@ -129,7 +129,7 @@ def describe_hit(formatter: BattleFormatter, warrior: int) -> Iterator[str]:
 
 
 def first_hit(history: History, warrior: int) -> int | None:
-    """Returns the first turn in which another warrior changed a cell where this one was loaded, or None."""
+    """Returns the first turn in which another warrior changed a cell where this warrior was loaded, or None."""
     first, length = history.loaded(warrior)
     last = (first + length - 1) % history.core
     others = [number for number in range(len(history.warriors)) if number != warrior]

@@ -189,13 +189,13 @@ class BattleFormatter:
         return f"{self.names[warrior]}{start}: {' '.join(map(str, found[first:end]))}{more}".rstrip()
 
     def queue_around(self, turn: int, warrior: int, process: int) -> str:
-        """Describes the addresses of processes of a warrior around one that was edited."""
+        """Describes the addresses of at most MAX_PROCESSES processes of a warrior around the index of an edited one."""
         others = len(self.history.block(turn).queue(warrior, turn)) - MAX_PROCESSES
         return self.queue(turn, warrior, max(0, min(process - MAX_PROCESSES // 2, others)))
 
     def cells(self, turn: int, first: int, count: int, width: int = 0) -> Iterator[str]:
-        """Describes cells from an address on: `>` before the next one to execute, labels, processes, and lines of
-        sources. If `width` is not 0 and a row is longer, columns are narrower, and sources are cut.
+        """Describes cells from an address on: `>` before the cell that is executed next, labels, processes, and lines
+        of sources. If `width` is not 0 and a row is longer, columns are narrower, and sources are cut.
         """
         history, cells, head = self.history, self.history.block(turn).cells(turn), self.history.head(turn)
         queues = [history.block(turn).queue(number, turn) for number in range(len(self.names))]

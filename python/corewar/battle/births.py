@@ -32,5 +32,5 @@ def is_added(edit: Edit, warrior: int, index: int, count: int) -> bool:
 
 
 def is_moved_up(edit: Edit, warrior: int, index: int) -> bool:
-    """Returns whether an edit killed a process that was in the queue before the one with this index after the edit."""
+    """Returns whether an edit killed a process that was in the queue before the process that now has this index."""
     return edit.what == KILL and edit.warrior == warrior and index >= edit.index

@@ -132,7 +132,7 @@ def places(history: History, joined: Joined) -> Records:
 def search(
     history: History, conditions: Sequence[Joined], turn: int, forward: bool = True
 ) -> tuple[int, Joined] | None:
-    """Returns the first place after a turn at which one of some conditions holds, with that condition, or None if there
+    """Returns the first place after a turn at which one of the conditions holds, with that condition, or None if there
     is no such place. If not `forward`, it is the last place before the turn.
     """
     span = (turn, history.end) if forward else (0, turn)

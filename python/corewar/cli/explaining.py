@@ -40,7 +40,7 @@ EXAMPLES = [
 ]
 # The exit status if `--fix` leaves lines that both programs accept, and that pMARS reads in another way.
 LEFT = 3
-# What operations mean, for an argument that is only the name of one.
+# What operations mean, for an argument that is a single operation.
 MEANINGS = {**OPCODES, **DIRECTIVES}
 
 

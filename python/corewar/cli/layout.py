@@ -9,7 +9,7 @@ from typing import Any
 
 import click
 
-# The groups of options in the order of the help; an option of no other group is in the first one.
+# The groups of options in the order of the help; an option without a group is in the first of them.
 OWN, EXECUTION, MATCH, CORE = "Options", "Execution options", "Match options", "Core options (defaults from --hill)"
 GROUPS = [OWN, EXECUTION, MATCH, CORE]
 STATUSES = "0 success, 1 error in input or files, 2 usage error, 130 stopped by Ctrl-C"

@@ -41,7 +41,7 @@ def frame_ends(history: History, first: int, turns: int | None, count: int) -> l
 
 
 def output_file(output: str | None, usual: str, force: bool) -> str:
-    """Returns the file to write. Raises FileError if it is the usual one, which exists and may not be overwritten."""
+    """Returns the file to write. Raises FileError if none is named and the usual file exists, unless `force` is set."""
     if output is None and os.path.exists(usual) and not force:
         raise FileError(usual, "already exists; use --force to overwrite it or -o to name another file")
     return output or usual
@@ -130,8 +130,8 @@ def page(options: BattleOptions, turn: int, edits: tuple[str, ...], output: str 
 
 
 def edited(history: History, texts: Sequence[str]) -> History:
-    """Returns the history with the edits, which are made in the order of their turns. Raises an error of click if one
-    is impossible after the ones before it.
+    """Returns the history with the edits, which are made in the order of their turns. Raises an error of click if an
+    edit is impossible after the edits before it.
     """
     session = Session(history, Sources(history))
     for turn, line in sorted(map(split_edit, texts), key=itemgetter(0)):

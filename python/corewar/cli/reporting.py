@@ -40,7 +40,7 @@ def report(text: str) -> None:
 
 
 def report_error(error: CorewarError) -> None:
-    """Reports an error, and what it means if it is one of the library."""
+    """Reports an error and, if the library has raised it, what it means."""
     report(str(error))
     fault, source = (error.fault, error.text) if isinstance(error, FileError) else (error, b"")
     if isinstance(fault, MarsError):

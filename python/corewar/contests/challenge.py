@@ -113,7 +113,7 @@ def text_of(counts: list[int]) -> str:
 
 
 def challenge_of(matches: Matches, by_distance: Rates | None = None) -> Challenge:
-    """Returns the challenge of the matches of the first warrior with each of the others."""
+    """Returns the challenge for the matches of the first warrior with each other warrior."""
     rows, count = np.arange(len(matches)), len(matches)
     scale, first = 100 / matches.contest.rounds, np.zeros_like(rows)
     errors = Sums(count, rows, rows, first, first + 1).errors(matches) * scale

@@ -211,7 +211,7 @@ class Contest(Terms):
 
 
 def run_all(matches: Kind, how: Execution) -> Kind:
-    """Returns matches after those that are not stored have been run."""
+    """Runs the matches that are not stored yet, and returns all matches."""
     for _ in run(matches, how):
         pass
     return matches

@@ -38,7 +38,7 @@ class League(Standings):
 
     @cached_property
     def matrix(self) -> Numbers:
-        """The points, wins, ties and losses of each warrior against each other one."""
+        """The points, wins, ties and losses of each warrior against every other warrior."""
         return matrix_of(len(self.warriors), self.pairs, self.results)
 
     @property
@@ -48,7 +48,7 @@ class League(Standings):
 
     @property
     def shown_ranks(self) -> Numbers:
-        """The ranks as the table shows them: equal points are in the order of the warriors."""
+        """The rank of each warrior in the table, where equal points are in the order of the warriors."""
         return 1 + np.argsort(best_of(self.points))
 
     @property
@@ -58,7 +58,7 @@ class League(Standings):
 
     @property
     def balances(self) -> Numbers:
-        """The wins, ties and losses of each warrior against each other one, in the order of `order`."""
+        """The wins, ties and losses of each warrior against every other warrior, in the order of `order`."""
         return np.asarray(self.matrix[np.ix_(self.order, self.order)][..., 1:])
 
     def record(self, number: int) -> dict[str, Any]:
@@ -82,7 +82,7 @@ class League(Standings):
         return "\n".join(lines)
 
     def matrix_text(self) -> str:
-        """Returns a table of the wins of each warrior against each other one; rows and columns begin with ranks."""
+        """Returns a table of the wins of each warrior against every other one; rows and columns begin with ranks."""
         ranks = [str(rank) for rank in self.shown_ranks[self.order]]
         lines = [["", *ranks]]
         for line, (rank, wins) in enumerate(zip(ranks, self.balances[..., 0].tolist())):

@@ -85,7 +85,7 @@ class Lineups(Schedule):
         # same with more lineups.
         self.seeds = contest.seeds_of(*np.arange(2 * count, dtype=np.uint64).reshape(-1, 2).T)
         self.points = np.zeros(lineups.shape)
-        # In how many rounds each warrior died, and was one of 1, 2 .. survivors.
+        # The number of rounds in which each warrior died, and in which it was one of 1, 2 .. survivors.
         self.sums = np.zeros((len(warriors), size + 1), np.int64)
         self._lives: Numbers = np.zeros((0, size, size + 1), np.int64)
 

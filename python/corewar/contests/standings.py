@@ -164,7 +164,7 @@ class Sums:
         sorts = np.unique(matches.same)
         if not matches.contest.is_drawn:
             return np.full(self.count, np.nan)
-        # Matches of equal warriors have equal results, so they are one match several times.
+        # Matches of equal warriors have equal results, so they count as several times the same match.
         keys, indices = np.unique(
             self.numbers * len(sorts) + np.searchsorted(sorts, matches.same[self.rows]), return_inverse=True
         )

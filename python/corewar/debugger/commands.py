@@ -25,7 +25,7 @@ class Command:
     summary: str
     short: list[str]
     repeats: bool = False
-    # Its summary on the site, "" if that is the same, or None if the site lacks the command.
+    # The summary on the site: "" if it is the same there, or None if the site lacks the command.
     site: str | None = ""
 
     @property

@@ -106,7 +106,7 @@ class Runner:
 
 
 def run_lines(session: Session, lines: Iterable[str]) -> int:
-    """Executes lines that don't come from a terminal. An empty one does nothing. Returns the exit status."""
+    """Executes lines that do not come from a terminal. An empty line does nothing. Returns the exit status."""
     runner = Runner(session, lambda text: print(text, flush=True))
     try:
         for line in lines:

@@ -155,7 +155,9 @@ class Session:
         return cell
 
     def process(self, warrior: int, text: str) -> int:
-        """Returns the index of a process of a warrior; the next one is 0."""
+        """Returns the index of a process that a text names; the next process of the warrior has index 0. Raises
+        CorewarError if there is no such process.
+        """
         index = self.number(text, "the index of a process")
         count = len(self.history.block(self.turn).queue(warrior, self.turn))
         if index >= count:

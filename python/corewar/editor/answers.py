@@ -88,7 +88,9 @@ def workspace_edit(params: Params, edits: list[Params]) -> Params:
 
 @answers("hover")
 def hover(text: Text, params: Params) -> Any:
-    """Returns what a name means, or else the cells of the line and what they do."""
+    """Returns what a name means. At its definition and at other words, returns the cells of the line and what the first
+    one does or, if the line has no cells, what the word means.
+    """
     token = token_at(text, params)
     if token is None or token.kind == "comment":
         return None
@@ -112,7 +114,7 @@ def describe_cells(text: Text, number: int) -> list[str]:
 
 
 def describe_name(text: Text, token: Token) -> list[str]:
-    """Returns the values of a name in the cells of this line, and what it is."""
+    """Returns the values of a name in the cells of this line, and the line of its definition or its meaning."""
     if token.kind == "predefined":
         meaning = words.PREDEFINED[token.text]
     else:

@@ -167,7 +167,7 @@ class Server:
         # A forked process also has our end of the pipe. Until it closes that end, it cannot notice that we have ended.
         args = (theirs, self.limit, self.is_total, ours if way == "fork" else None)
         process = context.Process(target=serve, args=args, daemon=True)
-        # The workers of a `multiprocessing.Pool` may start no process, since it might outlive them; this one does not.
+        # The workers of a `multiprocessing.Pool` may start no process that could outlive them. The assembler does not.
         current = multiprocessing.current_process()
         is_daemon = current.daemon
         try:
@@ -203,7 +203,7 @@ def serve(pipe: Connection, limit: Limit, is_total: bool, other: Connection | No
     """
     if other is not None:
         other.close()
-    # Ctrl-C reaches all processes of a terminal; the one that asks decides, and closes the pipe.
+    # Ctrl-C reaches all processes of a terminal. The process that asks decides what it ends, and closes the pipe.
     signal.signal(signal.SIGINT, signal.SIG_IGN)
     threading.Thread(target=end_with_parent, daemon=True).start()
     # The limit is for what a source adds to the memory that the process has at its start.

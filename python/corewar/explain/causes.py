@@ -127,8 +127,8 @@ def empty(source: Source, _line: Line, _: Place | None) -> Iterator[Advice]:
 
 
 def operand(source: Source, line: Line, _: Place | None) -> Iterator[Advice]:
-    """Says why operands are missing or too many: one is the name of an EQU without a text, or the line has an opcode
-    among its operands, and so two instructions.
+    """Says why operands are missing or too many: an operand is the name of an EQU without a text, or it is an opcode,
+    so that the line has two instructions.
     """
     for token in line.operands:
         if token.upper() in OPCODES and token not in source.labels():

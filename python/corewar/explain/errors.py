@@ -73,7 +73,7 @@ class Problem:
     - `error`: the error as `mars` prints it after the line, such as `2 Operation`
     - `source`: the text of the line
     - `advice`: sentences on what is wrong and what to do
-    - `word`, `replacement`: the wrong word of the line, and what to write in its place, or "" if that is not known
+    - `word`, `replacement`: the wrong word of the line, and what to write in its place; each is "" if it is not known
     - `column`: where the word begins in the line, from 0
     """
 
@@ -97,7 +97,7 @@ def problem_of(kind: str, number: int, source: bytes, sentences: Sequence[str], 
 
 
 def wrong_word(number: int, text: str, sentences: Sequence[str], place: Place | None) -> tuple[str, str, int]:
-    """Returns the wrong word of a line, what to write in its place, and the word's column; "" if that is not known."""
+    """Returns the wrong word of a line, what to write in its place, and the word's column; "" and 0 if not known."""
     advice = next((one for one in sentences if isinstance(one, Advice)), None)
     here = place if place and place.number == number else None
     if advice and advice.line in (0, number):

@@ -1,4 +1,4 @@
-"""The sentences on errors of sources and their causes. The site shows the same ones."""
+"""The sentences on errors of sources and their causes. The site shows the same sentences."""
 from __future__ import annotations
 
 import json

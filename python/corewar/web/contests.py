@@ -26,7 +26,7 @@ def settings_of(given: dict[str, int]) -> Settings:
 
 
 def contest_of(given: dict[str, Any]) -> Contest:
-    """Returns the contest of a message. Raises TypeError, ValueError or KeyError if it is none."""
+    """Returns the contest of a message. Raises TypeError, ValueError or KeyError if the message is not of this form."""
     rounds, seed, position = [int(given[name]) for name in ("rounds", "seed", "position")]
     return Contest(
         settings_of(given["settings"]),
