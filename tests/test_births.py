@@ -99,7 +99,7 @@ def heads(session: Session, line: str) -> list[str]:
 
 
 def test_after_edits() -> None:
-    """A killed process moves up those after it, and an added one has no ancestors; a moved one keeps its own."""
+    """Processes after a killed one move up; an added process has no ancestors, and a moved one keeps its own."""
     session = session_of(PAPER, "JMP 0")
     execute(session, "goto 20")
     born = heads(session, "born paper 2")

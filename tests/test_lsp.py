@@ -249,7 +249,7 @@ def test_only_messages_reach_standard_output() -> None:
 
 
 def test_start_and_end(run: Run) -> None:
-    """The end of input ends the server; on a terminal it prints what it expects."""
+    """The end of input ends the server; on a terminal, the command reports that it expects an editor."""
     done = run("lsp")
     assert (done.returncode, done.stdout, done.stderr) == (1, "", "")
     code = "import pty, sys; sys.exit(pty.spawn(sys.argv[1:]) >> 8)"

@@ -140,7 +140,9 @@ def test_it_can_be_stopped() -> None:
 
 
 def test_results_are_stored(run: Run, tmp_path: Path) -> None:
-    """A melee that was stopped continues, more lineups begin with the same ones, and a league may share the file."""
+    """A melee that was stopped continues, one with more lineups has the same first ones, and a league may share the
+    file.
+    """
     path, contest = tmp_path / "kept.sqlite", Contest(rounds=2)
     seen = list[Progress]()
     found = [contest.melee(warriors(), 3, count, results=path, progress=seen.append) for count in (5, 5, 8)]
