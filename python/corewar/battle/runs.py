@@ -16,8 +16,8 @@ from ..model.edits import Edit
 STRIDE = 65_536
 # The maximum number of marks of a run, an even number, and of their bytes together.
 MAX_MARKS, MAX_MARK_BYTES = 64, 64 << 20
-# The owner of a cell that no warrior has written or was loaded in, and of a cell that an edit changed last. The owner of
-# any other cell is the number of a warrior.
+# The owner of a cell that no warrior wrote or was loaded in, and of a cell that an edit changed last. The owner of any
+# other cell is the number of a warrior.
 NOBODY, BY_HAND = 255, 254
 
 
