@@ -55,8 +55,8 @@ def describe_survivor(formatter: BattleFormatter, warrior: int) -> Iterator[str]
 
 @dataclass(frozen=True)
 class Executed:
-    """A line that a warrior executed in its last turns: the number of `turns` that executed it, the number of `cells`
-    that these turns wrote, of which only the last one of a turn counts, and the line, or the cell if it has no line.
+    """A line that a warrior executed in its last turns, or the text of a cell without a line. `turns` is the number of
+    these turns that executed it, and `cells` the number of different cells that they wrote last.
     """
 
     turns: int

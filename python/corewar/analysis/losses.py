@@ -27,8 +27,8 @@ MAX_ROWS = 10
 
 @dataclass(frozen=True)
 class Death:
-    """A warrior that died in a round of a match: its number in the order of the match, the number of the round, the
-    `cell` that it died on as it was before it was hit, and what hit it, as text.
+    """A death in a round of a match: the number of the warrior in the order of the match and the number of the round.
+    `cell` is the cell that the warrior died on, as it was before it was hit, and `by` is what hit it, both as text.
     """
 
     warrior: int

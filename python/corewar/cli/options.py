@@ -1,5 +1,5 @@
-"""The options that commands about battles share: those of `mars`, `--hill`, `--round`, positions of pMARS and limits;
-and the types of arguments, some of which the shell completes.
+"""The options that commands about battles share: those of `mars`, `--hill`, `--round`, positions of pMARS and limits.
+Also the types of arguments, some of which the shell completes.
 """
 from __future__ import annotations
 

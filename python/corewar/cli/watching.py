@@ -40,8 +40,8 @@ GAP, LINES = "   ", 3
 
 @dataclass
 class Show:
-    """A round that is watched: the turn that is shown, whether it moves forwards (1), backwards (-1) or not (0), and
-    how many turns it moves in a second; 0 stands for the rate at which the battle takes SECONDS.
+    """A round that is watched. `turn` is the turn that is shown; `way` is 1 if it moves forwards, -1 if backwards, and
+    0 if it stays. `rate` is the number of turns in a second; 0 stands for the rate at which the battle takes SECONDS.
     """
 
     match: Match

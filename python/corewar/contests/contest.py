@@ -146,7 +146,7 @@ class Contest(Terms):
         executor: Executor | None = None,
         progress: Callable[[Progress], object] | None = None,
     ) -> Comparison:
-        """Runs a match of each of two versions of a warrior with each opponent, all with the same seed, so that both
+        """Runs the matches of two versions of a warrior with each opponent. All have the same seed, so that both
         versions have the same positions; with the positions `pmars` each match has the seed of its own cells instead.
         Raises `MarsError`, and `CorewarError` without an opponent and for errors of an executor.
         """

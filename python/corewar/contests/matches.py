@@ -66,8 +66,8 @@ def check_counts(counts: object, matches: int, contest: Contest) -> Numbers:
 
 
 def digests_of(warrior: Warrior) -> tuple[bytes, bytes]:
-    """Returns the digests by which the matches of a warrior are known: of its cells and start, as its load file has
-    them without name and author, and of the whole load file, by which version 1.2 stored results.
+    """Returns the digests by which the matches of a warrior are found. The first is of its load file without name and
+    author, the second of the whole load file, by which version 1.2 stored results.
     """
     first, _, _, rest = warrior.load.split(b"\n", 3)
     return hashlib.sha256(first + b"\n" + rest).digest(), hashlib.sha256(warrior.load).digest()

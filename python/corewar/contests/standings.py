@@ -114,8 +114,8 @@ def names_of(warrior: Warrior) -> dict[str, Any]:
 
 
 def row_of(warrior: Warrior, counts: Sequence[int], error: float, **more: int) -> dict[str, Any]:
-    """Returns the columns NAMES, HEAD and RATES: the points, wins, ties and losses of a warrior, more columns, and the
-    number of rounds, the percents of wins, ties and losses, and the points for 100 rounds with their standard error.
+    """Returns the columns NAMES of a warrior, HEAD with its counts, `more`, and RATES: the number of rounds, the
+    percents of wins, ties and losses, and the points for 100 rounds with their standard error.
     """
     rounds = sum(counts[1:])
     score, *percents = (rounded(100 * count / rounds) if rounds else 0.0 for count in counts)
@@ -157,9 +157,9 @@ class Sums:
     def errors(self, matches: Matches) -> Rates:
         """Returns the standard error of each sum: how far the sums of other seeds lie from their mean.
 
-        It is NaN if it cannot be known: for a sum of no match; for matches of one round, in which nothing can be
-        compared; for a given position, with which nothing is drawn; and for different matches with the same seed, which
-        depend on each other in a way that counts do not show.
+        It is NaN if it cannot be known: for a sum of no match, and for matches of one round, in which nothing can be
+        compared. With a given position nothing is drawn, and different matches with the same seed depend on each other
+        in a way that counts do not show, so it is NaN for these, too.
         """
         sorts = np.unique(matches.same)
         if not matches.contest.is_drawn:

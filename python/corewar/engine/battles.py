@@ -202,9 +202,9 @@ class Battle:
         """Makes an edit, also if the battle is over.
 
         Raises `MarsError`, and changes nothing, if the edit is impossible: `refused 2 Address`, `3 FieldOutside`,
-        `4 NoSuchWarrior`, `5 NoSuchProcess`, `6 WarriorDead` or `7 QueueFull`; `1 NoSuchEdit` if the kind of the edit
-        or a part of its cell does not exist. Raises `TypeError` for what is not an edit, and `ValueError` for a cell
-        that is not six numbers.
+        `4 NoSuchWarrior`, `5 NoSuchProcess`, `6 WarriorDead` or `7 QueueFull`, and `1 NoSuchEdit` if the kind of the
+        edit or a part of its cell does not exist. Raises `TypeError` for what is not an edit, and `ValueError` for a
+        cell that is not six numbers.
         """
         if not isinstance(edit, Edit):
             raise TypeError(f"expected an edit, as the methods of Edit return it, not {edit!r}")

@@ -9,8 +9,8 @@ from .source import Line, Source
 
 @dataclass
 class Definitions:
-    """Lines that pMARS drops, each with the labels that it keeps and the name that it already knows, or "" for an EQU
-    without a name; and labels that are given again before the same instruction, which pMARS accepts.
+    """The lines that pMARS drops, each with the labels that pMARS keeps and the name that an earlier line has, or ""
+    for an EQU without a name. Also the labels that are given again before the same instruction, which pMARS accepts.
     """
 
     dropped: list[tuple[Line, list[str], str]] = field(default_factory=list)

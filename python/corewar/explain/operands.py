@@ -39,8 +39,8 @@ class Instruction:
         return found[1], [one.strip() for one in operands.split(",")] if operands else [], space + found[3]
 
     def regrouped(self) -> list[str | None]:
-        """Returns each operand as pMARS reads it: with parentheses where it computes in another order, or with a 0
-        after a mode without a number; "" where both programs read the same, and None where only pMARS rejects it.
+        """Returns each operand as pMARS reads it: with parentheses if it computes in another order, or with a 0 after a
+        mode without a number. It is "" if both programs read the same, and None if only pMARS rejects it.
         """
         found = list[str | None]()
         for tokens in self.operands:

@@ -54,8 +54,8 @@ def canvas_of(core: int, columns: int, rows: int) -> Canvas:
 
 
 def values_of(history: History, turn: int) -> NDArray[np.int64]:
-    """Returns a value for each cell: 0 without an owner, or 1 + the number of its owner; if a process is there, 1 + the
-    number of warriors + the number of the process's warrior.
+    """Returns a value for each cell: 0 without an owner, or 1 + the number of its owner. If a process is there, the
+    value is 1 + the number of warriors + the number of the process's warrior.
     """
     count, owners = len(history.warriors), history.owners(turn).astype(np.int64)
     values = np.where(owners < count, owners + 1, 0)
