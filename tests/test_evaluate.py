@@ -1,4 +1,5 @@
-"""dev/checks/evaluate: the values of definitions beside what the library computes; and dev/checks/vectors."""
+"""dev/checks/evaluate, which compares the values of definitions with what the library computes, and dev/checks/vectors.
+"""
 from __future__ import annotations
 
 import random

@@ -1,5 +1,5 @@
-"""Tests what `make` installs and packs: that it is complete, runs, and can be removed again; and that man pages and
-lists of packages are complete.
+"""Tests that what `make` installs and packs is complete, runs, and can be removed again, and that man pages and lists
+of packages are complete.
 """
 from __future__ import annotations
 

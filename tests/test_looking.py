@@ -1,5 +1,5 @@
-"""why, trace and changed: their reports on a battle; and what all commands share: help, wrong arguments, streams, names
-of files, and Ctrl-C.
+"""The reports of `why`, `trace` and `changed` on a battle, and what all commands share: help, wrong arguments, streams,
+names of files, and Ctrl-C.
 """
 from __future__ import annotations
 

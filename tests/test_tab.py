@@ -1,4 +1,4 @@
-"""Completion by Tab: of the shells, for each name of a file, warrior and hill; and of the debugger's line."""
+"""Completion by Tab: in the shells for each name of a file, warrior and hill, and in the line of the debugger."""
 from __future__ import annotations
 
 import os
