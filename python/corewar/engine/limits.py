@@ -22,7 +22,7 @@ TICK_SECONDS = 0.1
 
 
 class Clock:
-    """Calls a function once the CPU time of this process exceeds `end`, in seconds, or never if `end` is None."""
+    """Calls a function once the CPU time of this process exceeds `end`, in seconds, but not while `end` is None."""
 
     def __init__(self, call: Callable[[], object], end: float | None = None) -> None:
         self.call, self.end, self._stopped = call, end, threading.Event()
