@@ -251,9 +251,13 @@ CONTEST = [
     match_option(
         "--pmars-position",
         type=Number(1, MAX_PMARS_POSITION),
-        help="Draw the starting positions as `pmars -F N` does: N is that of round 0, and the others follow from it",
+        help="Draw the starting positions as `pmars -F N` does: N in round 0, and the later ones from N",
     ),
-    match_option("--pmars-fixed", is_flag=True, help="Draw them as `pmars -f` does, from the cells of both warriors"),
+    match_option(
+        "--pmars-fixed",
+        is_flag=True,
+        help="Draw the starting positions as `pmars -f` does, from the cells of both warriors",
+    ),
     match_option(
         "--score",
         "formula",
