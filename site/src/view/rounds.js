@@ -6,11 +6,12 @@ import { allOf } from "./host.js";
 import { swatch } from "./palette.js";
 
 /** @typedef {import("../worker/jobs.js").Round} Round */
+/** @typedef {import("../worker/jobs.js").SourceLine} SourceLine */
 /** @typedef {import("./session.js").Session} Session */
 /** @typedef {import("./side.js").ShowLine} ShowLine */
 /**
  * How often, and how, a warrior died.
- * @typedef {{count: number, warrior: number, line: number, killer: number, by: number}} Why
+ * @typedef {Omit<import("../worker/jobs.js").Death, "turn"> & {count: number}} Why
  */
 /** @typedef {Map<string, Map<number, {died: number, killed: number}>>} Hits by the name of a source and its line */
 
@@ -93,7 +94,10 @@ export class Rounds {
     refill(element("tally"), ...names.map((name, source) => tally(name, source, found)));
     const whys = whysOf(found);
     element("why-box").hidden = whys.length === 0;
-    refill(element("why"), ...whys.slice(0, MAX_REASONS).map((why) => this.#why(why, names)));
+    const others = whys.slice(MAX_REASONS);
+    const rest = make("b", {}, `${number(countOf(others))}×`);
+    const more = others.length ? [make("li", {}, rest, ` in ${pluralize(others.length, "other way")}`)] : [];
+    refill(element("why"), ...whys.slice(0, MAX_REASONS).map((why) => this.#why(why, names)), ...more);
     this.host.shelf.takeHits(hitsOf(whys, fight.warriors.map(({ name }) => name)));
   }
 
@@ -129,22 +133,30 @@ export class Rounds {
    * @param {Why} why
    * @param {string[]} names
    */
-  #why({ count, warrior, line, killer, by }, names) {
-    const link = (/** @type {number} */ source, /** @type {number} */ at) => {
+  #why({ count, warrior, cell, killer, by }, names) {
+    const link = (/** @type {SourceLine} */ { source, line }) => {
       const found = this.session.fight?.warriors[source];
-      if (!at || !found) return "an unknown line";
-      const title = found.text.split("\n")[at - 1]?.trim();
-      const show = () => this.show(found.name, at);
-      return make("button", { className: "link", title, onclick: show }, `line ${at}`);
+      if (!line || !found) return "an unknown line";
+      const title = found.text.split("\n")[line - 1]?.trim();
+      const show = () => this.show(found.name, line);
+      return make("button", { className: "link", title, onclick: show }, `line ${line}`);
     };
-    const away = killer < 0 ? " in empty memory" : " outside its code";
-    const where = line ? [" on its ", link(warrior, line)] : [away];
-    const other = killer < 0 ? [] : [", hit by ", link(killer, by), ` of ${names[killer]}`];
-    const own = by ? [", hit by its own ", link(killer, by)] : [", hit by itself"];
-    const what = killer === warrior ? own : other;
-    return make("li", {}, make("b", {}, `${number(count)}×`), ` ${names[warrior]} died`, ...where, ...what);
+    const of = (/** @type {SourceLine} */ { source, line }) => (line && source >= 0 ? ` of ${names[source]}` : "");
+    const elsewhere = cell.source < 0 ? [" in empty memory"] : [" on ", link(cell), of(cell)];
+    const where = cell.source === warrior && cell.line ? [" on its ", link(cell)] : elsewhere;
+    const who = killer === warrior ? "itself" : names[killer];
+    const isOwn = by.source === killer;
+    const hit = isOwn && killer !== warrior ? [link(by), ` of ${who}`] : [`${who}, by `, link(by), isOwn ? "" : of(by)];
+    const died = [make("b", {}, `${number(count)}×`), ` ${names[warrior]} died`, ...where];
+    return make("li", {}, ...died, ...(killer < 0 ? [] : [", hit by ", ...hit]));
   }
 }
+
+/**
+ * Returns how many deaths there are.
+ * @param {Why[]} whys
+ */
+const countOf = (whys) => whys.reduce((sum, { count }) => sum + count, 0);
 
 /**
  * @param {string} name
@@ -164,9 +176,9 @@ function tally(name, source, rounds) {
 function whysOf(rounds) {
   /** @type {Map<string, Why>} */
   const whys = new Map();
-  for (const { warrior, line, killer, by } of rounds.flatMap(({ deaths }) => deaths)) {
-    const key = [warrior, line, killer, by].join();
-    const why = whys.get(key) ?? { count: 0, warrior, line, killer, by };
+  for (const { warrior, cell, killer, by } of rounds.flatMap(({ deaths }) => deaths)) {
+    const key = [warrior, cell.source, cell.line, killer, by.source, by.line].join();
+    const why = whys.get(key) ?? { count: 0, warrior, cell, killer, by };
     why.count++;
     whys.set(key, why);
   }
@@ -174,7 +186,7 @@ function whysOf(rounds) {
 }
 
 /**
- * Returns for each line how often warriors died on it, and how often others died by a cell that it wrote.
+ * Returns for each line how often its warrior died on it, and how often it killed another warrior.
  * @param {Why[]} whys
  * @param {string[]} names
  */
@@ -187,9 +199,9 @@ function hitsOf(whys, names) {
     if (line) lines?.set(line, found);
     return found;
   };
-  for (const { count, warrior, line, killer, by } of whys) {
-    at(warrior, line).died += count;
-    if (killer >= 0 && killer !== warrior) at(killer, by).killed += count;
+  for (const { count, warrior, cell, killer, by } of whys) {
+    if (cell.source === warrior) at(warrior, cell.line).died += count;
+    if (killer >= 0 && killer !== warrior && by.source === killer) at(killer, by.line).killed += count;
   }
   return hits;
 }

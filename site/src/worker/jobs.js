@@ -3,6 +3,7 @@ import { History } from "../battle/history.js";
 import { assembleAll, describe } from "../engine/warrior.js";
 import { MarsError } from "../model/errors.js";
 import { ASSEMBLY, FORMULA } from "../model/layout.js";
+import { changedIn, copiedIn } from "./why.js";
 
 /** @typedef {import("../engine/mars.js").Mars} Mars */
 /** @typedef {import("../engine/mars.js").Row} Row */
@@ -14,9 +15,14 @@ import { ASSEMBLY, FORMULA } from "../model/layout.js";
 /** @typedef {import("../model/fight.js").Fight} Fight */
 /** @typedef {import("../model/settings.js").Settings} Settings */
 /**
- * A death. `line` is the line of the warrior's source on which it died, `killer` the owner of the cell, or -1 if there
- * is none, and `by` the line of the owner's source that wrote the cell. A line is 0 if it isn't known.
- * @typedef {{warrior: number, turn: number, line: number, killer: number, by: number}} Death
+ * The line from which a cell comes: the index of its source, and the number of the line, or 0 if it isn't known. The
+ * index is -1 if the cell comes from no source.
+ * @typedef {{source: number, line: number}} SourceLine
+ */
+/**
+ * A death. `cell` is the line of the cell on which the warrior died, as the cell was before it was hit. `killer` is the
+ * warrior that hit it, or -1 if no turn changed the cell, and `by` the line that the killer executed then.
+ * @typedef {{warrior: number, turn: number, cell: SourceLine, killer: number, by: SourceLine}} Death
  */
 /** @typedef {"win" | "tie" | "loss"} RoundResult */
 /**
@@ -26,6 +32,8 @@ import { ASSEMBLY, FORMULA } from "../model/layout.js";
 
 /** More turns than a battle can have. */
 const EVERYTHING = 0xffffffff;
+/** The line of a cell that comes from no source. */
+const NO_LINE = { source: -1, line: 0 };
 
 /**
  * Returns how each round of a match of two ended: 0 if the first warrior lost, 1 if it won, 2 if both survived.
@@ -173,23 +181,23 @@ export class Jobs {
   }
 
   /**
-   * Returns the deaths of a history, with the lines of source that were executed and that wrote the cells.
+   * Returns the deaths of a history, each with what was hit and what hit it, as `corewar why -r` does: the turn that
+   * copied the cell's instruction there, or else the turn that changed the cell last.
    * @param {ReturnType<typeof assembleAll>} warriors
    * @param {History} history
    * @returns {Death[]}
    */
   #deaths(warriors, history) {
     const { order } = history;
-    const lines = order.flatMap((source, who) => warriors[source].lines.map(({ line }) => ({ who, line })));
-    const originAt = (/** @type {number} */ address, /** @type {number} */ turn) =>
-      lines[history.origin(address, turn)];
-    return history.deaths.map(({ warrior, turn, address, other, count: written }) => {
-      // The line that was hit is that of the cell before it was written, or else at the start.
-      const turns = [written && other !== warrior ? written - 1 : turn - 1, 0];
-      const hit = turns.map((one) => originAt(address, one)).find((one) => one?.who === warrior);
-      const writer = written ? originAt(history.deed(written).address, written - 1) : undefined;
-      const by = writer?.who === other ? writer.line : 0;
-      return { warrior: order[warrior], turn, line: hit?.line ?? 0, killer: order[other] ?? -1, by };
+    const lines = order.flatMap((source) => warriors[source].lines.map(({ line }) => ({ source, line })));
+    const lineAt = (/** @type {number} */ address, /** @type {number} */ turn) =>
+      lines[history.origin(address, turn)] ?? NO_LINE;
+    return history.deaths.map(({ warrior, turn, address }) => {
+      const hit = copiedIn(history, address, turn - 1) || changedIn(history, address, turn - 1);
+      const death = { warrior: order[warrior], turn, cell: lineAt(address, (hit || turn) - 1) };
+      if (!hit) return { ...death, killer: -1, by: NO_LINE };
+      const { warrior: killer, address: from } = history.deed(hit);
+      return { ...death, killer: order[killer], by: lineAt(from, hit - 1) };
     });
   }
 }

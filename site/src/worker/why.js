@@ -58,7 +58,7 @@ function writesOf(history, address, before) {
  * @param {number} address
  * @param {number} turn
  */
-function changedIn(history, address, turn) {
+export function changedIn(history, address, turn) {
   const place = history.place(turn);
   return place.owner(address) === BY_HAND ? 0 : place.written(address);
 }
