@@ -5,6 +5,7 @@ import functools
 import json
 import re
 import subprocess
+from collections import Counter
 from collections.abc import Iterator
 from pathlib import Path
 
@@ -14,6 +15,7 @@ from conftest import COMMAND, ENVIRONMENT, EXAMPLES, TOP
 from costly import slow
 from counting import PROGRAM, skip
 
+from corewar.analysis.losses import Death, fates
 from corewar.battle.history import History
 from corewar.battle.labels import Sources
 from corewar.debugger.commands import COMMANDS, execute
@@ -1202,6 +1204,32 @@ def test_rounds_are_those_of_the_program(page: Browser) -> None:
     page.run("corewar.session.rename(corewar.session.fight.warriors.map(({text}, at) => ({name: `${at}.red`, text})))")
     answer(page, "edit 3 jmp 0")
     assert page.value("document.querySelectorAll('#strip button').length") == 100
+
+
+# How the package writes what the page says on a death.
+WORDS = [
+    (r"^in empty memory$", "empty core"),
+    (r"^on its (line \d+)$", r"its \1"),
+    (r"^on (line \d+) of (\w+)$", r"\2's \1"),
+    (r"^(line \d+) of (\w+)$", r"\2, by \1"),
+    (r", by (line \d+) of (\w+)$", r", by \2's \1"),
+]
+
+
+def test_deaths_are_those_of_the_package(page: Browser) -> None:
+    """What was hit and what hit it is the same as by `corewar why -r 100`, also beyond the reasons that are shown."""
+    names, warriors = ["Hail", "Silk"], [read(EXAMPLES / f"{name}.red") for name in ("bomber", "silk")]
+    deaths = [death for death in fates(Match(warriors, rounds=100)) if isinstance(death, Death)]
+    ways = Counter((names[one.warrior], one.cell.split(":")[0], one.by.split(":")[0]) for one in deaths)
+    fight(page, "bomber", "silk")
+    page.run("await corewar.rounds.fight()")
+    *reasons, rest = page.value("[...document.querySelectorAll('#why li')].map(one => one.textContent)")
+    for reason in reasons:
+        found = re.fullmatch(r"(\d+)× (\w+) died (.*), hit by (.*)", reason)
+        assert found, reason
+        cell, by = (functools.reduce(lambda text, rule: re.sub(*rule, text), WORDS, found[part]) for part in (3, 4))
+        assert ways.pop((found[2], cell, by)) == int(found[1]), reason
+    assert rest == f"{sum(ways.values())}× in {len(ways)} other ways"
 
 
 def test_the_bench_is_the_program(page: Browser) -> None:
