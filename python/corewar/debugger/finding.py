@@ -1,17 +1,22 @@
 """`find`: how often a condition holds in the battle, or in each round of the match."""
 from __future__ import annotations
 
+import re
 from collections.abc import Iterator
 
 from ..analysis.formatting import pluralize
 from ..battle.conditions import Joined, places
 from ..battle.history import History
 from ..battle.labels import Sources
+from ..model.errors import CorewarError
 from .conditions import describe_conditions, is_of_any_warrior, read_conditions, renumbered
 from .session import Session
+from .table import TABLE
 
 # How many turns or rounds are listed, and how many turns of each of several rounds.
 LISTED, LISTED_IN_ROUND = 20, 5
+# The cell to execute next as an address: alone, in a range, or with an offset.
+NEXT = re.compile(r"(?:^|\.\.)\.(?=$|\.\.|[+-])")
 
 
 def find_turns(session: Session, rest: str) -> Iterator[str]:
@@ -37,15 +42,18 @@ def times(history: History, joined: Joined, most: int) -> tuple[int, str]:
 
 
 def find_in_rounds(session: Session, rest: str) -> Iterator[str]:
-    """Finds conditions in each round of the match, without edits. Names and labels refer to the round searched."""
+    """Finds conditions in each round of the match, without edits. Names and labels refer to the round searched, in which
+    no cell is executed next.
+    """
+    if any(map(NEXT.search, rest.split())):
+        raise CorewarError(TABLE["conditions"]["dot"])
     match, here, total, rows = session.history.match, session.history.round, 0, list[str]()
     joined, names = read_conditions(session, rest), session.names
     for number in range(match.rounds):
         session.tell(f"searched {number} of {pluralize(match.rounds, 'round')}")
         history = History(match, number)
         history.names = [names[(place + number - here) % len(names)] for place in range(len(names))]
-        # After the last turn there is no next cell, so that `.` is refused as an address.
-        other = Session(history, Sources(history), turn=history.end)
+        other = Session(history, Sources(history))
         wanted = read_conditions(other, renumbered(rest, here - number, len(match.warriors)))
         count, text = times(history, wanted, LISTED_IN_ROUND)
         total += count
