@@ -11,6 +11,8 @@ import { CommandError, readCondition } from "./arguments.js";
 /** How many turns or rounds are listed, and how many turns of each of several rounds. */
 const [LISTED, LISTED_IN_ROUND] = [20, 5];
 const NUMBERED = ["of", "by", ...TABLE.conditions.warriors].map((word) => `(?<= ${word} )`).join("|");
+/** The cell to execute next as an address: alone, in a range, or with an offset. */
+const NEXT = /(?:^|\.\.)\.(?=$|\.\.|[+-])/;
 /** The numbers of warriors in a condition. */
 const WARRIORS = new RegExp(`\\b\\d+(?=\\.[A-Za-z_])|(?:${NUMBERED})\\d+(?!\\S)`, "g");
 
@@ -38,12 +40,14 @@ export async function find(session, rest, tell) {
 }
 
 /**
- * Finds a condition in each round of the match, without edits. Its names and labels are looked up in each round.
+ * Finds a condition in each round of the match, without edits. Its names and labels are looked up in each round, in
+ * which no cell is executed next.
  * @param {Session} session
  * @param {string} rest
  * @param {(progress: string) => void} tell
  */
 async function findInRounds(session, rest, tell) {
+  if (rest.split(/\s+/).some((word) => NEXT.test(word))) throw new CommandError(TABLE.conditions.dot);
   const { fight, desk, known } = session;
   const words = conditionWords(readCondition(session, rest), known);
   const rows = [];
@@ -65,8 +69,7 @@ async function findInRounds(session, rest, tell) {
 }
 
 /**
- * Returns the part of a session that reading the arguments of commands needs, for another round. There no cell is
- * executed next, so `.` is an error.
+ * Returns the part of a session that reading the arguments of commands needs, for another round.
  * @param {Session} session
  * @param {number} round
  * @param {number[]} starts where each warrior is loaded there
