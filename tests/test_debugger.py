@@ -313,7 +313,11 @@ def test_find_looks_at_all_rounds() -> None:
     session.tell = told.append
     assert execute(session, "find -r splits") == ["splits: never in 30 rounds"]
     assert told == [f"searched {number} of 30 rounds" for number in range(30)]
-    assert refused(session, "find -r at .").startswith("`.` is the cell to execute next")
+    for line in ("find -r at .", "find -r reads 1...+2"):
+        assert refused(session, line) == (
+            "`.` is the cell to execute next in this round; after -r, use a number or a label"
+        )
+    assert execute(session, "find -r at 0")[0].endswith("30 rounds")
 
 
 def test_help_describes_each_command() -> None:
