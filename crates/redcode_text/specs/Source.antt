@@ -137,7 +137,7 @@ ends_word (b ∷ bs) = is_blank b
 abbrev pub has_directive_word : List ℕ → List ℕ → Bool
 has_directive_word word bytes = has_directive word bytes && ends_word (directive_text word bytes)
 
--- The row begins with `;redcode`, ignoring case.
+-- The row is a comment that begins with `;redcode`, ignoring case.
 abbrev pub begins_redcode : SourceRow → Bool
 begins_redcode row = has_directive (codes "redcode") row.bytes
 
@@ -161,7 +161,8 @@ pub data Items : Type 0 where
   LoneRof : SourceRow → Items → Items
 
 -- The pairing of the rows from some row to the end of the source. `here` has the items from that row to the end of its
--- body. `waiting` has each ROF whose FOR is before that row, the nearest first, with the items after the ROF.
+-- body. `waiting` has each ROF whose FOR is not among these rows, since it is before them or there is none, the nearest
+-- first, with the items after the ROF.
 pub record Pairing : Type 0 where
   pub here : Items
   pub waiting : List (SourceRow × Items)
