@@ -9,7 +9,8 @@ use Rattle.redcode_asm.specs.Laws.{SaysTheSame}
 abbrev ps : Predefined
 ps = predefined (parameters 8000) 2 3
 
--- A label may have any name. The case of opcodes, modifiers and pseudo-opcodes is ignored, and CMP is SEQ.
+-- A name without a meaning of its own, such as a label, may be replaced by any other such name. The case of opcodes,
+-- modifiers and pseudo-opcodes is ignored, and CMP is SEQ.
 pub free_names : SaysTheSame ps (codes "loop") (codes "start") × SaysTheSame ps (codes "mov") (codes "MOV") × SaysTheSame ps (codes "x") (codes "X")
     × SaysTheSame ps (codes "org") (codes "Org") × SaysTheSame ps (codes "cmp") (codes "seq")
 unfolding op_of modifier_of
