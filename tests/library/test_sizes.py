@@ -7,7 +7,7 @@ MAX_CORE = 1_048_576
 PROCESSES = 65_536
 MAX_LINES = 65_536
 IMP = [(1, 6, 1, 1, 0, 1)]
-# Splits in each turn, until the warrior has the maximum number of processes.
+# Splits until the warrior has the maximum number of processes, which takes some 106,000 turns.
 SPLITTER = [(14, 1, 1, 1, 0, 0), (7, 1, 1, 1, MAX_CORE - 1, 0)]
 HUGE = corewar.Settings(core=MAX_CORE, processes=PROCESSES, cycles=10, longest=MAX_CORE, distance=MAX_CORE)
 
