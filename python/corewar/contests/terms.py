@@ -61,7 +61,9 @@ class Terms:
 
     @property
     def words(self) -> list[str]:
-        """The settings as options of `mars`, without a seed if each match has its own."""
+        """The terms as options of `corewar`: without a seed if each match has its own, and without rounds, seed and
+        position if all positions are tried.
+        """
         seed = None if self.has_seeds or self.positions == "pmars" else self.seed
         drawn = {} if self.positions == "all" else {"rounds": self.rounds, "seed": seed, "position": self.position}
         numbers = {**vars(self.settings), **drawn}
