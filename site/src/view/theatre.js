@@ -289,7 +289,7 @@ export class Theatre {
   }
 
   /**
-   * Says what is seen. Numbers change twice a second at most and are not read out; what happens is.
+   * Says what is seen. While the battle plays, numbers change at most twice a second. Events are read out, numbers not.
    * @param {View} view
    */
   #drawCaption({ turn, processes, owned }) {
