@@ -253,11 +253,7 @@ CONTEST = [
         type=Number(1, MAX_PMARS_POSITION),
         help="Draw the starting positions as `pmars -F N` does: N in round 0, and the later ones from N",
     ),
-    match_option(
-        "--pmars-fixed",
-        is_flag=True,
-        help="Draw the starting positions as `pmars -f` does, from the cells of both warriors",
-    ),
+    match_option("--pmars-fixed", is_flag=True, help="Draw positions as `pmars -f` does, from both warriors' cells"),
     match_option(
         "--score",
         "formula",

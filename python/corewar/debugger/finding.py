@@ -15,7 +15,7 @@ from .table import TABLE
 
 # How many turns or rounds are listed, and how many turns of each of several rounds.
 LISTED, LISTED_IN_ROUND = 20, 5
-# The cell to execute next as an address: alone, in a range, or with an offset.
+# The cell to execute next as an address: by itself, in a range, or with an offset.
 NEXT = re.compile(r"(?:^|\.\.)\.(?=$|\.\.|[+-])")
 
 
@@ -42,8 +42,8 @@ def times(history: History, joined: Joined, most: int) -> tuple[int, str]:
 
 
 def find_in_rounds(session: Session, rest: str) -> Iterator[str]:
-    """Finds conditions in each round of the match, without edits. Names and labels refer to the round searched, in which
-    no cell is executed next.
+    """Finds conditions in each round of the match, without edits. Names and labels refer to the round searched. No cell
+    is executed next there.
     """
     if any(map(NEXT.search, rest.split())):
         raise CorewarError(TABLE["conditions"]["dot"])
