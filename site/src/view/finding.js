@@ -11,7 +11,7 @@ import { CommandError, readCondition } from "./arguments.js";
 /** How many turns or rounds are listed, and how many turns of each of several rounds. */
 const [LISTED, LISTED_IN_ROUND] = [20, 5];
 const NUMBERED = ["of", "by", ...TABLE.conditions.warriors].map((word) => `(?<= ${word} )`).join("|");
-/** The cell to execute next as an address: alone, in a range, or with an offset. */
+/** The cell to execute next as an address: by itself, in a range, or with an offset. */
 const NEXT = /(?:^|\.\.)\.(?=$|\.\.|[+-])/;
 /** The numbers of warriors in a condition. */
 const WARRIORS = new RegExp(`\\b\\d+(?=\\.[A-Za-z_])|(?:${NUMBERED})\\d+(?!\\S)`, "g");
